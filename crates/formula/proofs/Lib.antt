@@ -1,0 +1,4 @@
+pub mod Scanned
+pub mod Literals
+pub mod Cuts
+pub mod Lookups

@@ -1,0 +1,248 @@
+-- What the scan of a prefix knows at entry i, how one entry more is scanned, and that a fault found there is the first.
+use Prim.Native.Nat.{ℕ, zero, suc, _≤_, _<_, _+_, _-_}
+use mathlib.Core.Path.{_≡_, refl, sym, ap, _∙_}
+use mathlib.Core.Bool.{Bool, true, false, cond}
+use mathlib.Core.List.{List}
+use mathlib.Core.Logic.{_⊎_, inl, inr, ⊎-elim, _≢_}
+use native.Mathlib.Nat.{eq-or-lt-of-le, le-of-suc-le-suc}
+use native.Mathlib.Decide.{ℕ-discrete}
+use native.Mathlib.Numerals.{add-one}
+use native.Mathlib.Omega.{arith}
+use borrow.Author.Tests.{eq-eqb, ne-eqb, eqb-true, eqb-false}
+use lib.ListN.{length, getD, set, length-set, replicate, length-replicate}
+use lib.Seq.{getD-set-same, getD-set-other}
+use Rattle.terms.specs.Refusals.{First, None}
+use Rattle.terms.proofs.Common.{below-suc, clash}
+use Rattle.terms.proofs.Verdicts.{first-at}
+use Rattle.formula.specs.Tables.{at, opens, MarkAt, VariableAt, CloseAt, LastMark, marksBefore, EndsInside}
+use Rattle.formula.specs.Causes.{PrefixCause, ends-inside, no-mark, same-mark, too-many-blocks, outside, named-before, empty-block}
+use Rattle.formula.specs.Scan.{IsMark, MarkFault}
+
+-- entry i comes directly after a mark
+abbrev pub afterMark : List ℕ → ℕ → Bool
+afterMark es zero = false
+afterMark es (suc e) = opens es e
+
+-- no cause stands at entry e
+abbrev Clean : ℕ → List ℕ → ℕ → Type 0
+Clean n es e = (number : ℕ) → PrefixCause n es number e → ⊥
+
+-- Every entry before i is without fault, and the scan's variables say what stands before i.
+pub record Scanned (n : ℕ) (es : List ℕ) (i : ℕ) (opening fresh : Bool) (mark count : ℕ) (named : List Bool) : Type 0 where
+  pub within : i ≤ length es
+  pub clean : (e : ℕ) → e < i → (number : ℕ) → PrefixCause n es number e → ⊥
+  pub opening-is : opening ≡ opens es i
+  pub fresh-is : fresh ≡ afterMark es i
+  pub mark-is : (b : ℕ) → LastMark es b i → at es b ≡ mark
+  pub mark-there : mark ≢ 0 → (b : ℕ) × LastMark es b i × (at es b ≡ mark)
+  pub counted : count ≡ marksBefore es i
+  pub few : count ≤ 64
+  pub size : length named ≡ 4097
+  pub names : (v : ℕ) → getD named v false ≡ true → (b : ℕ) × (b < i) × VariableAt es b × (at es b ≡ v)
+  pub named-all : (b : ℕ) → b < i → VariableAt es b → getD named (at es b) false ≡ true
+
+-- nothing is wrong with a mark of which no number is said
+mark-fine : {entry before count number : ℕ} → MarkFault entry before count number → number ≡ 0 → IsMark entry × (entry ≢ before) × (count ≢ 64)
+mark-fine (MarkFault.fine _ good other few) none = (good, other, few)
+mark-fine (MarkFault.no-mark q _ _) none = absurd (omega arith)
+mark-fine (MarkFault.same-mark q _ _) none = absurd (omega arith)
+mark-fine (MarkFault.too-many q _ _ _) none = absurd (omega arith)
+
+-- The last mark before the next entry is this entry, if it opens a block, and else the last mark before it.
+last-is-here : (es : List ℕ) (i b : ℕ) → opens es i ≡ true → LastMark es b (suc i) → b ≡ i
+last-is-here es i b open′ last = ⊎-elim (λ q. q) (λ lt. absurd (clash open′ (last .2 i lt (omega arith)))) (eq-or-lt-of-le (le-of-suc-le-suc (last .0)))
+
+last-is-before : (es : List ℕ) (i b : ℕ) → opens es i ≡ false → LastMark es b (suc i) → LastMark es b i
+last-is-before es i b shut last =
+    ⊎-elim (λ q. absurd (clash (last .1) (ap (opens es) q ∙ shut))) (λ lt. (lt, last .1, λ c after before. last .2 c after (omega arith)))
+    (eq-or-lt-of-le (le-of-suc-le-suc (last .0)))
+
+last-stays : (es : List ℕ) (i b : ℕ) → opens es i ≡ false → LastMark es b i → LastMark es b (suc i)
+last-stays es i b shut last =
+    (let l = last .0 in omega arith, last .1, λ c after before. below-suc (λ c. b < c → opens es c ≡ false) i (λ c lt after. last .2 c after lt) (λ _. shut) c before after)
+
+module _ {n : ℕ} {es : List ℕ} {i : ℕ} {opening fresh : Bool} {mark count : ℕ} {named : List Bool} (s : Scanned n es i opening fresh mark count named) (more : i < length es) where
+  -- What can be wrong at this entry, by the kind of its place, in the scan's own terms.
+  at-mark : opens es i ≡ true → (k : ℕ) → PrefixCause n es k i → ((k ≡ 4) × (at es i ≢ 1) × (at es i ≢ 2)) ⊎ (((k ≡ 5) × (at es i ≡ mark)) ⊎ ((k ≡ 6) × (count ≡ 64)))
+  at-mark open′ k (ends-inside _ q _) = absurd (omega arith)
+  at-mark open′ k (no-mark q _ a b) = inl (q, a, b)
+  at-mark open′ k (same-mark b q _ last same) = inr (inl (q, sym same ∙ s .mark-is b last))
+  at-mark open′ k (too-many-blocks q _ many) = inr (inr (q, s .counted ∙ many))
+  at-mark open′ k (outside _ v _) = absurd (clash open′ (v .1))
+  at-mark open′ k (named-before _ _ v _ _ _) = absurd (clash open′ (v .1))
+  at-mark open′ k (empty-block _ _ _ _ v) = absurd (clash open′ (v .1))
+
+  at-close : opens es i ≡ false → at es i ≡ 0 → (k : ℕ) → PrefixCause n es k i → (k ≡ 9) × (fresh ≡ true)
+  at-close shut zero′ k (ends-inside _ q _) = absurd (omega arith)
+  at-close shut zero′ k (no-mark _ m _ _) = absurd (clash (m .1) shut)
+  at-close shut zero′ k (same-mark _ _ m _ _) = absurd (clash (m .1) shut)
+  at-close shut zero′ k (too-many-blocks _ m _) = absurd (clash (m .1) shut)
+  at-close shut zero′ k (outside _ v _) = absurd (v .2 zero′)
+  at-close shut zero′ k (named-before _ _ v _ _ _) = absurd (v .2 zero′)
+  at-close shut zero′ k (empty-block b q next m _) = (q, s .fresh-is ∙ ap (afterMark es) next ∙ m .1)
+
+  at-variable : opens es i ≡ false → at es i ≢ 0 → (k : ℕ) → PrefixCause n es k i → ((k ≡ 7) × (n < at es i)) ⊎ ((k ≡ 8) × (getD named (at es i) false ≡ true))
+  at-variable shut some k (ends-inside _ q _) = absurd (omega arith)
+  at-variable shut some k (no-mark _ m _ _) = absurd (clash (m .1) shut)
+  at-variable shut some k (same-mark _ _ m _ _) = absurd (clash (m .1) shut)
+  at-variable shut some k (too-many-blocks _ m _) = absurd (clash (m .1) shut)
+  at-variable shut some k (outside q _ over) = inl (q, over)
+  at-variable shut some k (named-before b q _ l var same) = inr (q, sym (ap (λ v. getD named v false) same) ∙ s .named-all b l var)
+  at-variable shut some k (empty-block _ _ _ _ v) = absurd (some (v .2))
+
+  -- A mark with no fault: it is counted, and remembered.
+  pub scan-mark : {number : ℕ} → opens es i ≡ true → MarkFault (at es i) mark count number → number ≡ 0 → Scanned n es (i + 1) false true (at es i) (count + 1) named
+  scan-mark open′ judged none =
+      let (good, other, few) = mark-fine judged none in
+      rw (add-one i, add-one count)
+      record {
+        within = more;
+        clean = below-suc (Clean n es) i (s .clean) (λ k cause. ⊎-elim (λ w. ⊎-elim (w .1) (w .2) good) (⊎-elim (λ w. other (w .1)) (λ w. few (w .1))) (at-mark open′ k cause));
+        opening-is = sym (ne-eqb (at es i) 0 (λ q. ⊎-elim (λ (g : at es i ≡ 1). omega arith) (λ (g : at es i ≡ 2). omega arith) good));
+        fresh-is = sym open′;
+        mark-is = λ b last. ap (at es) (last-is-here es i b open′ last);
+        mark-there = λ _. (i, (omega arith, open′, λ c after before. absurd (omega arith)), refl);
+        counted = ap suc (s .counted) ∙ sym (ap (λ o. cond o (suc (marksBefore es i)) (marksBefore es i)) open′);
+        few = let l = s .few in omega arith;
+        size = s .size;
+        names = λ v t. let (b, l, var, q) = s .names v t in (b, omega arith, var, q);
+        named-all = below-suc (λ b. VariableAt es b → getD named (at es b) false ≡ true) i (s .named-all) (λ var. absurd (clash open′ (var .1)));
+      }
+
+  -- A 0 that closes a block with variables.
+  pub scan-close : opens es i ≡ false → at es i ≡ 0 → fresh ≡ false → Scanned n es (i + 1) true fresh mark count named
+  scan-close shut zero′ stale =
+      rw (add-one i)
+      record {
+        within = more;
+        clean = below-suc (Clean n es) i (s .clean) (λ k cause. clash (at-close shut zero′ k cause .1) stale);
+        opening-is = sym (eq-eqb (at es i) 0 zero′);
+        fresh-is = stale ∙ sym shut;
+        mark-is = λ b last. s .mark-is b (last-is-before es i b shut last);
+        mark-there = λ some. let (b, last, is) = s .mark-there some in (b, last-stays es i b shut last, is);
+        counted = s .counted ∙ sym (ap (λ o. cond o (suc (marksBefore es i)) (marksBefore es i)) shut);
+        few = s .few;
+        size = s .size;
+        names = λ v t. let (b, l, var, q) = s .names v t in (b, omega arith, var, q);
+        named-all = below-suc (λ b. VariableAt es b → getD named (at es b) false ≡ true) i (s .named-all) (λ var. absurd (var .2 zero′));
+      }
+
+  -- A variable from 1 to n that no entry before it names: it is named from now on.
+  pub scan-variable : opens es i ≡ false → at es i ≢ 0 → at es i ≤ n → n ≤ 4096 → getD named (at es i) false ≡ false → Scanned n es (i + 1) opening false mark count (set named (at es i) true)
+  scan-variable shut some inside fits new =
+      rw (add-one i)
+      record {
+        within = more;
+        clean = below-suc (Clean n es) i (s .clean) (λ k cause. ⊎-elim (λ w. let over = w .1 in omega arith) (λ w. clash (w .1) new) (at-variable shut some k cause));
+        opening-is = s .opening-is ∙ shut ∙ sym (ne-eqb (at es i) 0 some);
+        fresh-is = sym shut;
+        mark-is = λ b last. s .mark-is b (last-is-before es i b shut last);
+        mark-there = λ some. let (b, last, is) = s .mark-there some in (b, last-stays es i b shut last, is);
+        counted = s .counted ∙ sym (ap (λ o. cond o (suc (marksBefore es i)) (marksBefore es i)) shut);
+        few = s .few;
+        size = length-set named (at es i) true ∙ s .size;
+        names = λ v t. by-dec v t (ℕ-discrete v (at es i));
+        named-all = below-suc (λ b. VariableAt es b → getD (set named (at es i) true) (at es b) false ≡ true) i (λ b l var. kept (at es b) (s .named-all b l var) (ℕ-discrete (at es b) (at es i))) (λ _. stored);
+      }
+    where
+      stored : getD (set named (at es i) true) (at es i) false ≡ true
+      stored = getD-set-same named (at es i) true false (let q = s .size in omega arith)
+
+      kept : (v : ℕ) → getD named v false ≡ true → Dec (v ≡ at es i) → getD (set named (at es i) true) v false ≡ true
+      kept v t (yes q) = ap (λ w. getD (set named (at es i) true) w false) q ∙ stored
+      kept v t (no other) = getD-set-other named (at es i) v true false other ∙ t
+
+      by-dec : (v : ℕ) → getD (set named (at es i) true) v false ≡ true → Dec (v ≡ at es i) → (b : ℕ) × (b < suc i) × VariableAt es b × (at es b ≡ v)
+      by-dec v t (yes q) = (i, omega arith, (more, shut, some), sym q)
+      by-dec v t (no other) =
+          let (b, l, var, q) = s .names v (sym (getD-set-other named (at es i) v true false other) ∙ t) in (b, omega arith, var, q)
+
+  -- A fault at this entry is the first cause: all before it is clean, and no lower number has a cause here.
+  pub fault-at-mark : (number : ℕ) → opens es i ≡ true → MarkFault (at es i) mark count number → number ≢ 0 → First (PrefixCause n es) number i
+  fault-at-mark number open′ (MarkFault.fine q _ _ _) some = absurd (some q)
+  fault-at-mark number open′ (MarkFault.no-mark q a b) some =
+      first-at (s .clean) (no-mark q (more, open′) a b)
+      (λ k cause. ⊎-elim (λ w. let e = w .0 in omega arith) (⊎-elim (λ w. let e = w .0 in omega arith) (λ w. let e = w .0 in omega arith)) (at-mark open′ k cause))
+  fault-at-mark number open′ (MarkFault.same-mark q good same) some =
+      let nonzero : mark ≢ 0 = λ z. ⊎-elim (λ (g : at es i ≡ 1). omega arith) (λ (g : at es i ≡ 2). omega arith) good in
+      let (b, last, is) = s .mark-there nonzero in
+      first-at (s .clean) (same-mark b q (more, open′) last (is ∙ sym same))
+      (λ k cause. ⊎-elim (λ w. absurd (⊎-elim (w .1) (w .2) good)) (⊎-elim (λ w. let e = w .0 in omega arith) (λ w. let e = w .0 in omega arith)) (at-mark open′ k cause))
+  fault-at-mark number open′ (MarkFault.too-many q good other many) some =
+      first-at (s .clean) (too-many-blocks q (more, open′) (sym (s .counted) ∙ many))
+      (λ k cause. ⊎-elim (λ w. absurd (⊎-elim (w .1) (w .2) good)) (⊎-elim (λ w. absurd (other (w .1))) (λ w. let e = w .0 in omega arith)) (at-mark open′ k cause))
+
+  pub fault-at-close : opens es i ≡ false → at es i ≡ 0 → fresh ≡ true → First (PrefixCause n es) 9 i
+  fault-at-close shut zero′ new =
+      let (b, next, m) = before i (sym (s .fresh-is) ∙ new) in
+      first-at (s .clean) (empty-block b refl next (omega arith, m) (more, shut, zero′)) (λ k cause. let q = at-close shut zero′ k cause .0 in omega arith)
+    where
+      before : (e : ℕ) → afterMark es e ≡ true → (b : ℕ) × (e ≡ suc b) × (opens es b ≡ true)
+      before zero t = absurd (clash t refl)
+      before (suc b) t = (b, refl, t)
+
+  pub fault-outside : opens es i ≡ false → at es i ≢ 0 → n < at es i → First (PrefixCause n es) 7 i
+  fault-outside shut some over =
+      first-at (s .clean) (outside refl (more, shut, some) over)
+      (λ k cause. ⊎-elim (λ w. let e = w .0 in omega arith) (λ w. let e = w .0 in omega arith) (at-variable shut some k cause))
+
+  pub fault-named : opens es i ≡ false → at es i ≢ 0 → at es i ≤ n → getD named (at es i) false ≡ true → First (PrefixCause n es) 8 i
+  fault-named shut some inside old =
+      let (b, l, var, q) = s .names (at es i) old in
+      first-at (s .clean) (named-before b refl (more, shut, some) l var q)
+      (λ k cause. ⊎-elim (λ w. let over = w .1 in omega arith) (λ w. let e = w .0 in omega arith) (at-variable shut some k cause))
+
+-- The end of the prefix is inside a block exactly if no block could open there.
+open-end : (es : List ℕ) (m : ℕ) → length es ≡ m → opens es m ≡ false → EndsInside 0 es
+open-end es zero q shut = absurd (clash refl shut)
+open-end es (suc m) q shut = (omega arith, λ z. eqb-false (at es m) 0 shut (ap (at es) (let e : m ≡ length es - 1 = omega arith in e) ∙ z))
+
+shut-end : (es : List ℕ) (m : ℕ) → length es ≡ m → opens es m ≡ true → EndsInside 0 es → ⊥
+shut-end es zero q open′ (some, last) = omega arith
+shut-end es (suc m) q open′ (some, last) = last (ap (at es) (let e : length es - 1 ≡ m = omega arith in e) ∙ eqb-true (at es m) 0 open′)
+
+-- Every cause but 3 stands at an entry.
+at-entry : {n : ℕ} {es : List ℕ} (k e : ℕ) → PrefixCause n es k e → (e < length es) ⊎ ((k ≡ 3) × (e ≡ length es) × EndsInside 0 es)
+at-entry k e (ends-inside q p inside) = inr (q, p, inside)
+at-entry k e (no-mark _ m _ _) = inl (m .0)
+at-entry k e (same-mark _ _ m _ _) = inl (m .0)
+at-entry k e (too-many-blocks _ m _) = inl (m .0)
+at-entry k e (outside _ v _) = inl (v .0)
+at-entry k e (named-before _ _ v _ _ _) = inl (v .0)
+at-entry k e (empty-block _ _ _ _ v) = inl (v .0)
+
+module _ {n : ℕ} {es : List ℕ} {i : ℕ} {opening fresh : Bool} {mark count : ℕ} {named : List Bool} (s : Scanned n es i opening fresh mark count named) (done : length es ≤ i) where
+  end : length es ≡ i
+  end = let w = s .within in omega arith
+
+  -- A prefix that is scanned to its end between two blocks has no cause, one that ends inside a block has 3.
+  pub none-in-prefix : opening ≡ true → None (PrefixCause n es)
+  none-in-prefix open′ k e cause =
+      ⊎-elim (λ l. s .clean e (omega arith) k cause) (λ w. shut-end es i end (sym (s .opening-is) ∙ open′) (w .2)) (at-entry k e cause)
+
+  pub fault-at-end : opening ≡ false → First (PrefixCause n es) 3 i
+  fault-at-end shut =
+      first-at (s .clean) (ends-inside refl (sym end) (open-end es i end (sym (s .opening-is) ∙ shut)))
+      (λ k cause. ⊎-elim (λ l. absurd (let q = end in omega arith)) (λ w. let q = w .0 in omega arith) (at-entry k i cause))
+
+unnamed : (m v : ℕ) → getD (replicate m false) v false ≡ false
+unnamed zero v = refl
+unnamed (suc m) zero = refl
+unnamed (suc m) (suc v) = unnamed m v
+
+-- Before the first entry nothing is scanned, and a block may open.
+pub scan-none : (n : ℕ) (es : List ℕ) → Scanned n es 0 true false 0 0 (replicate 4097 false)
+scan-none n es =
+    record {
+      within = omega arith;
+      clean = λ e l. absurd (omega arith);
+      opening-is = refl;
+      fresh-is = refl;
+      mark-is = λ b last. absurd (let l = last .0 in omega arith);
+      mark-there = λ some. absurd (some refl);
+      counted = refl;
+      few = omega arith;
+      size = length-replicate 4097 false;
+      names = λ v t. absurd (clash t (unnamed 4097 v));
+      named-all = λ b l. absurd (omega arith);
+    }

@@ -1,0 +1,66 @@
+-- `formula::clauses::find` meets its contract: the invariant is `Passed`.
+use Prim.Native.Nat.{_-_}
+use mathlib.Core.Path.{ap}
+use native.Mathlib.Omega.{arith}
+use borrow.Author.Needs.{needs}
+use lib.ListN.{length, drop-of-length-le}
+use Rattle.formula.specs.Meaning.{clauses}
+use Rattle.formula.specs.Tables.{cut}
+use Rattle.formula.proofs.Lookups.{Passed, pass-none, pass-clause, stands-here, stands-nowhere, clauses-unclosed}
+use Rattle.formula.proofs.clauses.find.Statement.{statement}
+use Rattle.formula.proofs.clauses.find.Tie as tie
+
+abbrev Inv-loop : tie.InvT-loop
+Inv-loop clauses asked start₀ left₀ start left = Passed clauses asked start left
+
+abbrev μ-loop : tie.MeasureT-loop
+μ-loop clauses asked start₀ left₀ start left = length clauses - start
+
+loop-holds : tie.Need-loop-holds Inv-loop μ-loop
+loop-holds c = pass-none (c .args .clauses .now) (c .args .asked)
+
+next-zero-requires : tie.Need-next-zero-requires Inv-loop μ-loop
+next-zero-requires c κs = search needs
+
+returns : tie.Need-returns Inv-loop μ-loop
+returns c =
+    let p = c .before .before .before .loop .inv in
+    stands-nowhere p (clauses-unclosed (c .before .before .before .before .args .clauses .now) (c .before .before .before .loop .start) (c .before .next-zero .result) (c .before .next-zero .ensures) (c .if1 .taken))
+
+returns-2 : tie.Need-returns-2 Inv-loop μ-loop
+returns-2 c =
+    stands-here (c .before .before .before .before .loop .inv) (c .before .before .next-zero .result) (c .before .before .next-zero .ensures) (c .before .if1 .left) (c .if2 .taken)
+
+sub-left : tie.Need-sub-left Inv-loop μ-loop
+sub-left c = let some = c .if2 .left in omega arith
+
+add-start : tie.Need-add-start Inv-loop μ-loop
+add-start c = omega arith
+
+loop-less : tie.Need-loop-less Inv-loop μ-loop
+loop-less c = let from = c .before .before .next-zero .ensures .from in omega arith
+
+loop-again : tie.Need-loop-again Inv-loop μ-loop
+loop-again c =
+    pass-clause (c .before .before .before .before .loop .inv) (c .before .before .next-zero .result) (c .before .before .next-zero .ensures) (c .before .if1 .left) (c .if2 .left)
+
+returns-3 : tie.Need-returns-3 Inv-loop μ-loop
+unfolding clauses cut
+returns-3 c =
+    stands-nowhere (c .before .loop .inv) (ap clauses (drop-of-length-le (c .before .before .args .clauses .now) (c .loop-test .left)))
+
+pub find-spec : {M : Type 1} → statement M
+find-spec =
+    tie.close
+    (tie.spec
+    Inv-loop
+    μ-loop
+    loop-holds
+    next-zero-requires
+    returns
+    returns-2
+    sub-left
+    add-start
+    loop-less
+    loop-again
+    returns-3)

@@ -1,0 +1,129 @@
+-- `formula::prefix::check_prefix` meets its contract: the scan's invariant is `Scanned`.
+use Prim.Native.Nat.{_-_}
+use mathlib.Core.Path.{sym, _∙_, subst}
+use mathlib.Core.Logic.{inl, inr}
+use native.Mathlib.Omega.{arith}
+use borrow.Author.Needs.{needs}
+use lib.ListN.{length}
+use Rattle.formula.proofs.Scanned.{Scanned, scan-none, scan-mark, scan-close, scan-variable, fault-at-mark, fault-at-close, fault-outside, fault-named, fault-at-end, none-in-prefix}
+use Rattle.formula.proofs.prefix.check_prefix.Statement.{statement}
+use Rattle.formula.proofs.prefix.check_prefix.Tie as tie
+
+abbrev Inv-loop : tie.InvT-loop
+Inv-loop n prefix named₀ opens₀ fresh₀ mark₀ blocks₀ i₀ named opens fresh mark blocks i = Scanned n prefix i opens fresh mark blocks named
+
+abbrev μ-loop : tie.MeasureT-loop
+μ-loop n prefix named₀ opens₀ fresh₀ mark₀ blocks₀ i₀ named opens fresh mark blocks i = length prefix - i
+
+loop-holds : tie.Need-loop-holds Inv-loop μ-loop
+loop-holds c = scan-none (c .before .args .n) (c .before .args .prefix .now)
+
+mul-entry : tie.Need-mul-entry Inv-loop μ-loop
+mul-entry c = search needs
+
+shared-slice-read-entry : tie.Need-shared-slice-read-entry Inv-loop μ-loop
+shared-slice-read-entry c = search needs
+
+mark-fault-requires : tie.Need-mark-fault-requires Inv-loop μ-loop
+mark-fault-requires c κs = search needs
+
+returns : tie.Need-returns Inv-loop μ-loop
+returns c =
+    let s = c .before .before .before .before .before .loop .inv in
+    inl (fault-at-mark s (c .before .before .before .before .loop-test .taken) (c .before .mark-fault .result) (sym (s .opening-is) ∙ c .before .before .if1 .taken) (c .before .mark-fault .ensures) (c .if2 .taken))
+
+add-blocks : tie.Need-add-blocks Inv-loop μ-loop
+add-blocks c = let few = c .before .before .before .before .before .loop .inv .few in omega arith
+
+add-i : tie.Need-add-i Inv-loop μ-loop
+add-i c = omega arith
+
+loop-less : tie.Need-loop-less Inv-loop μ-loop
+loop-less c = omega arith
+
+loop-again : tie.Need-loop-again Inv-loop μ-loop
+loop-again c =
+    let s = c .before .before .before .before .before .loop .inv in
+    scan-mark s (c .before .before .before .before .loop-test .taken) (sym (s .opening-is) ∙ c .before .before .if1 .taken) (c .before .mark-fault .ensures) (c .if2 .left)
+
+returns-2 : tie.Need-returns-2 Inv-loop μ-loop
+returns-2 c =
+    let s = c .before .before .before .before .before .loop .inv in
+    inl (fault-at-close s (c .before .before .before .before .loop-test .taken) (sym (s .opening-is) ∙ c .before .before .if1 .left) (c .before .if3 .taken) (c .if4 .taken))
+
+add-i-2 : tie.Need-add-i-2 Inv-loop μ-loop
+add-i-2 c = omega arith
+
+loop-less-2 : tie.Need-loop-less-2 Inv-loop μ-loop
+loop-less-2 c = omega arith
+
+loop-again-2 : tie.Need-loop-again-2 Inv-loop μ-loop
+loop-again-2 c =
+    let s = c .before .before .before .before .before .loop .inv in
+    scan-close s (c .before .before .before .before .loop-test .taken) (sym (s .opening-is) ∙ c .before .before .if1 .left) (c .before .if3 .taken) (c .if4 .left)
+
+returns-3 : tie.Need-returns-3 Inv-loop μ-loop
+returns-3 c =
+    let s = c .before .before .before .before .before .loop .inv in
+    inl (fault-outside s (c .before .before .before .before .loop-test .taken) (sym (s .opening-is) ∙ c .before .before .if1 .left) (c .before .if3 .left) (c .if5 .taken))
+
+cast-v : tie.Need-cast-v Inv-loop μ-loop
+cast-v c = omega arith
+
+array-read-if6 : tie.Need-array-read-if6 Inv-loop μ-loop
+array-read-if6 c = let size = c .before .before .before .before .before .loop .inv .size in omega arith
+
+returns-4 : tie.Need-returns-4 Inv-loop μ-loop
+returns-4 c =
+    let s = c .before .before .before .before .before .before .loop .inv in
+    inl (fault-named s (c .before .before .before .before .before .loop-test .taken) (sym (s .opening-is) ∙ c .before .before .before .if1 .left) (c .before .before .if3 .left) (c .before .if5 .left) (c .if6 .taken))
+
+array-write-named : tie.Need-array-write-named Inv-loop μ-loop
+array-write-named c = let size = c .before .before .before .before .before .before .loop .inv .size in omega arith
+
+add-i-3 : tie.Need-add-i-3 Inv-loop μ-loop
+add-i-3 c = omega arith
+
+loop-less-3 : tie.Need-loop-less-3 Inv-loop μ-loop
+loop-less-3 c = omega arith
+
+loop-again-3 : tie.Need-loop-again-3 Inv-loop μ-loop
+loop-again-3 c =
+    let s = c .before .before .before .before .before .before .loop .inv in
+    scan-variable s (c .before .before .before .before .before .loop-test .taken) (sym (s .opening-is) ∙ c .before .before .before .if1 .left) (c .before .before .if3 .left) (c .before .if5 .left) (c .before .before .before .before .before .before .before .before .pre) (c .if6 .left)
+
+returns-5 : tie.Need-returns-5 Inv-loop μ-loop
+returns-5 c = (none-in-prefix (c .before .before .loop .inv) (c .before .loop-test .left) (c .if7 .taken), tt)
+
+returns-6 : tie.Need-returns-6 Inv-loop μ-loop
+returns-6 c = inl (fault-at-end (c .before .before .loop .inv) (c .before .loop-test .left) (c .if7 .left))
+
+pub check-prefix-spec : {M : Type 1} → statement M
+check-prefix-spec =
+    tie.close
+    (tie.spec
+    Inv-loop
+    μ-loop
+    loop-holds
+    mul-entry
+    shared-slice-read-entry
+    mark-fault-requires
+    returns
+    add-blocks
+    add-i
+    loop-less
+    loop-again
+    returns-2
+    add-i-2
+    loop-less-2
+    loop-again-2
+    returns-3
+    cast-v
+    array-read-if6
+    returns-4
+    array-write-named
+    add-i-3
+    loop-less-3
+    loop-again-3
+    returns-5
+    returns-6)

@@ -1,0 +1,5 @@
+pub mod Tables
+pub mod Meaning
+pub mod Causes
+pub mod Scan
+pub mod Lookup

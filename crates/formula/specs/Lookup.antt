@@ -1,0 +1,32 @@
+-- The clause with a given number: what the call returns, and how it is found.
+use Prim.Native.Nat.{ℕ, _<_, _≤_, _-_}
+use mathlib.Core.Path.{_≡_}
+use mathlib.Core.List.{List, []}
+use mathlib.Core.Logic.{_≢_}
+use lib.ListN.{length, getD, take, drop}
+use lib.IntN.{ℤ}
+use Rattle.terms.specs.Literals.{variableOf}
+use Rattle.terms.specs.Refusals.{FirstOf, NoneOf}
+use Rattle.formula.specs.declared.clauses.Found.{Found}
+use Rattle.formula.specs.declared.clauses.Found.the-variants.{At, Nowhere}
+use Rattle.formula.specs.Causes.{clauseOrder}
+use Rattle.formula.specs.Meaning.{clauses}
+use Rattle.formula.specs.Tables.{literalAt}
+
+-- What the clause call returns: the clause, where nothing is refused, and else an empty part.
+pub data ClausePart (n : ℕ) (ls : List ℤ) (asked : ℕ) (part : List ℤ) : Type 0 where
+  accepted : NoneOf (clauseOrder n ls asked) → part ≡ getD (clauses ls) asked [] → ClausePart n ls asked part
+  refused : (number place : ℕ) → FirstOf (clauseOrder n ls asked) number place → part ≡ [] → ClausePart n ls asked part
+
+-- z is the first entry from `start` on with a 0, or where there is none the end.
+pub record NextZero (ls : List ℤ) (start z : ℕ) : Type 0 where
+  pub from : start ≤ z
+  pub within : start ≤ length ls → z ≤ length ls
+  pub literals : (e : ℕ) → start ≤ e → e < z → variableOf (literalAt ls e) ≢ 0
+  pub closes : z < length ls → variableOf (literalAt ls z) ≡ 0
+
+-- Where the clause asked for stands.
+unfoldable pub Stands : List ℤ → ℕ → Found → Type 0
+Stands ls asked (At start end) =
+    (start ≤ end) × (end ≤ length ls) × (asked < length (clauses ls)) × (take (end - start) (drop start ls) ≡ getD (clauses ls) asked [])
+Stands ls asked Nowhere = length (clauses ls) ≤ asked

@@ -1,0 +1,88 @@
+// The clause table: its causes of refusal, scanned once from the left, and where the clause with a given number stands.
+
+use terms::Literal;
+use terms::Variable;
+use terms::Verdict;
+ghost use Prim.Native.Nat.{ℕ, _≤_, _<_};
+ghost use mathlib.Core.Path.{_≡_};
+ghost use mathlib.Core.List.{[], _∷_};
+ghost use lib.ListN.{length};
+ghost use Rattle.terms.specs.Literals.{variableOf};
+ghost use Rattle.terms.specs.Refusals.{Judged};
+ghost use Rattle.formula.specs.Tables.{literalAt};
+ghost use Rattle.formula.specs.Causes.{ClauseCause};
+ghost use Rattle.formula.specs.Lookup.{NextZero, Stands};
+
+// The variable of the literal at entry i; 0 for the 0 that closes a clause, and past the end.
+pub fn variable_at(clauses: &[i32], i: usize) -> Variable
+    ensures { λ r. ⌜ r .0 ≡ variableOf (literalAt (now (clauses .entry)) i) ⌝ }
+{
+    if i < clauses.len() {
+        Literal::new(clauses[i]).variable()
+    } else {
+        Variable::new(0)
+    }
+}
+
+// The first cause of a refusal in the clause table of a formula with n variables.
+pub fn check_clauses(n: u32, clauses: &[i32]) -> Verdict
+    ensures { λ r. ⌜ Judged (ClauseCause n (now (clauses .entry)) ∷ []) r ⌝ }
+{
+    let mut inside = false;
+    let mut i = 0;
+    while i < clauses.len() {
+        let variable = variable_at(clauses, i);
+        let number = variable.0;
+        if n < number {
+            return Verdict::Refused(10, i);
+        }
+        inside = number != 0;
+        i += 1;
+    }
+    if inside {
+        Verdict::Refused(11, i)
+    } else {
+        Verdict::Accepted
+    }
+}
+
+// The first entry from `start` on with a 0; the end of the table where there is none.
+pub fn next_zero(clauses: &[i32], start: usize) -> usize
+    ensures { λ r. ⌜ NextZero (now (clauses .entry)) start r ⌝ }
+{
+    let mut i = start;
+    while i < clauses.len() {
+        let variable = variable_at(clauses, i);
+        if variable.0 == 0 {
+            return i;
+        }
+        i += 1;
+    }
+    i
+}
+
+// Where a clause stands: its first entry, and the entry of the 0 that closes it.
+pub enum Found {
+    At { start: usize, end: usize },
+    Nowhere,
+}
+
+// Where the clause with the number `asked` stands, counted from 0.
+pub fn find(clauses: &[i32], asked: u32) -> Found
+    ensures { λ r. ⌜ Stands (now (clauses .entry)) asked r ⌝ }
+{
+    let mut start = 0;
+    let mut left = asked;
+    while start < clauses.len() {
+        let end = next_zero(clauses, start);
+        if clauses.len() <= end {
+            return Found::Nowhere;
+        }
+        if left == 0 {
+            return Found::At { start, end };
+        }
+        left -= 1;
+        start = end + 1;
+    }
+    Found::Nowhere
+}

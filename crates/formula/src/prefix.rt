@@ -1,0 +1,77 @@
+// The prefix, scanned once from the left for refusals 3 to 9.
+
+use terms::Level;
+use terms::Verdict;
+ghost use Prim.Native.Nat.{_≤_};
+ghost use mathlib.Core.List.{[], _∷_};
+ghost use Rattle.terms.specs.Refusals.{Judged};
+ghost use Rattle.formula.specs.Causes.{PrefixCause};
+ghost use Rattle.formula.specs.Scan.{MarkFault};
+
+// The first cause of a refusal in the prefix of a formula with n variables.
+// A table of the variables named so far, a row for each number up to the limit, spares every search.
+pub fn check_prefix(n: u32, prefix: &[u32]) -> Verdict
+    requires { ⌜ n ≤ 4096 ⌝ }
+    ensures { λ r. ⌜ Judged (PrefixCause n (now (prefix .entry)) ∷ []) r ⌝ }
+{
+    let mut named = [false; 4097];
+    let mut opens = true;
+    let mut fresh = false;
+    let mut mark: u32 = 0;
+    let mut blocks: u32 = 0;
+    let mut i = 0;
+    while i < prefix.len() {
+        let entry = prefix[i];
+        if opens {
+            let number = mark_fault(entry, mark, blocks);
+            if number != 0 {
+                return Verdict::Refused(number, i);
+            }
+            mark = entry;
+            blocks += 1;
+            opens = false;
+            fresh = true;
+            i += 1;
+        } else if entry == 0 {
+            if fresh {
+                return Verdict::Refused(9, i);
+            }
+            opens = true;
+            i += 1;
+        } else {
+            if n < entry {
+                return Verdict::Refused(7, i);
+            }
+            let v = entry as usize;
+            if named[v] {
+                return Verdict::Refused(8, i);
+            }
+            named[v] = true;
+            fresh = false;
+            i += 1;
+        }
+    }
+    if opens {
+        Verdict::Accepted
+    } else {
+        Verdict::Refused(3, i)
+    }
+}
+
+// What is wrong with an entry as the mark of the next block, after `blocks` of them, the last with the mark `before`; 0 where nothing is.
+fn mark_fault(entry: u32, before: u32, blocks: u32) -> u32
+    ensures { λ r. ⌜ MarkFault entry before blocks r ⌝ }
+{
+    match entry {
+        1 | 2 => {
+            if entry == before {
+                return 5;
+            }
+            if blocks == Level::MOST {
+                return 6;
+            }
+            0
+        }
+        _ => 4,
+    }
+}

@@ -1,0 +1,74 @@
+// The words of the library: variables, levels and literals, kept apart at compile time, with the limits of each, and the verdict of a call.
+
+ghost use mathlib.Core.Path.{_≡_};
+ghost use Rattle.terms.specs.Literals.{variableOf};
+
+// A variable by its number, from 1 on; 0 stands for none.
+pub struct Variable(pub u32);
+
+// A level: the number of a block, outermost 1; 0 is the level of free variables outside every block.
+pub struct Level(pub u32);
+
+// A literal as it is lent: the number of its variable, negative for the negation.
+pub struct Literal(pub i32);
+
+impl Variable {
+    // The largest variable count that a formula may have.
+    pub const MOST: u32 = 4096;
+
+    pub fn new(number: u32) -> Variable
+        ensures { λ r. ⌜ r .0 ≡ number ⌝ }
+    {
+        Variable(number)
+    }
+}
+
+impl Level {
+    // The most blocks that a prefix may have.
+    pub const MOST: u32 = 64;
+    // The most entries that the table of the levels, the prefix, may have.
+    pub const ENTRIES: usize = 8192;
+
+    pub fn new(number: u32) -> Level
+        ensures { λ r. ⌜ r .0 ≡ number ⌝ }
+    {
+        Level(number)
+    }
+}
+
+impl Literal {
+    // The most entries that a table of literals, the clause table or an added clause, may have.
+    pub const ENTRIES: usize = 16384;
+
+    pub fn new(number: i32) -> Literal
+        ensures { λ r. ⌜ r .0 ≡ number ⌝ }
+    {
+        Literal(number)
+    }
+
+    // The variable of any literal, the smallest 32-bit one included.
+    pub fn variable(self) -> Variable
+        ensures { λ r. ⌜ r .0 ≡ variableOf (self .0) ⌝ }
+    {
+        Variable(magnitude(self.0))
+    }
+}
+
+// The magnitude of any 32-bit number, with no negation that could wrap: the complement of a negative number is one less.
+fn magnitude(number: i32) -> u32
+    ensures { λ r. ⌜ r ≡ variableOf number ⌝ }
+{
+    if number < 0 {
+        let below = !number;
+        (below as u32) + 1
+    } else {
+        number as u32
+    }
+}
+
+// What a call says of what was lent to it: accepted, or the number of the refusal and its place.
+pub enum Verdict {
+    Accepted,
+    // the number of the refusal, and its place
+    Refused(u32, usize),
+}
