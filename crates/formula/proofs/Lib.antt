@@ -2,3 +2,4 @@ pub mod Scanned
 pub mod Literals
 pub mod Cuts
 pub mod Lookups
+pub mod Levelling

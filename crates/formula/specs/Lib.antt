@@ -3,3 +3,4 @@ pub mod Meaning
 pub mod Causes
 pub mod Scan
 pub mod Lookup
+pub mod Levels

@@ -1,15 +1,14 @@
 -- What a formula means: its blocks, the level and the quantifier of each variable, and its clauses (document 01, "The formula as lent").
-use Prim.Native.Nat.{ℕ, zero, suc, _<_, _≤_}
-use mathlib.Core.Path.{_≡_}
+use Prim.Native.Nat.{ℕ, suc}
 use mathlib.Core.Bool.{Bool, true, false, cond, not, _&&_}
 use mathlib.Core.List.{List, [], _∷_}
-use lib.ListN.{length, getD}
+use lib.ListN.{getD}
 use lib.Dec.{eqb, leb}
-use lib.IntN.{ℤ, natAbs}
+use lib.IntN.{ℤ}
 use Rattle.terms.specs.Literals.{variableOf}
 use Rattle.formula.specs.Tables.{cut}
 
--- the number of an entry that is no list member but its end
+-- an entry that closes a list
 abbrev pub isZero : ℕ → Bool
 isZero entry = eqb entry 0
 
@@ -34,12 +33,13 @@ abbrev pub names : List ℕ → ℕ → Bool
 names [] v = false
 names (mark ∷ variables) v = has variables v
 
--- The block of a variable: the first that names it, with its number, counted from `number` on; where none does, `free`.
-abbrev pub levelIn : List (List ℕ) → ℕ → ℕ → ℕ → ℕ
-levelIn [] number free v = free
-levelIn (block ∷ rest) number free v = cond (names block v) number (levelIn rest (suc number) free v)
+-- What the block that names v says of it, by the block's number and its mark; `found` is what is said before, where no block names v.
+-- Blocks are numbered from `number` on. (A prefix that is accepted names a variable once.)
+abbrev pub saidOf : {A : Type 0} → (ℕ → ℕ → A) → List (List ℕ) → ℕ → A → ℕ → A
+saidOf says [] number found v = found
+saidOf says (block ∷ rest) number found v = saidOf says rest (suc number) (cond (names block v) (says number (markOf block)) found) v
 
--- the mark of the first block; existential where there is none
+-- the mark of the first block, 0 where there is none
 abbrev pub firstMark : List (List ℕ) → ℕ
 firstMark [] = 0
 firstMark (block ∷ rest) = markOf block
@@ -50,16 +50,12 @@ freeLevel es = cond (eqb (firstMark (blocks es)) 1) 1 0
 
 -- the level of a variable: the number of its block, counted from 1
 unfoldable pub level : List ℕ → ℕ → ℕ
-level es v = levelIn (blocks es) 1 (freeLevel es) v
+level es v = saidOf (λ number mark. number) (blocks es) 1 (freeLevel es) v
 
--- some block with mark 2 names v
-abbrev pub universalIn : List (List ℕ) → ℕ → Bool
-universalIn [] v = false
-universalIn (block ∷ rest) v = cond (names block v) (eqb (markOf block) 2) (universalIn rest v)
-
--- a universal variable is named in a block with mark 2; every other variable from 1 to n is existential, the free ones among them
+-- a universal variable is one of a block with mark 2
 unfoldable pub isUniversal : List ℕ → ℕ → Bool
-isUniversal es v = universalIn (blocks es) v
+isUniversal es v = saidOf (λ number mark. eqb mark 2) (blocks es) 1 false v
 
+-- every other variable from 1 to n is existential, the free ones among them
 unfoldable pub isExistential : ℕ → List ℕ → ℕ → Bool
 isExistential n es v = leb 1 v && leb v n && not (isUniversal es v)

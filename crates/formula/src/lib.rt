@@ -1,6 +1,7 @@
 // The formula as lent: check, and the clause with a given number.
 
 pub mod clauses;
+pub mod levels;
 pub mod prefix;
 
 use clauses::Found;

@@ -1,9 +1,14 @@
 -- Small laws that every crate leans on.
-use Prim.Native.Nat.{ℕ, suc, _<_}
+use Prim.Native.Nat.{ℕ, suc, _+_, _<_}
 use mathlib.Core.Path.{_≡_, sym, _∙_, subst}
 use mathlib.Core.Bool.{Bool, true, false, true≢false}
+use mathlib.Core.List.{List}
 use mathlib.Core.Logic.{⊎-elim}
 use native.Mathlib.Nat.{eq-or-lt-of-le, le-of-suc-le-suc}
+use native.Mathlib.Omega.{arith}
+use borrow.Author.Count.{below-more}
+use lib.ListN.{length, getD, set}
+use lib.Seq.{getD-set-same, getD-set-other}
 
 -- what holds of every number below i, and of i, holds below the next
 pub below-suc : (P : ℕ → Type 0) (i : ℕ) → ((k : ℕ) → k < i → P k) → P i → (k : ℕ) → k < suc i → P k
@@ -12,3 +17,8 @@ below-suc P i all here k l = ⊎-elim (λ q. subst P (sym q) here) (λ lt. all k
 -- a test cannot come out both ways
 pub clash : {b : Bool} → b ≡ true → b ≡ false → ⊥
 clash yes′ no′ = true≢false (sym yes′ ∙ no′)
+
+-- a table that is x at every row below i is so below i + 1 once x is stored at i
+pub filled-more : {A : Type 0} (rows : List A) (x d : A) (i : ℕ) → i < length rows → ((k : ℕ) → k < i → getD rows k d ≡ x) → (k : ℕ) → k < i + 1 → getD (set rows i x) k d ≡ x
+filled-more rows x d i l all =
+    below-more (λ k. getD (set rows i x) k d ≡ x) i (λ k lt. getD-set-other rows i k x d (λ q. omega arith) ∙ all k lt) (getD-set-same rows i x d l)

@@ -72,3 +72,10 @@ pub enum Verdict {
     // the number of the refusal, and its place
     Refused(u32, usize),
 }
+
+// What a call says that fills a lent table: how many entries it wrote, or the number of the refusal and its place.
+pub enum Filled {
+    Count(u32),
+    // the number of the refusal, and its place
+    Refused(u32, usize),
+}

@@ -1,0 +1,168 @@
+-- Demand 3, second sentence: a clause that leaves x alone changes neither the set nor the entry points of x, nor a class below them.
+use Prim.Native.Nat.{ℕ, zero, suc, _≤_, _<_}
+use mathlib.Core.Path.{_≡_, refl, sym, _∙_, ap, subst, subst₂}
+use mathlib.Core.Bool.{true, false}
+use mathlib.Core.List.{List, List·Memᴰ}
+use mathlib.Core.Logic.{_⊎_, inl, inr, _↔_, _≢_, Iff·symm, Iff·trans, by-cases}
+use native.Mathlib.Decide.{ℕ-discrete}
+use native.Mathlib.Omega.{arith}
+use Rattle.connection.specs.Reach.{Variables, Lawful, Universal, From, Reach, here, step, Depends, Follows}
+use Rattle.connection.specs.Tables.{Table, ClassName, WellFormed, Above, itself, rise, top, EntryPoint, EntryPointOf, Member}
+use Rattle.connection.specs.Growth.{Added, before, added, LeavesAlone, Represents, Marked, FusedClass, joins, keeps, FusedParent, links, follows, Fused}
+use Rattle.connection.proofs.Reach.{reach-first, reach-ends, reach-one, reach-trans, reach-mono, from-less}
+use Rattle.connection.proofs.Climb.{Ends, above-falls, entry-ends, climb-entry, ends-one}
+use Rattle.connection.proofs.Represent.{from-class, linked-tops, class-top, parent-top}
+use Rattle.connection.proofs.Fuse.{marked-from, marked-linked, zero-universal, new-class, fused-formed, fused-represents}
+use Rattle.connection.proofs.Sets.{depends-deeper, follows-member}
+
+module _ {X : Variables} {J : ℕ → ℕ → Type 0} {C : List ℕ} {x : ℕ} (alone : LeavesAlone X J C x) where
+  -- The clause has nothing that x reaches.
+  alone-reached : {y : ℕ} → Reach J (From X (X .lev x)) x y → List·Memᴰ y C → ⊥
+  alone-reached {y} r m = go (reach-first r)
+    where
+      go : (x ≡ y) ⊎ Follows J J (From X (X .lev x)) x y → ⊥
+      go (inl e) = alone .itself (rw e m)
+      go (inr f) = alone .set y (record { existential = reach-ends (f .allowed) (f .onward) .existential; reached = r }) m
+
+  -- So from anything that x reaches, nothing more is reached.
+  alone-reach : {y z : ℕ} → Reach J (From X (X .lev x)) x y → Reach (Added J C) (From X (X .lev x)) y z → Reach J (From X (X .lev x)) y z
+  alone-reach r here = here
+  alone-reach r (step s (before j) e) = step (alone-reach r s) j e
+  alone-reach r (step s (added l m) e) = absurd (alone-reached (reach-trans r (alone-reach r s)) l)
+
+  -- The set of x stays.
+  pub alone-set : {y : ℕ} → Depends X (Added J C) x y ↔ Depends X J x y
+  alone-set = (
+    λ d. record { existential = d .existential; reached = alone-reach here (d .reached) },
+    λ d. record { existential = d .existential; reached = reach-mono (λ a b. before) (λ a e. e) (d .reached) },
+  )
+
+  -- The set of x by any first steps that are joins stays: the premise speaks of the set by all of them.
+  pub alone-follows : {S : ℕ → ℕ → Type 0} {y : ℕ} → ((z : ℕ) → S x z → J x z)
+      → Follows (Added S C) (Added J C) (From X (X .lev x)) x y ↔ Follows S J (From X (X .lev x)) x y
+  alone-follows {S} {y} starts = (
+    λ f. there f (f .starts),
+    λ f. record { first = f .first; starts = before (f .starts); allowed = f .allowed; onward = reach-mono (λ a b. before) (λ a e. e) (f .onward) },
+  )
+    where
+      there : (f : Follows (Added S C) (Added J C) (From X (X .lev x)) x y) → Added S C x (f .first) → Follows S J (From X (X .lev x)) x y
+      there f (before s) = record { first = f .first; starts = s; allowed = f .allowed; onward = alone-reach (reach-one (starts (f .first) s) (f .allowed)) (f .onward) }
+      there f (added l m) = absurd (alone .itself l)
+
+module _ {X : Variables} {J : ℕ → ℕ → Type 0} {C : List ℕ} {W W′ : Table} {x : ℕ}
+    (lawful : Lawful X) (rep : Represents X J W) (fused : Fused X W C W′) (u : Universal X x) (alone : LeavesAlone X J C x) where
+  abbrev formed : WellFormed X W
+  formed = rep .formed
+
+  abbrev formed′ : WellFormed X W′
+  formed′ = fused-formed lawful formed fused
+
+  -- What has the top of a variable in the set of x, at the first level deeper than x, is in the set.
+  set-top : {y z : ℕ} → Depends X J x y → From X (suc (X .lev x)) z → top X W (suc (X .lev x)) y ≡ top X W (suc (X .lev x)) z → Depends X J x z
+  set-top {y} {z} d f e = record {
+    existential = f .existential;
+    reached = reach-trans (d .reached) (reach-mono (λ a b j. j) (λ a g. from-less (omega arith) g) (rep .tops (suc (X .lev x)) y z (depends-deeper u d) f .1 e));
+  }
+
+  -- So are its class and, while deeper than x, the parent of a class in it.
+  set-class : {y : ℕ} → Depends X J x y → Depends X J x (W .cls y)
+  set-class {y} d = set-top d (from-class formed (depends-deeper u d)) (sym (class-top formed (suc (X .lev x)) y (d .existential)))
+
+  set-parent : {c : ℕ} → Depends X J x c → W .par c ≢ 0 → X .lev x < X .lev (W .par c) → Depends X J x (W .par c)
+  set-parent {c} d n l = set-top d (record { existential = formed .right c .parent n .name .existential; deep = l }) (parent-top formed n l)
+
+  -- No class in the set of x is marked.
+  alone-unmarked : {y : ℕ} → Depends X J x y → Marked X W C (W .cls y) → ⊥
+  alone-unmarked {y} d k =
+      let f = depends-deeper u (set-class d) in
+      let g = marked-from formed k (f .deep) in
+      alone .set (k .by) (set-top (set-class d) g (sym (linked-tops formed g f .0 (marked-linked formed k (f .deep))))) (k .listed)
+
+  -- The class row of a variable in the set of x stays.
+  pub alone-class : {y : ℕ} → Depends X J x y → W′ .cls y ≡ W .cls y
+  alone-class {y} d = go (fused .class y (d .existential))
+    where
+      go : FusedClass X W C y (W′ .cls y) → W′ .cls y ≡ W .cls y
+      go (joins k h e) = absurd (alone-unmarked d k)
+      go (keeps un e) = e
+
+  -- The parent row of a class in the set becomes the new class of its parent.
+  alone-row : {c : ℕ} → ClassName X W c → Depends X J x c → W′ .par c ≡ W′ .cls (W .par c)
+  alone-row {c} n d = go (fused .parent c n (alone-class d ∙ n .itself))
+    where
+      go : FusedParent X W C W′ c (W′ .par c) → W′ .par c ≡ W′ .cls (W .par c)
+      go (links k h) = absurd (alone-unmarked d (rw n.itself k))
+      go (follows un e) = e
+
+  alone-orphan : {c : ℕ} → ClassName X W c → Depends X J x c → W .par c ≡ 0 → W′ .par c ≡ 0
+  alone-orphan n d z = alone-row n d ∙ ap (W′ .cls) z ∙ fused .universal 0 (zero-universal lawful) .0
+
+  -- It stays, unless the parent is not deeper than x ...
+  pub alone-parent : {c : ℕ} → ClassName X W c → Depends X J x c → (W .par c ≢ 0 → X .lev x < X .lev (W .par c)) → W′ .par c ≡ W .par c
+  alone-parent {c} n d l = by-cases (ℕ-discrete (W .par c) 0) (λ z. alone-orphan n d z ∙ sym z)
+      (λ p. alone-row n d ∙ alone-class (set-parent d p (l p)) ∙ formed .right c .parent p .name .itself)
+
+  -- ... and then the new one is not either.
+  alone-stop : {c : ℕ} → ClassName X W c → Depends X J x c → (W .par c ≢ 0 → X .lev (W .par c) < suc (X .lev x)) → W′ .par c ≢ 0 → X .lev (W′ .par c) < suc (X .lev x)
+  alone-stop {c} n d s q = by-cases (ℕ-discrete (W .par c) 0) (λ z. absurd (q (alone-orphan n d z)))
+      (λ p. omega (arith, s p, ap (X .lev) (alone-row n d), new-class lawful formed fused (formed .right c .parent p .name .existential) .block))
+
+  -- So the climb from a class in the set stays, rise by rise.
+  alone-above : {e c k : ℕ} → Above W e c k → X .lev x < X .lev e → ClassName X W c → Depends X J x c → Above W′ e c k × Depends X J x e × ClassName X W e
+  alone-above itself l n d = (itself, d, n)
+  alone-above {e} (rise {c = c} {k = k} p a) l n d =
+      let deep : X .lev x < X .lev (W .par c) = omega (arith, above-falls formed a) in
+      let same = alone-parent n d (λ q. deep) in
+      let up = alone-above a l (formed .right c .parent p .name) (set-parent d p deep) in
+      (rise (λ z. p (sym same ∙ z)) (subst (λ (q : ℕ). Above W′ e q k) (sym same) (up .0)), up .1, up .2)
+
+  alone-ends : {y e k : ℕ} → Depends X J x y → EntryPoint X W x y e k → EntryPoint X W′ x y e k
+  alone-ends {y} {e} {k} d h =
+      let s = entry-ends formed .0 h in
+      let up = alone-above (s .above) (s .deep) (formed .right y .class (d .existential) .name) (set-class d) in
+      let at-class : Ends X W′ (suc (X .lev x)) (W .cls y) e k = record { above = up .0; deep = s .deep; stop = alone-stop (up .2) (up .1) (s .stop) } in
+      entry-ends formed′ .1 (subst (λ (c : ℕ). Ends X W′ (suc (X .lev x)) c e k) (sym (alone-class d)) at-class)
+
+  -- The entry point of x for a variable in its set stays, and its number of rises.
+  pub alone-entry : {y e k : ℕ} → Depends X J x y → EntryPoint X W x y e k ↔ EntryPoint X W′ x y e k
+  alone-entry {y} {e} {k} d = (alone-ends d, back)
+    where
+      back : EntryPoint X W′ x y e k → EntryPoint X W x y e k
+      back h =
+          let f = depends-deeper u d in
+          let old = climb-entry formed {x = x} y (f .existential) (f .deep) in
+          let same = ends-one formed′ (entry-ends formed′ .0 (alone-ends d old)) (entry-ends formed′ .0 h) in
+          subst₂ (EntryPoint X W x y) (same .0) (same .1) old
+
+  -- The entry points of x stay, by any first steps that are joins.
+  pub alone-entries : {S : ℕ → ℕ → Type 0} {e : ℕ} → ((z : ℕ) → S x z → J x z) → EntryPointOf X W S x e ↔ EntryPointOf X W′ (Added S C) x e
+  alone-entries {S} {e} starts = (there, λ o. back o (o .shares))
+    where
+      in-set : {y : ℕ} → S x y → X .ex y ≡ true → X .lev x < X .lev y → Depends X J x y
+      in-set {y} s ex l = record { existential = ex; reached = reach-one (starts y s) (record { existential = ex; deep = omega arith }) }
+
+      there : EntryPointOf X W S x e → EntryPointOf X W′ (Added S C) x e
+      there o = record {
+        for = o .for;
+        shares = before (o .shares);
+        existential = o .existential;
+        deeper = o .deeper;
+        rises = o .rises;
+        entry = alone-entry (in-set (o .shares) (o .existential) (o .deeper)) .0 (o .entry);
+      }
+
+      back : (o : EntryPointOf X W′ (Added S C) x e) → Added S C x (o .for) → EntryPointOf X W S x e
+      back o (before s) = record {
+        for = o .for;
+        shares = s;
+        existential = o .existential;
+        deeper = o .deeper;
+        rises = o .rises;
+        entry = alone-entry (in-set s (o .existential) (o .deeper)) .1 (o .entry);
+      }
+      back o (added l m) = absurd (alone .itself l)
+
+  -- The members at or below them stay.
+  pub alone-members : {S : ℕ → ℕ → Type 0} {y : ℕ} → ((z : ℕ) → S x z → J x z) → Member X W S x y ↔ Member X W′ (Added S C) x y
+  alone-members starts =
+      Iff·trans (Iff·symm (follows-member rep u)) (Iff·trans (Iff·symm (alone-follows alone starts)) (follows-member (fused-represents lawful formed fused rep) u))

@@ -1,0 +1,102 @@
+-- The laws of reach: transitive, simulated, monotone, symmetric, and blind to the order and repeats of the joins.
+use Prim.Native.Nat.{ℕ, suc, _≤_, _<_}
+use mathlib.Core.Path.{_≡_, refl, sym, _∙_}
+use mathlib.Core.Bool.{true, false, true≢false}
+use mathlib.Core.List.{List, [], _∷_, _++_, List·Memᴰ, List·Memᴰ·head, List·Memᴰ·tail, List·Memᴰ·append-cases, List·Memᴰ·eq-of-singleton, Memᴰ·append-left, Memᴰ·append-right, Memᴰ·cast}
+use mathlib.Core.Logic.{_⊎_, inl, inr, _↔_, _≢_}
+use native.Mathlib.Omega.{arith}
+use Rattle.connection.specs.Reach.{Variables, Universal, From, Joined, Reach, here, step, Depends, Follows}
+use Rattle.connection.specs.Growth.{Added, before, added}
+
+module _ {J : ℕ → ℕ → Type 0} {E : ℕ → Type 0} where
+  -- One step is reach.
+  pub reach-one : {v y : ℕ} → J v y → E y → Reach J E v y
+  reach-one j e = step here j e
+
+  pub reach-trans : {v y z : ℕ} → Reach J E v y → Reach J E y z → Reach J E v z
+  reach-trans r here = r
+  reach-trans r (step s j e) = step (reach-trans r s) j e
+
+  -- What is reached from what E allows is allowed.
+  pub reach-ends : {v y : ℕ} → E v → Reach J E v y → E y
+  reach-ends v here = v
+  reach-ends v (step r j e) = e
+
+  -- Symmetric, for symmetric joins and a start that may be stepped on (lemma 4.10).
+  pub reach-sym : ((a b : ℕ) → J a b → J b a) → {v y : ℕ} → E v → Reach J E v y → Reach J E y v
+  reach-sym flip v here = here
+  reach-sym flip v (step {y = y} {z = z} r j e) = reach-trans (reach-one (flip y z j) (reach-ends v r)) (reach-sym flip v r)
+
+  -- Reach is no step, or a first one and reach from there.
+  pub reach-first : {v y : ℕ} → Reach J E v y → (v ≡ y) ⊎ Follows J J E v y
+  reach-first here = inl refl
+  reach-first {v} (step {y = a} {z = b} r j e) = go (reach-first r)
+    where
+      go : (v ≡ a) ⊎ Follows J J E v a → (v ≡ b) ⊎ Follows J J E v b
+      go (inl s) = inr (record { first = b; starts = rw s j; allowed = e; onward = here })
+      go (inr f) = inr (record { first = f .first; starts = f .starts; allowed = f .allowed; onward = step (f .onward) j e })
+
+  pub follows-reach : {v y : ℕ} → Follows J J E v y → Reach J E v y
+  follows-reach f = reach-trans (reach-one (f .starts) (f .allowed)) (f .onward)
+
+module _ {J K : ℕ → ℕ → Type 0} {E F : ℕ → Type 0} where
+  -- Simulation: if each step from an allowed place can be done by K into F, then so can reach from an allowed place.
+  pub simulate : ((a b : ℕ) → E a → E b → J a b → Reach K F a b) → {v y : ℕ} → E v → Reach J E v y → Reach K F v y
+  simulate does v here = here
+  simulate does v (step {y = a} {z = b} r j e) = reach-trans (simulate does v r) (does a b (reach-ends v r) e j)
+
+  -- Monotone in the joins and in what may be stepped on, from any start.
+  pub reach-mono : ((a b : ℕ) → J a b → K a b) → ((a : ℕ) → E a → F a) → {v y : ℕ} → Reach J E v y → Reach K F v y
+  reach-mono joins steps here = here
+  reach-mono joins steps (step {y = a} {z = b} r j e) = step (reach-mono joins steps r) (joins a b j) (steps b e)
+
+-- What a level allows, a lesser level allows (corollary 4.7 is `reach-mono` with this).
+pub from-less : {X : Variables} {i j v : ℕ} → i ≤ j → From X j v → From X i v
+from-less h f = record { existential = f .existential; deep = omega arith }
+
+-- The set of a universal, by its first step: x itself is no existential.
+pub depends-follows : {X : Variables} {J : ℕ → ℕ → Type 0} {x y : ℕ} → Universal X x
+    → Depends X J x y ↔ Follows J J (From X (X .lev x)) x y
+depends-follows {X} {J} {x} {y} u = (λ d. go d (reach-first (d .reached)), λ f. record { existential = reach-ends (f .allowed) (f .onward) .existential; reached = follows-reach f })
+  where
+    go : Depends X J x y → (x ≡ y) ⊎ Follows J J (From X (X .lev x)) x y → Follows J J (From X (X .lev x)) x y
+    go d (inl e) = absurd (true≢false (sym (d .existential) ∙ (rw (← e) (u .universal))))
+    go d (inr f) = f
+
+-- Sharing a clause is symmetric.
+pub joined-sym : {cs : List (List ℕ)} (a b : ℕ) → Joined cs a b → Joined cs b a
+joined-sym a b j = record { clause = j .clause; listed = j .listed; left = j .right; right = j .left }
+
+-- Every clause of the one list has its variables in some clause of the other.
+abbrev pub Within : List (List ℕ) → List (List ℕ) → Type 0
+Within cs ds = (c : List ℕ) → List·Memᴰ c cs → (d : List ℕ) × List·Memᴰ d ds × ((v : ℕ) → List·Memᴰ v c → List·Memᴰ v d)
+
+pub joined-within : {cs ds : List (List ℕ)} → Within cs ds → (a b : ℕ) → Joined cs a b → Joined ds a b
+joined-within w a b j =
+    let to = w (j .clause) (j .listed) in
+    record { clause = to .0; listed = to .1; left = to .2 a (j .left); right = to .2 b (j .right) }
+
+-- Neither the order nor repeats matter, of clauses in the list or of variables in a clause.
+pub reach-same : {cs ds : List (List ℕ)} {E : ℕ → Type 0} {v y : ℕ} → Within cs ds → Within ds cs
+    → Reach (Joined cs) E v y ↔ Reach (Joined ds) E v y
+reach-same to back = (reach-mono (joined-within to) (λ a e. e), reach-mono (joined-within back) (λ a e. e))
+
+-- A list with the same clauses, in any order and number, is within.
+pub within-members : {cs ds : List (List ℕ)} → ((c : List ℕ) → List·Memᴰ c cs → List·Memᴰ c ds) → Within cs ds
+within-members h c m = (c, h c m, λ v l. l)
+
+-- A clause at the end of the list is a clause added.
+pub joined-added : {cs : List (List ℕ)} {C : List ℕ} (a b : ℕ) → Joined (cs ++ (C ∷ [])) a b ↔ Added (Joined cs) C a b
+joined-added {cs} {C} a b = (λ j. go j (List·Memᴰ·append-cases cs (j .listed)), back)
+  where
+    go : (j : Joined (cs ++ (C ∷ [])) a b) → List·Memᴰ (j .clause) cs ⊎ List·Memᴰ (j .clause) (C ∷ []) → Added (Joined cs) C a b
+    go j (inl m) = before (record { clause = j .clause; listed = m; left = j .left; right = j .right })
+    go j (inr m) = let e = List·Memᴰ·eq-of-singleton m in added (rw e at j.left) (rw e at j.right)
+
+    back : Added (Joined cs) C a b → Joined (cs ++ (C ∷ [])) a b
+    back (before j) = record { clause = j .clause; listed = Memᴰ·append-left (C ∷ []) (j .listed); left = j .left; right = j .right }
+    back (added l r) = record { clause = C; listed = Memᴰ·append-right cs (List·Memᴰ·head refl); left = l; right = r }
+
+pub added-sym : {J : ℕ → ℕ → Type 0} {C : List ℕ} → ((a b : ℕ) → J a b → J b a) → (a b : ℕ) → Added J C a b → Added J C b a
+added-sym flip a b (before j) = before (flip a b j)
+added-sym flip a b (added l r) = added r l

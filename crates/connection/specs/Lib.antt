@@ -1,0 +1,6 @@
+-- The definitions of connection, in reading order: reach, tables, the forest, growth, and the forms that compute.
+pub mod Reach
+pub mod Tables
+pub mod Forest
+pub mod Growth
+pub mod Compute

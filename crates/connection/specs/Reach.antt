@@ -1,0 +1,50 @@
+-- Steps, reach and the set of a variable: document 000, definitions 4.1 and 4.4, and document 01, "Connection".
+use Prim.Native.Nat.{ℕ, _≤_}
+use mathlib.Core.Path.{_≡_}
+use mathlib.Core.Bool.{Bool, true, false}
+use mathlib.Core.List.{List, List·Memᴰ}
+use mathlib.Core.Logic.{_≢_}
+
+-- The variables of a formula: how many, the block number of each, and which are existential.
+pub record Variables : Type 0 where
+  pub count : ℕ
+  pub lev : ℕ → ℕ
+  pub ex : ℕ → Bool
+
+-- An existential is one of the variables 1 to count.
+pub record Lawful (X : Variables) : Type 0 where
+  pub within : (v : ℕ) → X .ex v ≡ true → (1 ≤ v) × (v ≤ X .count)
+
+-- x is universal, and since a block has one quantifier, no existential stands in its block.
+pub record Universal (X : Variables) (x : ℕ) : Type 0 where
+  pub universal : X .ex x ≡ false
+  pub alone : (y : ℕ) → X .ex y ≡ true → X .lev y ≢ X .lev x
+
+-- The existentials of block i or deeper (definition 4.1).
+pub record From (X : Variables) (i v : ℕ) : Type 0 where
+  pub existential : X .ex v ≡ true
+  pub deep : i ≤ X .lev v
+
+-- One clause has both. A clause counts by its variables, in either sign; which clauses connect is the list's affair.
+pub record Joined (clauses : List (List ℕ)) (v y : ℕ) : Type 0 where
+  pub clause : List ℕ
+  pub listed : List·Memᴰ clause clauses
+  pub left : List·Memᴰ v clause
+  pub right : List·Memᴰ y clause
+
+-- Reach: any number of steps, none included. A step goes along J and may end only on what E allows (definition 4.4).
+pub data Reach (J : ℕ → ℕ → Type 0) (E : ℕ → Type 0) (v : ℕ) : ℕ → Type 0 where
+  here : Reach J E v v
+  step : {y z : ℕ} → Reach J E v y → J y z → E z → Reach J E v z
+
+-- The set of a universal x: all existentials reached from x at the level of its block (theorem 4.20).
+pub record Depends (X : Variables) (J : ℕ → ℕ → Type 0) (x y : ℕ) : Type 0 where
+  pub existential : X .ex y ≡ true
+  pub reached : Reach J (From X (X .lev x)) x y
+
+-- The same by its first step, which may go along joins of its own: S for the first, J for every further one.
+pub record Follows (S J : ℕ → ℕ → Type 0) (E : ℕ → Type 0) (x y : ℕ) : Type 0 where
+  pub first : ℕ
+  pub starts : S x first
+  pub allowed : E first
+  pub onward : Reach J E first y

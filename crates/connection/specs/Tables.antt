@@ -1,0 +1,109 @@
+-- Forest tables, by themselves: well formed, the chain of parents, the climb, entry points, members (document 01, "Forest tables").
+use Prim.Native.Nat.{ℕ, zero, suc, _+_, _≤_, _<_}
+use mathlib.Core.Path.{_≡_}
+use mathlib.Core.Bool.{Bool, true, false, cond, _||_}
+use mathlib.Core.List.{List, [], _∷_, _++_}
+use mathlib.Core.Logic.{_≢_}
+use lib.ListN.{getD}
+use lib.Dec.{eqb, ltb}
+use Rattle.connection.specs.Reach.{Variables}
+
+-- A forest table: the class name and the parent of each variable, 0 for none.
+pub record Table : Type 0 where
+  pub cls : ℕ → ℕ
+  pub par : ℕ → ℕ
+
+-- What a lent list of rows says of v: row v - 1, and 0 for a variable outside 1 to n, so that rows past n are not read.
+unfoldable pub row : ℕ → List ℕ → ℕ → ℕ
+row n rows zero = 0
+row n rows (suc v) = cond (ltb v n) (getD rows v 0) 0
+
+-- The table of two lent lists of rows.
+unfoldable pub lent : Variables → List ℕ → List ℕ → Table
+lent X classes parents = record { cls = row (X .count) classes; par = row (X .count) parents }
+
+-- c is a class name: an existential that names itself.
+pub record ClassName (X : Variables) (W : Table) (c : ℕ) : Type 0 where
+  pub existential : X .ex c ≡ true
+  pub itself : W .cls c ≡ c
+
+-- A class row that is right: the name is at most v, is a class name, and is of v's block.
+pub record ClassRow (X : Variables) (W : Table) (v : ℕ) : Type 0 where
+  pub most : W .cls v ≤ v
+  pub name : ClassName X W (W .cls v)
+  pub block : X .lev (W .cls v) ≡ X .lev v
+
+-- A parent that is right: a class name of a lesser block, and only a class name has one.
+pub record ParentRow (X : Variables) (W : Table) (v : ℕ) : Type 0 where
+  pub child : ClassName X W v
+  pub name : ClassName X W (W .par v)
+  pub less : X .lev (W .par v) < X .lev v
+
+-- v's rows are right: 0 and 0 for a universal; a right class row for an existential; the parent 0 or right.
+pub record Row (X : Variables) (W : Table) (v : ℕ) : Type 0 where
+  pub universal : X .ex v ≡ false → (W .cls v ≡ 0) × (W .par v ≡ 0)
+  pub class : X .ex v ≡ true → ClassRow X W v
+  pub parent : W .par v ≢ 0 → ParentRow X W v
+
+-- Well formed: every row is right. (Outside 1 to count nothing is existential and both rows read 0.)
+pub record WellFormed (X : Variables) (W : Table) : Type 0 where
+  pub right : (v : ℕ) → Row X W v
+
+-- p is k rises above c: from c, from parent to parent, k classes are passed up to p, c itself not counted.
+pub data Above (W : Table) (p : ℕ) : ℕ → ℕ → Type 0 where
+  itself : Above W p p 0
+  rise : {c k : ℕ} → W .par c ≢ 0 → Above W p (W .par c) k → Above W p c (suc k)
+
+-- e is the entry point of x for y, with its number of rises: of the class of y and those above it, the least deep that is deeper than x.
+pub record EntryPoint (X : Variables) (W : Table) (x y e k : ℕ) : Type 0 where
+  pub above : Above W e (W .cls y) k
+  pub deeper : X .lev x < X .lev e
+  pub least : (p n : ℕ) → Above W p (W .cls y) n → X .lev x < X .lev p → X .lev e ≤ X .lev p
+
+-- e is an entry point of x: the one for some existential y deeper than x that shares a clause with x (S says which share).
+pub record EntryPointOf (X : Variables) (W : Table) (S : ℕ → ℕ → Type 0) (x e : ℕ) : Type 0 where
+  pub for : ℕ
+  pub shares : S x for
+  pub existential : X .ex for ≡ true
+  pub deeper : X .lev x < X .lev for
+  pub rises : ℕ
+  pub entry : EntryPoint X W x for e rises
+
+-- y is in the set of x by the tables as lent: a member of a class at or below an entry point of x.
+pub record Member (X : Variables) (W : Table) (S : ℕ → ℕ → Type 0) (x y : ℕ) : Type 0 where
+  pub existential : X .ex y ≡ true
+  pub entry : ℕ
+  pub entered : EntryPointOf X W S x entry
+  pub rises : ℕ
+  pub below : Above W entry (W .cls y) rises
+
+-- The search: from class c with r rises behind it, rise while the parent is not 0 and stands in block i or deeper.
+-- A class and a number of rises.
+pub record Climbed : Type 0 where
+  pub top : ℕ
+  pub rises : ℕ
+
+unfoldable pub climb-by : Variables → Table → ℕ → ℕ → ℕ → ℕ → Climbed
+climb-by X W i zero c r = record { top = c; rises = r }
+climb-by X W i (suc fuel) c r =
+    let up = climb-by X W i fuel (W .par c) (r + 1) in
+    cond (eqb (W .par c) 0 || ltb (X .lev (W .par c)) i) (record { top = c; rises = r }) up
+
+-- Each rise goes to a lesser block, so the block number of c is fuel enough.
+unfoldable pub climb : Variables → Table → ℕ → ℕ → ℕ → Climbed
+climb X W i c r = climb-by X W i (X .lev c) c r
+
+-- Where the search from v's class ends, at level i.
+unfoldable pub top : Variables → Table → ℕ → ℕ → ℕ
+top X W i v = climb X W i (W .cls v) 0 .top
+
+-- The joins that a table stands for: {v, class name of v} for each existential, {class, parent} for each class with one.
+unfoldable pub joins-of : Variables → Table → ℕ → List (List ℕ)
+joins-of X W v = cond (X .ex v) ((v ∷ W .cls v ∷ []) ∷ []) [] ++ cond (eqb (W .par v) 0) [] ((v ∷ W .par v ∷ []) ∷ [])
+
+unfoldable pub joins-to : Variables → Table → ℕ → List (List ℕ)
+joins-to X W zero = []
+joins-to X W (suc v) = joins-to X W v ++ joins-of X W (suc v)
+
+unfoldable pub joins : Variables → Table → List (List ℕ)
+joins X W = joins-to X W (X .count)

@@ -1,0 +1,1 @@
+// Lent forest tables: whether they are well formed, entry points and sets.
