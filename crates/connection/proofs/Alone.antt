@@ -1,18 +1,20 @@
 -- Demand 3, second sentence: a clause that leaves x alone changes neither the set nor the entry points of x, nor a class below them.
-use Prim.Native.Nat.{ℕ, zero, suc, _≤_, _<_}
-use mathlib.Core.Path.{_≡_, refl, sym, _∙_, ap, subst, subst₂}
-use mathlib.Core.Bool.{true, false}
-use mathlib.Core.List.{List, List·Memᴰ}
+use Prim.Native.Nat.{ℕ, suc, _<_}
+use mathlib.Core.Path.{_≡_, sym, _∙_, ap, subst, subst₂}
+use mathlib.Core.Bool.{true}
+use mathlib.Core.List.{List, [], _∷_, _++_, List·Memᴰ}
 use mathlib.Core.Logic.{_⊎_, inl, inr, _↔_, _≢_, Iff·symm, Iff·trans, by-cases}
 use native.Mathlib.Decide.{ℕ-discrete}
 use native.Mathlib.Omega.{arith}
-use Rattle.connection.specs.Reach.{Variables, Lawful, Universal, From, Reach, here, step, Depends, Follows}
-use Rattle.connection.specs.Tables.{Table, ClassName, WellFormed, Above, itself, rise, top, EntryPoint, EntryPointOf, Member}
-use Rattle.connection.specs.Growth.{Added, before, added, LeavesAlone, Represents, Marked, FusedClass, joins, keeps, FusedParent, links, follows, Fused}
-use Rattle.connection.proofs.Reach.{reach-first, reach-ends, reach-one, reach-trans, reach-mono, from-less}
-use Rattle.connection.proofs.Climb.{Ends, above-falls, entry-ends, climb-entry, ends-one}
-use Rattle.connection.proofs.Represent.{from-class, linked-tops, class-top, parent-top}
-use Rattle.connection.proofs.Fuse.{marked-from, marked-linked, zero-universal, new-class, fused-formed, fused-represents}
+use Rattle.connection.specs.Reach.{Variables, Lawful, Universal, From, Joined, Reach, here, step, Depends, Follows}
+use Rattle.connection.specs.Tables.{Table, ClassName, WellFormed, Above, start, rise, top, EntryPoint, EntryPointOf, Member}
+use Rattle.connection.specs.Forest.{Forest}
+use Rattle.connection.specs.Growth.{Added, before, added, LeavesAlone, Represents, Marked, FusedClass, merged, kept, FusedParent, chained, carried, Fused}
+use Rattle.connection.proofs.Reach.{reach-first, reach-ends, reach-one, reach-trans, reach-along, reach-level, allow, joined-added}
+use Rattle.connection.proofs.Climb.{Ends, above-falls, entry-ends, climb-entry, entry-one}
+use Rattle.connection.proofs.Represent.{from-class, class-top, parent-top}
+use Rattle.connection.proofs.Fuse.{marked-least, zero-universal, new-class, fused-formed, fused-represents}
+use Rattle.connection.proofs.Growth.{forest-is, forest-fused}
 use Rattle.connection.proofs.Sets.{depends-deeper, follows-member}
 
 module _ {X : Variables} {J : ℕ → ℕ → Type 0} {C : List ℕ} {x : ℕ} (alone : LeavesAlone X J C x) where
@@ -34,7 +36,7 @@ module _ {X : Variables} {J : ℕ → ℕ → Type 0} {C : List ℕ} {x : ℕ} (
   pub alone-set : {y : ℕ} → Depends X (Added J C) x y ↔ Depends X J x y
   alone-set = (
     λ d. record { existential = d .existential; reached = alone-reach here (d .reached) },
-    λ d. record { existential = d .existential; reached = reach-mono (λ a b. before) (λ a e. e) (d .reached) },
+    λ d. record { existential = d .existential; reached = reach-along (λ a b. before) (d .reached) },
   )
 
   -- The set of x by any first steps that are joins stays: the premise speaks of the set by all of them.
@@ -42,7 +44,7 @@ module _ {X : Variables} {J : ℕ → ℕ → Type 0} {C : List ℕ} {x : ℕ} (
       → Follows (Added S C) (Added J C) (From X (X .lev x)) x y ↔ Follows S J (From X (X .lev x)) x y
   alone-follows {S} {y} starts = (
     λ f. there f (f .starts),
-    λ f. record { first = f .first; starts = before (f .starts); allowed = f .allowed; onward = reach-mono (λ a b. before) (λ a e. e) (f .onward) },
+    λ f. record { first = f .first; starts = before (f .starts); allowed = f .allowed; onward = reach-along (λ a b. before) (f .onward) },
   )
     where
       there : (f : Follows (Added S C) (Added J C) (From X (X .lev x)) x y) → Added S C x (f .first) → Follows S J (From X (X .lev x)) x y
@@ -51,6 +53,7 @@ module _ {X : Variables} {J : ℕ → ℕ → Type 0} {C : List ℕ} {x : ℕ} (
 
 module _ {X : Variables} {J : ℕ → ℕ → Type 0} {C : List ℕ} {W W′ : Table} {x : ℕ}
     (lawful : Lawful X) (rep : Represents X J W) (fused : Fused X W C W′) (u : Universal X x) (alone : LeavesAlone X J C x) where
+  -- The two tables are well formed.
   abbrev formed : WellFormed X W
   formed = rep .formed
 
@@ -61,39 +64,47 @@ module _ {X : Variables} {J : ℕ → ℕ → Type 0} {C : List ℕ} {W W′ : T
   set-top : {y z : ℕ} → Depends X J x y → From X (suc (X .lev x)) z → top X W (suc (X .lev x)) y ≡ top X W (suc (X .lev x)) z → Depends X J x z
   set-top {y} {z} d f e = record {
     existential = f .existential;
-    reached = reach-trans (d .reached) (reach-mono (λ a b j. j) (λ a g. from-less (omega arith) g) (rep .tops (suc (X .lev x)) y z (depends-deeper u d) f .1 e));
+    reached = reach-trans (d .reached) (reach-level (omega arith) (rep .tops (suc (X .lev x)) y z (depends-deeper u d) f .1 e));
   }
 
-  -- So are its class and, while deeper than x, the parent of a class in it.
+  -- So is its class ...
   set-class : {y : ℕ} → Depends X J x y → Depends X J x (W .cls y)
   set-class {y} d = set-top d (from-class formed (depends-deeper u d)) (sym (class-top formed (suc (X .lev x)) y (d .existential)))
 
+  -- ... and, while deeper than x, the parent of a class in it.
   set-parent : {c : ℕ} → Depends X J x c → W .par c ≢ 0 → X .lev x < X .lev (W .par c) → Depends X J x (W .par c)
-  set-parent {c} d n l = set-top d (record { existential = formed .right c .parent n .name .existential; deep = l }) (parent-top formed n l)
+  set-parent {c} d n l = set-top d (allow (formed .right c .parent n .name .existential) l) (parent-top formed n l)
 
   -- No class in the set of x is marked.
-  alone-unmarked : {y : ℕ} → Depends X J x y → Marked X W C (W .cls y) → ⊥
-  alone-unmarked {y} d k =
-      let f = depends-deeper u (set-class d) in
-      let g = marked-from formed k (f .deep) in
-      alone .set (k .by) (set-top (set-class d) g (sym (linked-tops formed g f .0 (marked-linked formed k (f .deep))))) (k .listed)
+  alone-unmarked : {m : ℕ} → Marked X W C m → Depends X J x m → ⊥
+  alone-unmarked = marked-least (λ m. Depends X J x m → ⊥) class parent
+    where
+      class : (e : ℕ) → List·Memᴰ e C → X .ex e ≡ true → Depends X J x (W .cls e) → ⊥
+      class e l ex d = alone .set e (set-top d (allow ex (omega (arith, depends-deeper u d .deep, formed .right e .class ex .block))) (class-top formed (suc (X .lev x)) e ex)) l
+
+      parent : (m : ℕ) → (Depends X J x m → ⊥) → W .par m ≢ 0 → Depends X J x (W .par m) → ⊥
+      parent m un n d =
+          let r = formed .right m .parent n in
+          let l = depends-deeper u d .deep in
+          un (set-top d (allow (r .child .existential) (omega (arith, r .less))) (sym (parent-top formed n l)))
 
   -- The class row of a variable in the set of x stays.
   pub alone-class : {y : ℕ} → Depends X J x y → W′ .cls y ≡ W .cls y
   alone-class {y} d = go (fused .class y (d .existential))
     where
       go : FusedClass X W C y (W′ .cls y) → W′ .cls y ≡ W .cls y
-      go (joins k h e) = absurd (alone-unmarked d k)
-      go (keeps un e) = e
+      go (merged k h e) = absurd (alone-unmarked k (set-class d))
+      go (kept un e) = e
 
   -- The parent row of a class in the set becomes the new class of its parent.
   alone-row : {c : ℕ} → ClassName X W c → Depends X J x c → W′ .par c ≡ W′ .cls (W .par c)
   alone-row {c} n d = go (fused .parent c n (alone-class d ∙ n .itself))
     where
       go : FusedParent X W C W′ c (W′ .par c) → W′ .par c ≡ W′ .cls (W .par c)
-      go (links k h) = absurd (alone-unmarked d (rw n.itself k))
-      go (follows un e) = e
+      go (chained k h) = absurd (alone-unmarked k d)
+      go (carried un e) = e
 
+  -- A class in the set with no parent gets none.
   alone-orphan : {c : ℕ} → ClassName X W c → Depends X J x c → W .par c ≡ 0 → W′ .par c ≡ 0
   alone-orphan n d z = alone-row n d ∙ ap (W′ .cls) z ∙ fused .universal 0 (zero-universal lawful) .0
 
@@ -109,13 +120,14 @@ module _ {X : Variables} {J : ℕ → ℕ → Type 0} {C : List ℕ} {W W′ : T
 
   -- So the climb from a class in the set stays, rise by rise.
   alone-above : {e c k : ℕ} → Above W e c k → X .lev x < X .lev e → ClassName X W c → Depends X J x c → Above W′ e c k × Depends X J x e × ClassName X W e
-  alone-above itself l n d = (itself, d, n)
+  alone-above start l n d = (start, d, n)
   alone-above {e} (rise {c = c} {k = k} p a) l n d =
       let deep : X .lev x < X .lev (W .par c) = omega (arith, above-falls formed a) in
       let same = alone-parent n d (λ q. deep) in
       let up = alone-above a l (formed .right c .parent p .name) (set-parent d p deep) in
       (rise (λ z. p (sym same ∙ z)) (subst (λ (q : ℕ). Above W′ e q k) (sym same) (up .0)), up .1, up .2)
 
+  -- With it the entry point.
   alone-ends : {y e k : ℕ} → Depends X J x y → EntryPoint X W x y e k → EntryPoint X W′ x y e k
   alone-ends {y} {e} {k} d h =
       let s = entry-ends formed .0 h in
@@ -131,7 +143,7 @@ module _ {X : Variables} {J : ℕ → ℕ → Type 0} {C : List ℕ} {W W′ : T
       back h =
           let f = depends-deeper u d in
           let old = climb-entry formed {x = x} y (f .existential) (f .deep) in
-          let same = ends-one formed′ (entry-ends formed′ .0 (alone-ends d old)) (entry-ends formed′ .0 h) in
+          let same = entry-one formed′ (alone-ends d old) h in
           subst₂ (EntryPoint X W x y) (same .0) (same .1) old
 
   -- The entry points of x stay, by any first steps that are joins.
@@ -139,7 +151,7 @@ module _ {X : Variables} {J : ℕ → ℕ → Type 0} {C : List ℕ} {W W′ : T
   alone-entries {S} {e} starts = (there, λ o. back o (o .shares))
     where
       in-set : {y : ℕ} → S x y → X .ex y ≡ true → X .lev x < X .lev y → Depends X J x y
-      in-set {y} s ex l = record { existential = ex; reached = reach-one (starts y s) (record { existential = ex; deep = omega arith }) }
+      in-set {y} s ex l = record { existential = ex; reached = reach-one (starts y s) (allow ex (omega arith)) }
 
       there : EntryPointOf X W S x e → EntryPointOf X W′ (Added S C) x e
       there o = record {
@@ -166,3 +178,26 @@ module _ {X : Variables} {J : ℕ → ℕ → Type 0} {C : List ℕ} {W W′ : T
   pub alone-members : {S : ℕ → ℕ → Type 0} {y : ℕ} → ((z : ℕ) → S x z → J x z) → Member X W S x y ↔ Member X W′ (Added S C) x y
   alone-members starts =
       Iff·trans (Iff·symm (follows-member rep u)) (Iff·trans (Iff·symm (alone-follows alone starts)) (follows-member (fused-represents lawful formed fused rep) u))
+
+-- The same of lists: the clause stands last in the longer one.
+pub set-stays : {X : Variables} {cs : List (List ℕ)} {C : List ℕ} {x y : ℕ} → LeavesAlone X (Joined cs) C x
+    → Depends X (Joined cs) x y ↔ Depends X (Joined (cs ++ (C ∷ []))) x y
+set-stays {X} {cs} {C} {x} {y} alone = (
+  λ d. longer (alone-set alone .1 d),
+  λ d. alone-set alone .0 (record { existential = d .existential; reached = reach-along (λ a b. joined-added a b .0) (d .reached) }),
+)
+  where
+    longer : Depends X (Added (Joined cs) C) x y → Depends X (Joined (cs ++ (C ∷ []))) x y
+    longer d = record { existential = d .existential; reached = reach-along (λ a b. joined-added a b .1) (d .reached) }
+
+-- Entry points by more first steps are more.
+entries-along : {X : Variables} {W : Table} {S T : ℕ → ℕ → Type 0} {x e : ℕ} → ((z : ℕ) → S x z → T x z) → EntryPointOf X W S x e → EntryPointOf X W T x e
+entries-along more o = record { for = o .for; shares = more (o .for) (o .shares); existential = o .existential; deeper = o .deeper; rises = o .rises; entry = o .entry }
+
+-- The entry points of x by the forest of the longer list are those by the forest of the shorter one.
+pub entries-stay : {X : Variables} {cs : List (List ℕ)} {C : List ℕ} {W W′ : Table} {x e : ℕ} → Lawful X
+    → Forest X (Joined cs) W → Forest X (Joined (cs ++ (C ∷ []))) W′ → Universal X x → LeavesAlone X (Joined cs) C x
+    → EntryPointOf X W (Joined cs) x e ↔ EntryPointOf X W′ (Joined (cs ++ (C ∷ []))) x e
+entries-stay {x = x} lawful f g u alone =
+    let same = alone-entries lawful (forest-is lawful .0 f) (forest-fused lawful f g) u alone (λ z s. s) in
+    (λ o. entries-along (λ z. joined-added x z .1) (same .0 o), λ o. same .1 (entries-along (λ z. joined-added x z .0) o))

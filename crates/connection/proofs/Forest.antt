@@ -1,18 +1,18 @@
 -- The forest is one, and a table that represents joins is their forest.
-use Prim.Native.Nat.{ℕ, zero, suc, _+_, _≤_, _<_}
-use mathlib.Core.Path.{_≡_, refl, sym, _∙_, ap, subst, fun-ext}
+use Prim.Native.Nat.{ℕ, _≤_, _<_}
+use mathlib.Core.Path.{_≡_, refl, sym, _∙_, ap, subst}
 use mathlib.Core.Bool.{Bool, true, false}
 use mathlib.Core.Logic.{_↔_, _≢_, Iff·trans, Iff·symm, by-cases}
 use native.Mathlib.Decide.{ℕ-discrete, decLt}
 use native.Mathlib.Nat.{le-antisymm}
 use native.Mathlib.Omega.{arith}
 use Rattle.connection.specs.Reach.{Variables, From, Reach}
-use Rattle.connection.specs.Tables.{Table, ClassName, WellFormed, itself, top}
-use Rattle.connection.specs.Forest.{OneClass, Names, ClassAbove, Parent, none, deepest, Forest}
+use Rattle.connection.specs.Tables.{Table, ClassName, start, top}
+use Rattle.connection.specs.Forest.{Names, ClassAbove, Parent, none, deepest, Forest}
 use Rattle.connection.specs.Growth.{Represents}
-use Rattle.connection.proofs.Reach.{reach-trans, reach-sym}
-use Rattle.connection.proofs.Climb.{Ends, top-class}
-use Rattle.connection.proofs.Represent.{from-class, parent-top, class-top, own-top}
+use Rattle.connection.proofs.Reach.{Symmetric, allow, reach-trans, reach-sym}
+use Rattle.connection.proofs.Climb.{top-class}
+use Rattle.connection.proofs.Represent.{parent-top, class-top, own-top}
 
 module _ {X : Variables} {J : ℕ → ℕ → Type 0} where
   -- A class has one name.
@@ -20,12 +20,13 @@ module _ {X : Variables} {J : ℕ → ℕ → Type 0} where
   names-one {c} {d} m n = le-antisymm (m .lowest d (n .member)) (n .lowest c (m .member))
 
   -- Of two classes of one block above the same class, each reaches the other: they are one class.
-  above-one : ((a b : ℕ) → J a b → J b a) → {p q c : ℕ} → ClassAbove X J p c → ClassAbove X J q c → X .lev p ≡ X .lev q → q ≤ p
+  above-one : Symmetric J → {p q c : ℕ} → ClassAbove X J p c → ClassAbove X J q c → X .lev p ≡ X .lev q → q ≤ p
   above-one flip {p} {q} {c} a b l =
-      let back : Reach J (From X (X .lev q)) c q = reach-sym flip (record { existential = b .class .member .left; deep = omega arith }) (b .reached) in
+      let back : Reach J (From X (X .lev q)) c q = reach-sym flip (allow (b .class .member .left) (omega arith)) (b .reached) in
       b .class .lowest p (record { left = a .class .member .left; right = b .class .member .left; block = l; reached = reach-trans (a .reached) (rw l back) })
 
-  parent-one : ((a b : ℕ) → J a b → J b a) → {c p q : ℕ} → Parent X J c p → Parent X J c q → p ≡ q
+  -- A class has one parent.
+  parent-one : Symmetric J → {c p q : ℕ} → Parent X J c p → Parent X J c q → p ≡ q
   parent-one flip (none e n) (none e′ n′) = e ∙ sym e′
   parent-one flip {p = p} {q = q} (none e n) (deepest a m) = absurd (n q a)
   parent-one flip {p = p} {q = q} (deepest a m) (none e n) = absurd (n p a)
@@ -34,7 +35,7 @@ module _ {X : Variables} {J : ℕ → ℕ → Type 0} where
       le-antisymm (above-one flip b a (sym l)) (above-one flip a b l)
 
   -- Two forests of the same joins agree at every row.
-  pub forest-one : ((a b : ℕ) → J a b → J b a) → {W W′ : Table} → Forest X J W → Forest X J W′
+  pub forest-one : Symmetric J → {W W′ : Table} → Forest X J W → Forest X J W′
       → (v : ℕ) → (W .cls v ≡ W′ .cls v) × (W .par v ≡ W′ .par v)
   forest-one flip {W} {W′} f g v = go (X .ex v) refl
     where
@@ -52,7 +53,7 @@ module _ {X : Variables} {J : ℕ → ℕ → Type 0} where
 
   module _ {W : Table} (rep : Represents X J W) where
     -- A class row names the class, by reach.
-    represents-class : (v : ℕ) → X .ex v ≡ true → Names X J (W .cls v) v
+    pub represents-class : (v : ℕ) → X .ex v ≡ true → Names X J (W .cls v) v
     represents-class v e =
         let formed = rep .formed in
         let r = formed .right v .class e in
@@ -61,11 +62,11 @@ module _ {X : Variables} {J : ℕ → ℕ → Type 0} where
             left = r .name .existential;
             right = e;
             block = r .block;
-            reached = rep .tops (X .lev (W .cls v)) (W .cls v) v (record { existential = r .name .existential; deep = omega arith })
-                (record { existential = e; deep = omega (arith, r .block) }) .1 (class-top formed (X .lev (W .cls v)) v e);
+            reached = rep .tops (X .lev (W .cls v)) (W .cls v) v (allow (r .name .existential) (omega arith))
+                (allow e (omega (arith, r .block))) .1 (class-top formed (X .lev (W .cls v)) v e);
           };
           lowest = λ u o.
-              let same : W .cls u ≡ W .cls v = sym (own-top formed u (o .left) refl) ∙ rep .tops (X .lev u) u v (record { existential = o .left; deep = omega arith }) (record { existential = e; deep = omega (arith, o .block) }) .0 (o .reached) ∙ own-top formed v e (o .block) in
+              let same : W .cls u ≡ W .cls v = sym (own-top formed u (o .left) refl) ∙ rep .tops (X .lev u) u v (allow (o .left) (omega arith)) (allow e (omega (arith, o .block))) .0 (o .reached) ∙ own-top formed v e (o .block) in
               omega (arith, formed .right u .class (o .left) .most);
         }
 
@@ -81,9 +82,9 @@ module _ {X : Variables} {J : ℕ → ℕ → Type 0} where
     not-above {q} {c} n a s =
         let formed = rep .formed in
         let eq = a .class .member .left in
-        let here : top X W (X .lev q) c ≡ c = top-class formed n (record { above = itself; deep = omega (arith, a .less); stop = s }) in
+        let here : top X W (X .lev q) c ≡ c = top-class formed n (record { above = start; deep = omega (arith, a .less); stop = s }) in
         let there : top X W (X .lev q) q ≡ q = own-top formed q eq refl ∙ represents-name .0 (a .class) .itself in
-        let same : top X W (X .lev q) q ≡ top X W (X .lev q) c = rep .tops (X .lev q) q c (record { existential = eq; deep = omega arith }) (record { existential = n .existential; deep = omega (arith, a .less) }) .0 (a .reached) in
+        let same : top X W (X .lev q) q ≡ top X W (X .lev q) c = rep .tops (X .lev q) q c (allow eq (omega arith)) (allow (n .existential) (omega (arith, a .less))) .0 (a .reached) in
         omega (arith, a .less, ap (X .lev) (sym there ∙ same ∙ here))
 
     -- A parent row gives the deepest class above.
@@ -94,8 +95,8 @@ module _ {X : Variables} {J : ℕ → ℕ → Type 0} where
         deepest (record {
           class = represents-name .1 (r .name);
           less = r .less;
-          reached = rep .tops (X .lev (W .par c)) (W .par c) c (record { existential = r .name .existential; deep = omega arith })
-              (record { existential = n .existential; deep = omega (arith, r .less) }) .1 (sym (parent-top (rep .formed) p (omega arith)));
+          reached = rep .tops (X .lev (W .par c)) (W .par c) c (allow (r .name .existential) (omega arith))
+              (allow (n .existential) (omega (arith, r .less))) .1 (sym (parent-top (rep .formed) p (omega arith)));
         })
         (λ q a. by-cases (decLt (X .lev (W .par c)) (X .lev q)) (λ l. absurd (not-above n a (λ s. l))) (λ l. omega arith)))
 
@@ -108,12 +109,14 @@ module _ {X : Variables} {J : ℕ → ℕ → Type 0} where
       unnamed = λ v e n. by-cases (ℕ-discrete (W .par v) 0) (λ z. z) (λ p. absurd (n (represents-name .1 (rep .formed .right v .parent p .child))));
     }
 
--- What a table represents shows in its rows alone ...
+-- Tables with the same rows are one ...
+pub same-rows : {W W′ : Table} → ((v : ℕ) → (W .cls v ≡ W′ .cls v) × (W .par v ≡ W′ .par v)) → W ≡ W′
+same-rows same = λ i. record { cls = λ v. same v .0 i; par = λ v. same v .1 i }
+
+-- ... so that what a table represents shows in its rows alone ...
 pub represents-rows : {X : Variables} {J : ℕ → ℕ → Type 0} {W W′ : Table} → ((v : ℕ) → (W .cls v ≡ W′ .cls v) × (W .par v ≡ W′ .par v))
     → Represents X J W → Represents X J W′
-represents-rows {X} {J} {W} {W′} same rep =
-    let e : W ≡ W′ = λ i. record { cls = λ v. same v .0 i; par = λ v. same v .1 i } in
-    subst (Represents X J) e rep
+represents-rows {X} {J} same rep = subst (Represents X J) (same-rows same) rep
 
 -- ... and of the joins only reach counts.
 pub represents-reach : {X : Variables} {J K : ℕ → ℕ → Type 0} {W : Table}

@@ -1,28 +1,29 @@
 -- Formula A of document 01, computed: P1 to P10, and the readings that look right and are not.
-use Prim.Native.Nat.{ℕ, zero, suc, _≤_, _<_}
-use mathlib.Core.Path.{_≡_, refl, sym, _∙_, ap, subst}
-use mathlib.Core.Bool.{Bool, true, false}
+use Prim.Native.Nat.{ℕ, suc, _≤_, _<_}
+use mathlib.Core.Path.{_≡_, refl, subst}
+use mathlib.Core.Bool.{true, false}
 use mathlib.Core.List.{List, [], _∷_, _++_, List·Memᴰ, List·Memᴰ·head, List·Memᴰ·not-nil}
-use mathlib.Core.Logic.{_↔_, _≢_, Iff·symm}
+use mathlib.Core.Logic.{_↔_, Iff·symm}
 use native.Mathlib.Omega.{arith}
 use lib.ListN.{getD}
 use lib.Dec.{lit≤, leb}
 use borrow.Author.Tests.{le-leb, leb-true}
-use Rattle.connection.specs.Reach.{Variables, Lawful, Universal, From, Joined, Reach, Depends}
+use Rattle.connection.specs.Reach.{Variables, Lawful, From, Joined, Reach, Depends}
 use Rattle.connection.specs.Tables.{Table, row, lent, WellFormed, Above, EntryPoint, Climbed, climb-by, climb}
 use Rattle.connection.specs.Forest.{Forest}
-use Rattle.connection.specs.Compute.{has, fill, classes-up, marks, goes-before, under, fuse-class, fuse-parent, Rows, table, rows, fuse-marks, fuse, fuse-all, singles, forest, gather, meets, reached, reaches, from, sift, set-of}
-use Rattle.connection.proofs.Compute.{has-member, cons-all}
+use Rattle.connection.specs.Search.{has, meets, keep, put-back, find, see, spread, reached, reaches, is-from, sift, set-of}
+use Rattle.connection.specs.Fusing.{fill, classes-up, marks, goes-before, under, fuse-class, fuse-parent, Rows, table-of, rows-by, fuse-marks, fuse, fuse-all, singles, forest-of}
 use Rattle.connection.proofs.Growth.{forest-represents, forest-exists, forest-is}
-use Rattle.connection.proofs.Climb.{climb-entry, entry-ends, ends-one, above-falls}
+use Rattle.connection.proofs.Climb.{climb-entry, entry-one, above-falls}
 use Rattle.connection.proofs.Reach.{joined-sym}
 use Rattle.connection.proofs.Forest.{forest-one}
-use Rattle.connection.proofs.Decide.{reaches-true, reaches-false, from-test, set-of-depends}
+use Rattle.connection.proofs.Search.{cons-all, has-member, reaches-true, reaches-false, from-test, set-of-depends}
 
 -- Blocks e 1 2, a 3, e 4 5, a 6, e 7 8 9.
 abbrev existentials : List ℕ
 existentials = 1 ∷ 2 ∷ 4 ∷ 5 ∷ 7 ∷ 8 ∷ 9 ∷ []
 
+-- The variables of formula A.
 abbrev A : Variables
 A = record { count = 9; lev = λ v. getD (0 ∷ 1 ∷ 1 ∷ 2 ∷ 3 ∷ 3 ∷ 4 ∷ 5 ∷ 5 ∷ 5 ∷ []) v 0; ex = λ v. has v existentials }
 
@@ -38,34 +39,40 @@ with C = clauses ++ (C ∷ [])
 abbrev B : List (List ℕ)
 B = (3 ∷ 7 ∷ []) ∷ (4 ∷ 7 ∷ []) ∷ (4 ∷ 8 ∷ []) ∷ []
 
+-- The rows of P1 and P2, and the table that they are.
 abbrev A-rows : Rows
 A-rows = record { classes = 1 ∷ 2 ∷ 0 ∷ 4 ∷ 5 ∷ 0 ∷ 7 ∷ 8 ∷ 9 ∷ []; parents = 0 ∷ 0 ∷ 0 ∷ 0 ∷ 1 ∷ 0 ∷ 4 ∷ 4 ∷ 5 ∷ [] }
 
+abbrev A-forest : Table
+A-forest = lent A (A-rows .classes) (A-rows .parents)
+
 -- What antt computes.
 record Computed : Type 0 where
-  forest-A : forest A clauses ≡ A-rows
-  forest-79 : forest A (with (7 ∷ 9 ∷ [])) ≡ record { classes = 1 ∷ 2 ∷ 0 ∷ 4 ∷ 4 ∷ 0 ∷ 7 ∷ 8 ∷ 7 ∷ []; parents = 0 ∷ 0 ∷ 0 ∷ 1 ∷ 0 ∷ 0 ∷ 4 ∷ 4 ∷ 0 ∷ [] }
-  forest-12 : forest A (with (1 ∷ 2 ∷ [])) ≡ record { classes = 1 ∷ 1 ∷ 0 ∷ 4 ∷ 5 ∷ 0 ∷ 7 ∷ 8 ∷ 9 ∷ []; parents = A-rows .parents }
-  forest-nil : forest A (with []) ≡ A-rows
+  forest-A : forest-of A clauses ≡ A-rows
+  forest-79 : forest-of A (with (7 ∷ 9 ∷ [])) ≡ record { classes = 1 ∷ 2 ∷ 0 ∷ 4 ∷ 4 ∷ 0 ∷ 7 ∷ 8 ∷ 7 ∷ []; parents = 0 ∷ 0 ∷ 0 ∷ 1 ∷ 0 ∷ 0 ∷ 4 ∷ 4 ∷ 0 ∷ [] }
+  forest-12 : forest-of A (with (1 ∷ 2 ∷ [])) ≡ record { classes = 1 ∷ 1 ∷ 0 ∷ 4 ∷ 5 ∷ 0 ∷ 7 ∷ 8 ∷ 9 ∷ []; parents = A-rows .parents }
+  forest-nil : forest-of A (with []) ≡ A-rows
   set-3 : set-of A clauses 3 ≡ 4 ∷ 7 ∷ 8 ∷ []
   set-6 : set-of A clauses 6 ≡ 9 ∷ []
   set-3-79 : set-of A (with (7 ∷ 9 ∷ [])) 3 ≡ 4 ∷ 5 ∷ 7 ∷ 8 ∷ 9 ∷ []
   set-6-79 : set-of A (with (7 ∷ 9 ∷ [])) 6 ≡ 7 ∷ 9 ∷ []
   set-3-58 : set-of A (with (5 ∷ 8 ∷ [])) 3 ≡ 4 ∷ 5 ∷ 7 ∷ 8 ∷ 9 ∷ []
   set-6-58 : set-of A (with (5 ∷ 8 ∷ [])) 6 ≡ 9 ∷ []
-  climb-3-8 : climb A (table A A-rows) 3 8 0 ≡ record { top = 4; rises = 1 }
-  climb-6-9 : climb A (table A A-rows) 5 9 0 ≡ record { top = 9; rises = 0 }
+  climb-3-8 : climb A A-forest 3 8 0 ≡ record { top = 4; rises = 1 }
+  climb-6-9 : climb A A-forest 5 9 0 ≡ record { top = 9; rises = 0 }
   set-3-B : set-of A B 3 ≡ 4 ∷ 7 ∷ 8 ∷ []
-  climb-3-7-B : climb A (table A (forest A B)) 3 7 0 ≡ record { top = 4; rises = 1 }
-  too-far-4 : reaches (from A 4) clauses 3 4 ≡ false
-  too-far-8 : reaches (from A 4) clauses 3 8 ≡ false
+  climb-3-7-B : climb A (table-of A (forest-of A B)) 3 7 0 ≡ record { top = 4; rises = 1 }
+  too-far-4 : reaches (is-from A 4) clauses 3 4 ≡ false
+  too-far-8 : reaches (is-from A 4) clauses 3 8 ≡ false
   through : reaches (λ v. leb 4 (A .lev v)) (with (6 ∷ 8 ∷ [])) 8 9 ≡ true
-  not-through : reaches (from A 0) (with (6 ∷ 8 ∷ [])) 8 9 ≡ false
+  not-through : reaches (is-from A 0) (with (6 ∷ 8 ∷ [])) 8 9 ≡ false
 
+-- It computes so.
 computed : Computed
-unfolding has fill classes-up marks goes-before under fuse-class fuse-parent table lent row rows fuse-marks fuse fuse-all singles forest climb climb-by set-of sift reached from gather meets reaches
+unfolding has fill classes-up marks goes-before under fuse-class fuse-parent table-of lent row rows-by fuse-marks fuse fuse-all singles forest-of climb climb-by set-of sift reached is-from meets reaches keep put-back find see spread
 computed = record { forest-A = refl; forest-79 = refl; forest-12 = refl; forest-nil = refl; set-3 = refl; set-6 = refl; set-3-79 = refl; set-6-79 = refl; set-3-58 = refl; set-6-58 = refl; climb-3-8 = refl; climb-6-9 = refl; set-3-B = refl; climb-3-7-B = refl; too-far-4 = refl; too-far-8 = refl; through = refl; not-through = refl }
 
+-- Its existentials are in range.
 A-lawful : Lawful A
 A-lawful = record { within = λ v e. all v (has-member existentials e) }
   where
@@ -74,19 +81,21 @@ A-lawful = record { within = λ v e. all v (has-member existentials e) }
         cons-all P (lit≤ tt, lit≤ tt) (cons-all P (lit≤ tt, lit≤ tt) (cons-all P (lit≤ tt, lit≤ tt) (cons-all P (lit≤ tt, lit≤ tt)
         (cons-all P (lit≤ tt, lit≤ tt) (cons-all P (lit≤ tt, lit≤ tt) (cons-all P (lit≤ tt, lit≤ tt) (λ n m. absurd (List·Memᴰ·not-nil m))))))))
 
--- The forest and the set, from what is computed.
-forest-by : {cs : List (List ℕ)} {R : Rows} → forest A cs ≡ R → Forest A (Joined cs) (table A R)
-forest-by {cs} e = subst (λ (R : Rows). Forest A (Joined cs) (table A R)) e (forest-exists A-lawful cs)
+-- The forest is what was computed.
+forest-by : {cs : List (List ℕ)} {R : Rows} → forest-of A cs ≡ R → Forest A (Joined cs) (table-of A R)
+forest-by {cs} e = subst (λ (R : Rows). Forest A (Joined cs) (table-of A R)) e (forest-exists A-lawful cs)
 
+-- The set is what was computed.
 set-by : {cs : List (List ℕ)} {x : ℕ} {ys : List ℕ} → set-of A cs x ≡ ys → (y : ℕ) → Depends A (Joined cs) x y ↔ List·Memᴰ y ys
 set-by {cs} {x} e y = subst (λ (l : List ℕ). Depends A (Joined cs) x y ↔ List·Memᴰ y l) e (Iff·symm (set-of-depends A-lawful))
 
+-- The entry point is where the climb ended.
 entry-by : {x e k : ℕ} (y : ℕ) {W : Table} → WellFormed A W → A .ex y ≡ true → A .lev x < A .lev y → climb A W (suc (A .lev x)) (W .cls y) 0 ≡ record { top = e; rises = k } → EntryPoint A W x y e k
 entry-by {x} y {W} formed ex l e = subst (λ (c : Climbed). EntryPoint A W x y (c .top) (c .rises)) e (climb-entry formed y ex l)
 
 -- The cases of document 01.
 pub record Cases : Type 0 where
-  pub P1-P2 : Forest A (Joined clauses) (lent A (1 ∷ 2 ∷ 0 ∷ 4 ∷ 5 ∷ 0 ∷ 7 ∷ 8 ∷ 9 ∷ []) (0 ∷ 0 ∷ 0 ∷ 0 ∷ 1 ∷ 0 ∷ 4 ∷ 4 ∷ 5 ∷ []))
+  pub P1-P2 : Forest A (Joined clauses) A-forest
   pub P3 : (y : ℕ) → Depends A (Joined clauses) 3 y ↔ List·Memᴰ y (4 ∷ 7 ∷ 8 ∷ [])
   pub P4 : (y : ℕ) → Depends A (Joined clauses) 6 y ↔ List·Memᴰ y (9 ∷ [])
   pub P5 : Forest A (Joined (with (7 ∷ 9 ∷ []))) (lent A (1 ∷ 2 ∷ 0 ∷ 4 ∷ 4 ∷ 0 ∷ 7 ∷ 8 ∷ 7 ∷ []) (0 ∷ 0 ∷ 0 ∷ 1 ∷ 0 ∷ 0 ∷ 4 ∷ 4 ∷ 0 ∷ []))
@@ -95,15 +104,18 @@ pub record Cases : Type 0 where
   pub P7-6 : (y : ℕ) → Depends A (Joined (with (5 ∷ 8 ∷ []))) 6 y ↔ List·Memᴰ y (9 ∷ [])
   pub P7-3 : (y : ℕ) → Depends A (Joined (with (5 ∷ 8 ∷ []))) 3 y ↔ List·Memᴰ y (4 ∷ 5 ∷ 7 ∷ 8 ∷ 9 ∷ [])
   pub P8 : Forest A (Joined (with (1 ∷ 2 ∷ []))) (lent A (1 ∷ 1 ∷ 0 ∷ 4 ∷ 5 ∷ 0 ∷ 7 ∷ 8 ∷ 9 ∷ []) (0 ∷ 0 ∷ 0 ∷ 0 ∷ 1 ∷ 0 ∷ 4 ∷ 4 ∷ 5 ∷ []))
-  pub P9 : Forest A (Joined (with [])) (lent A (1 ∷ 2 ∷ 0 ∷ 4 ∷ 5 ∷ 0 ∷ 7 ∷ 8 ∷ 9 ∷ []) (0 ∷ 0 ∷ 0 ∷ 0 ∷ 1 ∷ 0 ∷ 4 ∷ 4 ∷ 5 ∷ []))
-  pub P10-3 : EntryPoint A (table A A-rows) 3 8 4 1
-  pub P10-6 : EntryPoint A (table A A-rows) 6 9 9 0
+  pub P9 : Forest A (Joined (with [])) A-forest
+  pub P10-3 : EntryPoint A A-forest 3 8 4 1
+  pub P10-6 : EntryPoint A A-forest 6 9 9 0
 
-A-formed : WellFormed A (table A A-rows)
+-- P1 and P2 are well formed.
+A-formed : WellFormed A A-forest
+unfolding table-of
 A-formed = forest-is A-lawful .0 (forest-by (computed .forest-A)) .formed
 
+-- All of them hold.
 pub cases : Cases
-unfolding table has row lent
+unfolding table-of has row lent
 cases = record {
   P1-P2 = forest-by (computed .forest-A);
   P3 = set-by (computed .set-3);
@@ -127,30 +139,32 @@ pub record Refuted : Type 0 where
   -- With {6 8} added, stepping on the universal 6 joins 8 and 9, which nothing else does at any level.
   pub through : Reach (Joined (with (6 ∷ 8 ∷ []))) (λ v. 4 ≤ A .lev v) 8 9
   pub not-through : Reach (Joined (with (6 ∷ 8 ∷ []))) (From A 0) 8 9 → ⊥
-  -- In B the entry point of 3 for 7 is 4. The deepest, 7 itself, has neither 4 below it nor is an entry point, but 4 is in the set.
-  pub least : EntryPoint A (table A (forest A B)) 3 7 4 1
-  pub not-deepest : (k : ℕ) → EntryPoint A (table A (forest A B)) 3 7 7 k → ⊥
-  pub lost : (k : ℕ) → Above (table A (forest A B)) 7 4 k → ⊥
+  -- In B the entry point of 3 for 7 is 4. The deepest, 7 itself, is none, and taking it loses 4, which is in the set.
+  pub least : EntryPoint A (table-of A (forest-of A B)) 3 7 4 1
+  pub not-deepest : (k : ℕ) → EntryPoint A (table-of A (forest-of A B)) 3 7 7 k → ⊥
+  pub lost : (k : ℕ) → Above (table-of A (forest-of A B)) 7 4 k → ⊥
   pub in-set : Depends A (Joined B) 3 4
   -- 7 and 9 merged without the chains over them is no forest.
   pub unmerged : Forest A (Joined (with (7 ∷ 9 ∷ []))) (lent A (1 ∷ 2 ∷ 0 ∷ 4 ∷ 5 ∷ 0 ∷ 7 ∷ 8 ∷ 7 ∷ []) (0 ∷ 0 ∷ 0 ∷ 0 ∷ 1 ∷ 0 ∷ 4 ∷ 4 ∷ 0 ∷ [])) → ⊥
 
-B-formed : WellFormed A (table A (forest A B))
+-- The forest of B is well formed.
+B-formed : WellFormed A (table-of A (forest-of A B))
 B-formed = forest-represents A-lawful B .formed
 
+-- All of them are refuted.
 pub refuted : Refuted
-unfolding table lent row has fill fuse-class fuse-parent fuse-marks fuse fuse-all singles forest rows marks classes-up under goes-before
+unfolding table-of lent row has fill fuse-class fuse-parent fuse-marks fuse fuse-all singles forest-of rows-by marks classes-up under goes-before
 refuted = record {
   too-far-4 = reaches-false from-test (computed .too-far-4);
   too-far-8 = reaches-false from-test (computed .too-far-8);
   through = reaches-true (λ v. (le-leb 4 (A .lev v), leb-true 4 (A .lev v))) .0 (computed .through);
   not-through = reaches-false from-test (computed .not-through);
   least = least;
-  not-deepest = λ k h. let e = ends-one B-formed (entry-ends B-formed .0 least) (entry-ends B-formed .0 h) .0 in omega arith;
+  not-deepest = λ k h. let e = entry-one B-formed least h .0 in omega arith;
   lost = λ k a. omega (arith, above-falls B-formed a);
   in-set = set-by (computed .set-3-B) 4 .1 (List·Memᴰ·head refl);
   unmerged = λ f. let e = forest-one joined-sym f (cases .P5) 5 .0 in omega arith;
 }
   where
-    least : EntryPoint A (table A (forest A B)) 3 7 4 1
+    least : EntryPoint A (table-of A (forest-of A B)) 3 7 4 1
     least = entry-by 7 B-formed refl (lit≤ tt) (computed .climb-3-7-B)

@@ -1,23 +1,24 @@
 -- Fusing the marked chains puts a clause into a table: well formed, and it represents the joins with the clause added.
 use Prim.Native.Nat.{ℕ, zero, suc, _+_, _≤_, _<_}
 use mathlib.Core.Path.{_≡_, refl, sym, _∙_, ap, subst}
-use mathlib.Core.Bool.{Bool, true, false, true≢false}
-use mathlib.Core.List.{List, [], _∷_, _++_, List·Memᴰ}
+use mathlib.Core.Bool.{Bool, true, false}
+use mathlib.Core.List.{List, List·Memᴰ}
 use mathlib.Core.Logic.{_↔_, _≢_, Iff·trans, by-cases}
 use native.Mathlib.Decide.{ℕ-discrete, decLe}
 use native.Mathlib.Nat.{le-antisymm}
 use native.Mathlib.Omega.{arith}
-use Rattle.connection.specs.Reach.{Variables, Lawful, From, Joined, Reach, here, step}
-use Rattle.connection.specs.Tables.{Table, ClassName, ClassRow, ParentRow, WellFormed, itself, top}
-use Rattle.connection.specs.Growth.{Added, before, added, Represents, Marked, Low, Next, last, next, FusedClass, joins, keeps, FusedParent, links, follows, Fused}
-use Rattle.connection.proofs.Reach.{reach-one, reach-trans, reach-sym, reach-ends, simulate, reach-mono, added-sym}
-use Rattle.connection.proofs.Climb.{above-next, above-falls, above-class}
+use Rattle.connection.specs.Reach.{Variables, Lawful, From, Reach, here}
+use Rattle.connection.specs.Tables.{Table, ClassName, ClassRow, ParentRow, WellFormed, start}
+use Rattle.connection.specs.Growth.{Added, before, added, Represents, Marked, Low, none-next, next-low, FusedClass, merged, kept, FusedParent, chained, carried, Fused}
+use Rattle.connection.proofs.Reach.{reach-one, reach-trans, reach-sym, simulate, reach-along, allow, added-sym}
+use Rattle.connection.proofs.Climb.{above-all, above-next, above-falls}
 use Rattle.connection.proofs.Represent.{Link, to-class, to-parent, Linked, up, down, linked-sym, from-class, above-reach, linked-tops}
 
--- 0 is no existential.
+-- No existential is 0.
 existential-nonzero : {X : Variables} → Lawful X → (v : ℕ) → X .ex v ≡ true → v ≢ 0
 existential-nonzero lawful v ex e = omega (arith, lawful .within v ex .0)
 
+-- 0 is no existential.
 pub zero-universal : {X : Variables} → Lawful X → X .ex 0 ≡ false
 zero-universal {X} lawful = go (X .ex 0) refl
   where
@@ -27,13 +28,19 @@ zero-universal {X} lawful = go (X .ex 0) refl
 
 -- What links reach, they reach with a clause added.
 before-reach : {J : ℕ → ℕ → Type 0} {E : ℕ → Type 0} {C : List ℕ} {a b : ℕ} → Reach J E a b → Reach (Added J C) E a b
-before-reach r = reach-mono (λ a b. before) (λ a e. e) r
+before-reach r = reach-along (λ a b. before) r
+
+-- The marked classes are the least that have the class of each existential of the clause, and with a class its parent.
+pub marked-least : {X : Variables} {W : Table} {C : List ℕ} (M : ℕ → Type 0) → ((e : ℕ) → List·Memᴰ e C → X .ex e ≡ true → M (W .cls e))
+    → ((m : ℕ) → M m → W .par m ≢ 0 → M (W .par m)) → {m : ℕ} → Marked X W C m → M m
+marked-least M class parent k = above-all M parent (class (k .by) (k .listed) (k .existential)) (k .above)
 
 module _ {X : Variables} {W : Table} {C : List ℕ} (formed : WellFormed X W) where
-  -- A marked class is a class name, and its parent is marked too.
+  -- A marked class is a class name.
   pub marked-class : {m : ℕ} → Marked X W C m → ClassName X W m
-  marked-class k = above-class formed (formed .right (k .by) .class (k .existential) .name) (k .above)
+  marked-class k = marked-least (ClassName X W) (λ e l ex. formed .right e .class ex .name) (λ m n h. formed .right m .parent h .name) k
 
+  -- The parent of a marked class is marked.
   marked-parent : {m : ℕ} → Marked X W C m → W .par m ≢ 0 → Marked X W C (W .par m)
   marked-parent k n = record { by = k .by; listed = k .listed; existential = k .existential; rises = suc (k .rises); above = above-next (k .above) n }
 
@@ -41,11 +48,12 @@ module _ {X : Variables} {W : Table} {C : List ℕ} (formed : WellFormed X W) wh
   low-one : {a b : ℕ} → Low X W C a → Low X W C b → X .lev a ≡ X .lev b → a ≡ b
   low-one {a} {b} l m e = le-antisymm (l .lowest b (m .marked) (sym e)) (m .lowest a (l .marked) e)
 
-  -- The existential by which a class of block i or deeper is marked is of block i or deeper, and reaches it by links.
-  pub marked-from : {i m : ℕ} (k : Marked X W C m) → i ≤ X .lev m → From X i (k .by)
-  marked-from k d = record { existential = k .existential; deep = omega (arith, above-falls formed (k .above), formed .right (k .by) .class (k .existential) .block) }
+  -- The existential by which a class of block i or deeper is marked is of block i or deeper.
+  marked-from : {i m : ℕ} (k : Marked X W C m) → i ≤ X .lev m → From X i (k .by)
+  marked-from k d = allow (k .existential) (omega (arith, above-falls formed (k .above), formed .right (k .by) .class (k .existential) .block))
 
-  pub marked-linked : {i m : ℕ} (k : Marked X W C m) → i ≤ X .lev m → Reach (Linked X W) (From X i) (k .by) m
+  -- It reaches the class by links.
+  marked-linked : {i m : ℕ} (k : Marked X W C m) → i ≤ X .lev m → Reach (Linked X W) (From X i) (k .by) m
   marked-linked k d = reach-trans (reach-one (up (to-class (k .existential) refl)) (from-class formed (marked-from k d))) (above-reach formed (k .above) d)
 
   -- So any two marked classes reach one another through the clause.
@@ -60,9 +68,10 @@ module _ {X : Variables} {W W′ : Table} {C : List ℕ} (lawful : Lawful X) (fo
   marked-low {m} k = go (fused .class m (marked-class formed k .existential))
     where
       go : FusedClass X W C m (W′ .cls m) → Low X W C (W′ .cls m) × (X .lev (W′ .cls m) ≡ X .lev m)
-      go (joins j l e) = (l, e)
-      go (keeps un e) = absurd (un (subst (Marked X W C) (sym (marked-class formed k .itself)) k))
+      go (merged j l e) = (l, e)
+      go (kept un e) = absurd (un (subst (Marked X W C) (sym (marked-class formed k .itself)) k))
 
+  -- A low keeps its name.
   low-itself : {m : ℕ} → Low X W C m → W′ .cls m ≡ m
   low-itself l = let k = marked-low (l .marked) in low-one formed (k .0) l (k .1)
 
@@ -74,9 +83,9 @@ module _ {X : Variables} {W W′ : Table} {C : List ℕ} (lawful : Lawful X) (fo
       r = formed .right v .class ex
 
       go : FusedClass X W C v (W′ .cls v) → FusedClass X W C (W .cls v) (W′ .cls (W .cls v)) → W′ .cls (W .cls v) ≡ W′ .cls v
-      go (joins j l e) d = let k = marked-low j in low-one formed (k .0) l (k .1 ∙ r .block ∙ sym e)
-      go (keeps un e) (joins j l d) = absurd (un (subst (Marked X W C) (r .name .itself) j))
-      go (keeps un e) (keeps un′ d) = d ∙ r .name .itself ∙ sym e
+      go (merged j l e) d = let k = marked-low j in low-one formed (k .0) l (k .1 ∙ r .block ∙ sym e)
+      go (kept un e) (merged j l d) = absurd (un (subst (Marked X W C) (r .name .itself) j))
+      go (kept un e) (kept un′ d) = d ∙ r .name .itself ∙ sym e
 
   -- The new class of an existential is a class name of its block, at most the old one.
   pub new-class : {v : ℕ} → X .ex v ≡ true → ClassRow X W′ v
@@ -86,12 +95,12 @@ module _ {X : Variables} {W W′ : Table} {C : List ℕ} (lawful : Lawful X) (fo
       r = formed .right v .class ex
 
       go : FusedClass X W C v (W′ .cls v) → ClassRow X W′ v
-      go (joins j l e) = record {
+      go (merged j l e) = record {
         most = omega (arith, r .most, l .lowest (W .cls v) j (r .block ∙ sym e));
         name = record { existential = marked-class formed (l .marked) .existential; itself = low-itself l };
         block = e;
       }
-      go (keeps un e) = record {
+      go (kept un e) = record {
         most = omega (arith, r .most);
         name = record { existential = rw e (r .name .existential); itself = ap (W′ .cls) e ∙ new-same ex };
         block = ap (X .lev) e ∙ r .block;
@@ -102,8 +111,8 @@ module _ {X : Variables} {W W′ : Table} {C : List ℕ} (lawful : Lawful X) (fo
   old-name {c} n = go (fused .class c (n .existential))
     where
       go : FusedClass X W C c (W′ .cls c) → ClassName X W c
-      go (joins j l e) = marked-class formed (subst (Marked X W C) (n .itself) (l .marked))
-      go (keeps un e) = record { existential = n .existential; itself = sym e ∙ n .itself }
+      go (merged j l e) = marked-class formed (subst (Marked X W C) (n .itself) (l .marked))
+      go (kept un e) = record { existential = n .existential; itself = sym e ∙ n .itself }
 
   -- A new parent is right.
   new-parent : {v : ℕ} → ClassName X W′ v → W′ .par v ≢ 0 → ParentRow X W′ v
@@ -113,9 +122,9 @@ module _ {X : Variables} {W W′ : Table} {C : List ℕ} (lawful : Lawful X) (fo
       up-from e r l = record { child = c; name = subst (ClassName X W′) (sym e) (r .name); less = omega (arith, ap (X .lev) e, r .block) }
 
       go : FusedParent X W C W′ v (W′ .par v) → ParentRow X W′ v
-      go (links k (last z h)) = absurd (n z)
-      go (links k (next l less h)) = record { child = c; name = record { existential = marked-class formed (l .marked) .existential; itself = low-itself l }; less = less }
-      go (follows un e) = by-cases (ℕ-discrete (W .par v) 0)
+      go (chained k (none-next z h)) = absurd (n z)
+      go (chained k (next-low l less h)) = record { child = c; name = record { existential = marked-class formed (l .marked) .existential; itself = low-itself l }; less = less }
+      go (carried un e) = by-cases (ℕ-discrete (W .par v) 0)
           (λ z. absurd (n (e ∙ ap (W′ .cls) z ∙ fused .universal 0 (zero-universal lawful) .0)))
           (λ p. let r = formed .right v .parent p in up-from e (new-class (r .name .existential)) (r .less))
 
@@ -127,7 +136,7 @@ module _ {X : Variables} {W W′ : Table} {C : List ℕ} (lawful : Lawful X) (fo
       parent v false e n = absurd (n (fused .universal v e .1))
       parent v true e n = by-cases (ℕ-discrete (W′ .cls v) v) (λ s. new-parent (record { existential = e; itself = s }) n) (λ s. absurd (n (fused .unnamed v e s)))
 
-  -- First simulation: each new link lies in the old links and the clause.
+  -- First simulation: each new link lies in the old links and the clause. A variable reaches its new class ...
   new-reach : {i v : ℕ} → From X i v → Reach (Added (Linked X W) C) (From X i) v (W′ .cls v)
   new-reach {i} {v} f = go (fused .class v (f .existential))
     where
@@ -135,9 +144,10 @@ module _ {X : Variables} {W W′ : Table} {C : List ℕ} (lawful : Lawful X) (fo
       old = before-reach (reach-one (up (to-class (f .existential) refl)) (from-class formed f))
 
       go : FusedClass X W C v (W′ .cls v) → Reach (Added (Linked X W) C) (From X i) v (W′ .cls v)
-      go (joins j l e) = reach-trans old (marked-reach formed j (l .marked) (from-class formed f .deep) (omega (arith, f .deep)))
-      go (keeps un e) = rw e old
+      go (merged j l e) = reach-trans old (marked-reach formed j (l .marked) (from-class formed f .deep) (omega (arith, f .deep)))
+      go (kept un e) = rw e old
 
+  -- ... and a class its new parent.
   new-link : {i a b : ℕ} → Link X W′ a b → From X i a → From X i b → Reach (Added (Linked X W) C) (From X i) a b
   new-link (to-class ex e) fa fb = rw e at (new-reach fa)
   new-link {i} {a} {b} (to-parent n e) fa fb = go (fused .parent a (old-name c) (c .itself))
@@ -149,18 +159,19 @@ module _ {X : Variables} {W W′ : Table} {C : List ℕ} (lawful : Lawful X) (fo
       c = r .child
 
       go : FusedParent X W C W′ a (W′ .par a) → Reach (Added (Linked X W) C) (From X i) a b
-      go (links k (last z h)) = absurd (n z)
-      go (links k (next l less h)) = rw e at (marked-reach formed k (l .marked) (fa .deep) (rw e (fb .deep)))
-      go (follows un q) = by-cases (ℕ-discrete (W .par a) 0)
+      go (chained k (none-next z h)) = absurd (n z)
+      go (chained k (next-low l less h)) = rw e at (marked-reach formed k (l .marked) (fa .deep) (rw e (fb .deep)))
+      go (carried un q) = by-cases (ℕ-discrete (W .par a) 0)
           (λ z. absurd (n (q ∙ ap (W′ .cls) z ∙ fused .universal 0 (zero-universal lawful) .0)))
           (λ p. let o = formed .right a .parent p .name in
-          let f : From X i (W .par a) = record { existential = o .existential; deep = omega (arith, fb .deep, ap (X .lev) (sym q ∙ e), new-class (o .existential) .block) } in
+          let f : From X i (W .par a) = allow (o .existential) (omega (arith, fb .deep, ap (X .lev) (sym q ∙ e), new-class (o .existential) .block)) in
           rw (sym q ∙ e) at (reach-trans (reach-one (before (up (to-parent p refl))) f) (new-reach f)))
 
   -- Second simulation: each old link, and the clause, lies in the new links. A variable steps to its new class ...
   to-new : {i v : ℕ} → From X i v → Reach (Linked X W′) (From X i) v (W′ .cls v)
   to-new f = reach-one (up (to-class (f .existential) refl)) (from-class fused-formed f)
 
+  -- ... and back ...
   of-new : {i v : ℕ} → From X i v → Reach (Linked X W′) (From X i) (W′ .cls v) v
   of-new f = reach-sym linked-sym f (to-new f)
 
@@ -173,19 +184,19 @@ module _ {X : Variables} {W W′ : Table} {C : List ℕ} (lawful : Lawful X) (fo
     where
       go : X .lev b < X .lev a → ((p : ℕ) → Low X W C p → X .lev b ≤ X .lev p → X .lev p < X .lev a → Reach (Linked X W′) (From X i) p b)
           → FusedParent X W C W′ a (W′ .par a) → Reach (Linked X W′) (From X i) a b
-      go below rest (links k (last z h)) = absurd (omega (arith, h b (m .marked)))
-      go below rest (links k (next p less h)) =
+      go below rest (chained k (none-next z h)) = absurd (omega (arith, h b (m .marked)))
+      go below rest (chained k (next-low p less h)) =
           let ex = marked-class formed (p .marked) .existential in
           let g : X .lev b ≤ X .lev (W′ .par a) = h b (m .marked) below in
-          reach-trans (reach-one (up (to-parent (existential-nonzero lawful (W′ .par a) ex) refl)) (record { existential = ex; deep = omega arith })) (rest (W′ .par a) p g less)
-      go below rest (follows un e) = absurd (un (l .marked))
+          reach-trans (reach-one (up (to-parent (existential-nonzero lawful (W′ .par a) ex) refl)) (allow ex (omega arith))) (rest (W′ .par a) p g less)
+      go below rest (carried un e) = absurd (un (l .marked))
 
   -- So marked classes reach one another by new links.
   new-marked : {i m n : ℕ} → Marked X W C m → Marked X W C n → i ≤ X .lev m → i ≤ X .lev n → Reach (Linked X W′) (From X i) m n
   new-marked {i} {m} {n} k l d e = by-cases (decLe (X .lev n) (X .lev m)) (λ h. falls k l d e h) (λ h. reach-sym linked-sym (from l e) (falls l k e d (omega arith)))
     where
       from : {m : ℕ} → Marked X W C m → i ≤ X .lev m → From X i m
-      from k d = record { existential = marked-class formed k .existential; deep = d }
+      from k d = allow (marked-class formed k .existential) d
 
       falls : {m n : ℕ} → Marked X W C m → Marked X W C n → i ≤ X .lev m → i ≤ X .lev n → X .lev n ≤ X .lev m → Reach (Linked X W′) (From X i) m n
       falls {m} {n} k l d e h =
@@ -193,9 +204,11 @@ module _ {X : Variables} {W W′ : Table} {C : List ℕ} (lawful : Lawful X) (fo
           let b = marked-low l in
           reach-trans (to-new (from k d)) (reach-trans (low-reach (X .lev m) (a .0) (b .0) (omega (arith, b .1)) (omega (arith, a .1, b .1)) (omega (arith, a .1))) (of-new (from l e)))
 
+  -- So a variable reaches its old class ...
   old-class : {i v : ℕ} → From X i v → Reach (Linked X W′) (From X i) v (W .cls v)
   old-class {i} {v} f = reach-trans (to-new f) (rw (new-same (f .existential)) at (of-new (from-class formed f)))
 
+  -- ... a class its old parent ...
   old-link : {i a b : ℕ} → Link X W a b → From X i a → From X i b → Reach (Linked X W′) (From X i) a b
   old-link (to-class ex e) fa fb = rw e at (old-class fa)
   old-link {i} {a} {b} (to-parent n e) fa fb = rw e at (go (fused .class a (fa .existential)))
@@ -206,22 +219,23 @@ module _ {X : Variables} {W W′ : Table} {C : List ℕ} (lawful : Lawful X) (fo
       fp : From X i (W .par a)
       fp = rw e fb
 
-      kept : W′ .cls a ≡ a → FusedParent X W C W′ a (W′ .par a) → (Marked X W C a → ⊥) → Reach (Linked X W′) (From X i) a (W .par a)
-      kept s (links k h) un = absurd (un k)
-      kept s (follows un′ q) un =
+      stays : W′ .cls a ≡ a → FusedParent X W C W′ a (W′ .par a) → (Marked X W C a → ⊥) → Reach (Linked X W′) (From X i) a (W .par a)
+      stays s (chained k h) un = absurd (un k)
+      stays s (carried un′ q) un =
           let f = from-class fused-formed fp in
           reach-trans (reach-one (up (to-parent (λ z. existential-nonzero lawful (W′ .cls (W .par a)) (f .existential) (sym q ∙ z)) q)) f) (of-new fp)
 
       go : FusedClass X W C a (W′ .cls a) → Reach (Linked X W′) (From X i) a (W .par a)
-      go (joins k l d) = let k′ = subst (Marked X W C) (r .child .itself) k in new-marked k′ (marked-parent formed k′ n) (fa .deep) (fp .deep)
-      go (keeps un d) = let s = d ∙ r .child .itself in kept s (fused .parent a (r .child) s) (λ k. un (subst (Marked X W C) (sym (r .child .itself)) k))
+      go (merged k l d) = let k′ = subst (Marked X W C) (r .child .itself) k in new-marked k′ (marked-parent formed k′ n) (fa .deep) (fp .deep)
+      go (kept un d) = let s = d ∙ r .child .itself in stays s (fused .parent a (r .child) s) (λ k. un (subst (Marked X W C) (sym (r .child .itself)) k))
 
+  -- ... and one of the clause another.
   old-clause : {i a b : ℕ} → List·Memᴰ a C → List·Memᴰ b C → From X i a → From X i b → Reach (Linked X W′) (From X i) a b
   old-clause {i} {a} {b} ma mb fa fb =
       reach-trans (old-class fa) (reach-trans (new-marked (mark ma fa) (mark mb fb) (from-class formed fa .deep) (from-class formed fb .deep)) (reach-sym linked-sym fb (old-class fb)))
     where
       mark : {v : ℕ} → List·Memᴰ v C → From X i v → Marked X W C (W .cls v)
-      mark {v} m f = record { by = v; listed = m; existential = f .existential; rises = 0; above = itself }
+      mark {v} m f = record { by = v; listed = m; existential = f .existential; rises = 0; above = start }
 
   -- Reach along the old links and the clause is reach along the new links.
   pub fused-reach : {i v y : ℕ} → From X i v → Reach (Added (Linked X W) C) (From X i) v y ↔ Reach (Linked X W′) (From X i) v y

@@ -1,18 +1,23 @@
 -- The laws of reach: transitive, simulated, monotone, symmetric, and blind to the order and repeats of the joins.
-use Prim.Native.Nat.{ℕ, suc, _≤_, _<_}
+use Prim.Native.Nat.{ℕ, _≤_}
 use mathlib.Core.Path.{_≡_, refl, sym, _∙_}
-use mathlib.Core.Bool.{true, false, true≢false}
-use mathlib.Core.List.{List, [], _∷_, _++_, List·Memᴰ, List·Memᴰ·head, List·Memᴰ·tail, List·Memᴰ·append-cases, List·Memᴰ·eq-of-singleton, Memᴰ·append-left, Memᴰ·append-right, Memᴰ·cast}
-use mathlib.Core.Logic.{_⊎_, inl, inr, _↔_, _≢_}
+use mathlib.Core.Bool.{true, true≢false}
+use mathlib.Core.List.{List, [], _∷_, _++_, List·Memᴰ, List·Memᴰ·head, List·Memᴰ·append-cases, List·Memᴰ·eq-of-singleton, Memᴰ·append-left, Memᴰ·append-right}
+use mathlib.Core.Logic.{_⊎_, inl, inr, _↔_}
 use native.Mathlib.Omega.{arith}
 use Rattle.connection.specs.Reach.{Variables, Universal, From, Joined, Reach, here, step, Depends, Follows}
 use Rattle.connection.specs.Growth.{Added, before, added}
+
+-- Joins that go both ways.
+abbrev pub Symmetric : (ℕ → ℕ → Type 0) → Type 0
+Symmetric J = (a b : ℕ) → J a b → J b a
 
 module _ {J : ℕ → ℕ → Type 0} {E : ℕ → Type 0} where
   -- One step is reach.
   pub reach-one : {v y : ℕ} → J v y → E y → Reach J E v y
   reach-one j e = step here j e
 
+  -- Reach from what is reached is reach.
   pub reach-trans : {v y z : ℕ} → Reach J E v y → Reach J E y z → Reach J E v z
   reach-trans r here = r
   reach-trans r (step s j e) = step (reach-trans r s) j e
@@ -23,7 +28,7 @@ module _ {J : ℕ → ℕ → Type 0} {E : ℕ → Type 0} where
   reach-ends v (step r j e) = e
 
   -- Symmetric, for symmetric joins and a start that may be stepped on (lemma 4.10).
-  pub reach-sym : ((a b : ℕ) → J a b → J b a) → {v y : ℕ} → E v → Reach J E v y → Reach J E y v
+  pub reach-sym : Symmetric J → {v y : ℕ} → E v → Reach J E v y → Reach J E y v
   reach-sym flip v here = here
   reach-sym flip v (step {y = y} {z = z} r j e) = reach-trans (reach-one (flip y z j) (reach-ends v r)) (reach-sym flip v r)
 
@@ -36,6 +41,7 @@ module _ {J : ℕ → ℕ → Type 0} {E : ℕ → Type 0} where
       go (inl s) = inr (record { first = b; starts = rw s j; allowed = e; onward = here })
       go (inr f) = inr (record { first = f .first; starts = f .starts; allowed = f .allowed; onward = step (f .onward) j e })
 
+  -- And the other way.
   pub follows-reach : {v y : ℕ} → Follows J J E v y → Reach J E v y
   follows-reach f = reach-trans (reach-one (f .starts) (f .allowed)) (f .onward)
 
@@ -50,9 +56,21 @@ module _ {J K : ℕ → ℕ → Type 0} {E F : ℕ → Type 0} where
   reach-mono joins steps here = here
   reach-mono joins steps (step {y = a} {z = b} r j e) = step (reach-mono joins steps r) (joins a b j) (steps b e)
 
--- What a level allows, a lesser level allows (corollary 4.7 is `reach-mono` with this).
+-- What a level allows.
+pub allow : {X : Variables} {i v : ℕ} → X .ex v ≡ true → i ≤ X .lev v → From X i v
+allow e d = record { existential = e; deep = d }
+
+-- What a level allows, a lesser level allows.
 pub from-less : {X : Variables} {i j v : ℕ} → i ≤ j → From X j v → From X i v
-from-less h f = record { existential = f .existential; deep = omega arith }
+from-less h f = allow (f .existential) (omega (arith, f .deep))
+
+-- Along more joins more is reached ...
+pub reach-along : {J K : ℕ → ℕ → Type 0} {E : ℕ → Type 0} {v y : ℕ} → ((a b : ℕ) → J a b → K a b) → Reach J E v y → Reach K E v y
+reach-along joins r = reach-mono joins (λ a e. e) r
+
+-- ... and at a lesser level (corollary 4.7).
+pub reach-level : {X : Variables} {J : ℕ → ℕ → Type 0} {i j v y : ℕ} → i ≤ j → Reach J (From X j) v y → Reach J (From X i) v y
+reach-level h r = reach-mono (λ a b j. j) (λ a f. from-less h f) r
 
 -- The set of a universal, by its first step: x itself is no existential.
 pub depends-follows : {X : Variables} {J : ℕ → ℕ → Type 0} {x y : ℕ} → Universal X x
@@ -64,13 +82,14 @@ depends-follows {X} {J} {x} {y} u = (λ d. go d (reach-first (d .reached)), λ f
     go d (inr f) = f
 
 -- Sharing a clause is symmetric.
-pub joined-sym : {cs : List (List ℕ)} (a b : ℕ) → Joined cs a b → Joined cs b a
+pub joined-sym : {cs : List (List ℕ)} → Symmetric (Joined cs)
 joined-sym a b j = record { clause = j .clause; listed = j .listed; left = j .right; right = j .left }
 
 -- Every clause of the one list has its variables in some clause of the other.
 abbrev pub Within : List (List ℕ) → List (List ℕ) → Type 0
 Within cs ds = (c : List ℕ) → List·Memᴰ c cs → (d : List ℕ) × List·Memᴰ d ds × ((v : ℕ) → List·Memᴰ v c → List·Memᴰ v d)
 
+-- Then what one clause of the first has, one clause of the second has.
 pub joined-within : {cs ds : List (List ℕ)} → Within cs ds → (a b : ℕ) → Joined cs a b → Joined ds a b
 joined-within w a b j =
     let to = w (j .clause) (j .listed) in
@@ -79,7 +98,7 @@ joined-within w a b j =
 -- Neither the order nor repeats matter, of clauses in the list or of variables in a clause.
 pub reach-same : {cs ds : List (List ℕ)} {E : ℕ → Type 0} {v y : ℕ} → Within cs ds → Within ds cs
     → Reach (Joined cs) E v y ↔ Reach (Joined ds) E v y
-reach-same to back = (reach-mono (joined-within to) (λ a e. e), reach-mono (joined-within back) (λ a e. e))
+reach-same to back = (reach-along (joined-within to), reach-along (joined-within back))
 
 -- A list with the same clauses, in any order and number, is within.
 pub within-members : {cs ds : List (List ℕ)} → ((c : List ℕ) → List·Memᴰ c cs → List·Memᴰ c ds) → Within cs ds
@@ -97,6 +116,7 @@ joined-added {cs} {C} a b = (λ j. go j (List·Memᴰ·append-cases cs (j .liste
     back (before j) = record { clause = j .clause; listed = Memᴰ·append-left (C ∷ []) (j .listed); left = j .left; right = j .right }
     back (added l r) = record { clause = C; listed = Memᴰ·append-right cs (List·Memᴰ·head refl); left = l; right = r }
 
-pub added-sym : {J : ℕ → ℕ → Type 0} {C : List ℕ} → ((a b : ℕ) → J a b → J b a) → (a b : ℕ) → Added J C a b → Added J C b a
+-- Joins stay symmetric with a clause added.
+pub added-sym : {J : ℕ → ℕ → Type 0} {C : List ℕ} → Symmetric J → Symmetric (Added J C)
 added-sym flip a b (before j) = before (flip a b j)
 added-sym flip a b (added l r) = added r l

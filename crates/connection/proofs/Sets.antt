@@ -1,18 +1,18 @@
 -- Demand 2: by the forest, the members at or below the entry points of x are exactly the set of x.
-use Prim.Native.Nat.{ℕ, zero, suc, _+_, _≤_, _<_}
+use Prim.Native.Nat.{ℕ, suc, _<_}
 use mathlib.Core.Path.{_≡_, refl, sym, _∙_, ap, subst}
-use mathlib.Core.Bool.{true, false}
+use mathlib.Core.Bool.{true}
 use mathlib.Core.List.{List}
-use mathlib.Core.Logic.{_↔_, _≢_, Iff·trans}
+use mathlib.Core.Logic.{_↔_, Iff·trans}
 use native.Mathlib.Omega.{arith}
-use Rattle.connection.specs.Reach.{Variables, Lawful, Universal, From, Joined, Reach, Depends, Follows}
-use Rattle.connection.specs.Tables.{Table, ClassName, Above, top, EntryPoint, EntryPointOf, Member}
-use Rattle.connection.specs.Forest.{Forest, ClassAbove}
+use Rattle.connection.specs.Reach.{Variables, Lawful, Universal, From, Joined, Depends, Follows}
+use Rattle.connection.specs.Tables.{Table, ClassName, WellFormed, Above, start, rise, top, Climbed, climb, EntryPoint, EntryPointOf, Member}
+use Rattle.connection.specs.Forest.{Forest, ClassAbove, AtOrAbove, at, over, EntryClass}
 use Rattle.connection.specs.Growth.{Represents}
-use Rattle.connection.proofs.Reach.{reach-mono, reach-ends, from-less, depends-follows}
-use Rattle.connection.proofs.Climb.{Ends, above-falls, above-class, above-strict, entry-ends, top-ends, top-exists, top-class}
+use Rattle.connection.proofs.Reach.{reach-mono, reach-level, reach-ends, allow, from-less, depends-follows}
+use Rattle.connection.proofs.Climb.{Ends, above-falls, above-class, above-strict, climb-ends, climb-entry, entry-ends, top-ends, top-exists, top-class}
 use Rattle.connection.proofs.Represent.{own-top}
-use Rattle.connection.proofs.Forest.{represents-name}
+use Rattle.connection.proofs.Forest.{names-one, represents-class, represents-name}
 use Rattle.connection.proofs.Growth.{forest-is}
 
 -- No existential has a universal's own level, so what its level allows is deeper than it.
@@ -23,11 +23,24 @@ from-deeper {v = v} u f = record { existential = f .existential; deep = let n = 
 pub depends-deeper : {X : Variables} {J : ℕ → ℕ → Type 0} {x y : ℕ} → Universal X x → Depends X J x y → From X (suc (X .lev x)) y
 depends-deeper u d = let f = depends-follows u .0 d in from-deeper u (reach-ends (f .allowed) (f .onward))
 
-module _ {X : Variables} {J : ℕ → ℕ → Type 0} {W : Table} (rep : Represents X J W) where
-  -- Where a climb ends at e, another does exactly if e stands above its class.
-  ends-member : {x y z e k n : ℕ} → Ends X W (suc (X .lev x)) (W .cls z) e k → Above W e (W .cls y) n → Ends X W (suc (X .lev x)) (W .cls y) e n
-  ends-member e a = record { above = a; deep = e .deep; stop = e .stop }
+module _ {X : Variables} {W : Table} (formed : WellFormed X W) where
+  -- The climb from the class of a member ends at the entry point that it is a member by.
+  member-ends : {S : ℕ → ℕ → Type 0} {x y : ℕ} (m : Member X W S x y) → Ends X W (suc (X .lev x)) (W .cls y) (m .entry) (m .rises)
+  member-ends m = let e = entry-ends formed .0 (m .entered .entry) in record { above = m .below; deep = e .deep; stop = e .stop }
 
+  -- So a member is deeper than x ...
+  pub member-deeper : {S : ℕ → ℕ → Type 0} {x y : ℕ} → Member X W S x y → From X (suc (X .lev x)) y
+  member-deeper {y = y} m = allow (m .existential) (omega (arith, above-falls formed (m .below), member-ends m .deep, formed .right y .class (m .existential) .block))
+
+  -- ... and an existential y deeper than x is a member exactly if the entry point of x for y is an entry point of x.
+  pub member-climb : {S : ℕ → ℕ → Type 0} {x y : ℕ} → X .ex y ≡ true → X .lev x < X .lev y
+      → Member X W S x y ↔ EntryPointOf X W S x (climb X W (suc (X .lev x)) (W .cls y) 0 .top)
+  member-climb {S} {x} {y} ex l = (
+    λ m. subst (EntryPointOf X W S x) (sym (ap (λ (c : Climbed). c .top) (climb-ends formed (member-ends m) 0))) (m .entered),
+    λ o. record { existential = ex; entry = climb X W (suc (X .lev x)) (W .cls y) 0 .top; entered = o; rises = climb X W (suc (X .lev x)) (W .cls y) 0 .rises; below = climb-entry formed y ex l .above },
+  )
+
+module _ {X : Variables} {J : ℕ → ℕ → Type 0} {W : Table} (rep : Represents X J W) where
   -- What follows from x, first along S and then along J, are the members by S.
   pub follows-member : {S : ℕ → ℕ → Type 0} {x y : ℕ} → Universal X x → Follows S J (From X (X .lev x)) x y ↔ Member X W S x y
   follows-member {S} {x} {y} u = (there, back)
@@ -53,15 +66,14 @@ module _ {X : Variables} {J : ℕ → ℕ → Type 0} {W : Table} (rep : Represe
           let o = m .entered in
           let z = o .for in
           let ez = entry-ends (rep .formed) .0 (o .entry) in
-          let ey = ends-member {z = z} ez (m .below) in
-          let fz : From X (suc (X .lev x)) z = record { existential = o .existential; deep = o .deeper } in
-          let fy : From X (suc (X .lev x)) y = record { existential = m .existential; deep = omega (arith, above-falls (rep .formed) (m .below), ez .deep, rep .formed .right y .class (m .existential) .block) } in
+          let fz : From X (suc (X .lev x)) z = allow (o .existential) (o .deeper) in
+          let fy = member-deeper (rep .formed) m in
           record {
             first = z;
             starts = o .shares;
             allowed = from-less (omega arith) fz;
-            onward = reach-mono (λ a b j. j) (λ a e. from-less (omega arith) e)
-                (rep .tops (suc (X .lev x)) z y fz fy .1 (top-ends (rep .formed) z ez ∙ sym (top-ends (rep .formed) y ey)));
+            onward = reach-level (omega arith)
+                (rep .tops (suc (X .lev x)) z y fz fy .1 (top-ends (rep .formed) z ez ∙ sym (top-ends (rep .formed) y (member-ends (rep .formed) m))));
           }
 
   -- Demand 2, for whatever joins the table represents.
@@ -72,28 +84,58 @@ module _ {X : Variables} {J : ℕ → ℕ → Type 0} {W : Table} (rep : Represe
   pub class-above : {p c : ℕ} → ClassName X W c → ClassAbove X J p c ↔ ((k : ℕ) × Above W p c (suc k))
   class-above {p} {c} n = (there, back)
     where
-      from : From X (X .lev p) c → X .ex p ≡ true → From X (X .lev p) p
-      from f e = record { existential = e; deep = omega arith }
+      own : ClassName X W p → top X W (X .lev p) p ≡ p
+      own q = own-top (rep .formed) p (q .existential) refl ∙ q .itself
 
       there : ClassAbove X J p c → (k : ℕ) × Above W p c (suc k)
       there a =
           let q = represents-name rep .0 (a .class) in
-          let f : From X (X .lev p) c = record { existential = n .existential; deep = omega (arith, a .less) } in
-          let e = top-exists (rep .formed) f in
-          let is : top X W (X .lev p) c ≡ p = sym (rep .tops (X .lev p) p c (from f (q .existential)) f .0 (a .reached)) ∙ own-top (rep .formed) p (q .existential) refl ∙ q .itself in
-          above-strict (rep .formed) (rw n.itself at (rw is at (e .1 .above))) (a .less)
+          let f : From X (X .lev p) c = allow (n .existential) (omega (arith, a .less)) in
+          let is = sym (rep .tops (X .lev p) p c (allow (q .existential) (omega arith)) f .0 (a .reached)) ∙ own q in
+          above-strict (rep .formed) (rw n.itself at (rw is at (top-exists (rep .formed) f .1 .above))) (a .less)
 
       back : (k : ℕ) × Above W p c (suc k) → ClassAbove X J p c
       back a =
           let q = above-class (rep .formed) n (a .1) in
           let less : X .lev p < X .lev c = omega (arith, above-falls (rep .formed) (a .1)) in
-          let f : From X (X .lev p) c = record { existential = n .existential; deep = omega arith } in
           let is : top X W (X .lev p) c ≡ p = top-class (rep .formed) n (record { above = a .1; deep = omega arith; stop = λ h. rep .formed .right p .parent h .less }) in
           record {
             class = represents-name rep .1 q;
             less = less;
-            reached = rep .tops (X .lev p) p c (from f (q .existential)) f .1 (own-top (rep .formed) p (q .existential) refl ∙ q .itself ∙ sym is);
+            reached = rep .tops (X .lev p) p c (allow (q .existential) (omega arith)) (allow (n .existential) (omega arith)) .1 (own q ∙ sym is);
           }
+
+  -- The same with the class itself.
+  above-at : {p c k : ℕ} → ClassName X W c → Above W p c k → AtOrAbove X J c p
+  above-at n start = at refl
+  above-at n (rise h a) = over (class-above n .1 (_, rise h a))
+
+  -- And the other way.
+  at-above : {p c : ℕ} → ClassName X W c → AtOrAbove X J c p → (k : ℕ) × Above W p c k
+  at-above {p} {c} n (at e) = (0, subst (λ (q : ℕ). Above W q c 0) e start)
+  at-above n (over a) = let r = class-above n .0 a in (suc (r .0), r .1)
+
+  -- So the entry point by reach is the entry point by the table.
+  pub entry-class : {x y e : ℕ} → X .ex y ≡ true → EntryClass X J x y e ↔ ((k : ℕ) × EntryPoint X W x y e k)
+  entry-class {x} {y} {e} ex = (
+    there,
+    λ h. record {
+      class = W .cls y;
+      names = represents-class rep y ex;
+      above = above-at name (h .1 .above);
+      deeper = h .1 .deeper;
+      least = λ p a d. let r = at-above name a in h .1 .least p (r .0) (r .1) d;
+    },
+  )
+    where
+      name : ClassName X W (W .cls y)
+      name = rep .formed .right y .class ex .name
+
+      there : EntryClass X J x y e → (k : ℕ) × EntryPoint X W x y e k
+      there h =
+          let same : h .class ≡ W .cls y = names-one (h .names) (represents-class rep y ex) in
+          let a = at-above name (subst (λ (c : ℕ). AtOrAbove X J c e) same (h .above)) in
+          (a .0, record { above = a .1; deeper = h .deeper; least = λ p n b d. h .least p (subst (λ (c : ℕ). AtOrAbove X J c p) (sym same) (above-at name b)) d })
 
 -- Demand 2: from a formula's own forest, the set of x is the members at or below the entry points of x.
 pub set-members : {X : Variables} {cs : List (List ℕ)} {W : Table} {x y : ℕ} → Lawful X → Forest X (Joined cs) W → Universal X x

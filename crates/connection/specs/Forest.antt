@@ -29,6 +29,19 @@ module _ (X : Variables) (J : ℕ → ℕ → Type 0) where
     none : p ≡ 0 → ((q : ℕ) → ClassAbove q c → ⊥) → Parent c p
     deepest : ClassAbove p c → ((q : ℕ) → ClassAbove q c → X .lev q ≤ X .lev p) → Parent c p
 
+  -- p is class c or a class above it.
+  pub data AtOrAbove (c p : ℕ) : Type 0 where
+    at : c ≡ p → AtOrAbove c p
+    over : ClassAbove p c → AtOrAbove c p
+
+  -- The entry point of x for y: of the class of y and the classes above it, the least deep that is deeper than x (definition 4.24).
+  pub record EntryClass (x y e : ℕ) : Type 0 where
+    pub class : ℕ
+    pub names : Names class y
+    pub above : AtOrAbove class e
+    pub deeper : X .lev x < X .lev e
+    pub least : (p : ℕ) → AtOrAbove class p → X .lev x < X .lev p → X .lev e ≤ X .lev p
+
   -- W is the forest: a universal has 0 in both; an existential its class name; a class its parent; what names no class has parent 0.
   pub record Forest (W : Table) : Type 0 where
     pub universal : (v : ℕ) → X .ex v ≡ false → (W .cls v ≡ 0) × (W .par v ≡ 0)

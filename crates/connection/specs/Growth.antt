@@ -22,6 +22,12 @@ pub record Represents (X : Variables) (J : ℕ → ℕ → Type 0) (W : Table) :
   pub formed : WellFormed X W
   pub tops : (i v y : ℕ) → From X i v → From X i y → Reach J (From X i) v y ↔ (top X W i v ≡ top X W i y)
 
+-- Each existential in a class of its own, with no parents: the table of no clause.
+pub record Single (X : Variables) (W : Table) : Type 0 where
+  pub universal : (v : ℕ) → X .ex v ≡ false → W .cls v ≡ 0
+  pub class : (v : ℕ) → X .ex v ≡ true → W .cls v ≡ v
+  pub parent : (v : ℕ) → W .par v ≡ 0
+
 module _ (X : Variables) (W : Table) (clause : List ℕ) where
   -- A class is marked if it is the class of an existential of the clause, or above one.
   pub record Marked (m : ℕ) : Type 0 where
@@ -38,18 +44,18 @@ module _ (X : Variables) (W : Table) (clause : List ℕ) where
 
   -- p is the low of the next block less than j that has marks, or 0.
   pub data Next (j p : ℕ) : Type 0 where
-    last : p ≡ 0 → ((m : ℕ) → Marked m → j ≤ X .lev m) → Next j p
-    next : Low p → X .lev p < j → ((m : ℕ) → Marked m → X .lev m < j → X .lev m ≤ X .lev p) → Next j p
+    none-next : p ≡ 0 → ((m : ℕ) → Marked m → j ≤ X .lev m) → Next j p
+    next-low : Low p → X .lev p < j → ((m : ℕ) → Marked m → X .lev m < j → X .lev m ≤ X .lev p) → Next j p
 
   -- The class row of an existential v: the low of its block if its class is marked, else kept.
   pub data FusedClass (v c : ℕ) : Type 0 where
-    joins : Marked (W .cls v) → Low c → X .lev c ≡ X .lev v → FusedClass v c
-    keeps : (Marked (W .cls v) → ⊥) → c ≡ W .cls v → FusedClass v c
+    merged : Marked (W .cls v) → Low c → X .lev c ≡ X .lev v → FusedClass v c
+    kept : (Marked (W .cls v) → ⊥) → c ≡ W .cls v → FusedClass v c
 
   -- The parent row of a class that stays one: the next low if it is marked, else the new name of its parent's class (0 if it has none).
   pub data FusedParent (W′ : Table) (c p : ℕ) : Type 0 where
-    links : Marked c → Next (X .lev c) p → FusedParent W′ c p
-    follows : (Marked c → ⊥) → p ≡ W′ .cls (W .par c) → FusedParent W′ c p
+    chained : Marked c → Next (X .lev c) p → FusedParent W′ c p
+    carried : (Marked c → ⊥) → p ≡ W′ .cls (W .par c) → FusedParent W′ c p
 
   -- W′ is W with the clause put in, by fusing the marked chains.
   pub record Fused (W′ : Table) : Type 0 where

@@ -3,4 +3,5 @@ pub mod Reach
 pub mod Tables
 pub mod Forest
 pub mod Growth
-pub mod Compute
+pub mod Search
+pub mod Fusing

@@ -1,7 +1,7 @@
 -- Forest tables, by themselves: well formed, the chain of parents, the climb, entry points, members (document 01, "Forest tables").
 use Prim.Native.Nat.{ℕ, zero, suc, _+_, _≤_, _<_}
 use mathlib.Core.Path.{_≡_}
-use mathlib.Core.Bool.{Bool, true, false, cond, _||_}
+use mathlib.Core.Bool.{true, false, cond, _||_}
 use mathlib.Core.List.{List, [], _∷_, _++_}
 use mathlib.Core.Logic.{_≢_}
 use lib.ListN.{getD}
@@ -51,7 +51,7 @@ pub record WellFormed (X : Variables) (W : Table) : Type 0 where
 
 -- p is k rises above c: from c, from parent to parent, k classes are passed up to p, c itself not counted.
 pub data Above (W : Table) (p : ℕ) : ℕ → ℕ → Type 0 where
-  itself : Above W p p 0
+  start : Above W p p 0
   rise : {c k : ℕ} → W .par c ≢ 0 → Above W p (W .par c) k → Above W p c (suc k)
 
 -- e is the entry point of x for y, with its number of rises: of the class of y and those above it, the least deep that is deeper than x.
@@ -77,12 +77,12 @@ pub record Member (X : Variables) (W : Table) (S : ℕ → ℕ → Type 0) (x y 
   pub rises : ℕ
   pub below : Above W entry (W .cls y) rises
 
--- The search: from class c with r rises behind it, rise while the parent is not 0 and stands in block i or deeper.
--- A class and a number of rises.
+-- What a search gives: where it ended and the number of rises.
 pub record Climbed : Type 0 where
   pub top : ℕ
   pub rises : ℕ
 
+-- The search: from class c with r rises behind it, rise while the parent is not 0 and stands in block i or deeper.
 unfoldable pub climb-by : Variables → Table → ℕ → ℕ → ℕ → ℕ → Climbed
 climb-by X W i zero c r = record { top = c; rises = r }
 climb-by X W i (suc fuel) c r =
@@ -97,13 +97,19 @@ climb X W i c r = climb-by X W i (X .lev c) c r
 unfoldable pub top : Variables → Table → ℕ → ℕ → ℕ
 top X W i v = climb X W i (W .cls v) 0 .top
 
--- The joins that a table stands for: {v, class name of v} for each existential, {class, parent} for each class with one.
-unfoldable pub joins-of : Variables → Table → ℕ → List (List ℕ)
-joins-of X W v = cond (X .ex v) ((v ∷ W .cls v ∷ []) ∷ []) [] ++ cond (eqb (W .par v) 0) [] ((v ∷ W .par v ∷ []) ∷ [])
+-- {v, class name of v} for an existential.
+unfoldable pub class-join : Variables → Table → ℕ → List (List ℕ)
+class-join X W v = cond (X .ex v) ((v ∷ W .cls v ∷ []) ∷ []) []
 
-unfoldable pub joins-to : Variables → Table → ℕ → List (List ℕ)
-joins-to X W zero = []
-joins-to X W (suc v) = joins-to X W v ++ joins-of X W (suc v)
+-- {class, parent} for a class with a parent.
+unfoldable pub parent-join : Table → ℕ → List (List ℕ)
+parent-join W v = cond (eqb (W .par v) 0) [] ((v ∷ W .par v ∷ []) ∷ [])
 
+-- All that f gives for 1 to n.
+unfoldable pub each : (ℕ → List (List ℕ)) → ℕ → List (List ℕ)
+each f zero = []
+each f (suc v) = each f v ++ f (suc v)
+
+-- The joins that a table stands for: {v, class name of v} for each existential, then {class, parent} for each class with one.
 unfoldable pub joins : Variables → Table → List (List ℕ)
-joins X W = joins-to X W (X .count)
+joins X W = each (class-join X W) (X .count) ++ each (parent-join W) (X .count)

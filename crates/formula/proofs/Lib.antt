@@ -3,3 +3,4 @@ pub mod Literals
 pub mod Cuts
 pub mod Lookups
 pub mod Levelling
+pub mod Examples

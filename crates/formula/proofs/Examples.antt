@@ -1,0 +1,44 @@
+-- Worked examples of document 01, as verdicts that the promise of check leaves no choice in.
+use Prim.Native.Nat.{ℕ, _<_}
+use mathlib.Core.Path.{_≡_, refl, sym}
+use mathlib.Core.List.{List, [], _∷_}
+use mathlib.Core.Logic.{inl, inr, ⊎-elim}
+use native.Mathlib.Omega.{arith}
+use lib.Dec.{lit<}
+use lib.IntN.{ℤ, pos, negsuc}
+use Rattle.terms.specs.declared.Verdict.{Verdict}
+use Rattle.terms.specs.declared.Verdict.the-variants.{Accepted, Refused}
+use Rattle.terms.specs.Refusals.{None, Judged}
+use Rattle.terms.proofs.Verdicts.{at0-first, at0-none, judged-unique}
+use Rattle.formula.specs.Causes.{PrefixCause, ClauseCause, checkOrder}
+use Rattle.formula.proofs.Scanned.{scan-none, none-in-prefix}
+use Rattle.formula.proofs.Literals.{read-none, fault-at-literal, none-in-clauses}
+
+-- an empty prefix has no cause, whatever n
+no-prefix : (n : ℕ) → None (PrefixCause n [])
+no-prefix n = none-in-prefix (scan-none n []) (omega arith) refl
+
+-- n 4,097 is 1, and 4,096 with empty tables is accepted, and so is n 0
+pub over-the-limit : (v : Verdict) → Judged (checkOrder 4097 [] []) v → v ≡ Refused 1 0
+over-the-limit v judged = judged-unique (checkOrder 4097 [] []) v (Refused 1 0) judged (inl (at0-first 1 (lit< tt)))
+
+empty : (n : ℕ) → ¬ (4096 < n) → Judged (checkOrder n [] []) Accepted
+empty n few = (at0-none 1 few, (at0-none 2 (⊎-elim (λ l. omega arith) (λ l. omega arith)), (no-prefix n, (none-in-clauses (read-none n []) (omega arith) refl, tt))))
+
+pub at-the-limit : (v : Verdict) → Judged (checkOrder 4096 [] []) v → v ≡ Accepted
+at-the-limit v judged = judged-unique (checkOrder 4096 [] []) v Accepted judged (empty 4096 (λ l. omega arith))
+
+pub nothing-at-all : (v : Verdict) → Judged (checkOrder 0 [] []) v → v ≡ Accepted
+nothing-at-all v judged = judged-unique (checkOrder 0 [] []) v Accepted judged (empty 0 (λ l. omega arith))
+
+-- the literal -2,147,483,648 is 10 at its entry
+abbrev pub smallest : List ℤ
+smallest = negsuc 2147483647 ∷ pos 0 ∷ []
+
+pub smallest-literal : (v : Verdict) → Judged (checkOrder 4096 [] smallest) v → v ≡ Refused 10 0
+smallest-literal v judged =
+    judged-unique (checkOrder 4096 [] smallest) v (Refused 10 0) judged
+    (inr (at0-none 1 (λ l. omega arith),
+    inr (at0-none 2 (⊎-elim (λ l. omega arith) (λ l. omega arith)),
+    inr (no-prefix 4096,
+    inl (fault-at-literal (read-none 4096 smallest) 2147483648 (omega arith) refl (lit< tt))))))
