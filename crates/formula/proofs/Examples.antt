@@ -38,7 +38,13 @@ smallest = negsuc 2147483647 ∷ pos 0 ∷ []
 pub smallest-literal : (v : Verdict) → Judged (checkOrder 4096 [] smallest) v → v ≡ Refused 10 0
 smallest-literal v judged =
     judged-unique (checkOrder 4096 [] smallest) v (Refused 10 0) judged
-    (inr (at0-none 1 (λ l. omega arith),
-    inr (at0-none 2 (⊎-elim (λ l. omega arith) (λ l. omega arith)),
-    inr (no-prefix 4096,
-    inl (fault-at-literal (read-none 4096 smallest) 2147483648 (omega arith) refl (lit< tt))))))
+    (inr (
+      at0-none 1 (λ l. omega arith),
+      inr (
+        at0-none 2 (⊎-elim (λ l. omega arith) (λ l. omega arith)),
+        inr (
+          no-prefix 4096,
+          inl (fault-at-literal (read-none 4096 smallest) 2147483648 (omega arith) refl (lit< tt)),
+        ),
+      ),
+    ))
