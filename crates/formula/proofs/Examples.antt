@@ -1,16 +1,17 @@
 -- Worked examples of document 01, as verdicts that the promise of check leaves no choice in.
-use Prim.Native.Nat.{ℕ, _<_}
+use Prim.Native.Nat.{ℕ, zero, suc, _-_, _<_}
 use mathlib.Core.Path.{_≡_, refl, sym}
 use mathlib.Core.List.{List, [], _∷_}
 use mathlib.Core.Logic.{inl, inr, ⊎-elim}
 use native.Mathlib.Omega.{arith}
-use lib.Dec.{lit<}
+use lib.Dec.{lit<, lit≤}
 use lib.IntN.{ℤ, pos, negsuc}
 use Rattle.terms.specs.declared.Verdict.{Verdict}
 use Rattle.terms.specs.declared.Verdict.the-variants.{Accepted, Refused}
 use Rattle.terms.specs.Refusals.{None, Judged}
 use Rattle.terms.proofs.Verdicts.{at0-first, at0-none, judged-unique}
 use Rattle.formula.specs.Causes.{PrefixCause, ClauseCause, checkOrder}
+use Rattle.formula.proofs.Accepts.{prefixPasses, goodMark, clausesPass, accepts}
 use Rattle.formula.proofs.Scanned.{scan-none, none-in-prefix}
 use Rattle.formula.proofs.Literals.{read-none, fault-at-literal, none-in-clauses}
 
@@ -48,3 +49,14 @@ smallest-literal v judged =
         ),
       ),
     ))
+
+-- blocks of one variable each, their marks in turn
+unfoldable pub inTurn : ℕ → ℕ → ℕ → List ℕ
+inTurn zero mark v = []
+inTurn (suc k) mark v = mark ∷ v ∷ 0 ∷ inTurn k (3 - mark) (suc v)
+
+-- 64 blocks are accepted
+pub sixty-four-blocks : (v : Verdict) → Judged (checkOrder 64 (inTurn 64 1 1) []) v → v ≡ Accepted
+unfolding inTurn prefixPasses goodMark clausesPass
+sixty-four-blocks v judged =
+    judged-unique (checkOrder 64 (inTurn 64 1 1) []) v Accepted judged (accepts 64 (inTurn 64 1 1) [] (lit≤ tt) (lit≤ tt) (lit≤ tt) refl refl)

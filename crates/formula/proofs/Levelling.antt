@@ -74,7 +74,7 @@ module _ {A : Type 0} (says : ℕ → ℕ → A) where
       either false h = refl
 
 -- a row after one store
-getD-set : {A : Type 0} (rows : List A) (w v : ℕ) (x d : A) → w < length rows → getD (set rows w x) v d ≡ cond (eqb w v) x (getD rows v d)
+pub getD-set : {A : Type 0} (rows : List A) (w v : ℕ) (x d : A) → w < length rows → getD (set rows w x) v d ≡ cond (eqb w v) x (getD rows v d)
 getD-set rows w v x d l = by-dec (ℕ-discrete v w)
   where
     by-dec : Dec (v ≡ w) → getD (set rows w x) v d ≡ cond (eqb w v) x (getD rows v d)

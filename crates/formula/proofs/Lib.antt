@@ -4,3 +4,4 @@ pub mod Cuts
 pub mod Lookups
 pub mod Levelling
 pub mod Examples
+pub mod Accepts

@@ -225,7 +225,7 @@ module _ {n : ℕ} {es : List ℕ} {i : ℕ} {opening fresh : Bool} {mark count 
       first-at (s .clean) (ends-inside refl (sym end) (open-end es i end (sym (s .opening-is) ∙ shut)))
       (λ k cause. ⊎-elim (λ l. absurd (let q = end in omega arith)) (λ w. let q = w .0 in omega arith) (at-entry k i cause))
 
-unnamed : (m v : ℕ) → getD (replicate m false) v false ≡ false
+pub unnamed : (m v : ℕ) → getD (replicate m false) v false ≡ false
 unnamed zero v = refl
 unnamed (suc m) zero = refl
 unnamed (suc m) (suc v) = unnamed m v
