@@ -109,13 +109,18 @@ unfolding freeLevel blocks cut
 free-of-none [] q = refl
 free-of-none (e ∷ es) q = absurd (omega arith)
 
+first-of : (e : ℕ) (es list : List ℕ) (lists : List (List ℕ)) → e ≢ 0 → cut isZero es ≡ list ∷ lists → firstMark (cut isZero (e ∷ es)) ≡ e
+unfolding cut
+first-of e es list lists some q =
+    ap (λ z. firstMark (cond z ([] ∷ cut isZero es) (push e (cut isZero es)))) (ne-eqb e 0 some) ∙ ap (λ cs. firstMark (push e cs)) q
+
 pub free-of-first : {n : ℕ} (es : List ℕ) → SoundPrefix n es → length es ≢ 0 → cond (eqb (at es 0) 1) 1 0 ≡ freeLevel es
-unfolding freeLevel blocks cut
+unfolding freeLevel blocks
 free-of-first [] sound some = absurd (some refl)
 free-of-first (e ∷ es) sound some =
     let nonzero : e ≢ 0 = mark-there sound 0 (omega arith) refl in
     let (list, lists, q) = closed-after sound 0 (omega arith) nonzero in
-    sym (ap (λ z. cond (eqb (firstMark (cond z ([] ∷ cut isZero es) (push e (cut isZero es)))) 1) 1 0) (ne-eqb e 0 nonzero) ∙ ap (λ cs. cond (eqb (firstMark (push e cs)) 1) 1 0) q)
+    sym (ap (λ m. cond (eqb m 1) 1 0) (first-of e es list lists nonzero q))
 
 -- The tables hold what the blocks before entry i say, so that what they and the rest say is what all say.
 pub record Levelling (es : List ℕ) (i : ℕ) (opening : Bool) (mark block : ℕ) (levels : List ℕ) (universals : List Bool) : Type 0 where

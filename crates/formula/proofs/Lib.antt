@@ -1,7 +1,13 @@
+-- The laws of the lent formula, in reading order.
+-- The scans of the prefix and of the clause table.
 pub mod Scanned
 pub mod Literals
+-- The lists that a table holds, and the clause with a given number.
 pub mod Cuts
 pub mod Lookups
+-- The level table.
 pub mod Levelling
-pub mod Examples
+-- Nothing is left open; acceptance by computing, and worked examples.
+pub mod Tight
 pub mod Accepts
+pub mod Examples

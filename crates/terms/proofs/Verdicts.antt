@@ -55,7 +55,7 @@ firstOf-unique (causes ∷ later) k p k′ p′ (inr f) (inl g) = absurd (f .0 k
 firstOf-unique (causes ∷ later) k p k′ p′ (inr f) (inr g) = firstOf-unique later k p k′ p′ (f .1) (g .1)
 
 -- Where an order has a first cause, its causes are not all absent.
-first-or-none : (order : List Causes) (k p : ℕ) → FirstOf order k p → NoneOf order → ⊥
+pub first-or-none : (order : List Causes) (k p : ℕ) → FirstOf order k p → NoneOf order → ⊥
 first-or-none [] k p f none = f
 first-or-none (causes ∷ later) k p (inl f) none = none .0 k p (f .holds)
 first-or-none (causes ∷ later) k p (inr f) none = first-or-none later k p (f .1) (none .1)
