@@ -1,14 +1,21 @@
--- A lent formula as the theory of connection takes it: its variables, and the joins of its clauses.
+-- A lent formula as the theory of connection takes it: its variables, and the joins of its clauses; and the same variables as the level table has them.
 use Prim.Native.Nat.{ℕ}
+use mathlib.Core.Bool.{Bool, false, not, _&&_}
 use mathlib.Core.List.{List, map}
+use lib.Dec.{leb}
 use lib.IntN.{ℤ}
+use lib.ListN.{getD}
 use Rattle.terms.specs.Literals.{variableOf}
-use Rattle.formula.specs.Meaning.{level, isExistential, clauses}
+use Rattle.formula.specs.Meaning.{level, isUniversal, isExistential, clauses}
 use Rattle.connection.specs.Reach.{Variables, Joined}
 
 -- the variables of a formula: how many, the level of each, and which are existential
 abbrev pub variables : ℕ → List ℕ → Variables
 variables n es = record { count = n; lev = level es; ex = isExistential n es }
+
+-- a universal variable: one of 1 to n, in a block with mark 2
+unfoldable pub universal : ℕ → List ℕ → ℕ → Bool
+universal n es x = leb 1 x && leb x n && isUniversal es x
 
 -- the lists of variables that connect: those of every clause, in either sign
 unfoldable pub joined : List ℤ → List (List ℕ)
@@ -17,3 +24,13 @@ joined ls = map (map variableOf) (clauses ls)
 -- two variables share a clause
 abbrev pub Shares : List ℤ → ℕ → ℕ → Type 0
 Shares ls = Joined (joined ls)
+
+-- What the level table says, row v for variable v: existential, universal, and the variables as a whole.
+unfoldable pub existentialIn : ℕ → List Bool → ℕ → Bool
+existentialIn n universals v = leb 1 v && leb v n && not (getD universals v false)
+
+unfoldable pub universalIn : ℕ → List Bool → ℕ → Bool
+universalIn n universals v = leb 1 v && leb v n && getD universals v false
+
+abbrev pub tabled : ℕ → List ℕ → List Bool → Variables
+tabled n levels universals = record { count = n; lev = λ v. getD levels v 0; ex = existentialIn n universals }

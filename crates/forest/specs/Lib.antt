@@ -1,2 +1,5 @@
 pub mod Formula
+pub mod Listed
 pub mod Causes
+pub mod Answers
+pub mod Search

@@ -1,1 +1,109 @@
-// Lent forest tables: whether they are well formed, entry points and sets.
+// Lent forest tables: the entry point of x for y, the entry points of x, and the set of x.
+
+pub mod entering;
+pub mod listing;
+pub mod marks;
+pub mod rows;
+pub mod search;
+
+use entering::enter;
+use formula::levels::fill_levels;
+use formula::prefix::check_prefix;
+use listing::list_flagged;
+use marks::flag_members;
+use rows::check_rows;
+use rows::universal_at;
+use search::find_entry;
+use search::Found;
+use terms::Filled;
+use terms::Level;
+use terms::Variable;
+use terms::Verdict;
+ghost use mathlib.Core.List.{[], _∷_};
+ghost use mathlib.Core.Logic.{_⊎_};
+ghost use Rattle.terms.specs.Refusals.{At0, Judged};
+ghost use Rattle.formula.specs.Levels.{SoundPrefix};
+ghost use Rattle.forest.specs.Causes.{ForestCause, NotUniversal, NotDeeper, prefixOrder, entryOrder, listOrder};
+ghost use Rattle.forest.specs.Answers.{Answered, Entry, Entries, Members};
+ghost use Rattle.forest.specs.Listed.{Listing};
+
+// What the entry point call says: the class and the number of rises, or the number of the refusal and its place.
+pub enum EntryAnswer {
+    At(Variable, u32),
+    // the number of the refusal, and its place
+    Refused(u32, usize),
+}
+
+// The entry point of x for y, and the number of rises from the class of y up to it.
+pub fn entry_point(n: u32, prefix: &[u32], classes: &[u32], parents: &[u32], x: Variable, y: Variable) -> EntryAnswer
+    ensures { λ r. ⌜ Answered (entryOrder n (now (prefix .entry)) (now (classes .entry)) (now (parents .entry)) (x .0) (y .0)) (Entry n (now (prefix .entry)) (now (classes .entry)) (now (parents .entry)) (x .0) (y .0)) r ⌝ }
+{
+    match prefix_verdict(n, prefix) {
+        Verdict::Refused(number, place) => EntryAnswer::Refused(number, place),
+        Verdict::Accepted => sound_entry(n, prefix, classes, parents, x, y),
+    }
+}
+
+// The entry points of x, written ascending into `out`, with their count.
+pub fn entry_points(n: u32, prefix: &[u32], clauses: &[i32], classes: &[u32], parents: &[u32], x: Variable, out: &mut [u32]) -> Filled
+    ensures { λ r. ⌜ Listing (listOrder n (now (prefix .entry)) (now (clauses .entry)) (now (classes .entry)) (now (parents .entry)) (x .0) (Entries n (now (prefix .entry)) (now (clauses .entry)) (now (classes .entry)) (now (parents .entry)) (x .0)) (now (out .entry))) (Entries n (now (prefix .entry)) (now (clauses .entry)) (now (classes .entry)) (now (parents .entry)) (x .0)) (now (out .entry)) (now (out .exit)) r ⌝ }
+{
+    let mut tops = [0u32; 4096];
+    let mut entered = [false; 4097];
+    match enter(n, prefix, clauses, classes, parents, x, &mut tops, &mut entered) {
+        Verdict::Refused(number, place) => Filled::Refused(number, place),
+        Verdict::Accepted => list_flagged(n, &entered, out),
+    }
+}
+
+// The set of x, written ascending into `out`, with the count of its members.
+pub fn set_of(n: u32, prefix: &[u32], clauses: &[i32], classes: &[u32], parents: &[u32], x: Variable, out: &mut [u32]) -> Filled
+    ensures { λ r. ⌜ Listing (listOrder n (now (prefix .entry)) (now (clauses .entry)) (now (classes .entry)) (now (parents .entry)) (x .0) (Members n (now (prefix .entry)) (now (clauses .entry)) (now (classes .entry)) (now (parents .entry)) (x .0)) (now (out .entry))) (Members n (now (prefix .entry)) (now (clauses .entry)) (now (classes .entry)) (now (parents .entry)) (x .0)) (now (out .entry)) (now (out .exit)) r ⌝ }
+{
+    let mut tops = [0u32; 4096];
+    let mut entered = [false; 4097];
+    match enter(n, prefix, clauses, classes, parents, x, &mut tops, &mut entered) {
+        Verdict::Refused(number, place) => Filled::Refused(number, place),
+        Verdict::Accepted => {
+            let mut members = [false; 4097];
+            flag_members(n, &entered, &tops, &mut members);
+            list_flagged(n, &members, out)
+        }
+    }
+}
+
+// Refusals 1, 2 and those of the prefix, for a call that takes no clauses.
+fn prefix_verdict(n: u32, prefix: &[u32]) -> Verdict
+    ensures { λ r. ⌜ Judged (prefixOrder n (now (prefix .entry))) r ⌝ }
+{
+    if Variable::MOST < n {
+        return Verdict::Refused(1, 0);
+    }
+    if Level::ENTRIES < prefix.len() {
+        return Verdict::Refused(2, 0);
+    }
+    check_prefix(n, prefix)
+}
+
+// The entry point of x for y, once the prefix is accepted.
+fn sound_entry(n: u32, prefix: &[u32], classes: &[u32], parents: &[u32], x: Variable, y: Variable) -> EntryAnswer
+    requires { ⌜ SoundPrefix n (now prefix) ⌝ }
+    ensures { λ r. ⌜ Answered (ForestCause n (now (prefix .entry)) (now (classes .entry)) (now (parents .entry)) ∷ At0 13 (NotUniversal n (now (prefix .entry)) (x .0) ⊎ NotDeeper n (now (prefix .entry)) (x .0) (y .0)) ∷ []) (Entry n (now (prefix .entry)) (now (classes .entry)) (now (parents .entry)) (x .0) (y .0)) r ⌝ }
+{
+    let mut levels = [0u32; 4097];
+    let mut universals = [false; 4097];
+    fill_levels(prefix, &mut levels, &mut universals);
+    match check_rows(n, &levels, &universals, classes, parents) {
+        Verdict::Refused(number, place) => EntryAnswer::Refused(number, place),
+        Verdict::Accepted => {
+            if universal_at(n, &universals, x) {
+                match find_entry(n, &levels, &universals, classes, parents, x, y) {
+                    Found::At(class, rises) => EntryAnswer::At(class, rises),
+                    Found::Nowhere => EntryAnswer::Refused(13, 0),
+                }
+            } else {
+                EntryAnswer::Refused(13, 0)
+            }
+        }
+    }
+}

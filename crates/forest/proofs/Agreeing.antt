@@ -1,0 +1,153 @@
+-- The level table agrees with the prefix on every variable that counts, so what is right by the one is right by the other; and no cause of refusal 12 means well formed.
+use Prim.Native.Nat.{ℕ, zero, suc, _+_, _≤_, _<_}
+use mathlib.Core.Path.{_≡_, refl, sym, ap, _∙_, subst}
+use mathlib.Core.Bool.{Bool, true, false, not, _&&_}
+use mathlib.Core.List.{List, [], _∷_}
+use mathlib.Core.Logic.{_≢_, _⊎_, inl, inr, ⊎-elim, _↔_, by-cases}
+use native.Mathlib.Decide.{ℕ-discrete, decLe, decLt}
+use native.Mathlib.Omega.{arith}
+use lib.Dec.{leb}
+use lib.ListN.{length, getD}
+use Rattle.terms.specs.Refusals.{Causes, First, None, Judged}
+use Rattle.terms.specs.declared.Verdict.{Verdict}
+use Rattle.terms.specs.declared.Verdict.the-variants.{Accepted, Refused}
+use Rattle.terms.proofs.Common.{clash}
+use Rattle.formula.specs.Meaning.{level, isUniversal, isExistential}
+use Rattle.formula.specs.Levels.{SoundPrefix, Levelled}
+use Rattle.connection.specs.Reach.{Variables, Lawful}
+use Rattle.connection.specs.Tables.{Table, row, lent, ClassName, ClassRow, ParentRow, Row, WellFormed, Above, EntryPoint, EntryPointOf}
+use Rattle.connection.proofs.Climb.{above-class}
+use Rattle.forest.specs.Formula.{variables, universal, tabled, existentialIn, universalIn}
+use Rattle.forest.specs.Causes.{RowsCause, short, bad-row, ForestCause}
+use Rattle.forest.specs.Search.{Deeper, EntryRow, EntryRows}
+use Rattle.forest.proofs.Readings.{row-none, row-over, flag-none, flag-over, flag-within}
+
+-- The same existentials, of the same levels.
+pub record Same (X Y : Variables) : Type 0 where
+  pub ex : (v : ℕ) → X .ex v ≡ Y .ex v
+  pub lev : (v : ℕ) → X .ex v ≡ true → X .lev v ≡ Y .lev v
+
+pub same-back : {X Y : Variables} → Same X Y → Same Y X
+same-back s = record { ex = λ v. sym (s .ex v); lev = λ v e. sym (s .lev v (s .ex v ∙ e)) }
+
+module _ {X Y : Variables} (s : Same X Y) where
+  class-same : {W : Table} {c : ℕ} → ClassName X W c → ClassName Y W c
+  class-same {c = c} n = record { existential = sym (s .ex c) ∙ n .existential; itself = n .itself }
+
+  pub row-same : {W : Table} {v : ℕ} → Row X W v → Row Y W v
+  row-same {W} {v} r =
+      record {
+        universal = λ u. r .universal (s .ex v ∙ u);
+        class = λ e. let k = r .class (s .ex v ∙ e) in record { most = k .most; name = class-same (k .name); block = sym (s .lev (W .cls v) (k .name .existential)) ∙ k .block ∙ s .lev v (s .ex v ∙ e) };
+        parent = λ some.
+          let p = r .parent some in
+          record { child = class-same (p .child); name = class-same (p .name); less = let q = s .lev (W .par v) (p .name .existential) in let o = s .lev v (p .child .existential) in omega (arith, p .less) };
+      }
+
+  pub formed-same : {W : Table} → WellFormed X W → WellFormed Y W
+  formed-same f = record { right = λ v. row-same (f .right v) }
+
+  -- An entry point, where x has the same level.
+  module _ {W : Table} (formed : WellFormed X W) {x : ℕ} (own : X .lev x ≡ Y .lev x) where
+    pub deeper-same : {y : ℕ} → Deeper X x y → Deeper Y x y
+    deeper-same {y} d = let q = s .lev y (d .0) in (sym (s .ex y) ∙ d .0, omega (arith, d .1))
+
+    pub entry-same : {y e k : ℕ} → X .ex y ≡ true → EntryPoint X W x y e k → EntryPoint Y W x y e k
+    entry-same {y} {e} ex p =
+        let level : (q k : ℕ) → Above W q (W .cls y) k → X .lev q ≡ Y .lev q = λ q k a. s .lev q (above-class formed (formed .right y .class ex .name) a .existential) in
+        let here = level e _ (p .above) in
+        record { above = p .above; deeper = omega (arith, p .deeper); least = λ q k a l. let there = level q k a in omega (arith, p .least q k a (omega arith)) }
+
+    pub of-same : {S : ℕ → ℕ → Type 0} {e : ℕ} → EntryPointOf X W S x e → EntryPointOf Y W S x e
+    of-same o =
+        let d = deeper-same (o .existential, o .deeper) in
+        record { for = o .for; shares = o .shares; existential = d .0; deeper = d .1; rises = o .rises; entry = entry-same (o .existential) (o .entry) }
+
+pub entry-row-same : {X Y : Variables} → Same X Y → {W : Table} → WellFormed X W → {x : ℕ} → X .lev x ≡ Y .lev x → {y e : ℕ} → EntryRow X W x y e → EntryRow Y W x y e
+entry-row-same s formed own {y} r =
+    record {
+      found = λ d. let h = deeper-same (same-back s) (formed-same s formed) (sym own) d in let p = r .found h in (p .0, entry-same s formed own (h .0) (p .1));
+      none = λ no-deeper. r .none (λ d. no-deeper (deeper-same s formed own d));
+    }
+
+-- The level table of an accepted prefix.
+module _ {n : ℕ} {es levels : List ℕ} {universals : List Bool} (sound : SoundPrefix n es) (table : Levelled es levels universals) where
+  flag-agrees : (f : Bool → Bool) (v : ℕ) → (leb 1 v && leb v n && f (getD universals v false)) ≡ (leb 1 v && leb v n && f (isUniversal es v))
+  flag-agrees f v =
+      by-cases (decLe v n) (λ l. ap (λ b. leb 1 v && leb v n && f b) (table .universal-is v (let few = sound .few in omega arith)))
+      (λ l. flag-over n v (f (getD universals v false)) (omega arith) ∙ sym (flag-over n v (f (isUniversal es v)) (omega arith)))
+
+  pub level-agrees : (v : ℕ) → v ≤ n → getD levels v 0 ≡ level es v
+  level-agrees v l = table .level-is v (let few = sound .few in omega arith)
+
+  pub universal-agrees : (x : ℕ) → universalIn n universals x ≡ universal n es x
+  unfolding universalIn universal
+  universal-agrees x = flag-agrees (λ b. b) x
+
+  pub tables-agree : Same (tabled n levels universals) (variables n es)
+  unfolding existentialIn isExistential
+  tables-agree = record { ex = λ v. flag-agrees not v; lev = λ v e. level-agrees v (flag-within n v (not (getD universals v false)) e .1) }
+
+-- x universal is one of 1 to n
+pub universal-within : (n : ℕ) (es : List ℕ) (x : ℕ) → universal n es x ≡ true → (1 ≤ x) × (x ≤ n) × (isUniversal es x ≡ true)
+unfolding universal
+universal-within n es x u = flag-within n x (isUniversal es x) u
+
+-- an existential is one of 1 to n
+pub lawful : (n : ℕ) (es : List ℕ) → Lawful (variables n es)
+unfolding isExistential
+lawful n es = record { within = λ v e. let (a, b, _) = flag-within n v (not (isUniversal es v)) e in (a, b) }
+
+-- Causes that hold alike are judged alike.
+pub judged-same : (A B : Causes) → ((k p : ℕ) → A k p ↔ B k p) → (v : Verdict) → Judged (A ∷ []) v → Judged (B ∷ []) v
+judged-same A B same Accepted none = (λ k p b. none .0 k p (same k p .1 b), tt)
+judged-same A B same (Refused k p) (inl f) = inl (record { holds = same k p .0 (f .holds); leftmost = λ k′ p′ b. f .leftmost k′ p′ (same k′ p′ .1 b); lowest = λ k′ b. f .lowest k′ (same k′ p .1 b) })
+judged-same A B same (Refused k p) (inr f) = absurd (f .1)
+
+rows-cause : {n : ℕ} (levels : List ℕ) (universals : List Bool) (es classes parents : List ℕ) → Same (tabled n levels universals) (variables n es) → {k p : ℕ} → RowsCause (tabled n levels universals) classes parents k p → ForestCause n es classes parents k p
+unfolding lent
+rows-cause levels universals es classes parents s (short q z small) = short q z small
+rows-cause levels universals es classes parents s (bad-row q some most wrong) = bad-row q some most (λ r. wrong (row-same (same-back s) r))
+
+rows-cause-back : {n : ℕ} (levels : List ℕ) (universals : List Bool) (es classes parents : List ℕ) → Same (tabled n levels universals) (variables n es) → {k p : ℕ} → ForestCause n es classes parents k p → RowsCause (tabled n levels universals) classes parents k p
+unfolding lent
+rows-cause-back levels universals es classes parents s (short q z small) = short q z small
+rows-cause-back levels universals es classes parents s (bad-row q some most wrong) = bad-row q some most (λ r. wrong (row-same s r))
+
+pub rows-judged : {n : ℕ} (levels : List ℕ) (universals : List Bool) (es classes parents : List ℕ) → Same (tabled n levels universals) (variables n es) → (v : Verdict) → Judged (RowsCause (tabled n levels universals) classes parents ∷ []) v → Judged (ForestCause n es classes parents ∷ []) v
+rows-judged levels universals es classes parents s v = judged-same _ _ (λ k p. (rows-cause levels universals es classes parents s, rows-cause-back levels universals es classes parents s)) v
+
+-- Whether a row is right can be told, so a row that is not wrong is right.
+steady : {a b : ℕ} → ((a ≡ b → ⊥) → ⊥) → a ≡ b
+steady {a} {b} h = by-cases (ℕ-discrete a b) (λ q. q) (λ n. absurd (h n))
+
+steady-flag : (b : Bool) → ((b ≡ true → ⊥) → ⊥) → b ≡ true
+steady-flag true h = refl
+steady-flag false h = absurd (h (λ q. clash q refl))
+
+steady-less : {a b : ℕ} → ((a ≤ b → ⊥) → ⊥) → a ≤ b
+steady-less {a} {b} h = by-cases (decLe a b) (λ q. q) (λ n. absurd (h n))
+
+row-steady : {X : Variables} {W : Table} {v : ℕ} → ((Row X W v → ⊥) → ⊥) → Row X W v
+row-steady h =
+    record {
+      universal = λ u. (steady (λ n. h (λ r. n (r .universal u .0))), steady (λ n. h (λ r. n (r .universal u .1))));
+      class = λ e. record {
+        most = steady-less (λ n. h (λ r. n (r .class e .most)));
+        name = record { existential = steady-flag _ (λ n. h (λ r. n (r .class e .name .existential))); itself = steady (λ n. h (λ r. n (r .class e .name .itself))) };
+        block = steady (λ n. h (λ r. n (r .class e .block)));
+      };
+      parent = λ p. record {
+        child = record { existential = steady-flag _ (λ n. h (λ r. n (r .parent p .child .existential))); itself = steady (λ n. h (λ r. n (r .parent p .child .itself))) };
+        name = record { existential = steady-flag _ (λ n. h (λ r. n (r .parent p .name .existential))); itself = steady (λ n. h (λ r. n (r .parent p .name .itself))) };
+        less = steady-less (λ n. h (λ r. n (r .parent p .less)));
+      };
+    }
+
+-- No cause of refusal 12: well formed. Outside 1 to n nothing is existential and both rows read 0.
+pub none-formed : {X : Variables} {classes parents : List ℕ} → Lawful X → None (RowsCause X classes parents) → WellFormed X (lent X classes parents)
+unfolding lent
+none-formed {X} {classes} {parents} law none = record { right = λ v. by-cases (decLe v (X .count)) (λ l. by-cases (ℕ-discrete v 0) (λ z. outside v (λ e. let w = law .within v e in let a = w .0 in omega arith) (λ rows. row-none (X .count) rows v z)) (λ some. row-steady (λ wrong. none 12 v (bad-row refl (omega arith) l wrong)))) (λ l. outside v (λ e. let w = law .within v e in let b = w .1 in omega arith) (λ rows. row-over (X .count) rows v (omega arith))) }
+  where
+    outside : (v : ℕ) → (X .ex v ≡ true → ⊥) → ((rows : List ℕ) → row (X .count) rows v ≡ 0) → Row X (record { cls = row (X .count) classes; par = row (X .count) parents }) v
+    outside v none zero′ = record { universal = λ _. (zero′ classes, zero′ parents); class = λ e. absurd (none e); parent = λ some. absurd (some (zero′ parents)) }

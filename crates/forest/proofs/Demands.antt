@@ -1,0 +1,152 @@
+-- Demand 2, as theorems about what the calls ensure; that a block has one quantifier; and that what was lent settles every outcome.
+use Prim.Native.Nat.{ℕ, zero, suc, _+_, _≤_, _<_}
+use mathlib.Core.Path.{_≡_, refl, sym, ap, ap₂, _∙_, subst}
+use mathlib.Core.Bool.{Bool, true, false, cond, not}
+use mathlib.Core.List.{List, [], _∷_}
+use mathlib.Core.Logic.{_≢_, _⊎_, inl, inr, ⊎-elim, _↔_}
+use native.Mathlib.Omega.{arith}
+use borrow.Author.Tests.{eqb-true, not-true}
+use lib.Dec.{eqb}
+use lib.IntN.{ℤ}
+use lib.ListN.{length, getD}
+use lib.Seq.{sets}
+use Rattle.terms.specs.Refusals.{Causes, None, NoneOf, FirstOf, Judged}
+use Rattle.terms.specs.declared.Verdict.{Verdict}
+use Rattle.terms.specs.declared.Verdict.the-variants.{Accepted, Refused}
+use Rattle.terms.specs.declared.Filled.{Filled}
+use Rattle.terms.specs.declared.Filled.the-variants.{Count}
+use Rattle.terms.specs.declared.Variable.{Variable}
+use Rattle.terms.proofs.Common.{clash}
+use Rattle.terms.proofs.Verdicts.{judged-unique}
+use Rattle.formula.specs.Meaning.{blocks, markOf, names, saidOf, firstMark, freeLevel, level, isUniversal, isExistential}
+use Rattle.connection.specs.Reach.{Universal, Depends}
+use Rattle.connection.specs.Tables.{lent, WellFormed, EntryPoint}
+use Rattle.connection.specs.Forest.{Forest, EntryClass}
+use Rattle.connection.proofs.Climb.{entry-one}
+use Rattle.connection.proofs.Growth.{forest-is}
+use Rattle.connection.proofs.Sets.{set-members, entry-class}
+use Rattle.forest.specs.declared.EntryAnswer.{EntryAnswer}
+use Rattle.forest.specs.declared.EntryAnswer.the-variants.{At}
+use Rattle.forest.specs.Formula.{variables, universal, Shares, joined}
+use Rattle.forest.specs.Causes.{RowsCause, short, bad-row, ForestCause, entryOrder, listOrder}
+use Rattle.forest.specs.Answers.{Answered, Entry, Members}
+use Rattle.forest.specs.Listed.{Listed, Listing}
+use Rattle.forest.proofs.Readings.{flag-in, flag-within}
+use Rattle.forest.proofs.Picked.{listed-one}
+use Rattle.forest.proofs.Agreeing.{lawful, none-formed, universal-within}
+
+-- What the blocks say of a variable, level and quantifier at once: nothing, or what the block at m says.
+data Said (bs : List (List ℕ)) (number free : ℕ) (un : Bool) (l : ℕ) (u : Bool) : Type 0 where
+  unnamed : l ≡ free → u ≡ un → Said bs number free un l u
+  named : (m : ℕ) → l ≡ number + m → u ≡ eqb (markOf (getD bs m [])) 2 → Said bs number free un l u
+
+said : (bs : List (List ℕ)) (number free : ℕ) (un : Bool) (v : ℕ) → Said bs number free un (saidOf (λ k m. k) bs number free v) (saidOf (λ k m. eqb m 2) bs number un v)
+said [] number free un v = unnamed refl refl
+said (b ∷ bs) number free un v = go (names b v) (said bs (suc number) (cond (names b v) number free) (cond (names b v) (eqb (markOf b) 2) un) v)
+  where
+    go : {l : ℕ} {u : Bool} (t : Bool) → Said bs (suc number) (cond t number free) (cond t (eqb (markOf b) 2) un) l u → Said (b ∷ bs) number free un l u
+    go true (unnamed p q) = named 0 (let e : number ≡ number + 0 = omega arith in p ∙ e) q
+    go false (unnamed p q) = unnamed p q
+    go true (named m p q) = named (suc m) (let e : suc number + m ≡ number + suc m = omega arith in p ∙ e) q
+    go false (named m p q) = named (suc m) (let e : suc number + m ≡ number + suc m = omega arith in p ∙ e) q
+
+first-mark : (bs : List (List ℕ)) → firstMark bs ≡ markOf (getD bs 0 [])
+first-mark [] = refl
+first-mark (b ∷ bs) = refl
+
+-- A block has one quantifier: no existential has the level of a universal.
+one-quantifier : (es : List ℕ) (x y : ℕ) → isUniversal es x ≡ true → isUniversal es y ≡ false → level es y ≢ level es x
+unfolding level isUniversal freeLevel
+one-quantifier es x y ux uy same = go (said (blocks es) 1 (freeLevel es) false x) (said (blocks es) 1 (freeLevel es) false y) ux uy same
+  where
+    free-mark : (m : ℕ) → cond (eqb (firstMark (blocks es)) 1) 1 0 ≡ 1 + m → eqb (markOf (getD (blocks es) m [])) 2 ≡ true → ⊥
+    free-mark m = by (eqb (firstMark (blocks es)) 1) refl
+      where
+        by : (b : Bool) → eqb (firstMark (blocks es)) 1 ≡ b → cond b 1 0 ≡ 1 + m → eqb (markOf (getD (blocks es) m [])) 2 ≡ true → ⊥
+        by true one q two =
+            let z : m ≡ 0 = omega arith in
+            let a : markOf (getD (blocks es) 0 []) ≡ 1 = sym (first-mark (blocks es)) ∙ eqb-true (firstMark (blocks es)) 1 one in
+            let b : markOf (getD (blocks es) 0 []) ≡ 2 = ap (λ k. markOf (getD (blocks es) k [])) (sym z) ∙ eqb-true (markOf (getD (blocks es) m [])) 2 two in
+            omega arith
+        by false one q two = omega arith
+
+    go : {lx ly : ℕ} {bx by : Bool} → Said (blocks es) 1 (freeLevel es) false lx bx → Said (blocks es) 1 (freeLevel es) false ly by → bx ≡ true → by ≡ false → ly ≡ lx → ⊥
+    go (unnamed _ q) s t f same = clash t q
+    go (named m p q) (unnamed p′ q′) t f same = free-mark m (sym p′ ∙ same ∙ p) (sym q ∙ t)
+    go (named m p q) (named k p′ q′) t f same = let e : k ≡ m = omega arith in clash (sym q ∙ t) (ap (λ i. eqb (markOf (getD (blocks es) i [])) 2) (sym e) ∙ sym q′ ∙ f)
+
+pub universal-alone : (n : ℕ) (es : List ℕ) (x : ℕ) → universal n es x ≡ true → Universal (variables n es) x
+unfolding isExistential
+universal-alone n es x u =
+    let (a, b, t) = universal-within n es x u in
+    record {
+      universal = flag-in n x (not (isUniversal es x)) (λ z. omega arith) b ∙ ap not t;
+      alone = λ y e. one-quantifier es x y t (not-true (isUniversal es y) (flag-within n y (not (isUniversal es y)) e .2));
+    }
+
+-- Verdicts and variables that are one.
+accepted-or-refused : {number place : ℕ} → Accepted ≡ Refused number place → ⊥
+accepted-or-refused q = let z : _≡_ {A = ℕ} 0 1 = cc in omega arith
+
+same-refusal : {number place number′ place′ : ℕ} → Refused number place ≡ Refused number′ place′ → (number ≡ number′) × (place ≡ place′)
+same-refusal q = (cc, cc)
+
+one-variable : (a b : Variable) → a .0 ≡ b .0 → a ≡ b
+one-variable a b q = λ i. record { 0 = q i }
+
+listed-as : {P Q : ℕ → Type 0} {list : List ℕ} → ((v : ℕ) → P v ↔ Q v) → Listed P list → Listed Q list
+listed-as same l = record { ascending = l .ascending; each = λ v m. same v .0 (l .each v m); all = λ v q. l .all v (same v .1 q) }
+
+-- a flag that is not false
+not-false-true : (b : Bool) → (b ≡ false → ⊥) → b ≡ true
+not-false-true true h = refl
+not-false-true false h = absurd (h refl)
+
+module _ (n : ℕ) (es : List ℕ) (ls : List ℤ) (classes parents : List ℕ) (x : ℕ) where
+  -- x is universal where a call that lists is not refused.
+  not-refused : (P : ℕ → Type 0) (before : List ℕ) → NoneOf (listOrder n es ls classes parents x P before) → universal n es x ≡ true
+  not-refused P before none = not-false-true (universal n es x) (λ q. none .1 .1 .1 .1 .1 .0 13 0 (refl, refl, q))
+
+  module _ (forest : Forest (variables n es) (Shares ls) (lent (variables n es) classes parents)) where
+    -- Demand 2: for the formula's own forest, what the set call writes where it is not refused is the standard dependency set.
+    pub set-is-dependencies : (before after : List ℕ) (count : ℕ)
+        → Listing (listOrder n es ls classes parents x (Members n es ls classes parents x) before) (Members n es ls classes parents x) before after (Count count)
+        → (list : List ℕ) × Listed (Depends (variables n es) (Shares ls) x) list × (count ≡ length list) × (after ≡ sets before 0 list)
+    set-is-dependencies before after count (none, written) =
+        let u = universal-alone n es x (not-refused (Members n es ls classes parents x) before none) in
+        (written .0, listed-as (λ y. let same = set-members {y = y} (lawful n es) forest u in (same .1, same .0)) (written .1), written .2, written .3)
+
+    -- And what the entry point call answers is the class of definition 4.24, said by reach.
+    pub entry-is-class : (y : ℕ) (class : Variable) (rises : ℕ)
+        → Answered (entryOrder n es classes parents x y) (Entry n es classes parents x y) (At class rises) → EntryClass (variables n es) (Shares ls) x y (class .0)
+    entry-is-class y class rises (none, entry) =
+        let ex = not-false-true (isExistential n es y) (λ q. none .1 .1 .1 .1 .0 13 0 (refl, refl, inr (inl q))) in
+        entry-class (forest-is (lawful n es) .0 forest) ex .1 (rises, entry .0)
+
+    -- It has no cause of refusal 12, where the tables are as long as n.
+    pub own-forest-fine : n ≤ length classes → n ≤ length parents → None (ForestCause n es classes parents)
+    own-forest-fine long long′ k p (short _ _ small) = ⊎-elim (λ l. omega arith) (λ l. omega arith) small
+    own-forest-fine long long′ k p (bad-row _ _ _ wrong) = wrong (forest-is (lawful n es) .0 forest .formed .right p)
+
+-- What was lent settles what a call that lists answers, and every entry of the table that it fills.
+pub listing-settled : (order : List Causes) (P : ℕ → Type 0) (before after after′ : List ℕ) (r r′ : Filled) → Listing order P before after r → Listing order P before after′ r′ → (r ≡ r′) × (after ≡ after′)
+listing-settled order P before after after′ (Filled.Count k) (Filled.Count k′) (none, a) (none′, b) =
+    let same = listed-one (a .0) (b .0) (a .1) (b .1) in
+    (ap Count (a .2 ∙ ap length same ∙ sym (b .2)), a .3 ∙ ap (sets before 0) same ∙ sym (b .3))
+listing-settled order P before after after′ (Filled.Count k) (Filled.Refused number place) (none, a) (first, b) = absurd (accepted-or-refused (judged-unique order Accepted (Refused number place) none first))
+listing-settled order P before after after′ (Filled.Refused number place) (Filled.Count k) (first, a) (none, b) = absurd (accepted-or-refused (judged-unique order Accepted (Refused number place) none first))
+listing-settled order P before after after′ (Filled.Refused number place) (Filled.Refused number′ place′) (first, a) (first′, b) =
+    let (k, p) = same-refusal (judged-unique order (Refused number place) (Refused number′ place′) first first′) in
+    (ap₂ Filled.Refused k p, a ∙ sym b)
+
+-- What was lent settles the answer of the entry point call.
+module _ (n : ℕ) (es classes parents : List ℕ) (x y : ℕ) where
+  pub entry-settled : (r r′ : EntryAnswer) → Answered (entryOrder n es classes parents x y) (Entry n es classes parents x y) r → Answered (entryOrder n es classes parents x y) (Entry n es classes parents x y) r′ → r ≡ r′
+  entry-settled (EntryAnswer.At c k) (EntryAnswer.At c′ k′) (none, a) (none′, b) =
+      let (same, rises) = entry-one (none-formed (lawful n es) (none .1 .1 .1 .0)) (a .0) (b .0) in
+      ap₂ At (one-variable c c′ same) rises
+  entry-settled (EntryAnswer.At c k) (EntryAnswer.Refused number place) (none, a) first = absurd (accepted-or-refused (judged-unique (entryOrder n es classes parents x y) Accepted (Refused number place) none first))
+  entry-settled (EntryAnswer.Refused number place) (EntryAnswer.At c k) first (none, a) = absurd (accepted-or-refused (judged-unique (entryOrder n es classes parents x y) Accepted (Refused number place) none first))
+  entry-settled (EntryAnswer.Refused number place) (EntryAnswer.Refused number′ place′) first first′ =
+      let (k, p) = same-refusal (judged-unique (entryOrder n es classes parents x y) (Refused number place) (Refused number′ place′) first first′) in
+      ap₂ EntryAnswer.Refused k p

@@ -1,0 +1,166 @@
+-- The entry points and the set of x, by the entries of all variables; and that nothing is lost from the level table to the prefix.
+use Prim.Native.Nat.{ℕ, zero, suc, _+_, _≤_, _<_}
+use mathlib.Core.Path.{_≡_, refl, sym, ap, _∙_, subst}
+use mathlib.Core.Bool.{Bool, true, false, not}
+use mathlib.Core.List.{List, [], _∷_}
+use mathlib.Core.Logic.{_≢_, _⊎_, inl, inr, ⊎-elim, _↔_, by-cases}
+use native.Mathlib.Decide.{decLt, decLe}
+use native.Mathlib.Omega.{arith}
+use lib.IntN.{ℤ}
+use lib.ListN.{length, getD, replicate, length-replicate, getD-replicate, List·getD-eq-default}
+use Rattle.terms.specs.Refusals.{At0, NoneOf, Judged}
+use Rattle.terms.specs.declared.Verdict.the-variants.{Accepted, Refused}
+use Rattle.terms.proofs.Common.{clash}
+use Rattle.terms.proofs.Verdicts.{at0-none}
+use Rattle.formula.specs.Meaning.{level, isExistential}
+use Rattle.formula.specs.Levels.{SoundPrefix, Levelled}
+use Rattle.connection.specs.Reach.{Variables, Lawful}
+use Rattle.connection.specs.Tables.{Table, row, lent, WellFormed, EntryPoint, EntryPointOf, Member, Climbed}
+use Rattle.connection.proofs.Climb.{above-class, entry-one, entry-climb, entry-rises}
+use Rattle.connection.proofs.Sets.{member-deeper, member-climb}
+use Rattle.forest.specs.Formula.{variables, universal, tabled, existentialIn, universalIn, Shares}
+use Rattle.formula.specs.Causes.{checkOrder}
+use Rattle.forest.specs.Causes.{RowsCause, ForestCause, NotUniversal, NotDeeper, prefixOrder}
+use Rattle.forest.specs.Answers.{Entry}
+use Rattle.forest.specs.Search.{rowsOf, Deeper, EntryRow, EntryRows, Flagged, EntryOf, BelowEntry, Blank, Enters}
+use Rattle.forest.proofs.Readings.{flag-within}
+use Rattle.forest.proofs.Flags.{flag-as, row-within}
+use Rattle.forest.proofs.Agreeing.{Same, same-back, formed-same, deeper-same, entry-same, of-same, entry-row-same, tables-agree, level-agrees, universal-agrees, universal-within, rows-judged, none-formed}
+
+-- A new table of flags, and what is flagged in it.
+pub fresh : Blank (replicate 4097 false)
+fresh = record { size = length-replicate 4097 false; blank = λ v. by-cases (decLt v 4097) (λ l. getD-replicate 4097 v false false l) (λ l. List·getD-eq-default (replicate 4097 false) false {n = v} (let q = length-replicate 4097 false in omega arith)) }
+
+pub flags-are : {P : ℕ → Type 0} {old new : List Bool} → Blank old → Flagged P old new → (v : ℕ) → v ≤ 4096 → (getD new v false ≡ true) ↔ P v
+flags-are b f v l =
+    let here = f .flags v (let q = b .size in omega arith) in
+    (λ t. ⊎-elim (λ o. absurd (clash o (b .blank v))) (λ p. p) (here .0 t), λ p. here .1 (inr p))
+
+module _ {X : Variables} {W : Table} (law : Lawful X) (formed : WellFormed X W) {x : ℕ} where
+  -- An entry point is a class name, and so one of the variables.
+  entry-within : {y e k : ℕ} → X .ex y ≡ true → EntryPoint X W x y e k → (1 ≤ e) × (e ≤ X .count)
+  entry-within {y} {e} ex p = law .within e (above-class formed (formed .right y .class ex .name) (p .above) .existential)
+
+  pub of-within : {S : ℕ → ℕ → Type 0} {e : ℕ} → EntryPointOf X W S x e → (1 ≤ e) × (e ≤ X .count)
+  of-within o = entry-within (o .existential) (o .entry)
+
+  module _ (tops : List ℕ) (rows : EntryRows X W x tops) where
+    -- A row that is not 0 is of an existential deeper than x.
+    row-found : (y : ℕ) → row (X .count) tops y ≢ 0 → Deeper X x y × ((k : ℕ) × EntryPoint X W x y (row (X .count) tops y) k)
+    row-found y some =
+        let deep : Deeper X x y =
+              go (X .ex y) refl (decLt (X .lev x) (X .lev y)) in
+        (deep, rows y .found deep)
+      where
+        go : (b : Bool) → X .ex y ≡ b → Dec (X .lev x < X .lev y) → Deeper X x y
+        go true e (yes l) = (e, l)
+        go true e (no l) = absurd (some (rows y .none (λ d. l (d .1))))
+        go false e d = absurd (some (rows y .none (λ d. clash (d .0) e)))
+
+    -- The entries of those that share a clause with x are the entry points of x.
+    pub entries-of : {S : ℕ → ℕ → Type 0} (shared : List Bool) → ((v : ℕ) → v ≤ X .count → (getD shared v false ≡ true) ↔ S x v) → (e : ℕ) → EntryOf (X .count) shared tops e ↔ EntryPointOf X W S x e
+    entries-of {S} shared tells e = (there, back)
+      where
+        there : EntryOf (X .count) shared tops e → EntryPointOf X W S x e
+        there o =
+            let v = o .for in
+            let some : row (X .count) tops v ≢ 0 = λ z. o .some (sym (o .is) ∙ z) in
+            let (deep, found) = row-found v some in
+            let (k, p) = found in
+            record { for = v; shares = tells v (row-within (X .count) tops v some .1) .0 (o .flagged); existential = deep .0; deeper = deep .1; rises = k; entry = subst (λ d. EntryPoint X W x v d k) (o .is) p }
+
+        back : EntryPointOf X W S x e → EntryOf (X .count) shared tops e
+        back o =
+            let v = o .for in
+            let (k, p) = rows v .found (o .existential, o .deeper) in
+            record { for = v; flagged = tells v (law .within v (o .existential) .1) .1 (o .shares); is = entry-one formed p (o .entry) .0; some = λ z. let a = entry-within (o .existential) (o .entry) .0 in omega arith }
+
+    -- Those whose entry is an entry point of x are the set of x.
+    pub members-of : {S : ℕ → ℕ → Type 0} (entered : List Bool) → ((e : ℕ) → e ≤ X .count → (getD entered e false ≡ true) ↔ EntryPointOf X W S x e) → (y : ℕ) → BelowEntry (X .count) entered tops y ↔ Member X W S x y
+    members-of {S} entered tells y = (there, back)
+      where
+        there : BelowEntry (X .count) entered tops y → Member X W S x y
+        there b =
+            let (deep, found) = row-found y (b .some) in
+            let (k, p) = found in
+            record { existential = deep .0; entry = row (X .count) tops y; entered = tells (row (X .count) tops y) (entry-within (deep .0) p .1) .0 (b .flagged); rises = k; below = p .above }
+
+        back : Member X W S x y → BelowEntry (X .count) entered tops y
+        back m =
+            let f = member-deeper formed m in
+            let (k, p) = rows y .found (f .existential, f .deep) in
+            let top = ap (λ (c : Climbed). c .top) (entry-climb formed p) in
+            let in-range = entry-within (f .existential) p in
+            record {
+              some = λ z. let a = in-range .0 in omega arith;
+              flagged = tells (row (X .count) tops y) (in-range .1) .1 (subst (EntryPointOf X W S x) top (member-climb formed (f .existential) (f .deep) .0 m));
+            }
+
+pub tabled-lawful : (n : ℕ) (levels : List ℕ) (universals : List Bool) → Lawful (tabled n levels universals)
+unfolding existentialIn
+tabled-lawful n levels universals = record { within = λ v e. let (a, b, _) = flag-within n v (not (getD universals v false)) e in (a, b) }
+
+-- What the inner calls find by the level table, said of the formula.
+module _ (n : ℕ) (levels : List ℕ) (universals : List Bool) (classes parents : List ℕ) where
+  -- Rows that are accepted are well formed.
+  pub rows-formed : Judged (RowsCause (tabled n levels universals) classes parents ∷ []) Accepted → WellFormed (tabled n levels universals) (rowsOf n classes parents)
+  unfolding lent
+  rows-formed accepted = none-formed (tabled-lawful n levels universals) (accepted .0)
+
+module _ {n : ℕ} {es levels : List ℕ} {universals : List Bool} (sound : SoundPrefix n es) (table : Levelled es levels universals) (classes parents : List ℕ) (x : ℕ) where
+  own-level : universalIn n universals x ≡ true → getD levels x 0 ≡ level es x
+  own-level u = level-agrees sound table x (universal-within n es x (sym (universal-agrees sound table x) ∙ u) .1)
+
+  pub sound-enters : {S : ℕ → ℕ → Type 0} (tops : List ℕ) {old new : List Bool} → WellFormed (tabled n levels universals) (rowsOf n classes parents) → universalIn n universals x ≡ true
+      → EntryRows (tabled n levels universals) (rowsOf n classes parents) x tops → Flagged (EntryPointOf (tabled n levels universals) (rowsOf n classes parents) S x) old new → Enters (variables n es) (lent (variables n es) classes parents) S x tops old new Accepted
+  unfolding lent
+  sound-enters tops formed u rows f =
+      let s = tables-agree sound table in
+      let own = own-level u in
+      (λ y. entry-row-same s formed own (rows y), flag-as f (λ e. (of-same s formed own, of-same (same-back s) (formed-same s formed) (sym own))))
+
+  -- x universal by the level table is universal.
+  pub sound-universal : {b : Bool} → b ≡ universalIn n universals x → b ≡ true → NotUniversal n es x → ⊥
+  sound-universal told yes′ not′ = clash (sym told ∙ yes′) (universal-agrees sound table x ∙ not′)
+
+  pub sound-not-universal : {b : Bool} → b ≡ universalIn n universals x → b ≡ false → NotUniversal n es x
+  sound-not-universal told no′ = sym (universal-agrees sound table x) ∙ sym told ∙ no′
+
+  -- What the search for y finds.
+  pub sound-found : {y e k : ℕ} → WellFormed (tabled n levels universals) (rowsOf n classes parents) → universalIn n universals x ≡ true → Deeper (tabled n levels universals) x y × EntryPoint (tabled n levels universals) (rowsOf n classes parents) x y e k
+      → (NotDeeper n es x y → ⊥) × Entry n es classes parents x y e k
+  unfolding lent
+  sound-found {y} formed u f =
+      let s = tables-agree sound table in
+      let own = own-level u in
+      let deep = deeper-same s formed own (f .0) in
+      let point = entry-same s formed own (f .0 .0) (f .1) in
+      (⊎-elim (λ un. clash (deep .0) un) (λ l. let d = deep .1 in omega arith), (point, entry-rises (formed-same s formed) (deep .0) point))
+
+  pub sound-nowhere : (y : ℕ) → WellFormed (tabled n levels universals) (rowsOf n classes parents) → universalIn n universals x ≡ true → (Deeper (tabled n levels universals) x y → ⊥) → NotDeeper n es x y
+  sound-nowhere y formed u shallow = go (isExistential n es y) refl (decLt (level es x) (level es y))
+    where
+      s : Same (tabled n levels universals) (variables n es)
+      s = tables-agree sound table
+
+      go : (b : Bool) → isExistential n es y ≡ b → Dec (level es x < level es y) → NotDeeper n es x y
+      go true e (yes l) = absurd (shallow (deeper-same (same-back s) (formed-same s formed) (sym (own-level u)) (e, l)))
+      go true e (no l) = inr (omega arith)
+      go false e d = inl e
+
+-- A formula and a prefix that are accepted.
+pub sound-check : {n : ℕ} {es : List ℕ} {ls : List ℤ} → NoneOf (checkOrder n es ls) → SoundPrefix n es
+sound-check {n} {es} none =
+    record {
+      few = by-cases (decLe n 4096) (λ l. l) (λ l. absurd (none .0 1 0 (refl, refl, omega arith)));
+      short = by-cases (decLe (length es) 8192) (λ l. l) (λ l. absurd (none .1 .0 2 0 (refl, refl, inl (omega arith))));
+      faultless = none .1 .1 .0;
+    }
+
+pub sound-prefix : {n : ℕ} {es : List ℕ} → NoneOf (prefixOrder n es) → SoundPrefix n es
+sound-prefix {n} {es} none =
+    record {
+      few = by-cases (decLe n 4096) (λ l. l) (λ l. absurd (none .0 1 0 (refl, refl, omega arith)));
+      short = by-cases (decLe (length es) 8192) (λ l. l) (λ l. absurd (none .1 .0 2 0 (refl, refl, omega arith)));
+      faultless = none .1 .1 .0;
+    }

@@ -1,0 +1,233 @@
+-- Tables of flags: one flag more, a sweep over all variables, and the clauses passed one after the other.
+use Prim.Native.Nat.{ℕ, zero, suc, _+_, _-_, _≤_, _<_}
+use mathlib.Core.Path.{_≡_, refl, sym, ap, _∙_, subst}
+use mathlib.Core.Bool.{Bool, true, false}
+use mathlib.Core.List.{List, [], _∷_, map, List·Memᴰ, List·Memᴰ·head, List·Memᴰ·tail, List·Memᴰ·not-nil, List·Memᴰ·cases-cons}
+use mathlib.Core.Logic.{_≢_, _⊎_, inl, inr, ⊎-elim, _↔_, by-cases}
+use native.Mathlib.Decide.{ℕ-discrete, decLe}
+use native.Mathlib.Omega.{arith}
+use lib.IntN.{ℤ, pos}
+use lib.ListN.{length, getD, set, take, drop, length-set, length-drop}
+use lib.Seq.{getD-set-same, getD-set-other, getD-take, getD-drop, length-take-le}
+use Rattle.terms.specs.Literals.{variableOf}
+use Rattle.terms.proofs.Common.{clash}
+use Rattle.formula.specs.Tables.{literalAt}
+use Rattle.formula.specs.Meaning.{clauses}
+use Rattle.formula.specs.Lookup.{NextZero}
+use Rattle.formula.proofs.Lookups.{clauses-closed}
+use Rattle.connection.specs.Reach.{Joined}
+use Rattle.connection.specs.Tables.{row}
+use Rattle.forest.specs.Formula.{joined, Shares}
+use Rattle.forest.specs.Search.{Has, Flagged, EntryOf, BelowEntry}
+use Rattle.forest.proofs.Readings.{row-none, row-over}
+
+-- One flag.
+pub flag-set : (old : List Bool) (v : ℕ) → v < length old → Flagged (λ w. w ≡ v) old (set old v true)
+flag-set old v l = record { size = length-set old v true; flags = λ w less. by-cases (ℕ-discrete w v) (λ q. (λ _. inr q, λ _. ap (λ u. getD (set old v true) u false) q ∙ here)) (λ other. (λ t. inl (sym (kept w other) ∙ t), ⊎-elim (λ t. kept w other ∙ t) (λ q. absurd (other q)))) }
+  where
+    here : getD (set old v true) v false ≡ true
+    here = getD-set-same old v true false l
+
+    kept : (w : ℕ) → w ≢ v → getD (set old v true) w false ≡ getD old w false
+    kept w other = getD-set-other old v w true false other
+
+-- Nothing flagged, where nothing in the table's range is to be.
+pub flag-nothing : {P : ℕ → Type 0} (old : List Bool) → ((v : ℕ) → v < length old → P v → ⊥) → Flagged P old old
+flag-nothing old none = record { size = refl; flags = λ v l. (λ t. inl t, ⊎-elim (λ t. t) (λ p. absurd (none v l p))) }
+
+-- The same flags in other words, and some after others.
+pub flag-as : {P Q : ℕ → Type 0} {old new : List Bool} → Flagged P old new → ((v : ℕ) → P v ↔ Q v) → Flagged Q old new
+flag-as f same = record { size = f .size; flags = λ v l. (λ t. ⊎-elim (λ o. inl o) (λ p. inr (same v .0 p)) (f .flags v l .0 t), ⊎-elim (λ o. f .flags v l .1 (inl o)) (λ q. f .flags v l .1 (inr (same v .1 q)))) }
+
+pub flag-then : {P Q : ℕ → Type 0} {old mid new : List Bool} → Flagged P old mid → Flagged Q mid new → Flagged (λ v. P v ⊎ Q v) old new
+flag-then f g =
+    record {
+      size = g .size ∙ f .size;
+      flags = λ v l.
+        let m = f .flags v l in
+        let n = g .flags v (let q = f .size in omega arith) in
+        (λ t. ⊎-elim (λ o. ⊎-elim (λ o′. inl o′) (λ p. inr (inl p)) (m .0 o)) (λ q. inr (inr q)) (n .0 t), ⊎-elim (λ o. n .1 (inl (m .1 (inl o)))) (⊎-elim (λ p. n .1 (inl (m .1 (inr p)))) (λ q. n .1 (inr q))));
+    }
+
+-- A sweep over the variables 1 to n, where v has the numbers w flagged of which P v w holds.
+pub record Swept (P : ℕ → ℕ → Type 0) (passed w : ℕ) : Type 0 where
+  pub by : ℕ
+  pub some : 1 ≤ by
+  pub most : by ≤ passed
+  pub flagged : P by w
+
+pub record Sweep (P : ℕ → ℕ → Type 0) (n : ℕ) (old new : List Bool) (passed : ℕ) : Type 0 where
+  pub most : passed ≤ n
+  pub done : Flagged (Swept P passed) old new
+
+pub sweep-none : (P : ℕ → ℕ → Type 0) (n : ℕ) (old : List Bool) → Sweep P n old old 0
+sweep-none P n old = record { most = omega arith; done = flag-nothing old (λ v l s. let a = s .some in let b = s .most in omega arith) }
+
+module _ {P : ℕ → ℕ → Type 0} {n : ℕ} {old new : List Bool} {passed : ℕ} (s : Sweep P n old new passed) (more : passed < n) where
+  swept-more : {w : ℕ} → Swept P (passed + 1) w → Swept P passed w ⊎ P (passed + 1) w
+  swept-more {w} t = by-cases (ℕ-discrete (t .by) (passed + 1)) (λ q. inr (subst (λ v. P v w) q (t .flagged))) (λ other. inl (record { by = t .by; some = t .some; most = let m = t .most in omega arith; flagged = t .flagged }))
+
+  swept-before : {w : ℕ} → Swept P passed w → Swept P (passed + 1) w
+  swept-before t = record { by = t .by; some = t .some; most = let m = t .most in omega arith; flagged = t .flagged }
+
+  swept-here : {w : ℕ} → P (passed + 1) w → Swept P (passed + 1) w
+  swept-here p = record { by = passed + 1; some = omega arith; most = omega arith; flagged = p }
+
+  -- The next variable has one number flagged, or none.
+  pub sweep-hit : {next : List Bool} (e : ℕ) → Flagged (λ w. w ≡ e) new next → ((w : ℕ) → P (passed + 1) w → w ≡ e) → P (passed + 1) e → Sweep P n old next (passed + 1)
+  sweep-hit e f only here =
+      record {
+        most = omega arith;
+        done = flag-as (flag-then (s .done) f) (λ w. (⊎-elim swept-before (λ q. swept-here (subst (P (passed + 1)) (sym q) here)), λ t. ⊎-elim (λ b. inl b) (λ p. inr (only w p)) (swept-more t)));
+      }
+
+  pub sweep-miss : ((w : ℕ) → P (passed + 1) w → ⊥) → Sweep P n old new (passed + 1)
+  sweep-miss none = record { most = omega arith; done = flag-as (s .done) (λ w. (swept-before, λ t. ⊎-elim (λ b. b) (λ p. absurd (none w p)) (swept-more t))) }
+
+pub sweep-all : {P : ℕ → ℕ → Type 0} {Q : ℕ → Type 0} {n : ℕ} {old new : List Bool} {passed : ℕ} → Sweep P n old new passed → n ≤ passed
+    → ((w : ℕ) → Swept P n w ↔ Q w) → Flagged Q old new
+sweep-all {P} {Q} {n} {passed = passed} s done same = flag-as (s .done) (λ w. let q : passed ≡ n = let m = s .most in omega arith in subst (λ m. Swept P m w ↔ Q w) (sym q) (same w))
+
+-- a row that is not 0 is of a variable from 1 to n
+pub row-within : (n : ℕ) (rows : List ℕ) (v : ℕ) → row n rows v ≢ 0 → (1 ≤ v) × (v ≤ n)
+row-within n rows v some = (by-cases (ℕ-discrete v 0) (λ z. absurd (some (row-none n rows v z))) (λ n. omega arith), by-cases (decLe v n) (λ l. l) (λ l. absurd (some (row-over n rows v (omega arith)))))
+
+-- Entries: v has its entry flagged if v is flagged as shared. Members: v has itself flagged if its entry is flagged.
+abbrev pub HasEntry : ℕ → List Bool → List ℕ → ℕ → ℕ → Type 0
+HasEntry n shared tops v e = (getD shared v false ≡ true) × (row n tops v ≡ e) × (e ≢ 0)
+
+abbrev pub IsBelow : ℕ → List Bool → List ℕ → ℕ → ℕ → Type 0
+IsBelow n entered tops v w = (w ≡ v) × BelowEntry n entered tops v
+
+pub entries-all : (n : ℕ) (shared : List Bool) (tops : List ℕ) (w : ℕ) → Swept (HasEntry n shared tops) n w ↔ EntryOf n shared tops w
+entries-all n shared tops w =
+    (λ s. record { for = s .by; flagged = s .flagged .0; is = s .flagged .1; some = s .flagged .2 },
+    λ e. let (a, b) = row-within n tops (e .for) (λ z. e .some (sym (e .is) ∙ z)) in record { by = e .for; some = a; most = b; flagged = (e .flagged, e .is, e .some) })
+
+pub members-all : (n : ℕ) (entered : List Bool) (tops : List ℕ) (w : ℕ) → Swept (IsBelow n entered tops) n w ↔ BelowEntry n entered tops w
+members-all n entered tops w =
+    (λ s. subst (BelowEntry n entered tops) (sym (s .flagged .0)) (s .flagged .1), λ b. let (a, m) = row-within n tops w (b .some) in record { by = w; some = a; most = m; flagged = (refl, b) })
+
+-- The entries of a clause, passed one after the other.
+pub has-none : (ls : List ℤ) (start v : ℕ) → Has ls start start v → ⊥
+has-none ls start v h = let a = h .from in let b = h .before in omega arith
+
+pub has-more : (ls : List ℤ) (start i v : ℕ) → start ≤ i → (Has ls start i v ⊎ (v ≡ variableOf (literalAt ls i))) ↔ Has ls start (i + 1) v
+has-more ls start i v low = (⊎-elim (λ h. record { place = h .place; from = h .from; before = let l = h .before in omega arith; is = h .is }) (λ q. record { place = i; from = low; before = omega arith; is = sym q }), back)
+  where
+    back : Has ls start (i + 1) v → Has ls start i v ⊎ (v ≡ variableOf (literalAt ls i))
+    back h =
+        by-cases (ℕ-discrete (h .place) i) (λ q. inr (sym (h .is) ∙ ap (λ e. variableOf (literalAt ls e)) q))
+        (λ other. inl (record { place = h .place; from = h .from; before = let l = h .before in omega arith; is = h .is }))
+
+-- The variables of the entries from start up to z, as a list.
+mem-map : {A : Type 0} (f : A → ℕ) (d : A) (v : ℕ) (l : List A) → List·Memᴰ v (map f l) ↔ ((i : ℕ) × (i < length l) × (f (getD l i d) ≡ v))
+mem-map f d v [] = (λ m. absurd (List·Memᴰ·not-nil m), λ h. absurd (let l = h .1 in omega arith))
+mem-map f d v (a ∷ l) =
+    (λ m. ⊎-elim (λ q. (0, omega arith, sym q)) (λ m′. let (i, less, q) = mem-map f d v l .0 m′ in (suc i, omega arith, q)) (List·Memᴰ·cases-cons m), λ h. back (h .0) (h .1) (h .2) (mem-map f d v l .1))
+  where
+    back : (i : ℕ) → i < suc (length l) → f (getD (a ∷ l) i d) ≡ v → ((i : ℕ) × (i < length l) × (f (getD l i d) ≡ v) → List·Memᴰ v (map f l)) → List·Memᴰ v (map f (a ∷ l))
+    back zero less q later = List·Memᴰ·head (sym q)
+    back (suc i) less q later = List·Memᴰ·tail (later (i, omega arith, q))
+
+clause-has : (ls : List ℤ) (start z v : ℕ) → start ≤ z → z ≤ length ls → List·Memᴰ v (map variableOf (take (z - start) (drop start ls))) ↔ Has ls start z v
+clause-has ls start z v from to = (there, back)
+  where
+    size : length (take (z - start) (drop start ls)) ≡ z - start
+    size = length-take-le (z - start) (drop start ls) (rw (length-drop start ls) (omega arith))
+
+    entry : (i : ℕ) → i < z - start → getD (take (z - start) (drop start ls)) i (pos 0) ≡ literalAt ls (start + i)
+    entry i l = getD-take (z - start) (drop start ls) i (pos 0) l ∙ getD-drop start ls i (pos 0)
+
+    there : List·Memᴰ v (map variableOf (take (z - start) (drop start ls))) → Has ls start z v
+    there m =
+        let (i, l, q) = mem-map variableOf (pos 0) v (take (z - start) (drop start ls)) .0 m in
+        let less : i < z - start = subst (λ k. i < k) size l in
+        record { place = start + i; from = omega arith; before = omega arith; is = ap variableOf (sym (entry i less)) ∙ q }
+
+    back : Has ls start z v → List·Memᴰ v (map variableOf (take (z - start) (drop start ls)))
+    back h =
+        let a = h .from in
+        let b = h .before in
+        let less : h .place - start < z - start = omega arith in
+        let there′ : start + (h .place - start) ≡ h .place = omega arith in
+        mem-map variableOf (pos 0) v (take (z - start) (drop start ls)) .1
+        (h .place - start, subst (λ k. h .place - start < k) (sym size) less, ap variableOf (entry (h .place - start) less) ∙ ap (λ e. variableOf (literalAt ls e)) there′ ∙ h .is)
+
+-- v shares one of the clauses from `start` on with x.
+abbrev pub Rest : List ℤ → ℕ → ℕ → ℕ → Type 0
+Rest ls x start v = Joined (joined (drop start ls)) x v
+
+joined-cons : {c : List ℕ} {cs : List (List ℕ)} {a b : ℕ} → Joined (c ∷ cs) a b ↔ ((List·Memᴰ a c × List·Memᴰ b c) ⊎ Joined cs a b)
+joined-cons {c} {cs} {a} {b} = (λ j. go j (List·Memᴰ·cases-cons (j .listed)), ⊎-elim (λ m. record { clause = c; listed = List·Memᴰ·head refl; left = m .0; right = m .1 }) (λ j. record { clause = j .clause; listed = List·Memᴰ·tail (j .listed); left = j .left; right = j .right }))
+  where
+    go : (j : Joined (c ∷ cs) a b) → (j .clause ≡ c) ⊎ List·Memᴰ (j .clause) cs → (List·Memᴰ a c × List·Memᴰ b c) ⊎ Joined cs a b
+    go j (inl q) = inl (subst (λ d. List·Memᴰ a d) q (j .left), subst (λ d. List·Memᴰ b d) q (j .right))
+    go j (inr m) = inr (record { clause = j .clause; listed = m; left = j .left; right = j .right })
+
+module _ (ls : List ℤ) (x start z : ℕ) (next : NextZero ls start z) (closed : z < length ls) where
+  -- The clauses from `start` on are the one up to the next 0, and those after it.
+  rest-split : (v : ℕ) → Rest ls x start v ↔ ((Has ls start z x × Has ls start z v) ⊎ Rest ls x (z + 1) v)
+  unfolding joined
+  rest-split v =
+      let from = next .from in
+      let has : (w : ℕ) → List·Memᴰ w (map variableOf (take (z - start) (drop start ls))) ↔ Has ls start z w = λ w. clause-has ls start z w from (omega arith) in
+      let cut : joined (drop start ls) ≡ map variableOf (take (z - start) (drop start ls)) ∷ joined (drop (z + 1) ls) = ap (map (map variableOf)) (clauses-closed ls start z next closed) in
+      (λ j. ⊎-elim (λ m. inl (has x .0 (m .0), has v .0 (m .1))) (λ r. inr r) (joined-cons .0 (subst (λ cs. Joined cs x v) cut j)),
+      λ s. subst (λ cs. Joined cs x v) (sym cut) (joined-cons .1 (⊎-elim (λ m. inl (has x .1 (m .0), has v .1 (m .1))) (λ r. inr r) s)))
+
+-- What is flagged, and what is to come, are the flags at first and all that share a clause with x.
+pub record Sharing (ls : List ℤ) (x : ℕ) (old new : List Bool) (start : ℕ) : Type 0 where
+  pub size : length new ≡ length old
+  pub flags : (v : ℕ) → v < length old → ((getD new v false ≡ true) ⊎ Rest ls x start v) ↔ ((getD old v false ≡ true) ⊎ Shares ls x v)
+
+pub share-none : (ls : List ℤ) (x : ℕ) (old : List Bool) → Sharing ls x old old 0
+share-none ls x old = record { size = refl; flags = λ v l. (λ s. s, λ s. s) }
+
+module _ {ls : List ℤ} {x : ℕ} {old new : List Bool} {start : ℕ} (s : Sharing ls x old new start) where
+  -- A clause that has x: its variables are flagged.
+  pub share-has : {next : List Bool} (z : ℕ) → NextZero ls start z → z < length ls → Has ls start z x → Flagged (Has ls start z) new next → Sharing ls x old next (z + 1)
+  share-has z closes less here f =
+      record {
+        size = f .size ∙ s .size;
+        flags = λ v l.
+          let m = s .flags v l in
+          let n = f .flags v (let q = s .size in omega arith) in
+          let split = rest-split ls x start z closes less v in
+          (⊎-elim (λ t. ⊎-elim (λ o. m .0 (inl o)) (λ h. m .0 (inr (split .1 (inl (here, h))))) (n .0 t)) (λ r. m .0 (inr (split .1 (inr r)))),
+          λ t. ⊎-elim (λ o. inl (n .1 (inl o))) (λ r. ⊎-elim (λ h. inl (n .1 (inr (h .1)))) (λ r′. inr r′) (split .0 r)) (m .1 t));
+      }
+
+  -- A clause that does not: nothing is.
+  pub share-not : (z : ℕ) → NextZero ls start z → z < length ls → (Has ls start z x → ⊥) → Sharing ls x old new (z + 1)
+  share-not z closes less none =
+      record {
+        size = s .size;
+        flags = λ v l.
+          let m = s .flags v l in
+          let split = rest-split ls x start z closes less v in
+          (⊎-elim (λ o. m .0 (inl o)) (λ r. m .0 (inr (split .1 (inr r)))), λ t. ⊎-elim (λ o. inl o) (λ r. ⊎-elim (λ h. absurd (none (h .0))) (λ r′. inr r′) (split .0 r)) (m .1 t));
+      }
+
+  -- No clause is left.
+  pub share-all : clauses (drop start ls) ≡ [] → Flagged (Shares ls x) old new
+  unfolding joined
+  share-all none = record { size = s .size; flags = λ v l. (λ t. s .flags v l .0 (inl t), λ t. ⊎-elim (λ o. o) (λ r. absurd (List·Memᴰ·not-nil (subst (λ cs. List·Memᴰ (r .clause) (map (map variableOf) cs)) none (r .listed)))) (s .flags v l .1 t)) }
+
+-- One variable more of the two sweeps: v is the next, e its entry.
+next-row : (n : ℕ) (tops : List ℕ) (passed : ℕ) {v e : ℕ} → v ≡ passed + 1 → e ≡ row n tops v → row n tops (passed + 1) ≡ e
+next-row n tops passed is entry = ap (row n tops) (sym is) ∙ sym entry
+
+module _ (n : ℕ) (flags : List Bool) (tops : List ℕ) {passed v e : ℕ} (more : passed < n) (is : v ≡ passed + 1) (entry : e ≡ row n tops v) {old new : List Bool} where
+
+  pub entries-hit : {next : List Bool} → Sweep (HasEntry n flags tops) n old new passed → e ≢ 0 → getD flags v false ≡ true → Flagged (λ w. w ≡ e) new next → Sweep (HasEntry n flags tops) n old next (passed + 1)
+  entries-hit s some shared f = sweep-hit s more e f (λ w h. sym (h .1) ∙ (next-row n tops passed is entry)) (ap (λ u. getD flags u false) (sym is) ∙ shared, (next-row n tops passed is entry), some)
+
+  pub entries-miss : Sweep (HasEntry n flags tops) n old new passed → (e ≢ 0 → getD flags v false ≡ false) → Sweep (HasEntry n flags tops) n old new (passed + 1)
+  entries-miss s none = sweep-miss s more (λ w h. clash (ap (λ u. getD flags u false) is ∙ h .0) (none (λ z. h .2 (sym (h .1) ∙ (next-row n tops passed is entry) ∙ z))))
+
+  pub members-hit : {next : List Bool} → Sweep (IsBelow n flags tops) n old new passed → e ≢ 0 → getD flags e false ≡ true → Flagged (λ w. w ≡ v) new next → Sweep (IsBelow n flags tops) n old next (passed + 1)
+  members-hit s some entered f = sweep-hit s more v f (λ w h. h .0 ∙ sym is) (is, record { some = λ z. some (sym (next-row n tops passed is entry) ∙ z); flagged = ap (λ u. getD flags u false) (next-row n tops passed is entry) ∙ entered })
+
+  pub members-miss : Sweep (IsBelow n flags tops) n old new passed → (e ≢ 0 → getD flags e false ≡ false) → Sweep (IsBelow n flags tops) n old new (passed + 1)
+  members-miss s none = sweep-miss s more (λ w h. clash (ap (λ u. getD flags u false) (sym (next-row n tops passed is entry)) ∙ h .1 .flagged) (none (λ z. h .1 .some ((next-row n tops passed is entry) ∙ z))))

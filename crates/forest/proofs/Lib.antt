@@ -1,0 +1,9 @@
+pub mod Readings
+pub mod Formed
+pub mod Climbing
+pub mod Picked
+pub mod Flags
+pub mod Agreeing
+pub mod Entered
+pub mod Listings
+pub mod Demands

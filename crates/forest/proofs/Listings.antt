@@ -1,0 +1,56 @@
+-- From flags to what a call that lists promises, and from the parts of an order to the whole.
+use Prim.Native.Nat.{ℕ, zero, suc, _+_, _≤_, _<_}
+use mathlib.Core.Path.{_≡_, refl, sym, ap, _∙_, subst, subst₂}
+use mathlib.Core.Bool.{Bool, true, false}
+use mathlib.Core.List.{List, [], _∷_, _++_}
+use mathlib.Core.Logic.{inl, inr, _↔_}
+use native.Mathlib.Omega.{arith}
+use lib.IntN.{ℤ}
+use lib.ListN.{length, getD}
+use Rattle.terms.specs.Refusals.{Causes, At0, FirstOf, NoneOf, Judged}
+use Rattle.terms.specs.declared.Verdict.{Verdict}
+use Rattle.terms.specs.declared.Verdict.the-variants.{Accepted, Refused}
+use Rattle.terms.specs.declared.Filled.{Filled}
+use Rattle.terms.proofs.Verdicts.{at0-first, at0-none, refused-first, accepted-then}
+use Rattle.connection.specs.Tables.{lent, WellFormed}
+use Rattle.forest.specs.declared.EntryAnswer.{EntryAnswer}
+use Rattle.forest.specs.Formula.{variables, Shares}
+use Rattle.forest.specs.Causes.{readOrder}
+use Rattle.forest.specs.Answers.{Answered, Entries, Members}
+use Rattle.forest.specs.Listed.{Listed, TooLong, Listing, picked}
+use Rattle.forest.specs.Search.{Picks, Enters, Flagged, BelowEntry, Blank}
+use Rattle.forest.proofs.Picked.{picked-listed, listed-one}
+use Rattle.forest.proofs.Agreeing.{lawful, none-formed}
+use Rattle.forest.proofs.Entered.{flags-are, of-within, members-of, sound-check}
+
+-- An answer, once an order before it has accepted.
+pub answered-then : (order more : List Causes) (P : ℕ → ℕ → Type 0) {v : Verdict} → v ≡ Accepted → Judged order v → (r : EntryAnswer) → Answered more P r → Answered (order ++ more) P r
+answered-then order more P q judged (EntryAnswer.At class rises) a = (accepted-then order more Accepted q judged (a .0), a .1)
+answered-then order more P q judged (EntryAnswer.Refused number place) a = accepted-then order more (Refused number place) q judged a
+
+-- What is picked is what is listed, and there is room for it or not.
+pub picks-listing : (order : List Causes) {P : ℕ → Type 0} (flags : List Bool) (n : ℕ) (before after : List ℕ) → NoneOf order → Listed P (picked flags n) → (r : Filled) → Picks flags n before after r → Listing (order ++ (At0 14 (TooLong P before) ∷ [])) P before after r
+picks-listing order {P} flags n before after none listed (Filled.Count count) picks =
+    let fits : TooLong P before → ⊥ = λ long. let q = ap length (listed-one (long .0) (picked flags n) (long .1) listed) in let l = long .2 in let room = picks .1 in omega arith in
+    (accepted-then order (At0 14 (TooLong P before) ∷ []) {v = Accepted} Accepted refl none (at0-none 14 fits, tt), (picked flags n, listed, picks .0, picks .2))
+picks-listing order {P} flags n before after none listed (Filled.Refused number place) picks =
+    let first : FirstOf (order ++ (At0 14 (TooLong P before) ∷ [])) 14 0 = accepted-then order (At0 14 (TooLong P before) ∷ []) {v = Accepted} (Refused 14 0) refl none (inl (at0-first 14 (picked flags n, listed, picks .2))) in
+    (subst₂ (FirstOf (order ++ (At0 14 (TooLong P before) ∷ []))) (sym (picks .0)) (sym (picks .1)) first, picks .3)
+
+module _ {n : ℕ} {es : List ℕ} {ls : List ℤ} {classes parents : List ℕ} (x : ℕ) (none : NoneOf (readOrder n es ls classes parents x)) where
+  -- Where nothing is refused before the output, the tables are well formed and n is within its limit.
+  formed : WellFormed (variables n es) (lent (variables n es) classes parents)
+  formed = none-formed (lawful n es) (none .1 .1 .1 .1 .0)
+
+  few : n ≤ 4096
+  few = sound-check (none .0, (none .1 .0, (none .1 .1 .0, (none .1 .1 .1 .0, tt)))) .few
+
+  module _ {old entered : List Bool} (tops : List ℕ) (blank : Blank old) (enters : Enters (variables n es) (lent (variables n es) classes parents) (Shares ls) x tops old entered Accepted) where
+    pub entries-listed : Listed (Entries n es ls classes parents x) (picked entered n)
+    entries-listed = picked-listed entered n (λ e o. of-within (lawful n es) formed o) (λ e _ l. flags-are blank (enters .1) e (let f = few in omega arith))
+
+    pub members-listed : {members : List Bool} → Flagged (BelowEntry n entered tops) old members → Listed (Members n es ls classes parents x) (picked members n)
+    members-listed {members} f =
+        let members-are = members-of (lawful n es) formed tops (enters .0) entered (λ e l. flags-are blank (enters .1) e (let f = few in omega arith)) in
+        picked-listed members n (λ y m. lawful n es .within y (m .existential))
+        (λ y _ l. let here = flags-are blank f y (let f = few in omega arith) in (λ t. members-are y .0 (here .0 t), λ m. here .1 (members-are y .1 m)))

@@ -1,0 +1,79 @@
+use Prim.Native.Nat.{ℕ, _-_}
+use mathlib.Core.Path.{sym, subst}
+use native.Mathlib.Omega.{arith}
+use borrow.Author.Needs.{needs}
+use borrow.Author.Tests.{not-true, not-false}
+use Rattle.connection.specs.Tables.{Row}
+use Rattle.forest.specs.Formula.{tabled}
+use Rattle.forest.specs.Search.{rowsOf}
+use Rattle.forest.proofs.Readings.{told, told-not}
+use Rattle.forest.proofs.Formed.{Right, right-none, right-more, bad-here, bad-none}
+use Rattle.forest.proofs.rows.first_bad.Statement.{statement}
+use Rattle.forest.proofs.rows.first_bad.Tie as tie
+use Rattle.forest.proofs.rows.first_bad.Reads as reads
+use Rattle.forest.proofs.rows.first_bad.Lts as lts
+use Rattle.forest.proofs.rows.row_is_right.Reads as row-is-right-reads
+use Rattle.terms.proofs.Variable.new.Reads as new-reads
+
+abbrev Inv-loop : tie.InvT-loop
+Inv-loop n levels universals classes parents passed₀ passed = Right (Row (tabled n levels universals) (rowsOf n classes parents)) n passed
+
+abbrev μ-loop : tie.MeasureT-loop
+μ-loop n levels universals classes parents passed₀ passed = n - passed
+
+-- src/rows.rt:41:5
+loop-holds : tie.Need-loop-holds Inv-loop μ-loop
+loop-holds c = right-none _ _
+
+-- src/rows.rt:42:17
+add-v : tie.Need-add-v Inv-loop μ-loop
+add-v c = search needs
+
+-- src/rows.rt:43:67
+new-requires : tie.Need-new-requires Inv-loop μ-loop
+new-requires c κs = search needs
+
+-- src/rows.rt:43:13
+row-is-right-requires : tie.Need-row-is-right-requires Inv-loop μ-loop
+row-is-right-requires c κs = search needs
+
+-- src/rows.rt:44:13
+returns : tie.Need-returns Inv-loop μ-loop
+returns c =
+    let a = c .before .before .before .before .before .before .before .before .before .args in
+    bad-here (Row (tabled (a .n) (a .levels .now) (a .universals .now)) (rowsOf (a .n) (a .classes .now) (a .parents .now))) (a .n) (c .before .before .before .before .loop .inv) (c .before .before .before .loop-test .taken)
+    (subst (λ v. Row (tabled (a .n) (a .levels .now) (a .universals .now)) (rowsOf (a .n) (a .classes .now) (a .parents .now)) v → ⊥) (c .before .before .new .ensures)
+    (told-not (c .before .row-is-right .result) (not-true (c .before .row-is-right .result) (c .if1 .taken)) (c .before .row-is-right .ensures)))
+
+-- src/rows.rt:41:5
+loop-less : tie.Need-loop-less Inv-loop μ-loop
+loop-less c = omega arith
+
+-- src/rows.rt:41:5
+loop-again : tie.Need-loop-again Inv-loop μ-loop
+loop-again c =
+    let a = c .before .before .before .before .before .before .before .before .before .args in
+    right-more (Row (tabled (a .n) (a .levels .now) (a .universals .now)) (rowsOf (a .n) (a .classes .now) (a .parents .now))) (a .n) (c .before .before .before .before .loop .inv) (c .before .before .before .loop-test .taken)
+    (subst (Row (tabled (a .n) (a .levels .now) (a .universals .now)) (rowsOf (a .n) (a .classes .now) (a .parents .now))) (c .before .before .new .ensures)
+    (told (c .before .row-is-right .result) (not-false (c .before .row-is-right .result) (c .if1 .left)) (c .before .row-is-right .ensures)))
+
+-- src/rows.rt:37:1
+returns-2 : tie.Need-returns-2 Inv-loop μ-loop
+returns-2 c =
+    let a = c .before .before .before .before .before .before .args in
+    bad-none (Row (tabled (a .n) (a .levels .now) (a .universals .now)) (rowsOf (a .n) (a .classes .now) (a .parents .now))) (a .n) (c .before .loop .inv) (c .loop-test .left)
+
+pub first-bad-spec : {M : Type 1} → statement M
+first-bad-spec =
+    tie.close
+    (tie.spec
+    Inv-loop
+    μ-loop
+    loop-holds
+    add-v
+    new-requires
+    row-is-right-requires
+    returns
+    loop-less
+    loop-again
+    returns-2)

@@ -1,0 +1,27 @@
+-- The answer of the entry point call, case by case, as document 01 numbers it, and what the two calls that list are asked for.
+use Prim.Native.Nat.{ℕ, _≤_}
+use mathlib.Core.List.{List}
+use lib.IntN.{ℤ}
+use Rattle.terms.specs.Refusals.{Causes, FirstOf, NoneOf}
+use Rattle.formula.specs.Meaning.{level}
+use Rattle.connection.specs.Tables.{lent, EntryPoint, EntryPointOf, Member}
+use Rattle.forest.specs.declared.EntryAnswer.{EntryAnswer}
+use Rattle.forest.specs.declared.EntryAnswer.the-variants.{At, Refused}
+use Rattle.forest.specs.Formula.{variables, Shares}
+
+-- a class with its number of rises is accepted (0), and P holds of the two; a refusal has its number and its place
+abbrev pub Answered : List Causes → (ℕ → ℕ → Type 0) → EntryAnswer → Type 0
+Answered order P (At class rises) = NoneOf order × P (class .0) rises
+Answered order P (Refused number place) = FirstOf order number place
+
+-- the entry point e of x for y, with its rises, by the lent tables; the rises are never more than y's block number
+abbrev pub Entry : ℕ → List ℕ → List ℕ → List ℕ → ℕ → ℕ → ℕ → ℕ → Type 0
+Entry n es classes parents x y e rises = EntryPoint (variables n es) (lent (variables n es) classes parents) x y e rises × (rises ≤ level es y)
+
+-- the entry points of x, by the lent tables
+abbrev pub Entries : ℕ → List ℕ → List ℤ → List ℕ → List ℕ → ℕ → ℕ → Type 0
+Entries n es ls classes parents x = EntryPointOf (variables n es) (lent (variables n es) classes parents) (Shares ls) x
+
+-- the set of x, by the lent tables
+abbrev pub Members : ℕ → List ℕ → List ℤ → List ℕ → List ℕ → ℕ → ℕ → Type 0
+Members n es ls classes parents x = Member (variables n es) (lent (variables n es) classes parents) (Shares ls) x

@@ -1,0 +1,36 @@
+-- Numbers written ascending into a lent table: what a call lists, and what it leaves.
+use Prim.Native.Nat.{ℕ, zero, suc, _<_}
+use mathlib.Core.Path.{_≡_}
+use mathlib.Core.Bool.{Bool, false, cond}
+use mathlib.Core.List.{List, [], _∷_, _++_, List·Memᴰ}
+use lib.ListN.{length, getD}
+use lib.Seq.{sets}
+use Rattle.terms.specs.Refusals.{Causes, FirstOf, NoneOf}
+use Rattle.terms.specs.declared.Filled.{Filled}
+use Rattle.terms.specs.declared.Filled.the-variants.{Count, Refused}
+
+-- ascending: each number is less than all that follow it
+abbrev pub Ascending : List ℕ → Type 0
+Ascending [] = Unit {0}
+Ascending (a ∷ rest) = ((b : ℕ) → List·Memᴰ b rest → a < b) × Ascending rest
+
+-- the ascending list of exactly those numbers of which P holds
+pub record Listed (P : ℕ → Type 0) (list : List ℕ) : Type 0 where
+  pub ascending : Ascending list
+  pub each : (v : ℕ) → List·Memᴰ v list → P v
+  pub all : (v : ℕ) → P v → List·Memᴰ v list
+
+-- the list needs more room than the lent table has
+abbrev pub TooLong : (ℕ → Type 0) → List ℕ → Type 0
+TooLong P before = (list : List ℕ) × Listed P list × (length before < length list)
+
+-- What a call answers that lists the numbers of which P holds, and what it leaves in the lent table:
+-- accepted, it gives the count and the list stands in front, with nothing past it changed; refused, nothing is changed at all.
+abbrev pub Listing : List Causes → (ℕ → Type 0) → List ℕ → List ℕ → Filled → Type 0
+Listing order P before after (Count count) = NoneOf order × ((list : List ℕ) × Listed P list × (count ≡ length list) × (after ≡ sets before 0 list))
+Listing order P before after (Refused number place) = FirstOf order number place × (after ≡ before)
+
+-- The numbers 1 to m that a table of flags has, ascending.
+unfoldable pub picked : List Bool → ℕ → List ℕ
+picked flags zero = []
+picked flags (suc m) = picked flags m ++ cond (getD flags (suc m) false) (suc m ∷ []) []

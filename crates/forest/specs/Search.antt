@@ -1,0 +1,110 @@
+-- What the inner functions find in lent rows, by the level table. What a reader must believe of the calls is in Causes, Answers and Listed.
+use Prim.Native.Nat.{ℕ, suc, _+_, _≤_, _<_}
+use mathlib.Core.Path.{_≡_}
+use mathlib.Core.Bool.{Bool, true, false}
+use mathlib.Core.List.{List, []}
+use mathlib.Core.Logic.{_⊎_, _≢_, _↔_}
+use lib.IntN.{ℤ}
+use lib.ListN.{length, getD}
+use lib.Seq.{sets}
+use Rattle.terms.specs.Literals.{variableOf}
+use Rattle.terms.specs.declared.Verdict.{Verdict}
+use Rattle.terms.specs.declared.Verdict.the-variants.{Accepted}
+use Rattle.terms.specs.declared.Filled.{Filled}
+use Rattle.terms.specs.declared.Filled.the-variants.{Count, Refused}
+use Rattle.formula.specs.Tables.{literalAt}
+use Rattle.connection.specs.Reach.{Variables}
+use Rattle.connection.specs.Tables.{Table, row, lent, Above, EntryPoint, EntryPointOf}
+use Rattle.forest.specs.declared.search.Found.{Found}
+use Rattle.forest.specs.declared.search.Found.the-variants.{At, Nowhere}
+use Rattle.forest.specs.Formula.{tabled}
+use Rattle.forest.specs.Listed.{picked}
+
+-- a flag tells whether P holds
+abbrev pub Tells : Bool → Type 0 → Type 0
+Tells true P = P
+Tells false P = P → ⊥
+
+-- the lent rows as a table
+abbrev pub rowsOf : ℕ → List ℕ → List ℕ → Table
+rowsOf n classes parents = lent (tabled n [] []) classes parents
+
+-- bad is the first of 1 to n of which P does not hold, or 0 where it holds of all
+pub record FirstBad (P : ℕ → Type 0) (n bad : ℕ) : Type 0 where
+  pub right : (v : ℕ) → 1 ≤ v → v ≤ n → (bad ≢ 0 → v < bad) → P v
+  pub wrong : bad ≢ 0 → (bad ≤ n) × (P bad → ⊥)
+
+-- the parent rows alone, as a table
+abbrev pub parentTable : ℕ → List ℕ → Table
+parentTable n parents = record { cls = λ v. v; par = row n parents }
+
+-- each parent stands in a lesser block
+abbrev pub Falling : ℕ → List ℕ → List ℕ → Type 0
+Falling n levels parents = (c : ℕ) → row n parents c ≢ 0 → getD levels (row n parents c) 0 < getD levels c 0
+
+-- p is where the search from c ends, k rises above it: deeper than the floor, and its parent, if it has one, is not
+pub record Searched (n : ℕ) (levels parents : List ℕ) (floor c p k : ℕ) : Type 0 where
+  pub above : Above (parentTable n parents) p c k
+  pub deeper : floor < getD levels p 0
+  pub stop : row n parents p ≢ 0 → getD levels (row n parents p) 0 ≤ floor
+
+-- the same with some rises before: p and all rises
+abbrev pub Climbs : ℕ → List ℕ → List ℕ → ℕ → ℕ → ℕ → ℕ → ℕ → Type 0
+Climbs n levels parents floor c before p all = (k : ℕ) × (all ≡ before + k) × Searched n levels parents floor c p k
+
+-- y is existential and deeper than x
+abbrev pub Deeper : Variables → ℕ → ℕ → Type 0
+Deeper X x y = (X .ex y ≡ true) × (X .lev x < X .lev y)
+
+-- what the search from the class of y finds: the entry point of x for y, with its rises, if y is existential and deeper than x
+abbrev pub Finds : Variables → Table → ℕ → ℕ → Found → Type 0
+Finds X W x y (At class rises) = Deeper X x y × EntryPoint X W x y (class .0) rises
+Finds X W x y Nowhere = Deeper X x y → ⊥
+
+-- the entry is the entry point of x for y, and 0 if y is not existential and deeper than x
+pub record EntryRow (X : Variables) (W : Table) (x y entry : ℕ) : Type 0 where
+  pub found : Deeper X x y → (rises : ℕ) × EntryPoint X W x y entry rises
+  pub none : (Deeper X x y → ⊥) → entry ≡ 0
+
+-- the row of every y is its entry
+abbrev pub EntryRows : Variables → Table → ℕ → List ℕ → Type 0
+EntryRows X W x tops = (y : ℕ) → EntryRow X W x y (row (X .count) tops y)
+
+-- the entries from start up to end have the variable v
+pub record Has (ls : List ℤ) (start end v : ℕ) : Type 0 where
+  pub place : ℕ
+  pub from : start ≤ place
+  pub before : place < end
+  pub is : variableOf (literalAt ls place) ≡ v
+
+-- a table of flags is another with those numbers added of which P holds
+pub record Flagged (P : ℕ → Type 0) (old new : List Bool) : Type 0 where
+  pub size : length new ≡ length old
+  pub flags : (v : ℕ) → v < length old → (getD new v false ≡ true) ↔ ((getD old v false ≡ true) ⊎ P v)
+
+-- e is the entry of some variable from 1 to n that is flagged
+pub record EntryOf (n : ℕ) (shared : List Bool) (tops : List ℕ) (e : ℕ) : Type 0 where
+  pub for : ℕ
+  pub flagged : getD shared for false ≡ true
+  pub is : row n tops for ≡ e
+  pub some : e ≢ 0
+
+-- the entry of v is flagged
+pub record BelowEntry (n : ℕ) (entered : List Bool) (tops : List ℕ) (v : ℕ) : Type 0 where
+  pub some : row n tops v ≢ 0
+  pub flagged : getD entered (row n tops v) false ≡ true
+
+-- where a call is not refused: the entry of every variable, and the entry points flagged
+abbrev pub Enters : Variables → Table → (ℕ → ℕ → Type 0) → ℕ → List ℕ → List Bool → List Bool → Verdict → Type 0
+Enters X W S x tops old new Accepted = EntryRows X W x tops × Flagged (EntryPointOf X W S x) old new
+Enters X W S x tops old new (Verdict.Refused number place) = Unit {0}
+
+-- a table of flags with none set
+pub record Blank (flags : List Bool) : Type 0 where
+  pub size : length flags ≡ 4097
+  pub blank : (v : ℕ) → getD flags v false ≡ false
+
+-- the flagged numbers are written, ascending, or there is too little room for them
+abbrev pub Picks : List Bool → ℕ → List ℕ → List ℕ → Filled → Type 0
+Picks flags n before after (Count count) = (count ≡ length (picked flags n)) × (length (picked flags n) ≤ length before) × (after ≡ sets before 0 (picked flags n))
+Picks flags n before after (Refused number place) = (number ≡ 14) × (place ≡ 0) × (length before < length (picked flags n)) × (after ≡ before)
