@@ -1,26 +1,26 @@
 -- The level table agrees with the prefix on every variable that counts, so what is right by the one is right by the other; and no cause of refusal 12 means well formed.
-use Prim.Native.Nat.{ℕ, zero, suc, _+_, _≤_, _<_}
-use mathlib.Core.Path.{_≡_, refl, sym, ap, _∙_, subst}
+use Prim.Native.Nat.{ℕ, _≤_}
+use mathlib.Core.Path.{_≡_, refl, sym, ap, _∙_}
 use mathlib.Core.Bool.{Bool, true, false, not, _&&_}
 use mathlib.Core.List.{List, [], _∷_}
-use mathlib.Core.Logic.{_≢_, _⊎_, inl, inr, ⊎-elim, _↔_, by-cases}
-use native.Mathlib.Decide.{ℕ-discrete, decLe, decLt}
+use mathlib.Core.Logic.{inl, inr, _↔_, by-cases}
+use native.Mathlib.Decide.{ℕ-discrete, decLe}
 use native.Mathlib.Omega.{arith}
 use lib.Dec.{leb}
-use lib.ListN.{length, getD}
-use Rattle.terms.specs.Refusals.{Causes, First, None, Judged}
+use lib.ListN.{getD}
+use Rattle.terms.specs.Refusals.{Causes, None, Judged}
 use Rattle.terms.specs.declared.Verdict.{Verdict}
 use Rattle.terms.specs.declared.Verdict.the-variants.{Accepted, Refused}
 use Rattle.terms.proofs.Common.{clash}
 use Rattle.formula.specs.Meaning.{level, isUniversal, isExistential}
 use Rattle.formula.specs.Levels.{SoundPrefix, Levelled}
 use Rattle.connection.specs.Reach.{Variables, Lawful}
-use Rattle.connection.specs.Tables.{Table, row, lent, ClassName, ClassRow, ParentRow, Row, WellFormed, Above, EntryPoint, EntryPointOf}
+use Rattle.connection.specs.Tables.{Table, row, lent, ClassName, Row, WellFormed, Above, EntryPoint, EntryPointOf}
 use Rattle.connection.proofs.Climb.{above-class}
 use Rattle.forest.specs.Formula.{variables, universal, tabled, existentialIn, universalIn}
 use Rattle.forest.specs.Causes.{RowsCause, short, bad-row, ForestCause}
-use Rattle.forest.specs.Search.{Deeper, EntryRow, EntryRows}
-use Rattle.forest.proofs.Readings.{row-none, row-over, flag-none, flag-over, flag-within}
+use Rattle.forest.specs.Search.{Deeper, EntryRow}
+use Rattle.forest.proofs.Readings.{row-none, row-over, flag-over, flag-within}
 
 -- The same existentials, of the same levels.
 pub record Same (X Y : Variables) : Type 0 where
@@ -40,8 +40,8 @@ module _ {X Y : Variables} (s : Same X Y) where
         universal = λ u. r .universal (s .ex v ∙ u);
         class = λ e. let k = r .class (s .ex v ∙ e) in record { most = k .most; name = class-same (k .name); block = sym (s .lev (W .cls v) (k .name .existential)) ∙ k .block ∙ s .lev v (s .ex v ∙ e) };
         parent = λ some.
-          let p = r .parent some in
-          record { child = class-same (p .child); name = class-same (p .name); less = let q = s .lev (W .par v) (p .name .existential) in let o = s .lev v (p .child .existential) in omega (arith, p .less) };
+            let p = r .parent some in
+            record { child = class-same (p .child); name = class-same (p .name); less = let q = s .lev (W .par v) (p .name .existential) in let o = s .lev v (p .child .existential) in omega (arith, p .less) };
       }
 
   pub formed-same : {W : Table} → WellFormed X W → WellFormed Y W

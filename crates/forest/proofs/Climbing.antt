@@ -77,8 +77,8 @@ topped-more {X} {W} {x} {n} {old} {tops} {passed} v e long t l is entry =
       size = length-set tops passed e ∙ t .size;
       most = omega arith;
       rows = below-suc (λ i. EntryRow X W x (suc i) (getD (set tops passed e) i 0)) passed
-        (λ i less. subst (EntryRow X W x (suc i)) (sym (getD-set-other tops passed i e 0 (λ q. omega arith))) (t .rows i less))
-        (subst (EntryRow X W x (suc passed)) (sym (getD-set-same tops passed e 0 (let q = t .size in omega arith))) (subst (λ w. EntryRow X W x w e) (is ∙ add-one passed) entry));
+          (λ i less. subst (EntryRow X W x (suc i)) (sym (getD-set-other tops passed i e 0 (λ q. omega arith))) (t .rows i less))
+          (subst (EntryRow X W x (suc passed)) (sym (getD-set-same tops passed e 0 (let q = t .size in omega arith))) (subst (λ w. EntryRow X W x w e) (is ∙ add-one passed) entry));
     }
 
 -- Once all are passed, every row is right: outside 1 to n nothing is existential, and a row reads 0.

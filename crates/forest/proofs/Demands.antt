@@ -1,17 +1,16 @@
 -- Demand 2, as theorems about what the calls ensure; that a block has one quantifier; and that what was lent settles every outcome.
-use Prim.Native.Nat.{ℕ, zero, suc, _+_, _≤_, _<_}
-use mathlib.Core.Path.{_≡_, refl, sym, ap, ap₂, _∙_, subst}
+use Prim.Native.Nat.{ℕ, suc, _+_, _≤_}
+use mathlib.Core.Path.{_≡_, refl, sym, ap, ap₂, _∙_}
 use mathlib.Core.Bool.{Bool, true, false, cond, not}
 use mathlib.Core.List.{List, [], _∷_}
-use mathlib.Core.Logic.{_≢_, _⊎_, inl, inr, ⊎-elim, _↔_}
+use mathlib.Core.Logic.{_≢_, inl, inr, ⊎-elim, _↔_}
 use native.Mathlib.Omega.{arith}
 use borrow.Author.Tests.{eqb-true, not-true}
 use lib.Dec.{eqb}
 use lib.IntN.{ℤ}
 use lib.ListN.{length, getD}
 use lib.Seq.{sets}
-use Rattle.terms.specs.Refusals.{Causes, None, NoneOf, FirstOf, Judged}
-use Rattle.terms.specs.declared.Verdict.{Verdict}
+use Rattle.terms.specs.Refusals.{Causes, None, NoneOf}
 use Rattle.terms.specs.declared.Verdict.the-variants.{Accepted, Refused}
 use Rattle.terms.specs.declared.Filled.{Filled}
 use Rattle.terms.specs.declared.Filled.the-variants.{Count}
@@ -20,15 +19,15 @@ use Rattle.terms.proofs.Common.{clash}
 use Rattle.terms.proofs.Verdicts.{judged-unique}
 use Rattle.formula.specs.Meaning.{blocks, markOf, names, saidOf, firstMark, freeLevel, level, isUniversal, isExistential}
 use Rattle.connection.specs.Reach.{Universal, Depends}
-use Rattle.connection.specs.Tables.{lent, WellFormed, EntryPoint}
+use Rattle.connection.specs.Tables.{lent}
 use Rattle.connection.specs.Forest.{Forest, EntryClass}
 use Rattle.connection.proofs.Climb.{entry-one}
 use Rattle.connection.proofs.Growth.{forest-is}
 use Rattle.connection.proofs.Sets.{set-members, entry-class}
 use Rattle.forest.specs.declared.EntryAnswer.{EntryAnswer}
 use Rattle.forest.specs.declared.EntryAnswer.the-variants.{At}
-use Rattle.forest.specs.Formula.{variables, universal, Shares, joined}
-use Rattle.forest.specs.Causes.{RowsCause, short, bad-row, ForestCause, entryOrder, listOrder}
+use Rattle.forest.specs.Formula.{variables, universal, Shares}
+use Rattle.forest.specs.Causes.{short, bad-row, ForestCause, entryOrder, listOrder}
 use Rattle.forest.specs.Answers.{Answered, Entry, Members}
 use Rattle.forest.specs.Listed.{Listed, Listing}
 use Rattle.forest.proofs.Readings.{flag-in, flag-within}

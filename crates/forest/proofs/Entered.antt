@@ -1,31 +1,30 @@
 -- The entry points and the set of x, by the entries of all variables; and that nothing is lost from the level table to the prefix.
-use Prim.Native.Nat.{ℕ, zero, suc, _+_, _≤_, _<_}
+use Prim.Native.Nat.{ℕ, _≤_, _<_}
 use mathlib.Core.Path.{_≡_, refl, sym, ap, _∙_, subst}
 use mathlib.Core.Bool.{Bool, true, false, not}
 use mathlib.Core.List.{List, [], _∷_}
-use mathlib.Core.Logic.{_≢_, _⊎_, inl, inr, ⊎-elim, _↔_, by-cases}
+use mathlib.Core.Logic.{_≢_, inl, inr, ⊎-elim, _↔_, by-cases}
 use native.Mathlib.Decide.{decLt, decLe}
 use native.Mathlib.Omega.{arith}
 use lib.IntN.{ℤ}
 use lib.ListN.{length, getD, replicate, length-replicate, getD-replicate, List·getD-eq-default}
-use Rattle.terms.specs.Refusals.{At0, NoneOf, Judged}
-use Rattle.terms.specs.declared.Verdict.the-variants.{Accepted, Refused}
+use Rattle.terms.specs.Refusals.{NoneOf, Judged}
+use Rattle.terms.specs.declared.Verdict.the-variants.{Accepted}
 use Rattle.terms.proofs.Common.{clash}
-use Rattle.terms.proofs.Verdicts.{at0-none}
 use Rattle.formula.specs.Meaning.{level, isExistential}
 use Rattle.formula.specs.Levels.{SoundPrefix, Levelled}
+use Rattle.formula.specs.Causes.{checkOrder}
 use Rattle.connection.specs.Reach.{Variables, Lawful}
 use Rattle.connection.specs.Tables.{Table, row, lent, WellFormed, EntryPoint, EntryPointOf, Member, Climbed}
 use Rattle.connection.proofs.Climb.{above-class, entry-one, entry-climb, entry-rises}
 use Rattle.connection.proofs.Sets.{member-deeper, member-climb}
-use Rattle.forest.specs.Formula.{variables, universal, tabled, existentialIn, universalIn, Shares}
-use Rattle.formula.specs.Causes.{checkOrder}
-use Rattle.forest.specs.Causes.{RowsCause, ForestCause, NotUniversal, NotDeeper, prefixOrder}
+use Rattle.forest.specs.Formula.{variables, universal, tabled, existentialIn, universalIn}
+use Rattle.forest.specs.Causes.{RowsCause, NotUniversal, NotDeeper, prefixOrder}
 use Rattle.forest.specs.Answers.{Entry}
-use Rattle.forest.specs.Search.{rowsOf, Deeper, EntryRow, EntryRows, Flagged, EntryOf, BelowEntry, Blank, Enters}
+use Rattle.forest.specs.Search.{rowsOf, Deeper, EntryRows, Flagged, EntryOf, BelowEntry, Blank, Enters}
 use Rattle.forest.proofs.Readings.{flag-within}
 use Rattle.forest.proofs.Flags.{flag-as, row-within}
-use Rattle.forest.proofs.Agreeing.{Same, same-back, formed-same, deeper-same, entry-same, of-same, entry-row-same, tables-agree, level-agrees, universal-agrees, universal-within, rows-judged, none-formed}
+use Rattle.forest.proofs.Agreeing.{Same, same-back, formed-same, deeper-same, entry-same, of-same, entry-row-same, tables-agree, level-agrees, universal-agrees, universal-within, none-formed}
 
 -- A new table of flags, and what is flagged in it.
 pub fresh : Blank (replicate 4097 false)
@@ -49,7 +48,7 @@ module _ {X : Variables} {W : Table} (law : Lawful X) (formed : WellFormed X W) 
     row-found : (y : ℕ) → row (X .count) tops y ≢ 0 → Deeper X x y × ((k : ℕ) × EntryPoint X W x y (row (X .count) tops y) k)
     row-found y some =
         let deep : Deeper X x y =
-              go (X .ex y) refl (decLt (X .lev x) (X .lev y)) in
+        go (X .ex y) refl (decLt (X .lev x) (X .lev y)) in
         (deep, rows y .found deep)
       where
         go : (b : Bool) → X .ex y ≡ b → Dec (X .lev x < X .lev y) → Deeper X x y

@@ -44,9 +44,9 @@ flag-then f g =
     record {
       size = g .size ∙ f .size;
       flags = λ v l.
-        let m = f .flags v l in
-        let n = g .flags v (let q = f .size in omega arith) in
-        (λ t. ⊎-elim (λ o. ⊎-elim (λ o′. inl o′) (λ p. inr (inl p)) (m .0 o)) (λ q. inr (inr q)) (n .0 t), ⊎-elim (λ o. n .1 (inl (m .1 (inl o)))) (⊎-elim (λ p. n .1 (inl (m .1 (inr p)))) (λ q. n .1 (inr q))));
+          let m = f .flags v l in
+          let n = g .flags v (let q = f .size in omega arith) in
+          (λ t. ⊎-elim (λ o. ⊎-elim (λ o′. inl o′) (λ p. inr (inl p)) (m .0 o)) (λ q. inr (inr q)) (n .0 t), ⊎-elim (λ o. n .1 (inl (m .1 (inl o)))) (⊎-elim (λ p. n .1 (inl (m .1 (inr p)))) (λ q. n .1 (inr q))));
     }
 
 -- A sweep over the variables 1 to n, where v has the numbers w flagged of which P v w holds.
@@ -100,9 +100,10 @@ abbrev pub IsBelow : ℕ → List Bool → List ℕ → ℕ → ℕ → Type 0
 IsBelow n entered tops v w = (w ≡ v) × BelowEntry n entered tops v
 
 pub entries-all : (n : ℕ) (shared : List Bool) (tops : List ℕ) (w : ℕ) → Swept (HasEntry n shared tops) n w ↔ EntryOf n shared tops w
-entries-all n shared tops w =
-    (λ s. record { for = s .by; flagged = s .flagged .0; is = s .flagged .1; some = s .flagged .2 },
-    λ e. let (a, b) = row-within n tops (e .for) (λ z. e .some (sym (e .is) ∙ z)) in record { by = e .for; some = a; most = b; flagged = (e .flagged, e .is, e .some) })
+entries-all n shared tops w = (
+  λ s. record { for = s .by; flagged = s .flagged .0; is = s .flagged .1; some = s .flagged .2 },
+  λ e. let (a, b) = row-within n tops (e .for) (λ z. e .some (sym (e .is) ∙ z)) in record { by = e .for; some = a; most = b; flagged = (e .flagged, e .is, e .some) },
+)
 
 pub members-all : (n : ℕ) (entered : List Bool) (tops : List ℕ) (w : ℕ) → Swept (IsBelow n entered tops) n w ↔ BelowEntry n entered tops w
 members-all n entered tops w =
@@ -172,9 +173,10 @@ module _ (ls : List ℤ) (x start z : ℕ) (next : NextZero ls start z) (closed 
   rest-split v =
       let from = next .from in
       let has : (w : ℕ) → List·Memᴰ w (map variableOf (take (z - start) (drop start ls))) ↔ Has ls start z w = λ w. clause-has ls start z w from (omega arith) in
-      let cut : joined (drop start ls) ≡ map variableOf (take (z - start) (drop start ls)) ∷ joined (drop (z + 1) ls) = ap (map (map variableOf)) (clauses-closed ls start z next closed) in
-      (λ j. ⊎-elim (λ m. inl (has x .0 (m .0), has v .0 (m .1))) (λ r. inr r) (joined-cons .0 (subst (λ cs. Joined cs x v) cut j)),
-      λ s. subst (λ cs. Joined cs x v) (sym cut) (joined-cons .1 (⊎-elim (λ m. inl (has x .1 (m .0), has v .1 (m .1))) (λ r. inr r) s)))
+      let cut : joined (drop start ls) ≡ map variableOf (take (z - start) (drop start ls)) ∷ joined (drop (z + 1) ls) = ap (map (map variableOf)) (clauses-closed ls start z next closed) in (
+        λ j. ⊎-elim (λ m. inl (has x .0 (m .0), has v .0 (m .1))) (λ r. inr r) (joined-cons .0 (subst (λ cs. Joined cs x v) cut j)),
+        λ s. subst (λ cs. Joined cs x v) (sym cut) (joined-cons .1 (⊎-elim (λ m. inl (has x .1 (m .0), has v .1 (m .1))) (λ r. inr r) s)),
+      )
 
 -- What is flagged, and what is to come, are the flags at first and all that share a clause with x.
 pub record Sharing (ls : List ℤ) (x : ℕ) (old new : List Bool) (start : ℕ) : Type 0 where
@@ -191,11 +193,12 @@ module _ {ls : List ℤ} {x : ℕ} {old new : List Bool} {start : ℕ} (s : Shar
       record {
         size = f .size ∙ s .size;
         flags = λ v l.
-          let m = s .flags v l in
-          let n = f .flags v (let q = s .size in omega arith) in
-          let split = rest-split ls x start z closes less v in
-          (⊎-elim (λ t. ⊎-elim (λ o. m .0 (inl o)) (λ h. m .0 (inr (split .1 (inl (here, h))))) (n .0 t)) (λ r. m .0 (inr (split .1 (inr r)))),
-          λ t. ⊎-elim (λ o. inl (n .1 (inl o))) (λ r. ⊎-elim (λ h. inl (n .1 (inr (h .1)))) (λ r′. inr r′) (split .0 r)) (m .1 t));
+            let m = s .flags v l in
+            let n = f .flags v (let q = s .size in omega arith) in
+            let split = rest-split ls x start z closes less v in (
+              ⊎-elim (λ t. ⊎-elim (λ o. m .0 (inl o)) (λ h. m .0 (inr (split .1 (inl (here, h))))) (n .0 t)) (λ r. m .0 (inr (split .1 (inr r)))),
+              λ t. ⊎-elim (λ o. inl (n .1 (inl o))) (λ r. ⊎-elim (λ h. inl (n .1 (inr (h .1)))) (λ r′. inr r′) (split .0 r)) (m .1 t),
+            );
       }
 
   -- A clause that does not: nothing is.
@@ -204,9 +207,9 @@ module _ {ls : List ℤ} {x : ℕ} {old new : List Bool} {start : ℕ} (s : Shar
       record {
         size = s .size;
         flags = λ v l.
-          let m = s .flags v l in
-          let split = rest-split ls x start z closes less v in
-          (⊎-elim (λ o. m .0 (inl o)) (λ r. m .0 (inr (split .1 (inr r)))), λ t. ⊎-elim (λ o. inl o) (λ r. ⊎-elim (λ h. absurd (none (h .0))) (λ r′. inr r′) (split .0 r)) (m .1 t));
+            let m = s .flags v l in
+            let split = rest-split ls x start z closes less v in
+            (⊎-elim (λ o. m .0 (inl o)) (λ r. m .0 (inr (split .1 (inr r)))), λ t. ⊎-elim (λ o. inl o) (λ r. ⊎-elim (λ h. absurd (none (h .0))) (λ r′. inr r′) (split .0 r)) (m .1 t));
       }
 
   -- No clause is left.
@@ -219,7 +222,6 @@ next-row : (n : ℕ) (tops : List ℕ) (passed : ℕ) {v e : ℕ} → v ≡ pass
 next-row n tops passed is entry = ap (row n tops) (sym is) ∙ sym entry
 
 module _ (n : ℕ) (flags : List Bool) (tops : List ℕ) {passed v e : ℕ} (more : passed < n) (is : v ≡ passed + 1) (entry : e ≡ row n tops v) {old new : List Bool} where
-
   pub entries-hit : {next : List Bool} → Sweep (HasEntry n flags tops) n old new passed → e ≢ 0 → getD flags v false ≡ true → Flagged (λ w. w ≡ e) new next → Sweep (HasEntry n flags tops) n old next (passed + 1)
   entries-hit s some shared f = sweep-hit s more e f (λ w h. sym (h .1) ∙ (next-row n tops passed is entry)) (ap (λ u. getD flags u false) (sym is) ∙ shared, (next-row n tops passed is entry), some)
 

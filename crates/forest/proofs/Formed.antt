@@ -1,11 +1,10 @@
 -- Whether the rows of one variable are right, as the code finds it by the level table, and what the first bad row says of all.
-use Prim.Native.Nat.{ℕ, zero, suc, _+_, _-_, _≤_, _<_}
+use Prim.Native.Nat.{ℕ, _+_, _≤_, _<_}
 use mathlib.Core.Path.{_≡_, refl, sym, ap, _∙_, subst}
 use mathlib.Core.Bool.{Bool, true, false}
-use mathlib.Core.List.{List, [], _∷_}
-use mathlib.Core.Logic.{_≢_, _⊎_, inl, inr, ⊎-elim, by-cases}
+use mathlib.Core.List.{List}
+use mathlib.Core.Logic.{_≢_, _⊎_, ⊎-elim, by-cases}
 use native.Mathlib.Decide.{ℕ-discrete}
-use native.Mathlib.Numerals.{add-one}
 use native.Mathlib.Omega.{arith}
 use lib.ListN.{length, getD}
 use Rattle.terms.specs.Refusals.{First, None}
@@ -15,8 +14,7 @@ use Rattle.connection.specs.Reach.{Variables}
 use Rattle.connection.specs.Tables.{Table, row, lent, ClassName, ClassRow, ParentRow, Row}
 use Rattle.forest.specs.Formula.{tabled, existentialIn}
 use Rattle.forest.specs.Causes.{RowsCause, short, bad-row}
-use Rattle.forest.specs.Search.{Tells, rowsOf, FirstBad}
-use Rattle.forest.proofs.Readings.{told, told-not}
+use Rattle.forest.specs.Search.{rowsOf, FirstBad}
 
 module _ (n : ℕ) (levels : List ℕ) (universals : List Bool) (classes parents : List ℕ) where
   abbrev X : Variables

@@ -2,15 +2,13 @@
 use Prim.Native.Nat.{ℕ, zero, suc, _+_, _-_, _≤_, _<_}
 use mathlib.Core.Path.{_≡_, refl, sym, ap, _∙_, subst}
 use mathlib.Core.Bool.{Bool, true, false, cond}
-use mathlib.Core.List.{List, [], _∷_, _++_, append-nil, List·Memᴰ, List·Memᴰ·head, List·Memᴰ·tail, List·Memᴰ·not-nil, List·Memᴰ·cases-cons, List·Memᴰ·append-cases, List·Memᴰ·eq-of-singleton, Memᴰ·append-left, Memᴰ·append-right, Memᴰ·cast}
-use mathlib.Core.Logic.{_⊎_, inl, inr, ⊎-elim, _↔_, by-cases}
+use mathlib.Core.List.{List, [], _∷_, _++_, append-nil, List·Memᴰ, List·Memᴰ·head, List·Memᴰ·tail, List·Memᴰ·not-nil, List·Memᴰ·cases-cons, List·Memᴰ·append-cases, List·Memᴰ·eq-of-singleton, Memᴰ·append-left, Memᴰ·append-right}
+use mathlib.Core.Logic.{⊎-elim, _↔_}
 use native.Mathlib.Decide.{ℕ-discrete}
-use native.Mathlib.Nat.{le-antisymm}
 use native.Mathlib.Numerals.{add-one}
 use native.Mathlib.Omega.{arith}
-use lib.ListN.{length, getD, set, length-append, length-set}
+use lib.ListN.{length, getD, set, length-append}
 use lib.Seq.{sets}
-use Rattle.terms.proofs.Common.{clash}
 use Rattle.forest.specs.Listed.{Ascending, Listed, picked}
 
 -- One number more: it is added if it is flagged.
@@ -66,9 +64,10 @@ flag-picked flags (suc m) v a b f = go (ℕ-discrete v (suc m)) (λ l. flag-pick
 
 ascending-snoc : (list : List ℕ) (w : ℕ) → Ascending list → ((v : ℕ) → List·Memᴰ v list → v < w) → Ascending (list ++ (w ∷ []))
 ascending-snoc [] w up low = (λ b m. absurd (List·Memᴰ·not-nil m), tt)
-ascending-snoc (a ∷ list) w up low =
-    (λ b m. ⊎-elim (λ old. up .0 b old) (λ new. let q = List·Memᴰ·eq-of-singleton new in let l = low a (List·Memᴰ·head refl) in omega arith) (List·Memᴰ·append-cases list m),
-    ascending-snoc list w (up .1) (λ v m. low v (List·Memᴰ·tail m)))
+ascending-snoc (a ∷ list) w up low = (
+  λ b m. ⊎-elim (λ old. up .0 b old) (λ new. let q = List·Memᴰ·eq-of-singleton new in let l = low a (List·Memᴰ·head refl) in omega arith) (List·Memᴰ·append-cases list m),
+  ascending-snoc list w (up .1) (λ v m. low v (List·Memᴰ·tail m)),
+)
 
 picked-up : (flags : List Bool) (m : ℕ) → Ascending (picked flags m)
 unfolding picked
@@ -98,7 +97,7 @@ listed-one list other l o = same list other (l .ascending) (o .ascending) (λ v 
     same (a ∷ r) [] up up′ there back = absurd (List·Memᴰ·not-nil (there a (List·Memᴰ·head refl)))
     same (a ∷ r) (b ∷ s) up up′ there back =
         let q : a ≡ b =
-              ⊎-elim (λ e. e) (λ m. ⊎-elim (λ e. sym e) (λ m′. let l = up′ .0 a m in let l′ = up .0 b m′ in absurd (omega arith)) (List·Memᴰ·cases-cons (back b (List·Memᴰ·head refl)))) (List·Memᴰ·cases-cons (there a (List·Memᴰ·head refl))) in
+        ⊎-elim (λ e. e) (λ m. ⊎-elim (λ e. sym e) (λ m′. let l = up′ .0 a m in let l′ = up .0 b m′ in absurd (omega arith)) (List·Memᴰ·cases-cons (back b (List·Memᴰ·head refl)))) (List·Memᴰ·cases-cons (there a (List·Memᴰ·head refl))) in
         ap (λ h. h ∷ r) q ∙ ap (λ t. b ∷ t)
         (same r s (up .1) (up′ .1)
         (λ v m. ⊎-elim (λ e. let l = up .0 v m in absurd (omega arith)) (λ m′. m′) (List·Memᴰ·cases-cons (there v (List·Memᴰ·tail m))))

@@ -1,5 +1,5 @@
 -- What the inner functions find in lent rows, by the level table. What a reader must believe of the calls is in Causes, Answers and Listed.
-use Prim.Native.Nat.{ℕ, suc, _+_, _≤_, _<_}
+use Prim.Native.Nat.{ℕ, _+_, _≤_, _<_}
 use mathlib.Core.Path.{_≡_}
 use mathlib.Core.Bool.{Bool, true, false}
 use mathlib.Core.List.{List, []}

@@ -20,7 +20,16 @@ ghost use Rattle.forest.specs.Causes.{ForestCause, NotUniversal, readOrd
 ghost use Rattle.forest.specs.Search.{rowsOf, EntryRows, Flagged, Enters, Blank};
 
 // Refusals 1 to 13, and where there is none the rows `tops` with the entry point of x for each variable, and the flags of all entry points of x.
-pub fn enter(n: u32, prefix: &[u32], clauses: &[i32], classes: &[u32], parents: &[u32], x: Variable, tops: &mut [u32], entered: &mut [bool]) -> Verdict
+pub fn enter(
+    n: u32,
+    prefix: &[u32],
+    clauses: &[i32],
+    classes: &[u32],
+    parents: &[u32],
+    x: Variable,
+    tops: &mut [u32],
+    entered: &mut [bool],
+) -> Verdict
     requires { ⌜ (length (now tops) ≡ 4096) × Blank (now entered) ⌝ }
     ensures { λ r. ⌜ Judged (readOrder n (now (prefix .entry)) (now (clauses .entry)) (now (classes .entry)) (now (parents .entry)) (x .0)) r ⌝ }
     ensures { λ r. ⌜ Enters (variables n (now (prefix .entry))) (lent (variables n (now (prefix .entry))) (now (classes .entry)) (now (parents .entry))) (Shares (now (clauses .entry))) (x .0) (now (tops .exit)) (now (entered .entry)) (now (entered .exit)) r ⌝ }
@@ -32,7 +41,16 @@ pub fn enter(n: u32, prefix: &[u32], clauses: &[i32], classes: &[u32], parents: 
 }
 
 // The same, once the formula is accepted.
-fn sound_enter(n: u32, prefix: &[u32], clauses: &[i32], classes: &[u32], parents: &[u32], x: Variable, tops: &mut [u32], entered: &mut [bool]) -> Verdict
+fn sound_enter(
+    n: u32,
+    prefix: &[u32],
+    clauses: &[i32],
+    classes: &[u32],
+    parents: &[u32],
+    x: Variable,
+    tops: &mut [u32],
+    entered: &mut [bool],
+) -> Verdict
     requires { ⌜ SoundPrefix n (now prefix) × (length (now tops) ≡ 4096) × Blank (now entered) ⌝ }
     ensures { λ r. ⌜ Judged (ForestCause n (now (prefix .entry)) (now (classes .entry)) (now (parents .entry)) ∷ At0 13 (NotUniversal n (now (prefix .entry)) (x .0)) ∷ []) r ⌝ }
     ensures { λ r. ⌜ Enters (variables n (now (prefix .entry))) (lent (variables n (now (prefix .entry))) (now (classes .entry)) (now (parents .entry))) (Shares (now (clauses .entry))) (x .0) (now (tops .exit)) (now (entered .entry)) (now (entered .exit)) r ⌝ }
@@ -44,7 +62,17 @@ fn sound_enter(n: u32, prefix: &[u32], clauses: &[i32], classes: &[u32], parents
         Verdict::Refused(number, place) => Verdict::Refused(number, place),
         Verdict::Accepted => {
             if universal_at(n, &universals, x) {
-                find_entries(n, &levels, &universals, clauses, classes, parents, x, tops, entered);
+                find_entries(
+                    n,
+                    &levels,
+                    &universals,
+                    clauses,
+                    classes,
+                    parents,
+                    x,
+                    tops,
+                    entered,
+                );
                 Verdict::Accepted
             } else {
                 Verdict::Refused(13, 0)
@@ -54,7 +82,17 @@ fn sound_enter(n: u32, prefix: &[u32], clauses: &[i32], classes: &[u32], parents
 }
 
 // The entry point of x for each variable, one climb each, and the flags of those for variables that share a clause with x.
-fn find_entries(n: u32, levels: &[u32], universals: &[bool], clauses: &[i32], classes: &[u32], parents: &[u32], x: Variable, tops: &mut [u32], entered: &mut [bool])
+fn find_entries(
+    n: u32,
+    levels: &[u32],
+    universals: &[bool],
+    clauses: &[i32],
+    classes: &[u32],
+    parents: &[u32],
+    x: Variable,
+    tops: &mut [u32],
+    entered: &mut [bool],
+)
     requires { ⌜ WellFormed (tabled n (now levels) (now universals)) (rowsOf n (now classes) (now parents)) × (n ≤ 4096) × (length (now tops) ≡ 4096) ⌝ }
     ensures { λ r. ⌜ EntryRows (tabled n (now (levels .entry)) (now (universals .entry))) (rowsOf n (now (classes .entry)) (now (parents .entry))) (x .0) (now (tops .exit)) ⌝ }
     ensures { λ r. ⌜ Flagged (EntryPointOf (tabled n (now (levels .entry)) (now (universals .entry))) (rowsOf n (now (classes .entry)) (now (parents .entry))) (Shares (now (clauses .entry))) (x .0)) (now (entered .entry)) (now (entered .exit)) ⌝ }

@@ -13,8 +13,8 @@ use listing::list_flagged;
 use marks::flag_members;
 use rows::check_rows;
 use rows::universal_at;
-use search::find_entry;
 use search::Found;
+use search::find_entry;
 use terms::Filled;
 use terms::Level;
 use terms::Variable;
@@ -35,7 +35,14 @@ pub enum EntryAnswer {
 }
 
 // The entry point of x for y, and the number of rises from the class of y up to it.
-pub fn entry_point(n: u32, prefix: &[u32], classes: &[u32], parents: &[u32], x: Variable, y: Variable) -> EntryAnswer
+pub fn entry_point(
+    n: u32,
+    prefix: &[u32],
+    classes: &[u32],
+    parents: &[u32],
+    x: Variable,
+    y: Variable,
+) -> EntryAnswer
     ensures { λ r. ⌜ Answered (entryOrder n (now (prefix .entry)) (now (classes .entry)) (now (parents .entry)) (x .0) (y .0)) (Entry n (now (prefix .entry)) (now (classes .entry)) (now (parents .entry)) (x .0) (y .0)) r ⌝ }
 {
     match prefix_verdict(n, prefix) {
@@ -45,24 +52,58 @@ pub fn entry_point(n: u32, prefix: &[u32], classes: &[u32], parents: &[u32], x: 
 }
 
 // The entry points of x, written ascending into `out`, with their count.
-pub fn entry_points(n: u32, prefix: &[u32], clauses: &[i32], classes: &[u32], parents: &[u32], x: Variable, out: &mut [u32]) -> Filled
+pub fn entry_points(
+    n: u32,
+    prefix: &[u32],
+    clauses: &[i32],
+    classes: &[u32],
+    parents: &[u32],
+    x: Variable,
+    out: &mut [u32],
+) -> Filled
     ensures { λ r. ⌜ Listing (listOrder n (now (prefix .entry)) (now (clauses .entry)) (now (classes .entry)) (now (parents .entry)) (x .0) (Entries n (now (prefix .entry)) (now (clauses .entry)) (now (classes .entry)) (now (parents .entry)) (x .0)) (now (out .entry))) (Entries n (now (prefix .entry)) (now (clauses .entry)) (now (classes .entry)) (now (parents .entry)) (x .0)) (now (out .entry)) (now (out .exit)) r ⌝ }
 {
     let mut tops = [0u32; 4096];
     let mut entered = [false; 4097];
-    match enter(n, prefix, clauses, classes, parents, x, &mut tops, &mut entered) {
+    match enter(
+        n,
+        prefix,
+        clauses,
+        classes,
+        parents,
+        x,
+        &mut tops,
+        &mut entered,
+    ) {
         Verdict::Refused(number, place) => Filled::Refused(number, place),
         Verdict::Accepted => list_flagged(n, &entered, out),
     }
 }
 
 // The set of x, written ascending into `out`, with the count of its members.
-pub fn set_of(n: u32, prefix: &[u32], clauses: &[i32], classes: &[u32], parents: &[u32], x: Variable, out: &mut [u32]) -> Filled
+pub fn set_of(
+    n: u32,
+    prefix: &[u32],
+    clauses: &[i32],
+    classes: &[u32],
+    parents: &[u32],
+    x: Variable,
+    out: &mut [u32],
+) -> Filled
     ensures { λ r. ⌜ Listing (listOrder n (now (prefix .entry)) (now (clauses .entry)) (now (classes .entry)) (now (parents .entry)) (x .0) (Members n (now (prefix .entry)) (now (clauses .entry)) (now (classes .entry)) (now (parents .entry)) (x .0)) (now (out .entry))) (Members n (now (prefix .entry)) (now (clauses .entry)) (now (classes .entry)) (now (parents .entry)) (x .0)) (now (out .entry)) (now (out .exit)) r ⌝ }
 {
     let mut tops = [0u32; 4096];
     let mut entered = [false; 4097];
-    match enter(n, prefix, clauses, classes, parents, x, &mut tops, &mut entered) {
+    match enter(
+        n,
+        prefix,
+        clauses,
+        classes,
+        parents,
+        x,
+        &mut tops,
+        &mut entered,
+    ) {
         Verdict::Refused(number, place) => Filled::Refused(number, place),
         Verdict::Accepted => {
             let mut members = [false; 4097];
@@ -86,7 +127,14 @@ fn prefix_verdict(n: u32, prefix: &[u32]) -> Verdict
 }
 
 // The entry point of x for y, once the prefix is accepted.
-fn sound_entry(n: u32, prefix: &[u32], classes: &[u32], parents: &[u32], x: Variable, y: Variable) -> EntryAnswer
+fn sound_entry(
+    n: u32,
+    prefix: &[u32],
+    classes: &[u32],
+    parents: &[u32],
+    x: Variable,
+    y: Variable,
+) -> EntryAnswer
     requires { ⌜ SoundPrefix n (now prefix) ⌝ }
     ensures { λ r. ⌜ Answered (ForestCause n (now (prefix .entry)) (now (classes .entry)) (now (parents .entry)) ∷ At0 13 (NotUniversal n (now (prefix .entry)) (x .0) ⊎ NotDeeper n (now (prefix .entry)) (x .0) (y .0)) ∷ []) (Entry n (now (prefix .entry)) (now (classes .entry)) (now (parents .entry)) (x .0) (y .0)) r ⌝ }
 {

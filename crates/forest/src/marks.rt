@@ -1,9 +1,9 @@
 // Tables of flags, a flag for each variable: those that share a clause with x, the entry points of x, and the set of x.
 
-use formula::clauses::next_zero;
-use formula::clauses::variable_at;
 use crate::rows::flag_at;
 use crate::rows::row_of;
+use formula::clauses::next_zero;
+use formula::clauses::variable_at;
 use terms::Variable;
 ghost use Prim.Native.Nat.{ℕ, _≤_, _<_};
 ghost use mathlib.Core.Path.{_≡_};

@@ -15,7 +15,13 @@ ghost use Rattle.forest.specs.Causes.{RowsCause};
 ghost use Rattle.forest.specs.Search.{Tells, rowsOf, FirstBad};
 
 // Whether the tables of a forest are well formed: refused as 12 with the first bad row, 0 where a table is shorter than n.
-pub fn check_rows(n: u32, levels: &[u32], universals: &[bool], classes: &[u32], parents: &[u32]) -> Verdict
+pub fn check_rows(
+    n: u32,
+    levels: &[u32],
+    universals: &[bool],
+    classes: &[u32],
+    parents: &[u32],
+) -> Verdict
     ensures { λ r. ⌜ Judged (RowsCause (tabled n (now (levels .entry)) (now (universals .entry))) (now (classes .entry)) (now (parents .entry)) ∷ []) r ⌝ }
 {
     let count = n as usize;
@@ -49,7 +55,14 @@ fn first_bad(n: u32, levels: &[u32], universals: &[bool], classes: &[u32], paren
 }
 
 // Whether the rows of v are right: 0 and 0 for a universal; for an existential a right class row, and a parent that is 0 or right.
-fn row_is_right(n: u32, levels: &[u32], universals: &[bool], classes: &[u32], parents: &[u32], v: Variable) -> bool
+fn row_is_right(
+    n: u32,
+    levels: &[u32],
+    universals: &[bool],
+    classes: &[u32],
+    parents: &[u32],
+    v: Variable,
+) -> bool
     ensures { λ r. ⌜ Tells r (Row (tabled n (now (levels .entry)) (now (universals .entry))) (rowsOf n (now (classes .entry)) (now (parents .entry))) (v .0)) ⌝ }
 {
     let class = row_of(n, classes, v);
@@ -92,7 +105,14 @@ fn class_is_right(n: u32, levels: &[u32], universals: &[bool], classes: &[u32], 
 }
 
 // Whether the parent row of v is right: v and its parent are class names, and the parent's block is less.
-fn parent_is_right(n: u32, levels: &[u32], universals: &[bool], classes: &[u32], parents: &[u32], v: Variable) -> bool
+fn parent_is_right(
+    n: u32,
+    levels: &[u32],
+    universals: &[bool],
+    classes: &[u32],
+    parents: &[u32],
+    v: Variable,
+) -> bool
     ensures { λ r. ⌜ Tells r (ParentRow (tabled n (now (levels .entry)) (now (universals .entry))) (rowsOf n (now (classes .entry)) (now (parents .entry))) (v .0)) ⌝ }
 {
     let parent = row_of(n, parents, v);
@@ -160,11 +180,7 @@ pub fn flag_at(flags: &[bool], v: Variable) -> bool
     ensures { λ r. ⌜ r ≡ getD (now (flags .entry)) (v .0) false ⌝ }
 {
     let at = v.0 as usize;
-    if at < flags.len() {
-        flags[at]
-    } else {
-        false
-    }
+    if at < flags.len() { flags[at] } else { false }
 }
 
 // Whether v is one of the variables 1 to n and existential.

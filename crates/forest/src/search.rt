@@ -42,7 +42,15 @@ fn climb(n: u32, levels: &[u32], parents: &[u32], floor: Level, class: Variable,
 }
 
 // The entry point of x for y, if y is existential and deeper than x.
-pub fn find_entry(n: u32, levels: &[u32], universals: &[bool], classes: &[u32], parents: &[u32], x: Variable, y: Variable) -> Found
+pub fn find_entry(
+    n: u32,
+    levels: &[u32],
+    universals: &[bool],
+    classes: &[u32],
+    parents: &[u32],
+    x: Variable,
+    y: Variable,
+) -> Found
     requires { ⌜ WellFormed (tabled n (now levels) (now universals)) (rowsOf n (now classes) (now parents)) ⌝ }
     ensures { λ r. ⌜ Finds (tabled n (now (levels .entry)) (now (universals .entry))) (rowsOf n (now (classes .entry)) (now (parents .entry))) (x .0) (y .0) r ⌝ }
 {
@@ -62,7 +70,15 @@ pub fn find_entry(n: u32, levels: &[u32], universals: &[bool], classes: &[u32], 
 }
 
 // The entry point of x for y, 0 where y is not existential and deeper than x.
-fn top_of(n: u32, levels: &[u32], universals: &[bool], classes: &[u32], parents: &[u32], x: Variable, y: Variable) -> u32
+fn top_of(
+    n: u32,
+    levels: &[u32],
+    universals: &[bool],
+    classes: &[u32],
+    parents: &[u32],
+    x: Variable,
+    y: Variable,
+) -> u32
     requires { ⌜ WellFormed (tabled n (now levels) (now universals)) (rowsOf n (now classes) (now parents)) ⌝ }
     ensures { λ r. ⌜ EntryRow (tabled n (now (levels .entry)) (now (universals .entry))) (rowsOf n (now (classes .entry)) (now (parents .entry))) (x .0) (y .0) r ⌝ }
 {
@@ -73,14 +89,30 @@ fn top_of(n: u32, levels: &[u32], universals: &[bool], classes: &[u32], parents:
 }
 
 // Fills the row of each variable with the entry point of x for it: one climb for each.
-pub fn fill_tops(n: u32, levels: &[u32], universals: &[bool], classes: &[u32], parents: &[u32], x: Variable, tops: &mut [u32])
+pub fn fill_tops(
+    n: u32,
+    levels: &[u32],
+    universals: &[bool],
+    classes: &[u32],
+    parents: &[u32],
+    x: Variable,
+    tops: &mut [u32],
+)
     requires { ⌜ WellFormed (tabled n (now levels) (now universals)) (rowsOf n (now classes) (now parents)) × (n ≤ length (now tops)) ⌝ }
     ensures { λ r. ⌜ EntryRows (tabled n (now (levels .entry)) (now (universals .entry))) (rowsOf n (now (classes .entry)) (now (parents .entry))) (x .0) (now (tops .exit)) ⌝ }
 {
     let mut passed: u32 = 0;
     while passed < n {
         let at = passed as usize;
-        tops[at] = top_of(n, levels, universals, classes, parents, x, Variable::new(passed + 1));
+        tops[at] = top_of(
+            n,
+            levels,
+            universals,
+            classes,
+            parents,
+            x,
+            Variable::new(passed + 1),
+        );
         passed += 1;
     }
 }

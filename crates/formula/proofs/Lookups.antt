@@ -5,16 +5,17 @@ use mathlib.Core.Bool.{Bool, true, false}
 use mathlib.Core.List.{List, [], _∷_}
 use mathlib.Core.Logic.{_≢_}
 use native.Mathlib.Omega.{arith}
+use native.Mathlib.Nat.{add-zero}
 use native.Mathlib.Numerals.{add-one}
 use borrow.Author.Tests.{eq-eqb, ne-eqb}
 use lib.Dec.{eqb}
 use lib.IntN.{ℤ, pos}
 use lib.ListN.{length, getD, take, drop, length-drop}
-use lib.Seq.{getD-drop, drop-drop, drop-length}
+use lib.Seq.{getD-drop, drop-drop, drop-length, length-take-le}
 use Rattle.terms.specs.Literals.{variableOf}
 use Rattle.formula.specs.Tables.{literalAt, cut}
 use Rattle.formula.specs.Meaning.{clauses, isZero}
-use Rattle.formula.specs.Lookup.{NextZero, Stands}
+use Rattle.formula.specs.Lookup.{NextZero, Stands, beginOf}
 use Rattle.formula.specs.declared.clauses.Found.the-variants.{At, Nowhere}
 use Rattle.formula.proofs.Cuts.{cut-closed, cut-unclosed}
 
@@ -49,14 +50,21 @@ after-first : {A : Type 0} (x : A) (xs : List A) (k : ℕ) (d : A) → k ≢ 0 �
 after-first x xs zero d some = absurd (some refl)
 after-first x xs (suc k) d some = let q : k ≡ suc k - 1 = omega arith in ap (λ j. getD xs j d) q
 
+-- past its first clause a table begins where that one ends
+begin-after : (c : List ℤ) (cs : List (List ℤ)) (k : ℕ) → k ≢ 0 → beginOf (c ∷ cs) k ≡ length c + 1 + beginOf cs (k - 1)
+unfolding beginOf
+begin-after c cs zero some = absurd (some refl)
+begin-after c cs (suc k) some = let q : k ≡ suc k - 1 = omega arith in ap (λ j. length c + 1 + beginOf cs j) q
+
 -- The clause asked for is the one with the number `left` among those from `start` on.
 pub record Passed (ls : List ℤ) (asked start left : ℕ) : Type 0 where
   pub within : start ≤ length ls
   pub count : length (clauses ls) + left ≡ asked + length (clauses (drop start ls))
   pub same : getD (clauses ls) asked [] ≡ getD (clauses (drop start ls)) left []
+  pub begins : beginOf (clauses ls) asked ≡ start + beginOf (clauses (drop start ls)) left
 
 pub pass-none : (ls : List ℤ) (asked : ℕ) → Passed ls asked 0 asked
-pass-none ls asked = record { within = omega arith; count = omega arith; same = refl }
+pass-none ls asked = record { within = omega arith; count = omega arith; same = refl; begins = omega arith }
 
 module _ {ls : List ℤ} {asked start left : ℕ} (p : Passed ls asked start left) where
   -- one clause more is passed
@@ -65,15 +73,21 @@ module _ {ls : List ℤ} {asked start left : ℕ} (p : Passed ls asked start lef
       let q = clauses-closed ls start z next l in
       let shorter : length (clauses (drop start ls)) ≡ suc (length (clauses (drop (z + 1) ls))) = ap length q in
       let counted = p .count in
-      record { within = omega arith; count = omega arith; same = p .same ∙ ap (λ cs. getD cs left []) q ∙ after-first _ (clauses (drop (z + 1) ls)) left [] some }
+      let begun = p .begins in
+      let over : beginOf (clauses (drop start ls)) left ≡ length (take (z - start) (drop start ls)) + 1 + beginOf (clauses (drop (z + 1) ls)) (left - 1) =
+      ap (λ cs. beginOf cs left) q ∙ begin-after _ (clauses (drop (z + 1) ls)) left some in
+      let from = next .from in
+      let size : length (take (z - start) (drop start ls)) ≡ z - start = length-take-le _ (drop start ls) (rw (length-drop start ls) (omega arith)) in
+      record { within = omega arith; count = omega arith; same = p .same ∙ ap (λ cs. getD cs left []) q ∙ after-first _ (clauses (drop (z + 1) ls)) left [] some; begins = omega arith }
 
   pub stands-here : (z : ℕ) → NextZero ls start z → z < length ls → left ≡ 0 → Stands ls asked (At start z)
-  unfolding Stands
+  unfolding Stands beginOf
   stands-here z next l none =
       let q = clauses-closed ls start z next l in
       let some : length (clauses (drop start ls)) ≡ suc (length (clauses (drop (z + 1) ls))) = ap length q in
       let counted = p .count in
-      (next .from, omega arith, omega arith, sym (p .same ∙ ap (λ k. getD (clauses (drop start ls)) k []) none ∙ ap (λ cs. getD cs 0 []) q))
+      let begun : beginOf (clauses ls) asked ≡ start + beginOf (clauses (drop start ls)) 0 = p .begins ∙ ap (λ k. start + beginOf (clauses (drop start ls)) k) none in
+      (next .from, omega arith, omega arith, sym (p .same ∙ ap (λ k. getD (clauses (drop start ls)) k []) none ∙ ap (λ cs. getD cs 0 []) q), sym (begun ∙ add-zero start))
 
   pub stands-nowhere : clauses (drop start ls) ≡ [] → Stands ls asked Nowhere
   unfolding Stands

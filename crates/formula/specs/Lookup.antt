@@ -1,7 +1,7 @@
 -- The clause with a given number: what the call returns, and how it is found.
-use Prim.Native.Nat.{ℕ, _<_, _≤_, _-_}
+use Prim.Native.Nat.{ℕ, zero, suc, _+_, _<_, _≤_, _-_}
 use mathlib.Core.Path.{_≡_}
-use mathlib.Core.List.{List, []}
+use mathlib.Core.List.{List, [], _∷_}
 use mathlib.Core.Logic.{_≢_}
 use lib.ListN.{length, getD, take, drop}
 use lib.IntN.{ℤ}
@@ -25,8 +25,15 @@ pub record NextZero (ls : List ℤ) (start z : ℕ) : Type 0 where
   pub literals : (e : ℕ) → start ≤ e → e < z → variableOf (literalAt ls e) ≢ 0
   pub closes : z < length ls → variableOf (literalAt ls z) ≡ 0
 
+-- The entry with which a clause begins: the clauses before it stand in front, each with its 0.
+unfoldable pub beginOf : List (List ℤ) → ℕ → ℕ
+beginOf clauses zero = 0
+beginOf [] (suc asked) = 0
+beginOf (clause ∷ later) (suc asked) = length clause + 1 + beginOf later asked
+
 -- Where the clause asked for stands.
 unfoldable pub Stands : List ℤ → ℕ → Found → Type 0
 Stands ls asked (At start end) =
     (start ≤ end) × (end ≤ length ls) × (asked < length (clauses ls)) × (take (end - start) (drop start ls) ≡ getD (clauses ls) asked [])
+    × (start ≡ beginOf (clauses ls) asked)
 Stands ls asked Nowhere = length (clauses ls) ≤ asked

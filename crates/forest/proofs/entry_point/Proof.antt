@@ -1,45 +1,36 @@
-use Rattle.forest.specs.Answers.{Entry}
+-- `forest::entry_point` meets its contract.
 use mathlib.Core.Path.{subst}
 use mathlib.Core.List.{[], _∷_}
 use mathlib.Core.Logic.{_⊎_}
+use borrow.Author.Needs.{needs}
 use Rattle.terms.specs.Refusals.{At0, Judged}
 use Rattle.terms.proofs.Verdicts.{refused-first}
+use Rattle.forest.specs.Answers.{Entry}
 use Rattle.forest.specs.Causes.{ForestCause, NotUniversal, NotDeeper, prefixOrder}
 use Rattle.forest.proofs.Entered.{sound-prefix}
 use Rattle.forest.proofs.Listings.{answered-then}
-use borrow.Author.Needs.{needs}
 use Rattle.forest.proofs.entry_point.Statement.{statement}
 use Rattle.forest.proofs.entry_point.Tie as tie
-use Rattle.forest.proofs.entry_point.Reads as reads
-use Rattle.forest.proofs.entry_point.Lts as lts
-use Rattle.forest.proofs.prefix_verdict.Reads as prefix-verdict-reads
-use Rattle.forest.proofs.sound_entry.Reads as sound-entry-reads
 
--- src/lib.rt:41:11
 prefix-verdict-requires : tie.Need-prefix-verdict-requires
 prefix-verdict-requires c κs = search needs
 
--- src/lib.rt:42:26
 enum-known-number : tie.Need-enum-known-number
 enum-known-number c = search needs
 
--- src/lib.rt:43:30
 enum-told : tie.Need-enum-told
 enum-told c = search needs
 
--- src/lib.rt:43:30
 sound-entry-requires : tie.Need-sound-entry-requires
 sound-entry-requires c κs =
     let a = c .before .before .before .before .before .before .args in
     sound-prefix (subst (Judged (prefixOrder (a .n) (a .prefix .now))) (c .enum-told .given .1) (c .before .before .prefix-verdict .ensures))
 
--- src/lib.rt:38:1
 returns : tie.Need-returns
 returns c =
     let a = c .before .before .before .before .before .before .before .args in
     refused-first (prefixOrder (a .n) (a .prefix .now)) (ForestCause (a .n) (a .prefix .now) (a .classes .now) (a .parents .now) ∷ At0 13 (NotUniversal (a .n) (a .prefix .now) (a .x .0) ⊎ NotDeeper (a .n) (a .prefix .now) (a .x .0) (a .y .0)) ∷ []) (c .before .number .given .1) (c .before .before .before .prefix-verdict .ensures)
 
--- src/lib.rt:38:1
 returns-2 : tie.Need-returns-2
 returns-2 c =
     let a = c .before .before .before .before .before .before .before .args in

@@ -1,9 +1,10 @@
+-- `forest::entry_points` meets its contract.
 use Prim.Native.Nat.{ℕ}
 use mathlib.Core.Path.{refl, subst}
 use mathlib.Core.Bool.{false}
 use mathlib.Core.List.{[], _∷_}
+use borrow.Author.Needs.{needs}
 use lib.ListN.{length-replicate, replicate}
-use Rattle.terms.specs.declared.Verdict.the-variants.{Accepted}
 use Rattle.terms.specs.Refusals.{At0, Judged}
 use Rattle.terms.proofs.Verdicts.{refused-first}
 use Rattle.connection.specs.Tables.{lent}
@@ -14,53 +15,38 @@ use Rattle.forest.specs.Listed.{TooLong}
 use Rattle.forest.specs.Search.{Enters}
 use Rattle.forest.proofs.Entered.{fresh}
 use Rattle.forest.proofs.Listings.{picks-listing, entries-listed}
-use borrow.Author.Needs.{needs}
 use Rattle.forest.proofs.entry_points.Statement.{statement}
 use Rattle.forest.proofs.entry_points.Tie as tie
-use Rattle.forest.proofs.entry_points.Reads as reads
-use Rattle.forest.proofs.entry_points.Lts as lts
-use Rattle.forest.proofs.entering.enter.Reads as enter-reads
-use Rattle.forest.proofs.listing.list_flagged.Reads as list-flagged-reads
 
--- src/lib.rt:53:58
 slice-aggregate-enter : tie.Need-slice-aggregate-enter
 slice-aggregate-enter c = search needs
 
--- src/lib.rt:53:69
 slice-aggregate-enter-2 : tie.Need-slice-aggregate-enter-2
 slice-aggregate-enter-2 c = search needs
 
--- src/lib.rt:53:11
 enter-requires : tie.Need-enter-requires
 enter-requires c κs = (length-replicate {A = ℕ} 4096 0, fresh)
 
--- src/lib.rt:54:26
 enum-known-number : tie.Need-enum-known-number
 enum-known-number c = search needs
 
--- src/lib.rt:55:46
 enum-told : tie.Need-enum-told
 enum-told c = search needs
 
--- src/lib.rt:55:46
 slice-aggregate-list-flagged : tie.Need-slice-aggregate-list-flagged
 slice-aggregate-list-flagged c = search needs
 
--- src/lib.rt:55:30
 list-flagged-requires : tie.Need-list-flagged-requires
 list-flagged-requires c κs = search needs
 
--- src/lib.rt:48:1
 returns : tie.Need-returns
 returns c =
     let a = c .before .before .before .before .before .before .before .before .before .before .before .before .args in
     (refused-first (readOrder (a .n) (a .prefix .now) (a .clauses .now) (a .classes .now) (a .parents .now) (a .x .0)) (At0 14 (TooLong (Entries (a .n) (a .prefix .now) (a .clauses .now) (a .classes .now) (a .parents .now) (a .x .0)) (a .out .now)) ∷ []) (c .before .number .given .1) (c .before .before .before .before .before .enter .ensures .0), refl)
 
--- src/lib.rt:48:1
 same-length : tie.Need-same-length
 same-length c = search needs
 
--- src/lib.rt:48:1
 returns-2 : tie.Need-returns-2
 returns-2 c =
     let a = c .before .before .before .before .before .before .before .before .before .before .before .before .before .before .before .before .args in

@@ -1,32 +1,25 @@
-use Prim.Native.Nat.{ℕ, _≤_}
+-- `forest::prefix_verdict` meets its contract.
 use mathlib.Core.Path.{refl}
-use mathlib.Core.List.{List, [], _∷_}
+use mathlib.Core.List.{[], _∷_}
 use mathlib.Core.Logic.{inl, inr}
 use native.Mathlib.Omega.{arith}
+use borrow.Author.Needs.{needs}
 use Rattle.terms.specs.declared.Verdict.the-variants.{Accepted}
 use Rattle.terms.specs.Refusals.{At0}
-use Rattle.formula.specs.Causes.{VariableCount, PrefixLong, PrefixCause}
 use Rattle.terms.proofs.Verdicts.{at0-first, at0-none, accepted-then}
-use borrow.Author.Needs.{needs}
+use Rattle.formula.specs.Causes.{VariableCount, PrefixLong, PrefixCause}
 use Rattle.forest.proofs.prefix_verdict.Statement.{statement}
 use Rattle.forest.proofs.prefix_verdict.Tie as tie
-use Rattle.forest.proofs.prefix_verdict.Reads as reads
-use Rattle.forest.proofs.prefix_verdict.Lts as lts
-use Rattle.formula.proofs.prefix.check_prefix.Reads as check-prefix-reads
 
--- src/lib.rt:80:9
 returns : tie.Need-returns
 returns c = inl (at0-first 1 (c .if1 .taken))
 
--- src/lib.rt:83:9
 returns-2 : tie.Need-returns-2
 returns-2 c = inr (at0-none 1 (λ over. omega arith), inl (at0-first 2 (c .if2 .taken)))
 
--- src/lib.rt:85:5
 check-prefix-requires : tie.Need-check-prefix-requires
 check-prefix-requires c κs = search needs
 
--- src/lib.rt:76:1
 returns-3 : tie.Need-returns-3
 returns-3 c =
     let a = c .before .before .before .before .args in

@@ -1,7 +1,9 @@
-use mathlib.Core.Path.{sym, subst, refl, _∙_}
+-- `forest::sound_entry` meets its contract.
+use mathlib.Core.Path.{sym, subst, _∙_}
 use mathlib.Core.List.{[], _∷_}
 use mathlib.Core.Logic.{_⊎_, inl, inr, ⊎-elim}
-use Rattle.terms.specs.declared.Verdict.the-variants.{Accepted, Refused}
+use borrow.Author.Needs.{needs}
+use Rattle.terms.specs.declared.Verdict.the-variants.{Accepted}
 use Rattle.terms.specs.Refusals.{At0, Judged}
 use Rattle.terms.proofs.Verdicts.{at0-first, at0-none, refused-first}
 use Rattle.forest.specs.Formula.{tabled}
@@ -9,65 +11,45 @@ use Rattle.forest.specs.Causes.{RowsCause, ForestCause, NotUniversal, No
 use Rattle.forest.specs.Search.{rowsOf, Finds}
 use Rattle.forest.proofs.Agreeing.{tables-agree, rows-judged}
 use Rattle.forest.proofs.Entered.{rows-formed, sound-universal, sound-not-universal, sound-found, sound-nowhere}
-use borrow.Author.Needs.{needs}
 use Rattle.forest.proofs.sound_entry.Statement.{statement}
 use Rattle.forest.proofs.sound_entry.Tie as tie
-use Rattle.forest.proofs.sound_entry.Reads as reads
-use Rattle.forest.proofs.sound_entry.Lts as lts
-use Rattle.forest.proofs.rows.check_rows.Reads as check-rows-reads
-use Rattle.forest.proofs.rows.universal_at.Reads as universal-at-reads
-use Rattle.forest.proofs.search.find_entry.Reads as find-entry-reads
-use Rattle.formula.proofs.levels.fill_levels.Reads as fill-levels-reads
 
--- src/lib.rt:95:25
 slice-aggregate-fill-levels : tie.Need-slice-aggregate-fill-levels
 slice-aggregate-fill-levels c = search needs
 
--- src/lib.rt:95:38
 slice-aggregate-fill-levels-2 : tie.Need-slice-aggregate-fill-levels-2
 slice-aggregate-fill-levels-2 c = search needs
 
--- src/lib.rt:95:5
 fill-levels-requires : tie.Need-fill-levels-requires
 fill-levels-requires c κs = search needs
 
--- src/lib.rt:96:25
 slice-aggregate-check-rows : tie.Need-slice-aggregate-check-rows
 slice-aggregate-check-rows c = search needs
 
--- src/lib.rt:96:34
 slice-aggregate-check-rows-2 : tie.Need-slice-aggregate-check-rows-2
 slice-aggregate-check-rows-2 c = search needs
 
--- src/lib.rt:96:11
 check-rows-requires : tie.Need-check-rows-requires
 check-rows-requires c κs = search needs
 
--- src/lib.rt:97:26
 enum-known-number : tie.Need-enum-known-number
 enum-known-number c = search needs
 
--- src/lib.rt:99:32
 enum-told : tie.Need-enum-told
 enum-told c = search needs
 
--- src/lib.rt:99:32
 slice-aggregate-universal-at : tie.Need-slice-aggregate-universal-at
 slice-aggregate-universal-at c = search needs
 
--- src/lib.rt:99:16
 universal-at-requires : tie.Need-universal-at-requires
 universal-at-requires c κs = search needs
 
--- src/lib.rt:100:37
 slice-aggregate-find-entry : tie.Need-slice-aggregate-find-entry
 slice-aggregate-find-entry c = search needs
 
--- src/lib.rt:100:46
 slice-aggregate-find-entry-2 : tie.Need-slice-aggregate-find-entry-2
 slice-aggregate-find-entry-2 c = search needs
 
--- src/lib.rt:100:23
 find-entry-requires : tie.Need-find-entry-requires
 find-entry-requires c κs =
     let a = c .before .before .before .before .before .before .before .before .before .before .before .before .before .before .before .before .before .before .args in
@@ -75,15 +57,12 @@ find-entry-requires c κs =
     let universals = c .before .before .before .before .before .before .before .before .before .before .before .before .fill-levels .last .1 .1 .0 in
     rows-formed (a .n) levels universals (a .classes .now) (a .parents .now) (subst (Judged (RowsCause (tabled (a .n) levels universals) (a .classes .now) (a .parents .now) ∷ [])) (c .before .before .before .before .before .enum-told .given .1) (c .before .before .before .before .before .before .before .check-rows .ensures))
 
--- src/lib.rt:101:31
 enum-known-class : tie.Need-enum-known-class
 enum-known-class c = search needs
 
--- src/lib.rt:102:39
 enum-told-2 : tie.Need-enum-told-2
 enum-told-2 c = search needs
 
--- src/lib.rt:89:1
 returns : tie.Need-returns
 returns c =
     let a = c .before .before .before .before .before .before .before .before .before .before .before .before .before .before .args in
@@ -94,7 +73,6 @@ returns c =
     refused-first (ForestCause (a .n) (a .prefix .now) (a .classes .now) (a .parents .now) ∷ []) (At0 13 (NotUniversal (a .n) (a .prefix .now) (a .x .0) ⊎ NotDeeper (a .n) (a .prefix .now) (a .x .0) (a .y .0)) ∷ []) (c .before .number .given .1)
     (rows-judged levels universals (a .prefix .now) (a .classes .now) (a .parents .now) (tables-agree sound table) (c .before .before .before .check-rows .result) (c .before .before .before .check-rows .ensures))
 
--- src/lib.rt:89:1
 returns-2 : tie.Need-returns-2
 returns-2 c =
     let a = c .before .before .before .before .before .before .before .before .before .before .before .before .before .before .before .before .before .before .before .before .before .before .args in
@@ -108,7 +86,6 @@ returns-2 c =
     let found = sound-found sound table (a .classes .now) (a .parents .now) (a .x .0) formed (sym (c .before .before .before .before .before .before .before .universal-at .ensures) ∙ c .before .before .before .before .before .before .if1 .taken) (subst (Finds (tabled (a .n) levels universals) (rowsOf (a .n) (a .classes .now) (a .parents .now)) (a .x .0) (a .y .0)) (c .before .class .given .1) (c .before .before .before .find-entry .ensures)) in
     ((judged .0, (at0-none 13 (⊎-elim (sound-universal sound table (a .classes .now) (a .parents .now) (a .x .0) (c .before .before .before .before .before .before .before .universal-at .ensures) (c .before .before .before .before .before .before .if1 .taken)) (found .0)), tt)), found .1)
 
--- src/lib.rt:89:1
 returns-3 : tie.Need-returns-3
 returns-3 c =
     let a = c .before .before .before .before .before .before .before .before .before .before .before .before .before .before .before .before .before .before .before .before .before .args in
@@ -121,7 +98,6 @@ returns-3 c =
     let formed = rows-formed (a .n) levels universals (a .classes .now) (a .parents .now) accepted in
     inr (judged .0, inl (at0-first 13 (inr (sound-nowhere sound table (a .classes .now) (a .parents .now) (a .x .0) (a .y .0) formed (sym (c .before .before .before .before .before .before .universal-at .ensures) ∙ c .before .before .before .before .before .if1 .taken) (subst (Finds (tabled (a .n) levels universals) (rowsOf (a .n) (a .classes .now) (a .parents .now)) (a .x .0) (a .y .0)) (c .enum-told2 .given .1) (c .before .before .find-entry .ensures))))))
 
--- src/lib.rt:89:1
 returns-4 : tie.Need-returns-4
 returns-4 c =
     let a = c .before .before .before .before .before .before .before .before .before .before .before .before .before .before .before .before .args in

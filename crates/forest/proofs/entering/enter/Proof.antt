@@ -1,51 +1,40 @@
+-- `forest::entering::enter` meets its contract.
 use mathlib.Core.Path.{subst}
 use mathlib.Core.List.{[], _∷_}
+use borrow.Author.Needs.{needs}
 use Rattle.terms.specs.Refusals.{At0, Judged}
 use Rattle.terms.proofs.Verdicts.{refused-first, accepted-then}
 use Rattle.formula.specs.Causes.{checkOrder}
 use Rattle.forest.specs.Causes.{ForestCause, NotUniversal}
 use Rattle.forest.proofs.Entered.{sound-check}
-use borrow.Author.Needs.{needs}
 use Rattle.forest.proofs.entering.enter.Statement.{statement}
 use Rattle.forest.proofs.entering.enter.Tie as tie
-use Rattle.forest.proofs.entering.enter.Reads as reads
-use Rattle.forest.proofs.entering.enter.Lts as lts
-use Rattle.forest.proofs.entering.sound_enter.Reads as sound-enter-reads
-use Rattle.formula.proofs.check.Reads as check-reads
 
--- src/entering.rt:28:11
 check-requires : tie.Need-check-requires
 check-requires c κs = search needs
 
--- src/entering.rt:29:26
 enum-known-number : tie.Need-enum-known-number
 enum-known-number c = search needs
 
--- src/entering.rt:30:83
 enum-told : tie.Need-enum-told
 enum-told c = search needs
 
--- src/entering.rt:30:30
 sound-enter-requires : tie.Need-sound-enter-requires
 sound-enter-requires c κs =
     let a = c .before .before .before .before .before .before .before .before .before .before .args in
     (sound-check (subst (Judged (checkOrder (a .n) (a .prefix .now) (a .clauses .now))) (c .before .before .enum-told .given .1) (c .before .before .before .before .check .ensures)), c .before .before .before .before .before .before .before .before .before .before .pre .0, c .before .before .before .before .before .before .before .before .before .before .pre .1)
 
--- src/entering.rt:23:1
 returns : tie.Need-returns
 returns c =
     let a = c .before .before .before .before .before .before .before .before .before .args in
     (refused-first (checkOrder (a .n) (a .prefix .now) (a .clauses .now)) (ForestCause (a .n) (a .prefix .now) (a .classes .now) (a .parents .now) ∷ At0 13 (NotUniversal (a .n) (a .prefix .now) (a .x .0)) ∷ []) (c .before .number .given .1) (c .before .before .before .check .ensures), tt)
 
--- src/entering.rt:23:1
 same-length : tie.Need-same-length
 same-length c = search needs
 
--- src/entering.rt:23:1
 same-length-2 : tie.Need-same-length-2
 same-length-2 c = search needs
 
--- src/entering.rt:23:1
 returns-2 : tie.Need-returns-2
 returns-2 c =
     let a = c .before .before .before .before .before .before .before .before .before .before .before .before .before .before .before .args in

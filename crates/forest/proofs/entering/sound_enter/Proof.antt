@@ -1,73 +1,54 @@
-use mathlib.Core.Path.{sym, subst, refl, _∙_}
+-- `forest::entering::sound_enter` meets its contract.
+use mathlib.Core.Path.{sym, subst, _∙_}
 use mathlib.Core.List.{[], _∷_}
 use mathlib.Core.Logic.{inl, inr}
-use native.Mathlib.Omega.{arith}
-use Rattle.terms.specs.declared.Verdict.the-variants.{Accepted, Refused}
+use borrow.Author.Needs.{needs}
+use Rattle.terms.specs.declared.Verdict.the-variants.{Accepted}
 use Rattle.terms.specs.Refusals.{At0, Judged}
 use Rattle.terms.proofs.Verdicts.{at0-first, at0-none, refused-first}
 use Rattle.forest.specs.Formula.{tabled}
 use Rattle.forest.specs.Causes.{RowsCause, ForestCause, NotUniversal}
 use Rattle.forest.proofs.Agreeing.{tables-agree, rows-judged}
 use Rattle.forest.proofs.Entered.{rows-formed, sound-enters, sound-universal, sound-not-universal}
-use borrow.Author.Needs.{needs}
 use Rattle.forest.proofs.entering.sound_enter.Statement.{statement}
 use Rattle.forest.proofs.entering.sound_enter.Tie as tie
-use Rattle.forest.proofs.entering.sound_enter.Reads as reads
-use Rattle.forest.proofs.entering.sound_enter.Lts as lts
-use Rattle.forest.proofs.entering.find_entries.Reads as find-entries-reads
-use Rattle.forest.proofs.rows.check_rows.Reads as check-rows-reads
-use Rattle.forest.proofs.rows.universal_at.Reads as universal-at-reads
-use Rattle.formula.proofs.levels.fill_levels.Reads as fill-levels-reads
 
--- src/entering.rt:42:25
 slice-aggregate-fill-levels : tie.Need-slice-aggregate-fill-levels
 slice-aggregate-fill-levels c = search needs
 
--- src/entering.rt:42:38
 slice-aggregate-fill-levels-2 : tie.Need-slice-aggregate-fill-levels-2
 slice-aggregate-fill-levels-2 c = search needs
 
--- src/entering.rt:42:5
 fill-levels-requires : tie.Need-fill-levels-requires
 fill-levels-requires c κs = search needs
 
--- src/entering.rt:43:25
 slice-aggregate-check-rows : tie.Need-slice-aggregate-check-rows
 slice-aggregate-check-rows c = search needs
 
--- src/entering.rt:43:34
 slice-aggregate-check-rows-2 : tie.Need-slice-aggregate-check-rows-2
 slice-aggregate-check-rows-2 c = search needs
 
--- src/entering.rt:43:11
 check-rows-requires : tie.Need-check-rows-requires
 check-rows-requires c κs = search needs
 
--- src/entering.rt:44:26
 enum-known-number : tie.Need-enum-known-number
 enum-known-number c = search needs
 
--- src/entering.rt:46:32
 enum-told : tie.Need-enum-told
 enum-told c = search needs
 
--- src/entering.rt:46:32
 slice-aggregate-universal-at : tie.Need-slice-aggregate-universal-at
 slice-aggregate-universal-at c = search needs
 
--- src/entering.rt:46:16
 universal-at-requires : tie.Need-universal-at-requires
 universal-at-requires c κs = search needs
 
--- src/entering.rt:47:33
 slice-aggregate-find-entries : tie.Need-slice-aggregate-find-entries
 slice-aggregate-find-entries c = search needs
 
--- src/entering.rt:47:42
 slice-aggregate-find-entries-2 : tie.Need-slice-aggregate-find-entries-2
 slice-aggregate-find-entries-2 c = search needs
 
--- src/entering.rt:47:17
 find-entries-requires : tie.Need-find-entries-requires
 find-entries-requires c κs =
     let a = c .before .before .before .before .before .before .before .before .before .before .before .before .before .before .before .before .before .before .before .before .before .before .args in
@@ -75,7 +56,6 @@ find-entries-requires c κs =
     let universals = c .before .before .before .before .before .before .before .before .before .before .before .before .before .before .fill-levels .last .1 .1 .0 in
     (rows-formed (a .n) levels universals (a .classes .now) (a .parents .now) (subst (Judged (RowsCause (tabled (a .n) levels universals) (a .classes .now) (a .parents .now) ∷ [])) (c .before .before .before .before .before .before .before .enum-told .given .1) (c .before .before .before .before .before .before .before .before .before .check-rows .ensures)), c .before .before .before .before .before .before .before .before .before .before .before .before .before .before .before .before .before .before .before .before .before .before .pre .0 .few, c .before .before .before .before .before .before .before .before .before .before .before .before .before .before .before .before .before .before .before .before .before .before .pre .1)
 
--- src/entering.rt:35:1
 returns : tie.Need-returns
 returns c =
     let a = c .before .before .before .before .before .before .before .before .before .before .before .before .before .before .before .before .args in
@@ -84,15 +64,12 @@ returns c =
     let judged = rows-judged levels universals (a .prefix .now) (a .classes .now) (a .parents .now) (tables-agree (c .before .before .before .before .before .before .before .before .before .before .before .before .before .before .before .before .pre .0) (c .before .before .before .before .before .before .before .before .fill-levels .ensures)) (c .before .before .before .check-rows .result) (c .before .before .before .check-rows .ensures) in
     (refused-first (ForestCause (a .n) (a .prefix .now) (a .classes .now) (a .parents .now) ∷ []) (At0 13 (NotUniversal (a .n) (a .prefix .now) (a .x .0)) ∷ []) (c .before .number .given .1) judged, tt)
 
--- src/entering.rt:35:1
 same-length : tie.Need-same-length
 same-length c = search needs
 
--- src/entering.rt:35:1
 same-length-2 : tie.Need-same-length-2
 same-length-2 c = search needs
 
--- src/entering.rt:35:1
 returns-2 : tie.Need-returns-2
 returns-2 c =
     let a = c .before .before .before .before .before .before .before .before .before .before .before .before .before .before .before .before .before .before .before .before .before .before .before .before .before .before .before .args in
@@ -100,11 +77,11 @@ returns-2 c =
     let universals = c .before .before .before .before .before .before .before .before .before .before .before .before .before .before .before .before .before .before .before .fill-levels .last .1 .1 .0 in
     let table = c .before .before .before .before .before .before .before .before .before .before .before .before .before .before .before .before .before .before .before .fill-levels .ensures in
     let accepted = subst (Judged (RowsCause (tabled (a .n) levels universals) (a .classes .now) (a .parents .now) ∷ [])) (c .before .before .before .before .before .before .before .before .before .before .before .before .enum-told .given .1) (c .before .before .before .before .before .before .before .before .before .before .before .before .before .before .check-rows .ensures) in
-    let judged = rows-judged levels universals (a .prefix .now) (a .classes .now) (a .parents .now) (tables-agree (c .before .before .before .before .before .before .before .before .before .before .before .before .before .before .before .before .before .before .before .before .before .before .before .before .before .before .before .pre .0) table) Accepted accepted in
-    ((judged .0, (at0-none 13 (sound-universal (c .before .before .before .before .before .before .before .before .before .before .before .before .before .before .before .before .before .before .before .before .before .before .before .before .before .before .before .pre .0) table (a .classes .now) (a .parents .now) (a .x .0) (c .before .before .before .before .before .before .before .before .before .before .universal-at .ensures) (c .before .before .before .before .before .before .before .before .before .if1 .taken)), tt)),
-    sound-enters (c .before .before .before .before .before .before .before .before .before .before .before .before .before .before .before .before .before .before .before .before .before .before .before .before .before .before .before .pre .0) table (a .classes .now) (a .parents .now) (a .x .0) (c .before .before .before .before .find-entries .last .1 .1 .1 .1 .1 .1 .1 .0) (rows-formed (a .n) levels universals (a .classes .now) (a .parents .now) accepted) (sym (c .before .before .before .before .before .before .before .before .before .before .universal-at .ensures) ∙ c .before .before .before .before .before .before .before .before .before .if1 .taken) (c .before .before .before .before .find-entries .ensures .0) (c .before .before .before .before .find-entries .ensures .1))
+    let judged = rows-judged levels universals (a .prefix .now) (a .classes .now) (a .parents .now) (tables-agree (c .before .before .before .before .before .before .before .before .before .before .before .before .before .before .before .before .before .before .before .before .before .before .before .before .before .before .before .pre .0) table) Accepted accepted in (
+      (judged .0, (at0-none 13 (sound-universal (c .before .before .before .before .before .before .before .before .before .before .before .before .before .before .before .before .before .before .before .before .before .before .before .before .before .before .before .pre .0) table (a .classes .now) (a .parents .now) (a .x .0) (c .before .before .before .before .before .before .before .before .before .before .universal-at .ensures) (c .before .before .before .before .before .before .before .before .before .if1 .taken)), tt)),
+      sound-enters (c .before .before .before .before .before .before .before .before .before .before .before .before .before .before .before .before .before .before .before .before .before .before .before .before .before .before .before .pre .0) table (a .classes .now) (a .parents .now) (a .x .0) (c .before .before .before .before .find-entries .last .1 .1 .1 .1 .1 .1 .1 .0) (rows-formed (a .n) levels universals (a .classes .now) (a .parents .now) accepted) (sym (c .before .before .before .before .before .before .before .before .before .before .universal-at .ensures) ∙ c .before .before .before .before .before .before .before .before .before .if1 .taken) (c .before .before .before .before .find-entries .ensures .0) (c .before .before .before .before .find-entries .ensures .1),
+    )
 
--- src/entering.rt:35:1
 returns-3 : tie.Need-returns-3
 returns-3 c =
     let a = c .before .before .before .before .before .before .before .before .before .before .before .before .before .before .before .before .before .before .args in

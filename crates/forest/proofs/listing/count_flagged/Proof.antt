@@ -1,13 +1,10 @@
+-- `forest::listing::count_flagged` meets its contract.
 use Prim.Native.Nat.{_-_}
 use native.Mathlib.Omega.{arith}
 use borrow.Author.Needs.{needs}
 use Rattle.forest.proofs.Picked.{Counted, picked-most, count-none, count-more, count-same, count-all}
 use Rattle.forest.proofs.listing.count_flagged.Statement.{statement}
 use Rattle.forest.proofs.listing.count_flagged.Tie as tie
-use Rattle.forest.proofs.listing.count_flagged.Reads as reads
-use Rattle.forest.proofs.listing.count_flagged.Lts as lts
-use Rattle.forest.proofs.rows.flag_at.Reads as flag-at-reads
-use Rattle.terms.proofs.Variable.new.Reads as new-reads
 
 abbrev Inv-loop : tie.InvT-loop
 Inv-loop n flags count₀ passed₀ count passed = Counted n flags count passed
@@ -15,46 +12,36 @@ Inv-loop n flags count₀ passed₀ count passed = Counted n flags count passed
 abbrev μ-loop : tie.MeasureT-loop
 μ-loop n flags count₀ passed₀ count passed = n - passed
 
--- src/listing.rt:31:5
 loop-holds : tie.Need-loop-holds Inv-loop μ-loop
 loop-holds c = count-none (c .before .args .n) (c .before .args .flags .now)
 
--- src/listing.rt:32:9
 add-passed : tie.Need-add-passed Inv-loop μ-loop
 add-passed c = omega arith
 
--- src/listing.rt:33:27
 new-requires : tie.Need-new-requires Inv-loop μ-loop
 new-requires c κs = search needs
 
--- src/listing.rt:33:12
 flag-at-requires : tie.Need-flag-at-requires Inv-loop μ-loop
 flag-at-requires c κs = search needs
 
--- src/listing.rt:34:13
 add-count : tie.Need-add-count Inv-loop μ-loop
 add-count c =
     let counted = c .before .before .before .before .loop .inv .counted in omega (arith, picked-most (c .before .before .before .before .before .before .args .flags .now) (c .before .before .before .before .loop .passed))
 
--- src/listing.rt:31:5
 loop-less : tie.Need-loop-less Inv-loop μ-loop
 loop-less c = omega arith
 
--- src/listing.rt:31:5
 loop-again : tie.Need-loop-again Inv-loop μ-loop
 loop-again c =
     count-more (c .before .before .before .before .loop .inv) (c .before .before .before .loop-test .taken) (c .before .before .new .result .0) (c .before .flag-at .result) (c .before .before .new .ensures) (c .before .flag-at .ensures) (c .if1 .taken)
 
--- src/listing.rt:31:5
 loop-less-2 : tie.Need-loop-less-2 Inv-loop μ-loop
 loop-less-2 c = omega arith
 
--- src/listing.rt:31:5
 loop-again-2 : tie.Need-loop-again-2 Inv-loop μ-loop
 loop-again-2 c =
     count-same (c .before .before .before .before .loop .inv) (c .before .before .before .loop-test .taken) (c .before .before .new .result .0) (c .before .flag-at .result) (c .before .before .new .ensures) (c .before .flag-at .ensures) (c .if1 .left)
 
--- src/listing.rt:26:1
 returns : tie.Need-returns Inv-loop μ-loop
 returns c = count-all (c .before .loop .inv) (c .loop-test .left)
 

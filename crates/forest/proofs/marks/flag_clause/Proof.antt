@@ -1,20 +1,12 @@
-use Prim.Native.Nat.{ℕ, _≤_, _<_, _-_}
-use mathlib.Core.Path.{_≡_, refl, sym, ap, _∙_, subst}
-use mathlib.Core.Bool.{Bool}
-use mathlib.Core.List.{List}
+-- `forest::marks::flag_clause` meets its contract.
+use Prim.Native.Nat.{_≤_, _-_}
+use mathlib.Core.Path.{_≡_, subst}
 use native.Mathlib.Omega.{arith}
 use borrow.Author.Needs.{needs}
-use lib.ListN.{length}
-use Rattle.terms.specs.Literals.{variableOf}
-use Rattle.formula.specs.Tables.{literalAt}
 use Rattle.forest.specs.Search.{Has, Flagged}
 use Rattle.forest.proofs.Flags.{flag-nothing, flag-as, flag-then, has-none, has-more}
 use Rattle.forest.proofs.marks.flag_clause.Statement.{statement}
 use Rattle.forest.proofs.marks.flag_clause.Tie as tie
-use Rattle.forest.proofs.marks.flag_clause.Reads as reads
-use Rattle.forest.proofs.marks.flag_clause.Lts as lts
-use Rattle.forest.proofs.marks.flag.Reads as flag-reads
-use Rattle.formula.proofs.clauses.variable_at.Reads as variable-at-reads
 
 abbrev Inv-loop : tie.InvT-loop
 Inv-loop clauses start end flags₀ i₀ flags i = (start ≤ i) × (i ≤ end) × Flagged (Has clauses start i) flags₀ flags
@@ -22,29 +14,23 @@ Inv-loop clauses start end flags₀ i₀ flags i = (start ≤ i) × (i ≤ end) 
 abbrev μ-loop : tie.MeasureT-loop
 μ-loop clauses start end flags₀ i₀ flags i = end - i
 
--- src/marks.rt:55:5
 loop-holds : tie.Need-loop-holds Inv-loop μ-loop
 loop-holds c =
     let a = c .before .args in
     (omega arith, c .before .pre, flag-nothing (a .flags .now) (λ v l h. has-none (a .clauses .now) (a .start) v h))
 
--- src/marks.rt:56:13
 variable-at-requires : tie.Need-variable-at-requires Inv-loop μ-loop
 variable-at-requires c κs = search needs
 
--- src/marks.rt:57:9
 flag-requires : tie.Need-flag-requires Inv-loop μ-loop
 flag-requires c κs = search needs
 
--- src/marks.rt:58:9
 add-i : tie.Need-add-i Inv-loop μ-loop
 add-i c = omega arith
 
--- src/marks.rt:55:5
 loop-less : tie.Need-loop-less Inv-loop μ-loop
 loop-less c = omega arith
 
--- src/marks.rt:55:5
 loop-again : tie.Need-loop-again Inv-loop μ-loop
 loop-again c =
     let a = c .before .before .before .before .before .before .before .before .args in
@@ -53,11 +39,9 @@ loop-again c =
     let is = subst (λ v. Flagged (λ w. w ≡ v) (c .before .before .before .before .before .before .loop .flags) (c .before .before .flag .last .0)) (c .before .before .before .before .variable-at .ensures) (c .before .before .flag .ensures) in
     (omega arith, omega arith, flag-as (flag-then (inv .2) is) (λ v. has-more (a .clauses .now) (a .start) (c .before .before .before .before .before .before .loop .i) v low))
 
--- src/marks.rt:50:1
 same-length : tie.Need-same-length Inv-loop μ-loop
 same-length c = c .before .loop .inv .2 .size
 
--- src/marks.rt:50:1
 returns : tie.Need-returns Inv-loop μ-loop
 returns c =
     let q : c .before .loop .i ≡ c .before .before .before .args .end = let most = c .before .loop .inv .1 in omega arith in

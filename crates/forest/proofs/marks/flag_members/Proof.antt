@@ -1,3 +1,4 @@
+-- `forest::marks::flag_members` meets its contract.
 use Prim.Native.Nat.{_-_}
 use mathlib.Core.Path.{sym, _∙_}
 use native.Mathlib.Omega.{arith}
@@ -5,12 +6,6 @@ use borrow.Author.Needs.{needs}
 use Rattle.forest.proofs.Flags.{Sweep, IsBelow, sweep-none, sweep-all, members-hit, members-miss, members-all}
 use Rattle.forest.proofs.marks.flag_members.Statement.{statement}
 use Rattle.forest.proofs.marks.flag_members.Tie as tie
-use Rattle.forest.proofs.marks.flag_members.Reads as reads
-use Rattle.forest.proofs.marks.flag_members.Lts as lts
-use Rattle.forest.proofs.marks.flag.Reads as flag-reads
-use Rattle.forest.proofs.rows.flag_at.Reads as flag-at-reads
-use Rattle.forest.proofs.rows.row_of.Reads as row-of-reads
-use Rattle.terms.proofs.Variable.new.Reads as new-reads
 
 abbrev Inv-loop : tie.InvT-loop
 Inv-loop n entered tops flags₀ passed₀ flags passed = Sweep (IsBelow n entered tops) n flags₀ flags passed
@@ -18,64 +13,50 @@ Inv-loop n entered tops flags₀ passed₀ flags passed = Sweep (IsBelow n enter
 abbrev μ-loop : tie.MeasureT-loop
 μ-loop n entered tops flags₀ passed₀ flags passed = n - passed
 
--- src/marks.rt:93:5
 loop-holds : tie.Need-loop-holds Inv-loop μ-loop
 loop-holds c =
     let a = c .before .before .before .args in
     sweep-none (IsBelow (a .n) (a .entered .now) (a .tops .now)) (a .n) (a .flags .now)
 
--- src/marks.rt:94:9
 add-passed : tie.Need-add-passed Inv-loop μ-loop
 add-passed c = omega arith
 
--- src/marks.rt:95:13
 new-requires : tie.Need-new-requires Inv-loop μ-loop
 new-requires c κs = search needs
 
--- src/marks.rt:96:13
 row-of-requires : tie.Need-row-of-requires Inv-loop μ-loop
 row-of-requires c κs = search needs
 
--- src/marks.rt:98:16
 flag-at-requires : tie.Need-flag-at-requires Inv-loop μ-loop
 flag-at-requires c κs = search needs
 
--- src/marks.rt:99:17
 flag-requires : tie.Need-flag-requires Inv-loop μ-loop
 flag-requires c κs = search needs
 
--- src/marks.rt:93:5
 loop-less : tie.Need-loop-less Inv-loop μ-loop
 loop-less c = omega arith
 
--- src/marks.rt:93:5
 loop-again : tie.Need-loop-again Inv-loop μ-loop
 loop-again c =
     members-hit (c .before .before .before .before .before .before .before .before .before .before .before .before .before .before .before .args .n) (c .before .before .before .before .before .before .before .before .before .before .before .before .before .before .before .args .entered .now) (c .before .before .before .before .before .before .before .before .before .before .before .before .before .before .before .args .tops .now) (c .before .before .before .before .before .before .before .before .before .before .loop-test .taken) (c .before .before .before .before .before .before .before .before .before .new .ensures) (c .before .before .before .before .before .before .before .before .row-of .ensures) (c .before .before .before .before .before .before .before .before .before .before .before .loop .inv) (c .before .before .before .before .before .before .if1 .taken) (sym (c .before .before .before .before .before .flag-at .ensures) ∙ c .before .before .before .before .if2 .taken) (c .before .before .flag .ensures)
 
--- src/marks.rt:93:5
 loop-less-2 : tie.Need-loop-less-2 Inv-loop μ-loop
 loop-less-2 c = omega arith
 
--- src/marks.rt:93:5
 loop-again-2 : tie.Need-loop-again-2 Inv-loop μ-loop
 loop-again-2 c =
     members-miss (c .before .before .before .before .before .before .before .before .before .before .before .args .n) (c .before .before .before .before .before .before .before .before .before .before .before .args .entered .now) (c .before .before .before .before .before .before .before .before .before .before .before .args .tops .now) (c .before .before .before .before .before .before .loop-test .taken) (c .before .before .before .before .before .new .ensures) (c .before .before .before .before .row-of .ensures) (c .before .before .before .before .before .before .before .loop .inv) (λ _. sym (c .before .flag-at .ensures) ∙ c .if2 .left)
 
--- src/marks.rt:93:5
 loop-less-3 : tie.Need-loop-less-3 Inv-loop μ-loop
 loop-less-3 c = omega arith
 
--- src/marks.rt:93:5
 loop-again-3 : tie.Need-loop-again-3 Inv-loop μ-loop
 loop-again-3 c =
     members-miss (c .before .before .before .before .before .before .before .before .before .args .n) (c .before .before .before .before .before .before .before .before .before .args .entered .now) (c .before .before .before .before .before .before .before .before .before .args .tops .now) (c .before .before .before .before .loop-test .taken) (c .before .before .before .new .ensures) (c .before .before .row-of .ensures) (c .before .before .before .before .before .loop .inv) (λ some. absurd (some (c .if1 .left)))
 
--- src/marks.rt:89:1
 same-length : tie.Need-same-length Inv-loop μ-loop
 same-length c = c .before .loop .inv .done .size
 
--- src/marks.rt:89:1
 returns : tie.Need-returns Inv-loop μ-loop
 returns c =
     let a = c .before .before .before .before .before .args in

@@ -1,5 +1,6 @@
-use Prim.Native.Nat.{ℕ, _≤_, _<_, _-_}
-use mathlib.Core.Path.{_≡_, refl, sym, ap, _∙_, subst}
+-- `forest::marks::flag_shared` meets its contract.
+use Prim.Native.Nat.{_-_}
+use mathlib.Core.Path.{ap}
 use native.Mathlib.Omega.{arith}
 use borrow.Author.Needs.{needs}
 use lib.ListN.{length, drop-of-length-le}
@@ -10,11 +11,6 @@ use Rattle.forest.proofs.Readings.{told, told-not}
 use Rattle.forest.proofs.Flags.{Sharing, share-none, share-has, share-not, share-all}
 use Rattle.forest.proofs.marks.flag_shared.Statement.{statement}
 use Rattle.forest.proofs.marks.flag_shared.Tie as tie
-use Rattle.forest.proofs.marks.flag_shared.Reads as reads
-use Rattle.forest.proofs.marks.flag_shared.Lts as lts
-use Rattle.forest.proofs.marks.flag_clause.Reads as flag-clause-reads
-use Rattle.forest.proofs.marks.has_variable.Reads as has-variable-reads
-use Rattle.formula.proofs.clauses.next_zero.Reads as next-zero-reads
 
 abbrev Inv-loop : tie.InvT-loop
 Inv-loop clauses x flags₀ start₀ flags start = Sharing clauses (x .0) flags₀ flags start
@@ -22,64 +18,50 @@ Inv-loop clauses x flags₀ start₀ flags start = Sharing clauses (x .0) flags�
 abbrev μ-loop : tie.MeasureT-loop
 μ-loop clauses x flags₀ start₀ flags start = length clauses - start
 
--- src/marks.rt:20:5
 loop-holds : tie.Need-loop-holds Inv-loop μ-loop
 loop-holds c = share-none (c .before .args .clauses .now) (c .before .args .x .0) (c .before .args .flags .now)
 
--- src/marks.rt:21:13
 next-zero-requires : tie.Need-next-zero-requires Inv-loop μ-loop
 next-zero-requires c κs = search needs
 
--- src/marks.rt:23:13
 same-length : tie.Need-same-length Inv-loop μ-loop
 same-length c = c .before .before .before .loop .inv .size
 
--- src/marks.rt:23:13
 returns : tie.Need-returns Inv-loop μ-loop
 returns c =
     share-all (c .before .before .before .loop .inv) (clauses-unclosed (c .before .before .before .before .before .args .clauses .now) (c .before .before .before .loop .start) (c .before .next-zero .result) (c .before .next-zero .ensures) (c .if1 .taken))
 
--- src/marks.rt:25:12
 has-variable-requires : tie.Need-has-variable-requires Inv-loop μ-loop
 has-variable-requires c κs = search needs
 
--- src/marks.rt:26:13
 flag-clause-requires : tie.Need-flag-clause-requires Inv-loop μ-loop
 flag-clause-requires c κs = c .before .before .before .before .next-zero .ensures .from
 
--- src/marks.rt:27:21
 add-start : tie.Need-add-start Inv-loop μ-loop
 add-start c = omega arith
 
--- src/marks.rt:20:5
 loop-less : tie.Need-loop-less Inv-loop μ-loop
 loop-less c =
     let from = c .before .before .before .before .before .before .before .next-zero .ensures .from in let less = c .before .before .before .before .before .before .if1 .left in omega arith
 
--- src/marks.rt:20:5
 loop-again : tie.Need-loop-again Inv-loop μ-loop
 loop-again c =
     share-has (c .before .before .before .before .before .before .before .before .before .loop .inv) (c .before .before .before .before .before .before .before .next-zero .result) (c .before .before .before .before .before .before .before .next-zero .ensures) (c .before .before .before .before .before .before .if1 .left) (told (c .before .before .before .before .before .has-variable .result) (c .before .before .before .before .if2 .taken) (c .before .before .before .before .before .has-variable .ensures)) (c .before .before .flag-clause .ensures)
 
--- src/marks.rt:29:21
 add-start-2 : tie.Need-add-start-2 Inv-loop μ-loop
 add-start-2 c = omega arith
 
--- src/marks.rt:20:5
 loop-less-2 : tie.Need-loop-less-2 Inv-loop μ-loop
 loop-less-2 c =
     let from = c .before .before .before .next-zero .ensures .from in let less = c .before .before .if1 .left in omega arith
 
--- src/marks.rt:20:5
 loop-again-2 : tie.Need-loop-again-2 Inv-loop μ-loop
 loop-again-2 c =
     share-not (c .before .before .before .before .before .loop .inv) (c .before .before .before .next-zero .result) (c .before .before .before .next-zero .ensures) (c .before .before .if1 .left) (told-not (c .before .has-variable .result) (c .if2 .left) (c .before .has-variable .ensures))
 
--- src/marks.rt:16:1
 same-length-2 : tie.Need-same-length-2 Inv-loop μ-loop
 same-length-2 c = c .before .loop .inv .size
 
--- src/marks.rt:16:1
 returns-2 : tie.Need-returns-2 Inv-loop μ-loop
 unfolding clauses cut
 returns-2 c =

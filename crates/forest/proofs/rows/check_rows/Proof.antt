@@ -1,29 +1,23 @@
+-- `forest::rows::check_rows` meets its contract.
 use mathlib.Core.Path.{subst}
 use mathlib.Core.Logic.{inl, inr}
+use borrow.Author.Needs.{needs}
 use Rattle.connection.specs.Tables.{Row, lent}
 use Rattle.forest.specs.Formula.{tabled}
 use Rattle.forest.specs.Search.{FirstBad, rowsOf}
 use Rattle.forest.proofs.Formed.{forest-short, forest-fine, forest-bad}
-use borrow.Author.Needs.{needs}
 use Rattle.forest.proofs.rows.check_rows.Statement.{statement}
 use Rattle.forest.proofs.rows.check_rows.Tie as tie
-use Rattle.forest.proofs.rows.check_rows.Reads as reads
-use Rattle.forest.proofs.rows.check_rows.Lts as lts
-use Rattle.forest.proofs.rows.first_bad.Reads as first-bad-reads
 
--- src/rows.rt:23:9
 returns : tie.Need-returns
 returns c = inl (forest-short (inl (c .if1 .taken)))
 
--- src/rows.rt:26:9
 returns-2 : tie.Need-returns-2
 returns-2 c = inl (forest-short (inr (c .if2 .taken)))
 
--- src/rows.rt:28:9
 first-bad-requires : tie.Need-first-bad-requires
 first-bad-requires c κs = search needs
 
--- src/rows.rt:30:9
 returns-3 : tie.Need-returns-3
 unfolding lent
 returns-3 c =
@@ -31,11 +25,9 @@ returns-3 c =
     let P = Row (tabled (a .n) (a .levels .now) (a .universals .now)) (rowsOf (a .n) (a .classes .now) (a .parents .now)) in
     (forest-fine (c .before .before .before .if1 .left) (c .before .before .if2 .left) (subst (FirstBad P (a .n)) (c .if3 .taken) (c .before .first-bad .ensures)), tt)
 
--- src/rows.rt:32:17
 cast-place : tie.Need-cast-place
 cast-place c = search needs
 
--- src/rows.rt:18:1
 returns-4 : tie.Need-returns-4
 unfolding lent
 returns-4 c =

@@ -1,53 +1,40 @@
-use mathlib.Core.Path.{sym}
+-- `forest::rows::class_is_right` meets its contract.
 use mathlib.Core.List.{[]}
 use native.Mathlib.Omega.{arith}
 use borrow.Author.Tests.{not-true, not-false}
+use borrow.Author.Needs.{needs}
 use Rattle.forest.proofs.Readings.{told, told-not}
 use Rattle.forest.proofs.Formed.{class-right, class-most, class-name, class-block}
-use borrow.Author.Needs.{needs}
 use Rattle.forest.proofs.rows.class_is_right.Statement.{statement}
 use Rattle.forest.proofs.rows.class_is_right.Tie as tie
-use Rattle.forest.proofs.rows.class_is_right.Reads as reads
-use Rattle.forest.proofs.rows.class_is_right.Lts as lts
-use Rattle.forest.proofs.rows.level_at.Reads as level-at-reads
-use Rattle.forest.proofs.rows.names_class.Reads as names-class-reads
-use Rattle.forest.proofs.rows.row_of.Reads as row-of-reads
 
--- src/rows.rt:79:9
 row-of-requires : tie.Need-row-of-requires
 row-of-requires c κs = search needs
 
--- src/rows.rt:81:9
 returns : tie.Need-returns
 returns c =
     let a = c .before .before .before .before .before .before .before .args in
     λ r. let most = class-most (a .n) (a .levels .now) (a .universals .now) (a .classes .now) [] (a .v .0) (c .before .before .before .row-of .result .0) (c .before .before .before .row-of .ensures) r in let over = c .if1 .taken in omega arith
 
--- src/rows.rt:83:9
 names-class-requires : tie.Need-names-class-requires
 names-class-requires c κs = search needs
 
--- src/rows.rt:84:9
 returns-2 : tie.Need-returns-2
 returns-2 c =
     let a = c .before .before .before .before .before .before .before .before .before .args in
     λ r. told-not (c .before .names-class .result) (not-true (c .before .names-class .result) (c .if2 .taken)) (c .before .names-class .ensures) (class-name (a .n) (a .levels .now) (a .universals .now) (a .classes .now) [] (a .v .0) (c .before .before .before .before .before .row-of .result .0) (c .before .before .before .before .before .row-of .ensures) r)
 
--- src/rows.rt:86:9
 level-at-requires : tie.Need-level-at-requires
 level-at-requires c κs = search needs
 
--- src/rows.rt:87:9
 level-at-requires-2 : tie.Need-level-at-requires-2
 level-at-requires-2 c κs = search needs
 
--- src/rows.rt:89:9
 returns-3 : tie.Need-returns-3
 returns-3 c =
     let a = c .before .before .before .before .before .before .before .before .before .before .before .before .before .before .args in
     λ r. c .if3 .taken (class-block (a .n) (a .levels .now) (a .universals .now) (a .classes .now) [] (a .v .0) (c .before .before .before .before .before .before .before .before .before .before .row-of .result .0) (c .before .before .before .before .level-at .result .0) (c .before .before .before .level-at2 .result .0) (c .before .before .before .before .before .before .before .before .before .before .row-of .ensures) (c .before .before .before .before .level-at .ensures) (c .before .before .before .level-at2 .ensures) r)
 
--- src/rows.rt:76:1
 returns-4 : tie.Need-returns-4
 returns-4 c =
     let a = c .before .before .before .before .before .before .before .before .before .before .before .before .before .before .args in

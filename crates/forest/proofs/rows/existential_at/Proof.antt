@@ -1,34 +1,28 @@
+-- `forest::rows::existential_at` meets its contract.
 use mathlib.Core.Path.{sym, _∙_, ap}
-use mathlib.Core.Bool.{Bool, false, not}
+use mathlib.Core.Bool.{false, not}
+use borrow.Author.Needs.{needs}
 use lib.ListN.{getD}
 use Rattle.forest.specs.Formula.{existentialIn}
 use Rattle.forest.proofs.Readings.{flag-none, flag-over, flag-in}
-use borrow.Author.Needs.{needs}
 use Rattle.forest.proofs.rows.existential_at.Statement.{statement}
 use Rattle.forest.proofs.rows.existential_at.Tie as tie
-use Rattle.forest.proofs.rows.existential_at.Reads as reads
-use Rattle.forest.proofs.rows.existential_at.Lts as lts
-use Rattle.forest.proofs.rows.flag_at.Reads as flag-at-reads
 
--- src/rows.rt:175:9
 returns : tie.Need-returns
 unfolding existentialIn
 returns c =
     let a = c .before .before .before .args in
     sym (flag-none (a .n) (a .v .0) (not (getD (a .universals .now) (a .v .0) false)) (c .if1 .taken))
 
--- src/rows.rt:178:9
 returns-2 : tie.Need-returns-2
 unfolding existentialIn
 returns-2 c =
     let a = c .before .before .before .before .before .args in
     sym (flag-over (a .n) (a .v .0) (not (getD (a .universals .now) (a .v .0) false)) (c .if2 .taken))
 
--- src/rows.rt:180:6
 flag-at-requires : tie.Need-flag-at-requires
 flag-at-requires c κs = search needs
 
--- src/rows.rt:171:1
 returns-3 : tie.Need-returns-3
 unfolding existentialIn
 returns-3 c =

@@ -1,5 +1,6 @@
-use Prim.Native.Nat.{ℕ, _-_}
-use mathlib.Core.Path.{sym, subst}
+-- `forest::rows::first_bad` meets its contract.
+use Prim.Native.Nat.{_-_}
+use mathlib.Core.Path.{subst}
 use native.Mathlib.Omega.{arith}
 use borrow.Author.Needs.{needs}
 use borrow.Author.Tests.{not-true, not-false}
@@ -10,10 +11,6 @@ use Rattle.forest.proofs.Readings.{told, told-not}
 use Rattle.forest.proofs.Formed.{Right, right-none, right-more, bad-here, bad-none}
 use Rattle.forest.proofs.rows.first_bad.Statement.{statement}
 use Rattle.forest.proofs.rows.first_bad.Tie as tie
-use Rattle.forest.proofs.rows.first_bad.Reads as reads
-use Rattle.forest.proofs.rows.first_bad.Lts as lts
-use Rattle.forest.proofs.rows.row_is_right.Reads as row-is-right-reads
-use Rattle.terms.proofs.Variable.new.Reads as new-reads
 
 abbrev Inv-loop : tie.InvT-loop
 Inv-loop n levels universals classes parents passed₀ passed = Right (Row (tabled n levels universals) (rowsOf n classes parents)) n passed
@@ -21,23 +18,18 @@ Inv-loop n levels universals classes parents passed₀ passed = Right (Row (tabl
 abbrev μ-loop : tie.MeasureT-loop
 μ-loop n levels universals classes parents passed₀ passed = n - passed
 
--- src/rows.rt:41:5
 loop-holds : tie.Need-loop-holds Inv-loop μ-loop
 loop-holds c = right-none _ _
 
--- src/rows.rt:42:17
 add-v : tie.Need-add-v Inv-loop μ-loop
 add-v c = search needs
 
--- src/rows.rt:43:67
 new-requires : tie.Need-new-requires Inv-loop μ-loop
 new-requires c κs = search needs
 
--- src/rows.rt:43:13
 row-is-right-requires : tie.Need-row-is-right-requires Inv-loop μ-loop
 row-is-right-requires c κs = search needs
 
--- src/rows.rt:44:13
 returns : tie.Need-returns Inv-loop μ-loop
 returns c =
     let a = c .before .before .before .before .before .before .before .before .before .args in
@@ -45,11 +37,9 @@ returns c =
     (subst (λ v. Row (tabled (a .n) (a .levels .now) (a .universals .now)) (rowsOf (a .n) (a .classes .now) (a .parents .now)) v → ⊥) (c .before .before .new .ensures)
     (told-not (c .before .row-is-right .result) (not-true (c .before .row-is-right .result) (c .if1 .taken)) (c .before .row-is-right .ensures)))
 
--- src/rows.rt:41:5
 loop-less : tie.Need-loop-less Inv-loop μ-loop
 loop-less c = omega arith
 
--- src/rows.rt:41:5
 loop-again : tie.Need-loop-again Inv-loop μ-loop
 loop-again c =
     let a = c .before .before .before .before .before .before .before .before .before .args in
@@ -57,7 +47,6 @@ loop-again c =
     (subst (Row (tabled (a .n) (a .levels .now) (a .universals .now)) (rowsOf (a .n) (a .classes .now) (a .parents .now))) (c .before .before .new .ensures)
     (told (c .before .row-is-right .result) (not-false (c .before .row-is-right .result) (c .if1 .left)) (c .before .row-is-right .ensures)))
 
--- src/rows.rt:37:1
 returns-2 : tie.Need-returns-2 Inv-loop μ-loop
 returns-2 c =
     let a = c .before .before .before .before .before .before .args in

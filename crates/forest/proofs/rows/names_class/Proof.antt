@@ -1,31 +1,23 @@
+-- `forest::rows::names_class` meets its contract.
+use mathlib.Core.Path.{sym, _∙_}
 use borrow.Author.Tests.{not-true, not-false}
-use mathlib.Core.Path.{sym, _∙_, ap}
-use Rattle.terms.proofs.Common.{clash}
 use borrow.Author.Needs.{needs}
+use Rattle.terms.proofs.Common.{clash}
 use Rattle.forest.proofs.rows.names_class.Statement.{statement}
 use Rattle.forest.proofs.rows.names_class.Tie as tie
-use Rattle.forest.proofs.rows.names_class.Reads as reads
-use Rattle.forest.proofs.rows.names_class.Lts as lts
-use Rattle.forest.proofs.rows.existential_at.Reads as existential-at-reads
-use Rattle.forest.proofs.rows.row_of.Reads as row-of-reads
 
--- src/rows.rt:117:9
 existential-at-requires : tie.Need-existential-at-requires
 existential-at-requires c κs = search needs
 
--- src/rows.rt:118:9
 returns : tie.Need-returns
 returns c = λ named. clash (named .0) (sym (c .before .existential-at .ensures) ∙ not-true (c .before .existential-at .result) (c .if1 .taken))
 
--- src/rows.rt:120:9
 row-of-requires : tie.Need-row-of-requires
 row-of-requires c κs = search needs
 
--- src/rows.rt:122:9
 returns-2 : tie.Need-returns-2
 returns-2 c = λ named. c .if2 .taken (c .before .before .before .row-of .ensures ∙ named .1)
 
--- src/rows.rt:114:1
 returns-3 : tie.Need-returns-3
 returns-3 c =
     (sym (c .before .before .before .before .before .existential-at .ensures) ∙ not-false (c .before .before .before .before .before .existential-at .result) (c .before .before .before .before .if1 .left), sym (c .before .before .before .row-of .ensures) ∙ c .if2 .left)

@@ -1,55 +1,42 @@
+-- `forest::rows::parent_is_right` meets its contract.
 use native.Mathlib.Omega.{arith}
 use borrow.Author.Tests.{not-true, not-false}
+use borrow.Author.Needs.{needs}
 use Rattle.forest.proofs.Readings.{told, told-not}
 use Rattle.forest.proofs.Formed.{class-named, parent-right, parent-name, parent-block}
-use borrow.Author.Needs.{needs}
 use Rattle.forest.proofs.rows.parent_is_right.Statement.{statement}
 use Rattle.forest.proofs.rows.parent_is_right.Tie as tie
-use Rattle.forest.proofs.rows.parent_is_right.Reads as reads
-use Rattle.forest.proofs.rows.parent_is_right.Lts as lts
-use Rattle.forest.proofs.rows.level_at.Reads as level-at-reads
-use Rattle.forest.proofs.rows.names_class.Reads as names-class-reads
-use Rattle.forest.proofs.rows.row_of.Reads as row-of-reads
 
--- src/rows.rt:98:9
 row-of-requires : tie.Need-row-of-requires
 row-of-requires c κs = search needs
 
--- src/rows.rt:99:9
 names-class-requires : tie.Need-names-class-requires
 names-class-requires c κs = search needs
 
--- src/rows.rt:100:9
 returns : tie.Need-returns
 returns c =
     let a = c .before .before .before .before .before .before .before .args in
     λ r. told-not (c .before .names-class .result) (not-true (c .before .names-class .result) (c .if1 .taken)) (c .before .names-class .ensures) (class-named (a .n) (a .levels .now) (a .universals .now) (a .classes .now) (a .parents .now) (r .child))
 
--- src/rows.rt:102:9
 names-class-requires-2 : tie.Need-names-class-requires-2
 names-class-requires-2 c κs = search needs
 
--- src/rows.rt:103:9
 returns-2 : tie.Need-returns-2
 returns-2 c =
     let a = c .before .before .before .before .before .before .before .before .before .args in
     λ r. told-not (c .before .names-class2 .result) (not-true (c .before .names-class2 .result) (c .if2 .taken)) (c .before .names-class2 .ensures) (parent-name (a .n) (a .levels .now) (a .universals .now) (a .classes .now) (a .parents .now) (a .v .0) (c .before .before .before .before .row-of .result .0) (c .before .before .before .before .row-of .ensures) r)
 
--- src/rows.rt:105:9
 level-at-requires : tie.Need-level-at-requires
 level-at-requires c κs = search needs
 
--- src/rows.rt:106:9
 level-at-requires-2 : tie.Need-level-at-requires-2
 level-at-requires-2 c κs = search needs
 
--- src/rows.rt:108:9
 returns-3 : tie.Need-returns-3
 returns-3 c =
     let a = c .before .before .before .before .before .before .before .before .before .before .before .before .before .before .args in
     λ r. let less = parent-block (a .n) (a .levels .now) (a .universals .now) (a .classes .now) (a .parents .now) (a .v .0) (c .before .before .before .before .before .before .before .before .before .row-of .result .0) (c .before .before .before .before .level-at .result .0) (c .before .before .before .level-at2 .result .0) (c .before .before .before .before .before .before .before .before .before .row-of .ensures) (c .before .before .before .before .level-at .ensures) (c .before .before .before .level-at2 .ensures) r in let over = c .if3 .taken in omega arith
 
--- src/rows.rt:95:1
 returns-4 : tie.Need-returns-4
 returns-4 c =
     let a = c .before .before .before .before .before .before .before .before .before .before .before .before .before .before .args in

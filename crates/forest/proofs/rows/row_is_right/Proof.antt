@@ -1,45 +1,31 @@
+-- `forest::rows::row_is_right` meets its contract.
 use mathlib.Core.Path.{sym, _∙_}
-use mathlib.Core.Bool.{Bool, true, false}
 use mathlib.Core.List.{[]}
 use borrow.Author.Tests.{not-true, not-false}
-use Rattle.connection.specs.Tables.{ParentRow, Row}
-use Rattle.forest.specs.Search.{Tells}
+use borrow.Author.Needs.{needs}
 use Rattle.forest.proofs.Readings.{told, told-not, told-both}
 use Rattle.forest.proofs.Formed.{class-alone, existential-right, universal-right, universal-class, row-parent}
-use borrow.Author.Needs.{needs}
 use Rattle.forest.proofs.rows.row_is_right.Statement.{statement}
 use Rattle.forest.proofs.rows.row_is_right.Tie as tie
-use Rattle.forest.proofs.rows.row_is_right.Reads as reads
-use Rattle.forest.proofs.rows.row_is_right.Lts as lts
-use Rattle.forest.proofs.rows.class_is_right.Reads as class-is-right-reads
-use Rattle.forest.proofs.rows.existential_at.Reads as existential-at-reads
-use Rattle.forest.proofs.rows.parent_is_right.Reads as parent-is-right-reads
-use Rattle.forest.proofs.rows.row_of.Reads as row-of-reads
 
--- src/rows.rt:55:9
 row-of-requires : tie.Need-row-of-requires
 row-of-requires c κs = search needs
 
--- src/rows.rt:56:9
 row-of-requires-2 : tie.Need-row-of-requires-2
 row-of-requires-2 c κs = search needs
 
--- src/rows.rt:57:8
 existential-at-requires : tie.Need-existential-at-requires
 existential-at-requires c κs = search needs
 
--- src/rows.rt:58:13
 class-is-right-requires : tie.Need-class-is-right-requires
 class-is-right-requires c κs = search needs
 
--- src/rows.rt:59:13
 returns : tie.Need-returns
 returns c =
     let a = c .before .before .before .before .before .before .before .before .before .before .args in
     let ex = sym (c .before .before .before .existential-at .ensures) ∙ c .before .before .if1 .taken in
     λ r. told-not (c .before .class-is-right .result) (not-true (c .before .class-is-right .result) (c .if2 .taken)) (c .before .class-is-right .ensures) (class-alone (a .n) (a .levels .now) (a .universals .now) (a .classes .now) (a .parents .now) [] (r .class ex))
 
--- src/rows.rt:62:13
 returns-2 : tie.Need-returns-2
 returns-2 c =
     let a = c .before .before .before .before .before .before .before .before .before .before .before .before .args in
@@ -48,11 +34,9 @@ returns-2 c =
     (class-alone (a .n) (a .levels .now) (a .universals .now) (a .classes .now) [] (a .parents .now) (told (c .before .before .before .class-is-right .result) (not-false (c .before .before .before .class-is-right .result) (c .before .before .if2 .left)) (c .before .before .before .class-is-right .ensures)))
     (λ some. absurd (some (c .if3 .taken)))
 
--- src/rows.rt:64:9
 parent-is-right-requires : tie.Need-parent-is-right-requires
 parent-is-right-requires c κs = search needs
 
--- src/rows.rt:64:9
 returns-3 : tie.Need-returns-3
 returns-3 c =
     let a = c .before .before .before .before .before .before .before .before .before .before .before .before .before .args in
@@ -63,21 +47,18 @@ returns-3 c =
     (λ r. row-parent (a .n) (a .levels .now) (a .universals .now) (a .classes .now) (a .parents .now) (a .v .0) (c .before .before .before .before .before .before .before .before .row-of .result .0) (c .before .before .before .before .before .before .before .row-of2 .result .0) (c .before .before .before .before .before .before .before .before .row-of .ensures) (c .before .before .before .before .before .before .before .row-of2 .ensures) (c .before .if3 .left) r)
     (c .parent-is-right .ensures)
 
--- src/rows.rt:67:9
 returns-4 : tie.Need-returns-4
 returns-4 c =
     let a = c .before .before .before .before .before .before .before .before .before .before .args in
     let un = sym (c .before .before .before .existential-at .ensures) ∙ c .before .before .if1 .left in
     λ r. c .if4 .taken (universal-class (a .n) (a .levels .now) (a .universals .now) (a .classes .now) (a .parents .now) (a .v .0) (c .before .before .before .before .before .row-of .result .0) (c .before .before .before .before .row-of2 .result .0) (c .before .before .before .before .before .row-of .ensures) (c .before .before .before .before .row-of2 .ensures) un r .0)
 
--- src/rows.rt:70:9
 returns-5 : tie.Need-returns-5
 returns-5 c =
     let a = c .before .before .before .before .before .before .before .before .before .before .before .before .args in
     let un = sym (c .before .before .before .before .before .existential-at .ensures) ∙ c .before .before .before .before .if1 .left in
     λ r. c .if5 .taken (universal-class (a .n) (a .levels .now) (a .universals .now) (a .classes .now) (a .parents .now) (a .v .0) (c .before .before .before .before .before .before .before .row-of .result .0) (c .before .before .before .before .before .before .row-of2 .result .0) (c .before .before .before .before .before .before .before .row-of .ensures) (c .before .before .before .before .before .before .row-of2 .ensures) un r .1)
 
--- src/rows.rt:52:1
 returns-6 : tie.Need-returns-6
 returns-6 c =
     let a = c .before .before .before .before .before .before .before .before .before .before .before .before .args in

@@ -1,34 +1,28 @@
-use mathlib.Core.Path.{sym, _∙_, ap}
-use mathlib.Core.Bool.{Bool, false}
+-- `forest::rows::universal_at` meets its contract.
+use mathlib.Core.Path.{sym, _∙_}
+use mathlib.Core.Bool.{false}
+use borrow.Author.Needs.{needs}
 use lib.ListN.{getD}
 use Rattle.forest.specs.Formula.{universalIn}
 use Rattle.forest.proofs.Readings.{flag-none, flag-over, flag-in}
-use borrow.Author.Needs.{needs}
 use Rattle.forest.proofs.rows.universal_at.Statement.{statement}
 use Rattle.forest.proofs.rows.universal_at.Tie as tie
-use Rattle.forest.proofs.rows.universal_at.Reads as reads
-use Rattle.forest.proofs.rows.universal_at.Lts as lts
-use Rattle.forest.proofs.rows.flag_at.Reads as flag-at-reads
 
--- src/rows.rt:188:9
 returns : tie.Need-returns
 unfolding universalIn
 returns c =
     let a = c .before .before .before .args in
     sym (flag-none (a .n) (a .v .0) (getD (a .universals .now) (a .v .0) false) (c .if1 .taken))
 
--- src/rows.rt:191:9
 returns-2 : tie.Need-returns-2
 unfolding universalIn
 returns-2 c =
     let a = c .before .before .before .before .before .args in
     sym (flag-over (a .n) (a .v .0) (getD (a .universals .now) (a .v .0) false) (c .if2 .taken))
 
--- src/rows.rt:193:5
 flag-at-requires : tie.Need-flag-at-requires
 flag-at-requires c κs = search needs
 
--- src/rows.rt:184:1
 returns-3 : tie.Need-returns-3
 unfolding universalIn
 returns-3 c =

@@ -1,19 +1,20 @@
-use mathlib.Core.Path.{_≡_, refl, sym, ap, _∙_, subst}
+-- `forest::search::climb` meets its contract.
+use Prim.Native.Nat.{ℕ, _<_}
+use mathlib.Core.Path.{_≡_, sym, ap, _∙_}
 use native.Mathlib.Omega.{arith}
 use borrow.Author.Needs.{needs}
+use borrow.Fn.Kinds.{In}
+use borrow.Fn.PlainCycle.{Measures, is, falls, and}
 use lib.ListN.{getD}
 use Rattle.connection.specs.Tables.{row}
 use Rattle.forest.proofs.Climbing.{climb-stops, climb-goes}
-use Prim.Native.Nat.{ℕ, _<_}
-use borrow.Fn.Kinds.{In}
-use borrow.Fn.PlainCycle.{Measures, is, falls, and}
+use Rattle.forest.proofs.search.+climb.{statement}
+use Rattle.forest.proofs.search.+climb.Tie.{close}
 use Rattle.forest.proofs.search.climb.Reads as climb
 use Rattle.forest.proofs.search.climb.Kinds as climb-kinds
 use Rattle.forest.proofs.search.+climb.Lts-climb as climb-lts
 use Rattle.forest.proofs.rows.level_at.Reads as level-at-reads
 use Rattle.forest.proofs.rows.row_of.Reads as row-of-reads
-use Rattle.forest.proofs.search.+climb.{statement}
-use Rattle.forest.proofs.search.+climb.Tie.{close}
 
 abbrev μ-climb : Measures 2 climb-kinds.ps ℕ
 μ-climb κs a = getD (a .1 .0 .now) (a .1 .1 .1 .1 .0 .0) 0
@@ -24,7 +25,6 @@ climb-at t = and 2 climb-kinds.ps (is 2 climb-kinds.ps μ-climb t) climb.Pre
 abbrev climb-below : ℕ → In 2 climb-kinds.ps
 climb-below t = and 2 climb-kinds.ps (falls 2 climb-kinds.ps _<_ μ-climb t) climb.Pre
 
--- src/search.rt:33:9
 climb-row-of-requires : (t : ℕ) → climb-lts.Need-row-of-requires (
   row-of-reads.Asked,
   row-of-reads.Learnt,
@@ -35,7 +35,6 @@ climb-row-of-requires : (t : ℕ) → climb-lts.Need-row-of-requires (
 ) (climb-at t) climb.Post
 climb-row-of-requires t c κs = search needs
 
--- src/search.rt:35:9
 climb-returns : (t : ℕ) → climb-lts.Need-returns (
   row-of-reads.Asked,
   row-of-reads.Learnt,
@@ -47,7 +46,6 @@ climb-returns : (t : ℕ) → climb-lts.Need-returns (
 climb-returns t c =
     climb-stops (c .before .before .before .before .before .args .n) (c .before .before .before .before .before .args .levels .now) (c .before .before .before .before .before .args .parents .now) (c .before .before .before .before .before .args .floor .0) (c .before .before .before .before .before .args .class .0) (c .before .before .before .before .before .args .rises) (c .before .before .before .before .before .pre .1 .1) (λ some. absurd (some (sym (c .before .before .row-of .ensures) ∙ c .if1 .taken)))
 
--- src/search.rt:37:9
 climb-level-at-requires : (t : ℕ) → climb-lts.Need-level-at-requires (
   row-of-reads.Asked,
   row-of-reads.Learnt,
@@ -58,7 +56,6 @@ climb-level-at-requires : (t : ℕ) → climb-lts.Need-level-at-requires (
 ) (climb-at t) climb.Post
 climb-level-at-requires t c κs = search needs
 
--- src/search.rt:39:9
 climb-returns-2 : (t : ℕ) → climb-lts.Need-returns-2 (
   row-of-reads.Asked,
   row-of-reads.Learnt,
@@ -70,7 +67,6 @@ climb-returns-2 : (t : ℕ) → climb-lts.Need-returns-2 (
 climb-returns-2 t c =
     climb-stops (c .before .before .before .before .before .before .before .before .before .args .n) (c .before .before .before .before .before .before .before .before .before .args .levels .now) (c .before .before .before .before .before .before .before .before .before .args .parents .now) (c .before .before .before .before .before .before .before .before .before .args .floor .0) (c .before .before .before .before .before .before .before .before .before .args .class .0) (c .before .before .before .before .before .before .before .before .before .args .rises) (c .before .before .before .before .before .before .before .before .before .pre .1 .1) (λ some. let l : getD (c .before .before .before .before .before .before .before .before .before .args .levels .now) (row (c .before .before .before .before .before .before .before .before .before .args .n) (c .before .before .before .before .before .before .before .before .before .args .parents .now) (c .before .before .before .before .before .before .before .before .before .args .class .0)) 0 ≡ c .before .before .before .level-at .result .0 = ap (λ d. getD (c .before .before .before .before .before .before .before .before .before .args .levels .now) d 0) (sym (c .before .before .before .before .before .before .row-of .ensures)) ∙ sym (c .before .before .before .level-at .ensures) in let h = c .if2 .taken in omega arith)
 
--- src/search.rt:41:46
 climb-add-climb : (t : ℕ) → climb-lts.Need-add-climb (
   row-of-reads.Asked,
   row-of-reads.Learnt,
@@ -82,7 +78,6 @@ climb-add-climb : (t : ℕ) → climb-lts.Need-add-climb (
 climb-add-climb t c =
     let falls = c .before .before .before .before .before .before .before .before .before .pre .1 .0 (c .before .before .before .before .before .before .before .before .before .args .class .0) (λ z. c .before .before .before .before .if1 .left (c .before .before .before .before .before .before .row-of .ensures ∙ z)) in let small = c .before .before .before .before .before .before .before .before .before .pre .1 .2 in omega arith
 
--- src/search.rt:41:5
 climb-climb-requires : (t : ℕ) → climb-lts.Need-climb-requires (
   row-of-reads.Asked,
   row-of-reads.Learnt,
@@ -101,7 +96,6 @@ climb-climb-requires t c κs =
     let t-is = c .before .before .before .before .before .before .before .before .before .pre .0 in
     (omega arith, (c .before .before .before .before .before .before .before .before .before .pre .1 .0, omega arith, omega arith))
 
--- src/search.rt:29:1
 climb-returns-3 : (t : ℕ) → climb-lts.Need-returns-3 (
   row-of-reads.Asked,
   row-of-reads.Learnt,

@@ -1,3 +1,4 @@
+-- `forest::search::fill_tops` meets its contract.
 use Prim.Native.Nat.{_-_}
 use native.Mathlib.Omega.{arith}
 use borrow.Author.Needs.{needs}
@@ -6,10 +7,6 @@ use Rattle.forest.specs.Search.{rowsOf}
 use Rattle.forest.proofs.Climbing.{Topped, topped-none, topped-more, topped-all}
 use Rattle.forest.proofs.search.fill_tops.Statement.{statement}
 use Rattle.forest.proofs.search.fill_tops.Tie as tie
-use Rattle.forest.proofs.search.fill_tops.Reads as reads
-use Rattle.forest.proofs.search.fill_tops.Lts as lts
-use Rattle.forest.proofs.search.top_of.Reads as top-of-reads
-use Rattle.terms.proofs.Variable.new.Reads as new-reads
 
 abbrev Inv-loop : tie.InvT-loop
 Inv-loop n levels universals classes parents x tops₀ passed₀ tops passed = Topped (tabled n levels universals) (rowsOf n classes parents) (x .0) n tops₀ tops passed
@@ -17,55 +14,43 @@ Inv-loop n levels universals classes parents x tops₀ passed₀ tops passed = T
 abbrev μ-loop : tie.MeasureT-loop
 μ-loop n levels universals classes parents x tops₀ passed₀ tops passed = n - passed
 
--- src/search.rt:81:5
 loop-holds : tie.Need-loop-holds Inv-loop μ-loop
 loop-holds c =
     let a = c .before .before .before .before .before .args in
     topped-none (tabled (a .n) (a .levels .now) (a .universals .now)) (rowsOf (a .n) (a .classes .now) (a .parents .now)) (a .x .0) (a .n) (a .tops .now)
 
--- src/search.rt:82:18
 cast-at : tie.Need-cast-at Inv-loop μ-loop
 cast-at c = omega arith
 
--- src/search.rt:83:85
 add-new : tie.Need-add-new Inv-loop μ-loop
 add-new c = omega arith
 
--- src/search.rt:83:71
 new-requires : tie.Need-new-requires Inv-loop μ-loop
 new-requires c κs = search needs
 
--- src/search.rt:83:20
 top-of-requires : tie.Need-top-of-requires Inv-loop μ-loop
 top-of-requires c κs = c .before .before .before .before .before .before .before .before .pre .0
 
--- src/search.rt:83:9
 mul-tops : tie.Need-mul-tops Inv-loop μ-loop
 mul-tops c = omega arith
 
--- src/search.rt:83:9
 slice-write-tops : tie.Need-slice-write-tops Inv-loop μ-loop
 slice-write-tops c =
     let size = c .before .before .before .loop .inv .size in let long = c .before .before .before .before .before .before .before .before .before .pre .1 in omega arith
 
--- src/search.rt:84:9
 add-passed : tie.Need-add-passed Inv-loop μ-loop
 add-passed c = omega arith
 
--- src/search.rt:81:5
 loop-less : tie.Need-loop-less Inv-loop μ-loop
 loop-less c = omega arith
 
--- src/search.rt:81:5
 loop-again : tie.Need-loop-again Inv-loop μ-loop
 loop-again c =
     topped-more (c .before .new .result .0) (c .top-of .result) (c .before .before .before .before .before .before .before .before .before .pre .1) (c .before .before .before .loop .inv) (c .before .before .loop-test .taken) (c .before .new .ensures) (c .top-of .ensures)
 
--- src/search.rt:76:1
 same-length : tie.Need-same-length Inv-loop μ-loop
 same-length c = c .before .loop .inv .size
 
--- src/search.rt:76:1
 returns : tie.Need-returns Inv-loop μ-loop
 returns c = topped-all (c .before .before .before .before .before .before .before .args .levels .now) (c .before .before .before .before .before .before .before .args .universals .now) (c .before .loop .inv) (c .loop-test .left)
 

@@ -1,49 +1,36 @@
+-- `forest::search::find_entry` meets its contract.
+use mathlib.Core.Path.{_≡_, sym, ap, _∙_, subst}
+use native.Mathlib.Omega.{arith}
+use borrow.Author.Tests.{not-true, not-false}
+use borrow.Author.Needs.{needs}
+use lib.ListN.{getD}
+use Rattle.terms.proofs.Common.{clash}
 use Rattle.connection.specs.Tables.{EntryPoint}
 use Rattle.forest.specs.Formula.{tabled}
 use Rattle.forest.specs.Search.{rowsOf}
-use Prim.Native.Nat.{_<_}
-use mathlib.Core.Path.{_≡_, refl, sym, ap, _∙_, subst}
-use native.Mathlib.Omega.{arith}
-use lib.ListN.{getD}
-use borrow.Author.Tests.{not-true, not-false}
-use Rattle.terms.proofs.Common.{clash}
 use Rattle.forest.proofs.Climbing.{formed-falls, formed-block, searched-entry}
-use borrow.Author.Needs.{needs}
 use Rattle.forest.proofs.search.find_entry.Statement.{statement}
 use Rattle.forest.proofs.search.find_entry.Tie as tie
-use Rattle.forest.proofs.search.find_entry.Reads as reads
-use Rattle.forest.proofs.search.find_entry.Lts as lts
-use Rattle.forest.proofs.rows.existential_at.Reads as existential-at-reads
-use Rattle.forest.proofs.rows.level_at.Reads as level-at-reads
-use Rattle.forest.proofs.rows.row_of.Reads as row-of-reads
-use Rattle.forest.proofs.search.climb.Reads as climb-reads
 
--- src/search.rt:49:9
 level-at-requires : tie.Need-level-at-requires
 level-at-requires c κs = search needs
 
--- src/search.rt:50:9
 level-at-requires-2 : tie.Need-level-at-requires-2
 level-at-requires-2 c κs = search needs
 
--- src/search.rt:51:9
 existential-at-requires : tie.Need-existential-at-requires
 existential-at-requires c κs = search needs
 
--- src/search.rt:52:9
 returns : tie.Need-returns
 returns c =
     λ deep. clash (deep .0) (sym (c .before .existential-at .ensures) ∙ not-true (c .before .existential-at .result) (c .if1 .taken))
 
--- src/search.rt:55:9
 returns-2 : tie.Need-returns-2
 returns-2 c = search needs
 
--- src/search.rt:57:9
 row-of-requires : tie.Need-row-of-requires
 row-of-requires c κs = search needs
 
--- src/search.rt:58:9
 climb-requires : tie.Need-climb-requires
 climb-requires c κs =
     let a = c .before .before .before .before .before .before .before .before .before .before .before .before .args in
@@ -54,7 +41,6 @@ climb-requires c κs =
     let over = c .before .if2 .left in
     (formed-falls (a .n) (a .levels .now) (a .universals .now) (a .classes .now) (a .parents .now) (c .before .before .before .before .before .before .before .before .before .before .before .before .pre), omega arith, omega (arith, c .before .before .before .before .before .before .before .before .before .before .before .shared-slice-known .given (c .row-of .result .0)))
 
--- src/search.rt:45:1
 returns-3 : tie.Need-returns-3
 returns-3 c =
     let a = c .before .before .before .before .before .before .before .before .before .before .before .before .before .before .args in

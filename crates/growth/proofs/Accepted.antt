@@ -1,0 +1,109 @@
+-- What acceptance gives the inner functions, and how the orders of build and add are judged.
+use Prim.Native.Nat.{ℕ, _+_, _≤_, _<_}
+use mathlib.Core.Path.{_≡_, refl, sym, _∙_, ap, subst}
+use mathlib.Core.List.{List, [], _∷_, _++_}
+use mathlib.Core.Logic.{_⊎_, inl, inr, ⊎-elim, _≢_, by-cases}
+use native.Mathlib.Decide.{decLt}
+use native.Mathlib.Numerals.{add-one}
+use native.Mathlib.Omega.{arith}
+use lib.IntN.{ℤ, pos}
+use lib.ListN.{length}
+use Rattle.terms.specs.Literals.{variableOf}
+use Rattle.terms.specs.Refusals.{None, First, NoneOf, Judged, At0}
+use Rattle.terms.specs.declared.Verdict.{Verdict}
+use Rattle.terms.specs.declared.Verdict.the-variants.{Accepted, Refused}
+use Rattle.terms.proofs.Common.{below-suc}
+use Rattle.terms.proofs.Verdicts.{first-at, at0-first, at0-none, refused-first, accepted-then}
+use Rattle.formula.specs.Causes.{VariableCount, PrefixLong, ClausesLong, PrefixCause, ClauseCause, checkOrder}
+use Rattle.formula.specs.Levels.{SoundPrefix}
+use Rattle.formula.specs.Tables.{literalAt}
+use Rattle.connection.specs.Tables.{WellFormed, lent}
+use Rattle.forest.specs.Causes.{ForestCause, RowsCause}
+use Rattle.forest.specs.Formula.{variables}
+use Rattle.forest.proofs.Agreeing.{lawful, none-formed}
+use Rattle.growth.specs.Grown.{TooShort, buildOrder, AddedCause, outside, clauseFirst}
+use Rattle.growth.specs.Loose.{InRows}
+
+-- A single condition at place 0 that is no cause does not hold.
+few-of : {n : ℕ} → None (VariableCount n) → n ≤ 4096
+few-of {n} none = by-cases (decLt 4096 n) (λ l. absurd (none 1 0 (refl, refl, l))) (λ l. omega arith)
+
+short-of : (es : List ℕ) {more : Type 0} → None (At0 2 (PrefixLong es ⊎ more)) → length es ≤ 8192
+short-of es none = by-cases (decLt 8192 (length es)) (λ l. absurd (none 2 0 (refl, refl, inl l))) (λ l. omega arith)
+
+pub sound-of : {n : ℕ} {es : List ℕ} {more : Type 0} → None (VariableCount n) → None (At0 2 (PrefixLong es ⊎ more)) → None (PrefixCause n es) → SoundPrefix n es
+sound-of {es = es} few short prefix = record { few = few-of few; short = short-of es short; faultless = prefix }
+
+-- An accepted formula has a sound prefix, and its clauses have variables up to n.
+module _ {n : ℕ} {es : List ℕ} {ls : List ℤ} (accepted : NoneOf (checkOrder n es ls)) where
+  pub check-sound : SoundPrefix n es
+  check-sound = sound-of (accepted .0) (accepted .1 .0) (accepted .1 .1 .0)
+
+  pub check-rows : InRows ls
+  check-rows e l = by-cases (decLt n (variableOf (literalAt ls e)))
+      (λ over. absurd (accepted .1 .1 .1 .0 10 e (ClauseCause.outside refl l (λ z. let q = ap variableOf z in omega arith) over)))
+      (λ low. omega (arith, few-of (accepted .0)))
+
+-- The order of build: a refusal of check stands, and after it stands 14.
+module _ (n : ℕ) (es : List ℕ) (ls : List ℤ) (classes parents : List ℕ) {v : Verdict} (judged : Judged (checkOrder n es ls) v) where
+  pub build-refused : {k p : ℕ} → v ≡ Refused k p → Judged (buildOrder n es ls classes parents) (Refused k p)
+  build-refused q = refused-first (checkOrder n es ls) (At0 14 (TooShort n classes parents) ∷ []) q judged
+
+  pub build-short : v ≡ Accepted → TooShort n classes parents → Judged (buildOrder n es ls classes parents) (Refused 14 0)
+  build-short q short = accepted-then (checkOrder n es ls) (At0 14 (TooShort n classes parents) ∷ []) (Refused 14 0) q judged (inl (at0-first 14 short))
+
+  pub build-accepted : v ≡ Accepted → n ≤ length classes → n ≤ length parents → Judged (buildOrder n es ls classes parents) Accepted
+  build-accepted q cs ps =
+      accepted-then (checkOrder n es ls) (At0 14 (TooShort n classes parents) ∷ []) Accepted q judged (at0-none 14 (λ short. ⊎-elim (λ l. omega arith) (λ l. omega arith) short), tt)
+
+-- The entries before i of an added clause have variables from 1 to n.
+pub record Named (n : ℕ) (ls : List ℤ) (i : ℕ) : Type 0 where
+  pub within : i ≤ length ls
+  pub clean : (e : ℕ) → e < i → (variableOf (literalAt ls e) ≢ 0) × (variableOf (literalAt ls e) ≤ n)
+
+pub named-none : (n : ℕ) (ls : List ℤ) → Named n ls 0
+named-none n ls = record { within = omega arith; clean = λ e l. absurd (omega arith) }
+
+module _ {n : ℕ} {ls : List ℤ} {i : ℕ} (s : Named n ls i) where
+  pub named-more : (v : ℕ) → i < length ls → v ≡ variableOf (literalAt ls i) → v ≢ 0 → v ≤ n → Named n ls (i + 1)
+  named-more v more is some low =
+      rw (add-one i)
+      record { within = more; clean = below-suc (λ e. (variableOf (literalAt ls e) ≢ 0) × (variableOf (literalAt ls e) ≤ n)) i (s .clean) (λ z. some (is ∙ z), rw (← is) low) }
+
+  no-cause : (e : ℕ) → e < i → (k : ℕ) → AddedCause n ls k e → ⊥
+  no-cause e l k (outside q h bad) = let (some, low) = s .clean e l in ⊎-elim some (λ over. omega arith) bad
+
+  pub named-fault : (v : ℕ) → i < length ls → v ≡ variableOf (literalAt ls i) → (v ≡ 0) ⊎ (n < v) → First (AddedCause n ls) 10 i
+  named-fault v more is bad = first-at no-cause (outside refl more (⊎-elim (λ z. inl (sym is ∙ z)) (λ over. inr (rw (← is) over)) bad)) low
+    where
+      low : (k : ℕ) → AddedCause n ls k i → 10 ≤ k
+      low k (outside q h _) = omega arith
+
+  pub named-all : length ls ≤ i → None (AddedCause n ls)
+  named-all done k e (outside q h bad) = no-cause e (omega (arith, s .within)) k (outside q h bad)
+
+-- What is left of the first part of add's order once n and the lengths are within their limits.
+pub added-within : (n : ℕ) (es : List ℕ) (ls : List ℤ) (v : Verdict) → n ≤ 4096 → length es ≤ 8192 → length ls ≤ 16384 → Judged (PrefixCause n es ∷ AddedCause n ls ∷ []) v → Judged (clauseFirst n es ls) v
+added-within n es ls v few short small later =
+    accepted-then (VariableCount n ∷ At0 2 (PrefixLong es ⊎ ClausesLong ls) ∷ []) (PrefixCause n es ∷ AddedCause n ls ∷ []) {v = Accepted} v refl
+    (at0-none 1 (λ over. omega arith), (at0-none 2 (λ over. ⊎-elim (λ l. omega arith) (λ l. omega arith) over), tt)) later
+
+module _ {n : ℕ} {es : List ℕ} {ls : List ℤ} (accepted : NoneOf (clauseFirst n es ls)) where
+  pub added-sound : SoundPrefix n es
+  added-sound = sound-of (accepted .0) (accepted .1 .0) (accepted .1 .1 .0)
+
+  pub added-rows : InRows ls
+  added-rows e l = by-cases (decLt n (variableOf (literalAt ls e)))
+      (λ over. absurd (accepted .1 .1 .1 .0 10 e (outside refl l (inr over))))
+      (λ low. omega (arith, few-of (accepted .0)))
+
+-- Tables that have no cause of 12 have rows enough, and are well formed.
+module _ (n : ℕ) (es classes parents : List ℕ) (none : None (ForestCause n es classes parents)) where
+  pub long-enough : (n ≤ length classes) × (n ≤ length parents)
+  long-enough = (
+    by-cases (decLt (length classes) n) (λ l. absurd (none 12 0 (RowsCause.short refl refl (inl l)))) (λ l. omega arith),
+    by-cases (decLt (length parents) n) (λ l. absurd (none 12 0 (RowsCause.short refl refl (inr l)))) (λ l. omega arith),
+  )
+
+  pub well-formed : WellFormed (variables n es) (lent (variables n es) classes parents)
+  well-formed = none-formed (lawful n es) none

@@ -1,0 +1,70 @@
+-- Well-formed tables are loose rows, which stand for the tables' own joins.
+use Prim.Native.Nat.{ℕ, _+_, _≤_, _<_}
+use mathlib.Core.Path.{_≡_, refl, sym, _∙_, ap, subst}
+use mathlib.Core.Bool.{true, false}
+use mathlib.Core.List.{List, map}
+use native.Mathlib.Omega.{arith}
+use lib.IntN.{ℤ}
+use lib.ListN.{length, getD}
+use Rattle.terms.specs.Literals.{variableOf}
+use Rattle.formula.specs.Meaning.{level}
+use Rattle.forest.specs.Formula.{variables}
+use Rattle.forest.proofs.Agreeing.{lawful}
+use Rattle.connection.specs.Reach.{Variables, Joined}
+use Rattle.connection.specs.Tables.{Table, row, lent, WellFormed, joins}
+use Rattle.connection.proofs.Reach.{reach-one}
+use Rattle.connection.proofs.Represent.{Linked}
+use Rattle.connection.proofs.Joins.{joins-linked}
+use Rattle.connection.proofs.Forest.{same-rows}
+use Rattle.growth.specs.Grown.{Extended}
+use Rattle.growth.specs.Loose.{Equal, Loose, table, ranked, Growing, Grew}
+use Rattle.growth.specs.Rows.{Depths}
+use Rattle.growth.proofs.Inside.{equal-trans, equal-sym, equal-snoc, equal-added}
+use Rattle.growth.proofs.Exact.{depth-existential, ex-same, equal-formula, equal-linked, depth-none}
+
+module _ {n : ℕ} {es depths : List ℕ} (d : Depths n es depths) where
+  abbrev X : Variables
+  X = variables n es
+
+  abbrev D : Variables
+  D = ranked depths
+
+  formed-loose : {W : Table} → WellFormed X W → Loose D W
+  formed-loose {W} f = record {
+    universal = λ v e. f .right v .universal (sym (ex-same d v) ∙ e);
+    class = λ v e. let ex = sym (ex-same d v) ∙ e in let r = f .right v .class ex in
+        record {
+          most = r .most;
+          existential = ex-same d (W .cls v) ∙ r .name .existential;
+          block = depth-existential d (W .cls v) (r .name .existential) ∙ ap (λ (k : ℕ). k + 1) (r .block) ∙ sym (depth-existential d v ex);
+        };
+    parent = λ v n. let r = f .right v .parent n in
+        record {
+          child = ex-same d v ∙ r .child .existential;
+          root = r .child .itself;
+          existential = ex-same d (W .par v) ∙ r .name .existential;
+          less = omega (arith, r .less, depth-existential d v (r .child .existential), depth-existential d (W .par v) (r .name .existential));
+        };
+  }
+
+  module _ (classes parents C P : List ℕ) (formed : WellFormed X (lent X classes parents)) (sizes : (length C ≡ 4097) × (length P ≡ 4097))
+      (class : (v : ℕ) → getD C v 0 ≡ row n classes v) (parent : (v : ℕ) → getD P v 0 ≡ row n parents v) where
+    -- The rows that are read are the lent table.
+    same : lent X classes parents ≡ table C P
+    unfolding lent
+    same = same-rows (λ v. (sym (class v), sym (parent v)))
+
+    pub loaded : Growing depths C P
+    loaded = record { sizes = (d .size, sizes .0, sizes .1); none = depth-none d; loose = subst (Loose D) same (formed-loose formed) }
+
+    -- They stand for its joins ...
+    stands : Equal X (Joined (joins X (lent X classes parents))) (Linked D (table C P))
+    stands = subst (λ (T : Table). Equal X (Joined (joins X (lent X classes parents))) (Linked D T)) same
+        (equal-trans (record {
+          there = record { does = λ i a b fa fb j. joins-linked (lawful n es) formed fa .0 (reach-one j fb) };
+          back = record { does = λ i a b fa fb l. joins-linked (lawful n es) formed fa .1 (reach-one l fb) };
+        }) (equal-sym (equal-linked d)))
+
+    -- ... and with a clause put in, for those and the clause.
+    pub extended : {C′ P′ : List ℕ} (ls : List ℤ) → Grew depths C P (map variableOf ls) C′ P′ → Equal X (Extended n es classes parents ls) (Linked D (table C′ P′))
+    extended ls g = equal-trans equal-snoc (equal-trans (equal-added stands) (equal-formula d (g .equal)))

@@ -1,0 +1,90 @@
+-- `growth::rows::put_all` meets its contract.
+use Prim.Native.Nat.{ℕ, _-_, _≤_, _<_}
+use mathlib.Core.Path.{_≡_, sym, _∙_}
+use native.Mathlib.Omega.{arith}
+use borrow.Author.Needs.{needs}
+use lib.ListN.{length}
+use Rattle.growth.proofs.Passes.{PutSome, put-none, put-clause, put-over, put-open, part-rows}
+use Rattle.growth.proofs.rows.put_all.Statement.{statement}
+use Rattle.growth.proofs.rows.put_all.Tie as tie
+use Rattle.growth.proofs.rows.put_all.Reads as reads
+use Rattle.growth.proofs.rows.put_all.Lts as lts
+use Rattle.formula.proofs.clauses.next_zero.Reads as next-zero-reads
+use Rattle.growth.proofs.clause.put.Reads as put-reads
+
+abbrev Inv-loop : tie.InvT-loop
+Inv-loop depths classes₀ parents₀ clauses start₀ classes parents start = PutSome depths clauses classes parents start
+
+abbrev μ-loop : tie.MeasureT-loop
+μ-loop depths classes₀ parents₀ clauses start₀ classes parents start = length clauses - start
+
+loop-holds : tie.Need-loop-holds Inv-loop μ-loop
+loop-holds c = put-none _ (c .before .before .before .pre .0)
+
+next-zero-requires : tie.Need-next-zero-requires Inv-loop μ-loop
+next-zero-requires c κs = search needs
+
+same-length : tie.Need-same-length Inv-loop μ-loop
+same-length c = c .before .before .before .loop .inv .holds .growing .sizes .1 ∙ sym (c .before .before .before .before .before .before .before .pre .0 .growing .sizes .1)
+
+same-length-2 : tie.Need-same-length-2 Inv-loop μ-loop
+same-length-2 c = c .before .before .before .loop .inv .holds .growing .sizes .2 ∙ sym (c .before .before .before .before .before .before .before .pre .0 .growing .sizes .2)
+
+returns : tie.Need-returns Inv-loop μ-loop
+returns c = put-open (c .before .before .before .loop .inv) (c .before .next-zero .result) (c .before .next-zero .ensures) (c .if1 .taken)
+
+mul-put : tie.Need-mul-put Inv-loop μ-loop
+mul-put c = omega arith
+
+sub-put : tie.Need-sub-put Inv-loop μ-loop
+sub-put c = omega (arith, c .before .before .before .next-zero .ensures .from)
+
+part-put-start : tie.Need-part-put-start Inv-loop μ-loop
+part-put-start c = omega (arith, c .before .before .before .next-zero .ensures .from)
+
+part-put-end : tie.Need-part-put-end Inv-loop μ-loop
+part-put-end c = omega arith
+
+put-requires : tie.Need-put-requires Inv-loop μ-loop
+put-requires c κs = (c .before .before .before .before .before .before .loop .inv .holds .growing, part-rows (c .before .before .before .before .before .before .loop .inv) (c .before .before .before .before .before .before .before .before .before .before .pre .1) (c .before .before .before .before .next-zero .result) (let l = c .before .before .before .if1 .left in omega arith))
+
+add-start : tie.Need-add-start Inv-loop μ-loop
+add-start c = omega arith
+
+loop-less : tie.Need-loop-less Inv-loop μ-loop
+loop-less c = omega (arith, c .before .before .before .before .before .before .before .before .before .next-zero .ensures .from)
+
+loop-again : tie.Need-loop-again Inv-loop μ-loop
+loop-again c = put-clause (c .before .before .before .before .before .before .before .before .before .before .before .loop .inv) (c .before .before .before .before .before .before .before .before .before .next-zero .result) (c .before .before .before .before .before .before .before .before .before .next-zero .ensures) (c .before .before .before .before .before .before .before .before .if1 .left) (c .before .before .before .before .put .ensures)
+
+same-length-3 : tie.Need-same-length-3 Inv-loop μ-loop
+same-length-3 c = c .before .loop .inv .holds .growing .sizes .1 ∙ sym (c .before .before .before .before .before .pre .0 .growing .sizes .1)
+
+same-length-4 : tie.Need-same-length-4 Inv-loop μ-loop
+same-length-4 c = c .before .loop .inv .holds .growing .sizes .2 ∙ sym (c .before .before .before .before .before .pre .0 .growing .sizes .2)
+
+returns-2 : tie.Need-returns-2 Inv-loop μ-loop
+returns-2 c = put-over (c .before .loop .inv) (c .loop-test .left)
+
+pub put-all-spec : {M : Type 1} → statement M
+put-all-spec =
+    tie.close
+    (tie.spec
+    Inv-loop
+    μ-loop
+    loop-holds
+    next-zero-requires
+    same-length
+    same-length-2
+    returns
+    mul-put
+    sub-put
+    part-put-start
+    part-put-end
+    put-requires
+    add-start
+    loop-less
+    loop-again
+    same-length-3
+    same-length-4
+    returns-2)

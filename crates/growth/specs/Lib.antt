@@ -1,0 +1,4 @@
+-- The definitions of growth: first what the two calls promise, then what their inner functions do, which only proofs rest on.
+pub mod Grown
+pub mod Loose
+pub mod Rows

@@ -1,0 +1,62 @@
+// A clause put into loose rows: the chain of each of its existentials is joined to that of the deepest.
+// At every level on which two of them are allowed the deepest is allowed too, so these pairs connect all that the clause connects.
+
+use crate::chains::merge;
+use formula::clauses::variable_at;
+ghost use Prim.Native.Nat.{ℕ};
+ghost use mathlib.Core.Path.{_≡_};
+ghost use mathlib.Core.List.{map};
+ghost use lib.ListN.{length, getD};
+ghost use Rattle.terms.specs.Literals.{variableOf};
+ghost use Rattle.growth.specs.Loose.{Growing, Grew, InRows, Deepest};
+
+// The deepest existential of a clause; a variable of depth 0 where it has none.
+fn deepest(depths: &[u32], clause: &[i32]) -> u32
+    requires { ⌜ (length (now depths) ≡ 4097) × (getD (now depths) 0 0 ≡ 0) × InRows (now clause) ⌝ }
+    ensures { λ r. ⌜ Deepest (now (depths .entry)) (now (clause .entry)) r ⌝ }
+{
+    let mut found: u32 = 0;
+    let mut depth: u32 = 0;
+    let mut i = 0;
+    while i < clause.len() {
+        let variable = variable_at(clause, i);
+        let v = variable.0;
+        let here = depths[v as usize];
+        if depth < here {
+            found = v;
+            depth = here;
+            i += 1;
+        } else {
+            i += 1;
+        }
+    }
+    found
+}
+
+// Joins the chain of each existential of the clause to that of the deepest.
+fn join_all(depths: &[u32], classes: &mut [u32], parents: &mut [u32], clause: &[i32], deep: u32)
+    requires { ⌜ Growing (now depths) (now classes) (now parents) × InRows (now clause) × Deepest (now depths) (now clause) deep ⌝ }
+    ensures { λ r. ⌜ Grew (now (depths .entry)) (now (classes .entry)) (now (parents .entry)) (map variableOf (now (clause .entry))) (now (classes .exit)) (now (parents .exit)) ⌝ }
+{
+    let mut i = 0;
+    while i < clause.len() {
+        let variable = variable_at(clause, i);
+        let v = variable.0;
+        let here = depths[v as usize];
+        if here == 0 {
+            i += 1;
+        } else {
+            merge(depths, classes, parents, deep, v);
+            i += 1;
+        }
+    }
+}
+
+// Puts a clause into the rows.
+pub fn put(depths: &[u32], classes: &mut [u32], parents: &mut [u32], clause: &[i32])
+    requires { ⌜ Growing (now depths) (now classes) (now parents) × InRows (now clause) ⌝ }
+    ensures { λ r. ⌜ Grew (now (depths .entry)) (now (classes .entry)) (now (parents .entry)) (map variableOf (now (clause .entry))) (now (classes .exit)) (now (parents .exit)) ⌝ }
+{
+    let deep = deepest(depths, clause);
+    join_all(depths, classes, parents, clause, deep);
+}
