@@ -1,1 +1,2 @@
 pub mod FormulaA
+pub mod Cases

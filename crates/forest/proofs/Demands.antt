@@ -28,7 +28,7 @@ use Rattle.forest.specs.declared.EntryAnswer.{EntryAnswer}
 use Rattle.forest.specs.declared.EntryAnswer.the-variants.{At}
 use Rattle.forest.specs.Formula.{variables, universal, Shares}
 use Rattle.forest.specs.Causes.{short, bad-row, ForestCause, entryOrder, listOrder}
-use Rattle.forest.specs.Answers.{Answered, Entry, Members}
+use Rattle.forest.specs.Answers.{Members, EntryAnswered, SetListed}
 use Rattle.forest.specs.Listed.{Listed, Listing}
 use Rattle.forest.proofs.Readings.{flag-in, flag-within}
 use Rattle.forest.proofs.Picked.{listed-one}
@@ -109,7 +109,7 @@ module _ (n : ℕ) (es : List ℕ) (ls : List ℤ) (classes parents : List ℕ) 
   module _ (forest : Forest (variables n es) (Shares ls) (lent (variables n es) classes parents)) where
     -- Demand 2: for the formula's own forest, what the set call writes where it is not refused is the standard dependency set.
     pub set-is-dependencies : (before after : List ℕ) (count : ℕ)
-        → Listing (listOrder n es ls classes parents x (Members n es ls classes parents x) before) (Members n es ls classes parents x) before after (Count count)
+        → SetListed n es ls classes parents x before after (Count count)
         → (list : List ℕ) × Listed (Depends (variables n es) (Shares ls) x) list × (count ≡ length list) × (after ≡ sets before 0 list)
     set-is-dependencies before after count (none, written) =
         let u = universal-alone n es x (not-refused (Members n es ls classes parents x) before none) in
@@ -117,7 +117,7 @@ module _ (n : ℕ) (es : List ℕ) (ls : List ℤ) (classes parents : List ℕ) 
 
     -- And what the entry point call answers is the class of definition 4.24, said by reach.
     pub entry-is-class : (y : ℕ) (class : Variable) (rises : ℕ)
-        → Answered (entryOrder n es classes parents x y) (Entry n es classes parents x y) (At class rises) → EntryClass (variables n es) (Shares ls) x y (class .0)
+        → EntryAnswered n es classes parents x y (At class rises) → EntryClass (variables n es) (Shares ls) x y (class .0)
     entry-is-class y class rises (none, entry) =
         let ex = not-false-true (isExistential n es y) (λ q. none .1 .1 .1 .1 .0 13 0 (refl, refl, inr (inl q))) in
         entry-class (forest-is (lawful n es) .0 forest) ex .1 (rises, entry .0)
@@ -140,7 +140,7 @@ listing-settled order P before after after′ (Filled.Refused number place) (Fil
 
 -- What was lent settles the answer of the entry point call.
 module _ (n : ℕ) (es classes parents : List ℕ) (x y : ℕ) where
-  pub entry-settled : (r r′ : EntryAnswer) → Answered (entryOrder n es classes parents x y) (Entry n es classes parents x y) r → Answered (entryOrder n es classes parents x y) (Entry n es classes parents x y) r′ → r ≡ r′
+  pub entry-settled : (r r′ : EntryAnswer) → EntryAnswered n es classes parents x y r → EntryAnswered n es classes parents x y r′ → r ≡ r′
   entry-settled (EntryAnswer.At c k) (EntryAnswer.At c′ k′) (none, a) (none′, b) =
       let (same, rises) = entry-one (none-formed (lawful n es) (none .1 .1 .1 .0)) (a .0) (b .0) in
       ap₂ At (one-variable c c′ same) rises

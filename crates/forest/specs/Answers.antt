@@ -1,13 +1,16 @@
--- The answer of the entry point call, case by case, as document 01 numbers it, and what the two calls that list are asked for.
+-- The answer of the entry point call, case by case, as document 01 numbers it; what the three calls are asked for, and what they promise.
 use Prim.Native.Nat.{ℕ, _≤_}
 use mathlib.Core.List.{List}
 use lib.IntN.{ℤ}
 use Rattle.terms.specs.Refusals.{Causes, FirstOf, NoneOf}
+use Rattle.terms.specs.declared.Filled.{Filled}
 use Rattle.formula.specs.Meaning.{level}
 use Rattle.connection.specs.Tables.{lent, EntryPoint, EntryPointOf, Member}
 use Rattle.forest.specs.declared.EntryAnswer.{EntryAnswer}
 use Rattle.forest.specs.declared.EntryAnswer.the-variants.{At, Refused}
 use Rattle.forest.specs.Formula.{variables, Shares}
+use Rattle.forest.specs.Causes.{entryOrder, listOrder}
+use Rattle.forest.specs.Listed.{Listing}
 
 -- a class with its number of rises is accepted (0), and P holds of the two; a refusal has its number and its place
 abbrev pub Answered : List Causes → (ℕ → ℕ → Type 0) → EntryAnswer → Type 0
@@ -25,3 +28,15 @@ Entries n es ls classes parents x = EntryPointOf (variables n es) (lent (variabl
 -- the set of x, by the lent tables
 abbrev pub Members : ℕ → List ℕ → List ℤ → List ℕ → List ℕ → ℕ → ℕ → Type 0
 Members n es ls classes parents x = Member (variables n es) (lent (variables n es) classes parents) (Shares ls) x
+
+-- What each of the three calls promises: its refusals in their order, its answer, and what it leaves in the lent output.
+abbrev pub EntryAnswered : ℕ → List ℕ → List ℕ → List ℕ → ℕ → ℕ → EntryAnswer → Type 0
+EntryAnswered n es classes parents x y = Answered (entryOrder n es classes parents x y) (Entry n es classes parents x y)
+
+abbrev pub EntriesListed : ℕ → List ℕ → List ℤ → List ℕ → List ℕ → ℕ → List ℕ → List ℕ → Filled → Type 0
+EntriesListed n es ls classes parents x before =
+    Listing (listOrder n es ls classes parents x (Entries n es ls classes parents x) before) (Entries n es ls classes parents x) before
+
+abbrev pub SetListed : ℕ → List ℕ → List ℤ → List ℕ → List ℕ → ℕ → List ℕ → List ℕ → Filled → Type 0
+SetListed n es ls classes parents x before =
+    Listing (listOrder n es ls classes parents x (Members n es ls classes parents x) before) (Members n es ls classes parents x) before

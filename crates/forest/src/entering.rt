@@ -82,7 +82,7 @@ fn sound_enter(
 }
 
 // The entry point of x for each variable, one climb each, and the flags of those for variables that share a clause with x.
-fn find_entries(
+pub fn find_entries(
     n: u32,
     levels: &[u32],
     universals: &[bool],

@@ -23,9 +23,8 @@ ghost use mathlib.Core.List.{[], _∷_};
 ghost use mathlib.Core.Logic.{_⊎_};
 ghost use Rattle.terms.specs.Refusals.{At0, Judged};
 ghost use Rattle.formula.specs.Levels.{SoundPrefix};
-ghost use Rattle.forest.specs.Causes.{ForestCause, NotUniversal, NotDeeper, prefixOrder, entryOrder, listOrder};
-ghost use Rattle.forest.specs.Answers.{Answered, Entry, Entries, Members};
-ghost use Rattle.forest.specs.Listed.{Listing};
+ghost use Rattle.forest.specs.Causes.{ForestCause, NotUniversal, NotDeeper, prefixOrder};
+ghost use Rattle.forest.specs.Answers.{Answered, Entry, EntryAnswered, EntriesListed, SetListed};
 
 // What the entry point call says: the class and the number of rises, or the number of the refusal and its place.
 pub enum EntryAnswer {
@@ -43,7 +42,7 @@ pub fn entry_point(
     x: Variable,
     y: Variable,
 ) -> EntryAnswer
-    ensures { λ r. ⌜ Answered (entryOrder n (now (prefix .entry)) (now (classes .entry)) (now (parents .entry)) (x .0) (y .0)) (Entry n (now (prefix .entry)) (now (classes .entry)) (now (parents .entry)) (x .0) (y .0)) r ⌝ }
+    ensures { λ r. ⌜ EntryAnswered n (now (prefix .entry)) (now (classes .entry)) (now (parents .entry)) (x .0) (y .0) r ⌝ }
 {
     match prefix_verdict(n, prefix) {
         Verdict::Refused(number, place) => EntryAnswer::Refused(number, place),
@@ -61,7 +60,7 @@ pub fn entry_points(
     x: Variable,
     out: &mut [u32],
 ) -> Filled
-    ensures { λ r. ⌜ Listing (listOrder n (now (prefix .entry)) (now (clauses .entry)) (now (classes .entry)) (now (parents .entry)) (x .0) (Entries n (now (prefix .entry)) (now (clauses .entry)) (now (classes .entry)) (now (parents .entry)) (x .0)) (now (out .entry))) (Entries n (now (prefix .entry)) (now (clauses .entry)) (now (classes .entry)) (now (parents .entry)) (x .0)) (now (out .entry)) (now (out .exit)) r ⌝ }
+    ensures { λ r. ⌜ EntriesListed n (now (prefix .entry)) (now (clauses .entry)) (now (classes .entry)) (now (parents .entry)) (x .0) (now (out .entry)) (now (out .exit)) r ⌝ }
 {
     let mut tops = [0u32; 4096];
     let mut entered = [false; 4097];
@@ -90,7 +89,7 @@ pub fn set_of(
     x: Variable,
     out: &mut [u32],
 ) -> Filled
-    ensures { λ r. ⌜ Listing (listOrder n (now (prefix .entry)) (now (clauses .entry)) (now (classes .entry)) (now (parents .entry)) (x .0) (Members n (now (prefix .entry)) (now (clauses .entry)) (now (classes .entry)) (now (parents .entry)) (x .0)) (now (out .entry))) (Members n (now (prefix .entry)) (now (clauses .entry)) (now (classes .entry)) (now (parents .entry)) (x .0)) (now (out .entry)) (now (out .exit)) r ⌝ }
+    ensures { λ r. ⌜ SetListed n (now (prefix .entry)) (now (clauses .entry)) (now (classes .entry)) (now (parents .entry)) (x .0) (now (out .entry)) (now (out .exit)) r ⌝ }
 {
     let mut tops = [0u32; 4096];
     let mut entered = [false; 4097];

@@ -94,9 +94,9 @@ pub fn flag_members(n: u32, entered: &[bool], tops: &[u32], flags: &mut [bool])
     while passed < n {
         passed += 1;
         let v = Variable::new(passed);
-        let entry = row_of(n, tops, v);
-        if entry.0 != 0 {
-            if flag_at(entered, entry) {
+        let own = row_of(n, tops, v);
+        if own.0 != 0 {
+            if flag_at(entered, own) {
                 flag(flags, v);
             }
         }

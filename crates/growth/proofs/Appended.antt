@@ -1,5 +1,5 @@
 -- A clause put last: the clauses of the longer table are those of the table and the clause.
-use Prim.Native.Nat.{ℕ, zero, suc, _+_, _-_, _≤_, _<_}
+use Prim.Native.Nat.{ℕ, suc, _+_, _-_, _≤_, _<_}
 use mathlib.Core.Path.{_≡_, refl, sym, _∙_, ap, subst}
 use mathlib.Core.Bool.{Bool, true, false, cond}
 use mathlib.Core.List.{List, [], _∷_, _++_, map, map-append}
@@ -9,16 +9,14 @@ use native.Mathlib.Omega.{arith}
 use borrow.Author.Tests.{eq-eqb, ne-eqb}
 use lib.Dec.{eqb}
 use lib.IntN.{ℤ, pos}
-use lib.ListN.{length, getD, take, drop, length-append, List·getD-append, drop-of-length-le}
-use lib.Seq.{getD-append-add, take-at}
+use lib.ListN.{length, getD, length-append, List·getD-append}
+use lib.Seq.{getD-append-add}
 use Rattle.terms.specs.Literals.{variableOf}
 use Rattle.terms.specs.Refusals.{None, NoneOf}
 use Rattle.terms.proofs.Common.{clash}
-use Rattle.terms.proofs.Verdicts.{at0-none}
 use Rattle.formula.specs.Causes.{ClauseCause, checkOrder}
 use Rattle.formula.specs.Meaning.{clauses, isZero}
 use Rattle.formula.specs.Tables.{literalAt, cut, push, EndsInside}
-use Rattle.formula.proofs.Cuts.{cut-closed}
 use Rattle.forest.specs.Formula.{joined}
 use Rattle.growth.specs.Grown.{AddedCause, clauseFirst, withLast}
 

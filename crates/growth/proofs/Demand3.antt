@@ -1,9 +1,9 @@
 -- Demand 3, of what build and add promise; and the promises leave nothing open.
-use Prim.Native.Nat.{ℕ, _≤_, _<_}
+use Prim.Native.Nat.{ℕ, _≤_}
 use mathlib.Core.Path.{_≡_, refl, sym, _∙_, ap, subst}
+use mathlib.Core.Bool.{true}
 use mathlib.Core.List.{List, [], _∷_, _++_, map}
-use mathlib.Core.Logic.{_⊎_, inl, inr, ⊎-elim, _↔_, Iff·trans, Iff·symm, by-cases}
-use native.Mathlib.Decide.{decLt}
+use mathlib.Core.Logic.{inl, inr, ⊎-elim, _↔_, Iff·trans, Iff·symm}
 use native.Mathlib.Omega.{arith}
 use lib.IntN.{ℤ}
 use lib.ListN.{length}
@@ -15,13 +15,15 @@ use Rattle.terms.specs.declared.Filled.{Filled}
 use Rattle.terms.specs.declared.Filled.the-variants.{Count, Refused}
 use Rattle.terms.specs.declared.Verdict.{Verdict}
 use Rattle.terms.specs.declared.Verdict.the-variants.{Accepted}
-use Rattle.terms.proofs.Verdicts.{at0-none, accepted-then, judged-unique}
+use Rattle.terms.proofs.Verdicts.{judged-unique}
 use Rattle.formula.specs.Causes.{checkOrder}
 use Rattle.forest.specs.Causes.{RowsCause, ForestCause}
-use Rattle.forest.specs.Formula.{variables, Shares, joined}
+use Rattle.forest.specs.Formula.{variables, universal, Shares}
+use Rattle.forest.specs.Answers.{Entries, Members}
 use Rattle.forest.proofs.Agreeing.{lawful}
-use Rattle.connection.specs.Reach.{Variables, Universal, Joined, Depends}
-use Rattle.connection.specs.Tables.{Table, lent, joins, WellFormed, EntryPointOf}
+use Rattle.forest.proofs.Demands.{universal-alone}
+use Rattle.connection.specs.Reach.{Variables, Joined, Depends}
+use Rattle.connection.specs.Tables.{Table, lent, joins, EntryPointOf}
 use Rattle.connection.specs.Forest.{Forest}
 use Rattle.connection.specs.Growth.{LeavesAlone}
 use Rattle.connection.proofs.Reach.{Symmetric, joined-sym}
@@ -29,8 +31,9 @@ use Rattle.connection.proofs.Rows.{lent-one}
 use Rattle.connection.proofs.Joins.{represents-itself}
 use Rattle.connection.proofs.Forest.{represents-forest}
 use Rattle.connection.proofs.Growth.{forest-is, forest-grows, forest-fused}
+use Rattle.connection.proofs.Sets.{set-members}
 use Rattle.connection.proofs.Alone.{set-stays, entries-stay}
-use Rattle.growth.specs.Grown.{TooShort, buildOrder, clauseFirst, addOrder, Extended, Past, Grown, Leaves, Builds, Adds, withLast}
+use Rattle.growth.specs.Grown.{TooShort, buildOrder, clauseFirst, addOrder, Past, Grown, Leaves, Builds, Adds, withLast}
 use Rattle.growth.proofs.Appended.{joined-last, last-accepted}
 
 -- The parts of an order that has no cause.
@@ -98,26 +101,32 @@ module _ (n : ℕ) (es : List ℕ) where
         build-tight answer (Count n) again
         (record {
           judged = let room = built .judged .1 .1 .1 .1 .0 in let none = last-accepted accepted first small in (none .0, (none .1 .0, (none .1 .1 .0, (none .1 .1 .1 .0, (room, tt)))));
-          leaves = (refl, record { past = (record { size = b .0 .size; stays = b .0 .stays }, record { size = b .1 .size; stays = b .1 .stays }); forest = added-forest });
+          leaves = (refl, record { past = past; forest = added-forest });
         })
       where
-        b : Past n classes cs′ × Past n parents ps′
-        b = let one = built .leaves .1 .past in let two = added .leaves .1 .past in (
+        past : Past n classes cs′ × Past n parents ps′
+        past = let one = built .leaves .1 .past in let two = added .leaves .1 .past in (
           record { size = two .0 .size ∙ one .0 .size; stays = λ u l. two .0 .stays u l ∙ one .0 .stays u l },
           record { size = two .1 .size ∙ one .1 .size; stays = λ u l. two .1 .stays u l ∙ one .1 .stays u l },
         )
 
-    -- Demand 3, second sentence: where the clause has neither x nor any variable of its set, the set stays ...
-    pub adding-set : {x y : ℕ} → LeavesAlone X (Shares ls) (map variableOf clause) x → Depends X (Shares ls) x y ↔ Depends X (Shares (withLast ls clause)) x y
-    adding-set {x} {y} alone =
+    -- Demand 3, second sentence: where the clause has neither x nor any variable of its set, what x depends on stays ...
+    pub adding-depends : {x y : ℕ} → LeavesAlone X (Shares ls) (map variableOf clause) x → Depends X (Shares ls) x y ↔ Depends X (Shares (withLast ls clause)) x y
+    adding-depends {x} {y} alone =
         subst (λ (ds : List (List ℕ)). Depends X (Shares ls) x y ↔ Depends X (Joined ds) x y) (sym (joined-last accepted first)) (set-stays alone)
 
-    -- ... and so do the entry points, by the tables before and after.
-    pub adding-entries : {x e : ℕ} → Universal X x → LeavesAlone X (Shares ls) (map variableOf clause) x
-        → EntryPointOf X (lent X cs ps) (Shares ls) x e ↔ EntryPointOf X (lent X cs′ ps′) (Shares (withLast ls clause)) x e
-    adding-entries {x} {e} u alone =
-        subst (λ (ds : List (List ℕ)). EntryPointOf X (lent X cs ps) (Shares ls) x e ↔ EntryPointOf X (lent X cs′ ps′) (Joined ds) x e) (sym (joined-last accepted first))
-        (entries-stay (lawful n es) (built .leaves .1 .forest) (extends (map variableOf clause) (built .leaves .1 .forest) (added .leaves .1 .forest)) u alone)
+    module _ {x : ℕ} (u : universal n es x ≡ true) (alone : LeavesAlone X (Shares ls) (map variableOf clause) x) where
+      -- ... so does its set, by the tables and clauses before and after ...
+      pub adding-set : {y : ℕ} → Members n es ls cs ps x y ↔ Members n es (withLast ls clause) cs′ ps′ x y
+      adding-set =
+          let is = universal-alone n es x u in
+          Iff·trans (Iff·symm (set-members (lawful n es) (built .leaves .1 .forest) is)) (Iff·trans (adding-depends alone) (set-members (lawful n es) added-forest is))
+
+      -- ... and so do its entry points.
+      pub adding-entries : {e : ℕ} → Entries n es ls cs ps x e ↔ Entries n es (withLast ls clause) cs′ ps′ x e
+      adding-entries {e} =
+          subst (λ (ds : List (List ℕ)). EntryPointOf X (lent X cs ps) (Shares ls) x e ↔ EntryPointOf X (lent X cs′ ps′) (Joined ds) x e) (sym (joined-last accepted first))
+          (entries-stay (lawful n es) (built .leaves .1 .forest) (extends (map variableOf clause) (built .leaves .1 .forest) (added .leaves .1 .forest)) (universal-alone n es x u) alone)
 
   -- The built forest is taken by add: a clause with no cause of its own is not refused.
   pub built-accepted : {ls clause : List ℤ} {classes parents cs ps cs′ ps′ : List ℕ} {k : ℕ} (answer : Filled)

@@ -1,31 +1,29 @@
 -- From settled rows to the forest: the exact table, the variables of the formula in place of the depths, and the lent rows.
-use Prim.Native.Nat.{ℕ, zero, suc, _+_, _-_, _≤_, _<_}
-use mathlib.Core.Path.{_≡_, refl, sym, _∙_, ap, subst}
-use mathlib.Core.Bool.{Bool, true, false, cond, not, _&&_}
-use mathlib.Core.List.{List, [], _∷_}
-use mathlib.Core.Logic.{_⊎_, inl, inr, ⊎-elim, _≢_, by-cases, Iff·trans}
-use native.Mathlib.Decide.{ℕ-discrete, decLt, decLe}
-use native.Mathlib.Numerals.{add-one}
+use Prim.Native.Nat.{ℕ, suc, _+_, _-_, _≤_, _<_}
+use mathlib.Core.Path.{_≡_, refl, sym, _∙_, ap}
+use mathlib.Core.Bool.{Bool, true, false, cond}
+use mathlib.Core.List.{List}
+use mathlib.Core.Logic.{_≢_, by-cases, Iff·trans}
+use native.Mathlib.Decide.{decLe}
 use native.Mathlib.Omega.{arith}
-use borrow.Author.Tests.{lt-ltb, le-ltb, lt-leb, leb-true}
-use lib.Dec.{ltb, leb}
-use lib.ListN.{length, getD}
+use borrow.Author.Tests.{lt-ltb, le-ltb}
+use lib.Dec.{ltb}
+use lib.ListN.{getD}
 use Rattle.terms.proofs.Common.{clash}
-use Rattle.formula.specs.Meaning.{level, isUniversal, isExistential}
+use Rattle.formula.specs.Meaning.{level, isExistential}
 use Rattle.forest.specs.Formula.{variables}
 use Rattle.forest.proofs.Agreeing.{lawful}
-use Rattle.connection.specs.Reach.{Variables, Lawful, From, Joined, Reach}
-use Rattle.connection.specs.Tables.{Table, row, lent, ClassName, ClassRow, ParentRow, Row, WellFormed}
-use Rattle.connection.specs.Forest.{Forest}
+use Rattle.connection.specs.Reach.{Variables, From, Reach}
+use Rattle.connection.specs.Tables.{Table, row, lent, ClassName, ClassRow, WellFormed}
 use Rattle.connection.specs.Growth.{Represents}
 use Rattle.connection.proofs.Reach.{reach-one, reach-trans, reach-mono, allow}
 use Rattle.connection.proofs.Represent.{Link, to-class, to-parent, Linked, up, down, linked-sym, linked-tops}
 use Rattle.connection.proofs.Rows.{row-at, row-out}
 use Rattle.connection.proofs.Forest.{represents-rows, represents-forest}
-use Rattle.growth.specs.Grown.{Past, Grown}
-use Rattle.growth.specs.Loose.{Inside, Equal, Loose, Kept, table, ranked, Growing}
+use Rattle.growth.specs.Grown.{Grown}
+use Rattle.growth.specs.Loose.{Inside, Equal, Loose, table, ranked, Growing}
 use Rattle.growth.specs.Rows.{Depths, Settled, Written}
-use Rattle.growth.proofs.Inside.{inside-reach, inside-trans, inside-links, equal-trans}
+use Rattle.growth.proofs.Inside.{inside-reach, inside-links, equal-trans}
 use Rattle.growth.proofs.Steps.{no-zero}
 
 -- The table of settled rows, with the class of each parent.

@@ -1,13 +1,11 @@
 -- Well-formed tables are loose rows, which stand for the tables' own joins.
-use Prim.Native.Nat.{ℕ, _+_, _≤_, _<_}
-use mathlib.Core.Path.{_≡_, refl, sym, _∙_, ap, subst}
-use mathlib.Core.Bool.{true, false}
+use Prim.Native.Nat.{ℕ, _+_}
+use mathlib.Core.Path.{_≡_, sym, _∙_, ap, subst}
 use mathlib.Core.List.{List, map}
 use native.Mathlib.Omega.{arith}
 use lib.IntN.{ℤ}
 use lib.ListN.{length, getD}
 use Rattle.terms.specs.Literals.{variableOf}
-use Rattle.formula.specs.Meaning.{level}
 use Rattle.forest.specs.Formula.{variables}
 use Rattle.forest.proofs.Agreeing.{lawful}
 use Rattle.connection.specs.Reach.{Variables, Joined}

@@ -1,13 +1,12 @@
 -- Laws of joins that lie inside others: composed, with a clause added, and for the links of a table.
-use Prim.Native.Nat.{ℕ, suc, _≤_, _<_}
+use Prim.Native.Nat.{ℕ}
 use mathlib.Core.Path.{_≡_, refl, sym, _∙_, subst, subst₂}
 use mathlib.Core.List.{List, [], _∷_, _++_, List·Memᴰ, List·Memᴰ·head, List·Memᴰ·tail, List·Memᴰ·cases-cons, List·Memᴰ·eq-of-singleton}
 use mathlib.Core.Logic.{_⊎_, inl, inr}
-use native.Mathlib.Omega.{arith}
-use Rattle.connection.specs.Reach.{Variables, From, Joined, Reach, here, step}
+use Rattle.connection.specs.Reach.{Variables, From, Joined, Reach, here}
 use Rattle.connection.specs.Tables.{Table}
 use Rattle.connection.specs.Growth.{Added, before, added}
-use Rattle.connection.proofs.Reach.{Symmetric, reach-one, reach-trans, reach-sym, simulate, joined-added, added-sym}
+use Rattle.connection.proofs.Reach.{Symmetric, reach-one, reach-sym, simulate, joined-added, added-sym}
 use Rattle.connection.proofs.Represent.{Link, Linked, up, down, linked-sym}
 use Rattle.growth.specs.Loose.{Inside, Equal}
 

@@ -1,20 +1,19 @@
 -- The passes over the rows: what each knows at row v.
-use Prim.Native.Nat.{ℕ, zero, suc, _+_, _-_, _≤_, _<_}
+use Prim.Native.Nat.{ℕ, suc, _+_, _-_, _≤_, _<_}
 use mathlib.Core.Path.{_≡_, refl, sym, _∙_, ap, subst}
 use mathlib.Core.Bool.{Bool, true, false, cond, not, _&&_}
 use mathlib.Core.List.{List, [], _∷_, _++_, map, map-append, append-assoc, append-nil, List·Memᴰ·not-nil}
-use mathlib.Core.Logic.{_⊎_, inl, inr, ⊎-elim, _≢_, by-cases}
+use mathlib.Core.Logic.{_≢_, by-cases}
 use native.Mathlib.Decide.{ℕ-discrete, decLt}
 use native.Mathlib.Numerals.{add-one}
 use native.Mathlib.Omega.{arith}
-use borrow.Author.Tests.{le-ltb, lt-ltb, ltb-true, ltb-false, lt-leb, le-leb}
+use borrow.Author.Tests.{le-ltb, lt-ltb, lt-leb, le-leb}
 use lib.Dec.{ltb, leb, eqb}
 use lib.IntN.{ℤ, pos}
 use lib.ListN.{length, getD, take, drop, set, length-set, length-take, drop-of-length-le, List·getD-eq-default}
 use lib.Seq.{getD-set-same, getD-set-other, set-getD, getD-take, getD-drop}
 use Rattle.terms.specs.Literals.{variableOf}
-use Rattle.terms.specs.Limits.{mostVariables}
-use Rattle.terms.proofs.Common.{below-suc, clash}
+use Rattle.terms.proofs.Common.{below-suc}
 use Rattle.formula.specs.Levels.{SoundPrefix, Levelled}
 use Rattle.formula.specs.Lookup.{NextZero}
 use Rattle.formula.specs.Meaning.{blocks, clauses, isZero, names, saidOf, freeLevel, firstMark, level, isUniversal, isExistential}
@@ -22,17 +21,15 @@ use Rattle.formula.specs.Tables.{literalAt, cut, push}
 use Rattle.formula.proofs.Lookups.{clauses-closed, clauses-unclosed}
 use Rattle.forest.specs.Formula.{joined}
 use Rattle.connection.specs.Reach.{Variables, From, Joined, Reach, here}
-use Rattle.connection.specs.Tables.{Table, row}
-use Rattle.connection.specs.Growth.{Added}
+use Rattle.connection.specs.Tables.{row}
 use Rattle.connection.proofs.Reach.{joined-sym}
 use Rattle.connection.proofs.Rows.{row-out}
-use Rattle.connection.proofs.Represent.{Link, to-class, to-parent, Linked, linked-sym}
-use Rattle.growth.specs.Loose.{Inside, Equal, Loose, Kept, table, ranked, Growing, Grew, InRows}
+use Rattle.connection.proofs.Represent.{Link, to-class, to-parent}
+use Rattle.growth.specs.Loose.{Loose, Kept, table, ranked, Grew, InRows}
 use Rattle.growth.specs.Grown.{Past}
 use Rattle.growth.specs.Rows.{depthOf, Depths, Holds, Settled, Written}
 use Rattle.growth.proofs.Inside.{inside-links, equal-trans, equal-snoc, equal-added}
 use Rattle.growth.proofs.Ways.{kept-none, kept-trans, halved-row}
-use Rattle.growth.proofs.Steps.{deep-some, some-deep}
 
 -- A level is at most the number of blocks, or 1; and there are no more blocks than entries.
 cut-length : (xs : List ℕ) → length (cut isZero xs) ≤ length xs

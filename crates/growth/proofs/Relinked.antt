@@ -1,19 +1,19 @@
 -- Each way in which growing changes a loose table, and that the links and the pair that is still to be joined say the same after it.
-use Prim.Native.Nat.{ℕ, suc, _≤_, _<_}
+use Prim.Native.Nat.{ℕ, _≤_, _<_}
 use mathlib.Core.Path.{_≡_, refl, sym, _∙_, ap, subst}
-use mathlib.Core.Bool.{Bool, true, false}
-use mathlib.Core.List.{List, [], _∷_}
-use mathlib.Core.Logic.{_⊎_, inl, inr, _≢_, by-cases}
+use mathlib.Core.Bool.{true, false}
+use mathlib.Core.List.{[], _∷_}
+use mathlib.Core.Logic.{_≢_, by-cases}
 use native.Mathlib.Decide.{ℕ-discrete}
 use native.Mathlib.Omega.{arith}
 use Rattle.terms.proofs.Common.{clash}
-use Rattle.connection.specs.Reach.{Variables, From, Reach, here, step}
+use Rattle.connection.specs.Reach.{Variables, From, Reach, here}
 use Rattle.connection.specs.Tables.{Table}
-use Rattle.connection.specs.Growth.{Added, before, added}
+use Rattle.connection.specs.Growth.{Added}
 use Rattle.connection.proofs.Reach.{reach-one, reach-trans, reach-sym, reach-mono, from-less}
 use Rattle.connection.proofs.Represent.{Link, to-class, to-parent, Linked, up, down, linked-sym}
-use Rattle.growth.specs.Loose.{Inside, Equal, LooseClass, LooseParent, Loose, Kept, RootOf}
-use Rattle.growth.proofs.Inside.{inside-reach, inside-refl, inside-trans, inside-before, inside-clause, inside-added, inside-pair, inside-links, equal-refl, equal-trans, equal-added, pair-step, pair-back, link-step, link-back, both-sym}
+use Rattle.growth.specs.Loose.{Equal, LooseClass, LooseParent, Loose, Kept, RootOf}
+use Rattle.growth.proofs.Inside.{inside-reach, inside-refl, inside-trans, inside-before, inside-pair, inside-links, pair-step, pair-back, link-step, link-back, both-sym}
 
 -- 0 is no existential, so an existential is not 0.
 pub nonzero : (X : Variables) (v : ℕ) → X .ex 0 ≡ false → X .ex v ≡ true → v ≢ 0

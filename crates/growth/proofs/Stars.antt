@@ -1,23 +1,22 @@
 -- A clause put in as pairs around its deepest existential.
 use Prim.Native.Nat.{ℕ, zero, suc, _+_, _≤_, _<_, suc-le-suc}
-use mathlib.Core.Path.{_≡_, refl, sym, _∙_, ap, subst}
-use mathlib.Core.Bool.{Bool, true, false}
+use mathlib.Core.Path.{_≡_, refl, sym, ap, subst}
+use mathlib.Core.Bool.{true}
 use mathlib.Core.List.{List, [], _∷_, map, List·Memᴰ, List·Memᴰ·head, List·Memᴰ·tail, List·Memᴰ·cases-cons, List·Memᴰ·not-nil}
-use mathlib.Core.Logic.{_⊎_, inl, inr, ⊎-elim, _≢_, by-cases}
+use mathlib.Core.Logic.{⊎-elim, _≢_}
 use native.Mathlib.Nat.{not-suc-le-zero, le-of-suc-le-suc}
 use native.Mathlib.Numerals.{add-one}
 use native.Mathlib.Omega.{arith}
-use borrow.Author.Tests.{le-ltb}
-use lib.IntN.{ℤ, pos}
+use lib.IntN.{ℤ}
 use lib.ListN.{length, getD}
 use Rattle.terms.specs.Literals.{variableOf}
-use Rattle.terms.proofs.Common.{below-suc, clash}
+use Rattle.terms.proofs.Common.{below-suc}
 use Rattle.formula.specs.Tables.{literalAt}
 use Rattle.connection.specs.Reach.{Variables, From, Reach}
 use Rattle.connection.specs.Growth.{Added, added}
 use Rattle.connection.proofs.Reach.{reach-one, reach-trans, reach-sym, reach-mono, from-less}
 use Rattle.connection.proofs.Represent.{Linked, linked-sym}
-use Rattle.growth.specs.Loose.{Inside, Equal, table, ranked, Growing, Pending, Grew, InRows, Deepest}
+use Rattle.growth.specs.Loose.{Inside, table, ranked, Growing, Pending, Grew, Deepest}
 use Rattle.growth.proofs.Inside.{inside-reach, inside-refl, inside-trans, inside-before, inside-clause, inside-pair, pair-step, both-sym}
 use Rattle.growth.proofs.Steps.{deep-some, some-deep}
 

@@ -1,20 +1,18 @@
 -- One step of joining two chains, by the kinds of it, and the walk of such steps.
-use Prim.Native.Nat.{ℕ, suc, _+_, _≤_, _<_}
-use mathlib.Core.Path.{_≡_, refl, sym, _∙_, ap, subst, subst₂}
-use mathlib.Core.Bool.{Bool, true, false}
+use Prim.Native.Nat.{ℕ, _≤_, _<_}
+use mathlib.Core.Path.{_≡_, refl, sym, _∙_, ap, subst₂}
+use mathlib.Core.Bool.{true, false}
 use mathlib.Core.List.{List, [], _∷_}
 use mathlib.Core.Logic.{_≢_, by-cases}
 use native.Mathlib.Decide.{ℕ-discrete, decLt}
 use native.Mathlib.Omega.{arith}
 use borrow.Author.Tests.{ltb-true, lt-ltb, le-ltb}
-use lib.Dec.{ltb}
 use lib.ListN.{length, getD, set, length-set, List·getD-eq-default}
 use lib.Seq.{getD-set-same, getD-set-other}
-use Rattle.connection.specs.Reach.{Variables, From, Reach}
-use Rattle.connection.specs.Tables.{Table}
+use Rattle.connection.specs.Reach.{Variables}
 use Rattle.connection.specs.Growth.{Added}
 use Rattle.connection.proofs.Represent.{Linked}
-use Rattle.growth.specs.Loose.{Equal, Loose, Kept, RootOf, Falling, Rooted, table, ranked, Growing, Pending, Roots, Stepped, Grew}
+use Rattle.growth.specs.Loose.{Equal, Loose, RootOf, Falling, Rooted, table, ranked, Growing, Pending, Roots, Stepped, Grew}
 use Rattle.terms.proofs.Common.{clash}
 use Rattle.growth.proofs.Inside.{inside-reach, inside-pair, inside-before, equal-refl, equal-trans, pair-back, both-sym}
 use Rattle.growth.proofs.Relinked.{moved, united, united-loose, hung, hung-loose, risen, idle}

@@ -1,7 +1,7 @@
 -- The way to a root: what is known at each row that it passes.
-use Prim.Native.Nat.{ℕ, suc, _≤_, _<_}
-use mathlib.Core.Path.{_≡_, refl, sym, _∙_, ap, subst}
-use mathlib.Core.Bool.{Bool, true, false}
+use Prim.Native.Nat.{ℕ, _≤_, _<_}
+use mathlib.Core.Path.{_≡_, refl, sym, _∙_, subst}
+use mathlib.Core.Bool.{true}
 use mathlib.Core.List.{List}
 use mathlib.Core.Logic.{_≢_, by-cases}
 use native.Mathlib.Decide.{ℕ-discrete}
@@ -12,7 +12,7 @@ use Rattle.connection.specs.Reach.{Variables, From, Reach, here}
 use Rattle.connection.specs.Tables.{Table}
 use Rattle.connection.proofs.Reach.{reach-one, reach-trans}
 use Rattle.connection.proofs.Represent.{to-class, Linked, up}
-use Rattle.growth.specs.Loose.{Loose, Kept, RootOf, Falling, Rooted, table}
+use Rattle.growth.specs.Loose.{Loose, Kept, Falling, Rooted, table}
 use Rattle.growth.proofs.Inside.{inside-reach, equal-refl, equal-trans}
 use Rattle.growth.proofs.Relinked.{halved}
 

@@ -1,5 +1,5 @@
 -- `growth::add` meets its contract.
-use mathlib.Core.Path.{_≡_, refl, subst}
+use mathlib.Core.Path.{refl, subst}
 use mathlib.Core.List.{[], _∷_}
 use Rattle.terms.specs.Answers.{verdictOf}
 use Rattle.terms.specs.Refusals.{Judged}
@@ -10,10 +10,6 @@ use Rattle.growth.proofs.Accepted.{added-sound, added-rows}
 use borrow.Author.Needs.{needs}
 use Rattle.growth.proofs.add.Statement.{statement}
 use Rattle.growth.proofs.add.Tie as tie
-use Rattle.growth.proofs.add.Reads as reads
-use Rattle.growth.proofs.add.Lts as lts
-use Rattle.growth.proofs.add_sound.Reads as add-sound-reads
-use Rattle.growth.proofs.added.added_verdict.Reads as added-verdict-reads
 
 added-verdict-requires : tie.Need-added-verdict-requires
 added-verdict-requires c κs = search needs

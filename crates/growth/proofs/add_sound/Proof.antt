@@ -1,5 +1,5 @@
 -- `growth::add_sound` meets its contract.
-use mathlib.Core.Path.{_≡_, refl, subst}
+use mathlib.Core.Path.{refl, subst}
 use mathlib.Core.List.{[], _∷_}
 use Rattle.terms.specs.Refusals.{Judged}
 use Rattle.forest.specs.Causes.{ForestCause}
@@ -8,11 +8,6 @@ use Rattle.growth.proofs.Accepted.{long-enough, well-formed}
 use borrow.Author.Needs.{needs}
 use Rattle.growth.proofs.add_sound.Statement.{statement}
 use Rattle.growth.proofs.add_sound.Tie as tie
-use Rattle.growth.proofs.add_sound.Reads as reads
-use Rattle.growth.proofs.add_sound.Lts as lts
-use Rattle.forest.proofs.rows.check_rows.Reads as check-rows-reads
-use Rattle.formula.proofs.levels.fill_levels.Reads as fill-levels-reads
-use Rattle.growth.proofs.extend.Reads as extend-reads
 
 slice-aggregate-fill-levels : tie.Need-slice-aggregate-fill-levels
 slice-aggregate-fill-levels c = search needs

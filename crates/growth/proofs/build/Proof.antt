@@ -1,6 +1,5 @@
 -- `growth::build` meets its contract.
-use Prim.Native.Nat.{_≤_}
-use mathlib.Core.Path.{_≡_, refl, subst}
+use mathlib.Core.Path.{refl, subst}
 use mathlib.Core.Logic.{inl, inr}
 use Rattle.terms.specs.Refusals.{Judged}
 use Rattle.formula.specs.Causes.{checkOrder}
@@ -8,10 +7,6 @@ use Rattle.growth.proofs.Accepted.{check-sound, check-rows, build-refus
 use borrow.Author.Needs.{needs}
 use Rattle.growth.proofs.build.Statement.{statement}
 use Rattle.growth.proofs.build.Tie as tie
-use Rattle.growth.proofs.build.Reads as reads
-use Rattle.growth.proofs.build.Lts as lts
-use Rattle.formula.proofs.check.Reads as check-reads
-use Rattle.growth.proofs.grow.Reads as grow-reads
 
 check-requires : tie.Need-check-requires
 check-requires c κs = search needs

@@ -1,6 +1,6 @@
 -- `growth::extend` meets its contract.
 use Prim.Native.Nat.{ℕ}
-use mathlib.Core.Path.{_≡_, refl, sym, _∙_}
+use mathlib.Core.Path.{_∙_}
 use lib.ListN.{length-replicate}
 use Rattle.growth.proofs.Steps.{class-falls, parent-inside}
 use Rattle.growth.proofs.Exact.{grown}
@@ -8,13 +8,6 @@ use Rattle.growth.proofs.Extending.{loaded, extended}
 use borrow.Author.Needs.{needs}
 use Rattle.growth.proofs.extend.Statement.{statement}
 use Rattle.growth.proofs.extend.Tie as tie
-use Rattle.growth.proofs.extend.Reads as reads
-use Rattle.growth.proofs.extend.Lts as lts
-use Rattle.growth.proofs.clause.put.Reads as put-reads
-use Rattle.growth.proofs.depths.fill_depths.Reads as fill-depths-reads
-use Rattle.growth.proofs.rows.load.Reads as load-reads
-use Rattle.growth.proofs.rows.settle.Reads as settle-reads
-use Rattle.growth.proofs.rows.write_out.Reads as write-out-reads
 
 slice-aggregate-fill-depths : tie.Need-slice-aggregate-fill-depths
 slice-aggregate-fill-depths c = search needs

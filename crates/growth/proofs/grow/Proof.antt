@@ -1,19 +1,12 @@
 -- `growth::grow` meets its contract.
 use Prim.Native.Nat.{ℕ}
-use mathlib.Core.Path.{_≡_, refl, sym, _∙_}
+use mathlib.Core.Path.{_∙_}
 use lib.ListN.{length-replicate}
 use Rattle.growth.proofs.Steps.{class-falls, parent-inside}
 use Rattle.growth.proofs.Exact.{equal-formula, grown, depth-none}
 use borrow.Author.Needs.{needs}
 use Rattle.growth.proofs.grow.Statement.{statement}
 use Rattle.growth.proofs.grow.Tie as tie
-use Rattle.growth.proofs.grow.Reads as reads
-use Rattle.growth.proofs.grow.Lts as lts
-use Rattle.growth.proofs.depths.fill_depths.Reads as fill-depths-reads
-use Rattle.growth.proofs.rows.put_all.Reads as put-all-reads
-use Rattle.growth.proofs.rows.settle.Reads as settle-reads
-use Rattle.growth.proofs.rows.singles.Reads as singles-reads
-use Rattle.growth.proofs.rows.write_out.Reads as write-out-reads
 
 slice-aggregate-fill-depths : tie.Need-slice-aggregate-fill-depths
 slice-aggregate-fill-depths c = search needs

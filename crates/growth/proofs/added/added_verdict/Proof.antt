@@ -10,10 +10,6 @@ use Rattle.growth.proofs.Accepted.{added-within}
 use borrow.Author.Needs.{needs}
 use Rattle.growth.proofs.added.added_verdict.Statement.{statement}
 use Rattle.growth.proofs.added.added_verdict.Tie as tie
-use Rattle.growth.proofs.added.added_verdict.Reads as reads
-use Rattle.growth.proofs.added.added_verdict.Lts as lts
-use Rattle.formula.proofs.prefix.check_prefix.Reads as check-prefix-reads
-use Rattle.growth.proofs.added.check_added.Reads as check-added-reads
 
 returns : tie.Need-returns
 returns c = inl (at0-first 1 (c .if1 .taken))

@@ -1,5 +1,5 @@
 -- `growth::added::check_added` meets its contract.
-use Prim.Native.Nat.{ℕ, _-_, _≤_, _<_}
+use Prim.Native.Nat.{_-_}
 use mathlib.Core.Logic.{inl, inr}
 use native.Mathlib.Omega.{arith}
 use borrow.Author.Needs.{needs}
@@ -7,9 +7,6 @@ use lib.ListN.{length}
 use Rattle.growth.proofs.Accepted.{Named, named-none, named-more, named-fault, named-all}
 use Rattle.growth.proofs.added.check_added.Statement.{statement}
 use Rattle.growth.proofs.added.check_added.Tie as tie
-use Rattle.growth.proofs.added.check_added.Reads as reads
-use Rattle.growth.proofs.added.check_added.Lts as lts
-use Rattle.formula.proofs.clauses.variable_at.Reads as variable-at-reads
 
 abbrev Inv-loop : tie.InvT-loop
 Inv-loop n clause i₀ i = Named n clause i

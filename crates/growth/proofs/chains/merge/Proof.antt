@@ -1,15 +1,11 @@
 -- `growth::chains::merge` meets its contract.
-use Prim.Native.Nat.{ℕ, _+_, _≤_, _<_}
-use mathlib.Core.Path.{_≡_, refl, sym, _∙_}
+use Prim.Native.Nat.{_+_}
+use mathlib.Core.Path.{sym, _∙_}
 use native.Mathlib.Omega.{arith}
-use lib.ListN.{length, getD}
+use lib.ListN.{getD}
 use Rattle.growth.proofs.Steps.{Merging, merge-none, AtRoots, first-falling, second-falling, at-roots, merge-same, merge-all, merge-step, at-roots-step}
 use Rattle.growth.proofs.chains.merge.Statement.{statement}
 use Rattle.growth.proofs.chains.merge.Tie as tie
-use Rattle.growth.proofs.chains.merge.Reads as reads
-use Rattle.growth.proofs.chains.merge.Lts as lts
-use Rattle.growth.proofs.chains.root.Reads as root-reads
-use Rattle.growth.proofs.chains.step.Reads as step-reads
 
 abbrev Inv-loop : tie.InvT-loop
 Inv-loop depths classes₀ parents₀ deep other p₀ q₀ classes parents p q = Merging depths classes₀ parents₀ deep other classes parents p q

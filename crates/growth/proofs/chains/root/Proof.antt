@@ -1,13 +1,10 @@
 -- `growth::chains::root` meets its contract.
-use Prim.Native.Nat.{ℕ, _≤_, _<_}
-use mathlib.Core.Path.{_≡_, refl, sym, _∙_}
+use mathlib.Core.Path.{_≡_, refl}
 use native.Mathlib.Omega.{arith}
-use lib.ListN.{length, getD, length-set}
+use lib.ListN.{length, length-set}
 use Rattle.growth.proofs.Ways.{Following, follow-none, follow-one, follow-last, over-least}
 use Rattle.growth.proofs.chains.root.Statement.{statement}
 use Rattle.growth.proofs.chains.root.Tie as tie
-use Rattle.growth.proofs.chains.root.Reads as reads
-use Rattle.growth.proofs.chains.root.Lts as lts
 
 abbrev Inv-loop : tie.InvT-loop
 Inv-loop classes₀ v at₀ up₀ classes at up = Following classes₀ v classes at up × (length classes ≡ length classes₀)

@@ -1,15 +1,9 @@
 -- `growth::chains::step` meets its contract.
-use Prim.Native.Nat.{ℕ, _≤_, _<_}
-use mathlib.Core.Path.{_≡_, refl, sym, _∙_}
 use native.Mathlib.Omega.{arith}
-use lib.ListN.{length, getD, set}
 use Rattle.growth.proofs.Steps.{parent-inside, step-inside, step-unite, step-unite-back, step-hang, step-rise, stepped-is}
 use borrow.Author.Needs.{needs}
 use Rattle.growth.proofs.chains.step.Statement.{statement}
 use Rattle.growth.proofs.chains.step.Tie as tie
-use Rattle.growth.proofs.chains.step.Reads as reads
-use Rattle.growth.proofs.chains.step.Lts as lts
-use Rattle.growth.proofs.chains.unite.Reads as unite-reads
 
 -- src/chains.rt:49:16
 mul-deep : tie.Need-mul-deep

@@ -1,14 +1,11 @@
 -- `growth::clause::deepest` meets its contract.
-use Prim.Native.Nat.{ℕ, _-_, _≤_, _<_}
+use Prim.Native.Nat.{_-_}
 use native.Mathlib.Omega.{arith}
 use borrow.Author.Needs.{needs}
 use lib.ListN.{length}
 use Rattle.growth.proofs.Stars.{Sought, seek-none, seek-deeper, seek-other, sought}
 use Rattle.growth.proofs.clause.deepest.Statement.{statement}
 use Rattle.growth.proofs.clause.deepest.Tie as tie
-use Rattle.growth.proofs.clause.deepest.Reads as reads
-use Rattle.growth.proofs.clause.deepest.Lts as lts
-use Rattle.formula.proofs.clauses.variable_at.Reads as variable-at-reads
 
 abbrev Inv-loop : tie.InvT-loop
 Inv-loop depths clause found₀ depth₀ i₀ found depth i = Sought depths clause found depth i

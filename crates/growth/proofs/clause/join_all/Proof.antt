@@ -1,16 +1,12 @@
 -- `growth::clause::join_all` meets its contract.
-use Prim.Native.Nat.{ℕ, _-_, _≤_, _<_}
-use mathlib.Core.Path.{_≡_, sym, _∙_}
+use Prim.Native.Nat.{_-_}
+use mathlib.Core.Path.{sym, _∙_}
 use native.Mathlib.Omega.{arith}
 use borrow.Author.Needs.{needs}
 use lib.ListN.{length}
 use Rattle.growth.proofs.Stars.{Joining, join-none, join-pending, join-skip, join-one, joined-all}
 use Rattle.growth.proofs.clause.join_all.Statement.{statement}
 use Rattle.growth.proofs.clause.join_all.Tie as tie
-use Rattle.growth.proofs.clause.join_all.Reads as reads
-use Rattle.growth.proofs.clause.join_all.Lts as lts
-use Rattle.formula.proofs.clauses.variable_at.Reads as variable-at-reads
-use Rattle.growth.proofs.chains.merge.Reads as merge-reads
 
 abbrev Inv-loop : tie.InvT-loop
 Inv-loop depths classes₀ parents₀ clause deep i₀ classes parents i = Joining depths classes₀ parents₀ clause deep classes parents i

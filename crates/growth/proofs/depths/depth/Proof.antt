@@ -3,8 +3,6 @@ use borrow.Author.Tests.{le-leb, lt-leb}
 use borrow.Author.Needs.{needs}
 use Rattle.growth.proofs.depths.depth.Statement.{statement}
 use Rattle.growth.proofs.depths.depth.Tie as tie
-use Rattle.growth.proofs.depths.depth.Reads as reads
-use Rattle.growth.proofs.depths.depth.Lts as lts
 
 returns : tie.Need-returns
 returns c = simp (lt-leb _ _ (c .if1 .taken))

@@ -4,10 +4,6 @@ use Rattle.growth.proofs.Passes.{levels-most, depths-are}
 use borrow.Author.Needs.{needs}
 use Rattle.growth.proofs.depths.fill_depths.Statement.{statement}
 use Rattle.growth.proofs.depths.fill_depths.Tie as tie
-use Rattle.growth.proofs.depths.fill_depths.Reads as reads
-use Rattle.growth.proofs.depths.fill_depths.Lts as lts
-use Rattle.formula.proofs.levels.fill_levels.Reads as fill-levels-reads
-use Rattle.growth.proofs.depths.rank.Reads as rank-reads
 
 slice-aggregate-fill-levels : tie.Need-slice-aggregate-fill-levels
 slice-aggregate-fill-levels c = search needs

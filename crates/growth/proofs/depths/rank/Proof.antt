@@ -1,13 +1,10 @@
 -- `growth::depths::rank` meets its contract.
-use Prim.Native.Nat.{ℕ, _-_, _≤_, _<_}
-use mathlib.Core.Path.{_≡_, sym, _∙_}
+use Prim.Native.Nat.{_-_}
+use mathlib.Core.Path.{sym, _∙_}
 use native.Mathlib.Omega.{arith}
 use Rattle.growth.proofs.Passes.{Ranking, rank-none, rank-one}
 use Rattle.growth.proofs.depths.rank.Statement.{statement}
 use Rattle.growth.proofs.depths.rank.Tie as tie
-use Rattle.growth.proofs.depths.rank.Reads as reads
-use Rattle.growth.proofs.depths.rank.Lts as lts
-use Rattle.growth.proofs.depths.depth.Reads as depth-reads
 
 abbrev Inv-loop : tie.InvT-loop
 Inv-loop n levels universals depths₀ v₀ depths v = Ranking n levels universals depths v

@@ -1,16 +1,12 @@
 -- `growth::rows::load` meets its contract.
-use Prim.Native.Nat.{ℕ, _-_, _≤_, _<_}
-use mathlib.Core.Path.{_≡_, sym, ap, _∙_}
+use Prim.Native.Nat.{_-_}
+use mathlib.Core.Path.{sym, ap, _∙_}
 use native.Mathlib.Omega.{arith}
 use borrow.Author.Needs.{needs}
 use Rattle.connection.specs.Tables.{row}
 use Rattle.growth.proofs.Passes.{Loading, load-none, load-one, load-all}
 use Rattle.growth.proofs.rows.load.Statement.{statement}
 use Rattle.growth.proofs.rows.load.Tie as tie
-use Rattle.growth.proofs.rows.load.Reads as reads
-use Rattle.growth.proofs.rows.load.Lts as lts
-use Rattle.forest.proofs.rows.row_of.Reads as row-of-reads
-use Rattle.terms.proofs.Variable.new.Reads as new-reads
 
 abbrev Inv-loop : tie.InvT-loop
 Inv-loop n rows table₀ v₀ table v = Loading n rows table v

@@ -1,16 +1,12 @@
 -- `growth::rows::put_all` meets its contract.
-use Prim.Native.Nat.{ℕ, _-_, _≤_, _<_}
-use mathlib.Core.Path.{_≡_, sym, _∙_}
+use Prim.Native.Nat.{_-_}
+use mathlib.Core.Path.{sym, _∙_}
 use native.Mathlib.Omega.{arith}
 use borrow.Author.Needs.{needs}
 use lib.ListN.{length}
 use Rattle.growth.proofs.Passes.{PutSome, put-none, put-clause, put-over, put-open, part-rows}
 use Rattle.growth.proofs.rows.put_all.Statement.{statement}
 use Rattle.growth.proofs.rows.put_all.Tie as tie
-use Rattle.growth.proofs.rows.put_all.Reads as reads
-use Rattle.growth.proofs.rows.put_all.Lts as lts
-use Rattle.formula.proofs.clauses.next_zero.Reads as next-zero-reads
-use Rattle.growth.proofs.clause.put.Reads as put-reads
 
 abbrev Inv-loop : tie.InvT-loop
 Inv-loop depths classes₀ parents₀ clauses start₀ classes parents start = PutSome depths clauses classes parents start

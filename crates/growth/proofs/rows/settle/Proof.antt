@@ -1,12 +1,10 @@
 -- `growth::rows::settle` meets its contract.
-use Prim.Native.Nat.{ℕ, _-_, _≤_, _<_}
-use mathlib.Core.Path.{_≡_, sym, _∙_}
+use Prim.Native.Nat.{_-_}
+use mathlib.Core.Path.{sym, _∙_}
 use native.Mathlib.Omega.{arith}
 use Rattle.growth.proofs.Passes.{Settling, settle-none, settle-one, settled}
 use Rattle.growth.proofs.rows.settle.Statement.{statement}
 use Rattle.growth.proofs.rows.settle.Tie as tie
-use Rattle.growth.proofs.rows.settle.Reads as reads
-use Rattle.growth.proofs.rows.settle.Lts as lts
 
 abbrev Inv-loop : tie.InvT-loop
 Inv-loop classes₀ v₀ classes v = Settling classes₀ classes v

@@ -1,13 +1,10 @@
 -- `growth::rows::singles` meets its contract.
-use Prim.Native.Nat.{ℕ, _-_, _≤_, _<_}
-use mathlib.Core.Path.{_≡_, sym, _∙_}
+use Prim.Native.Nat.{_-_}
+use mathlib.Core.Path.{sym, _∙_}
 use native.Mathlib.Omega.{arith}
-use lib.ListN.{length-set}
 use Rattle.growth.proofs.Passes.{Single, single-none, single-universal, single-existential, single-holds}
 use Rattle.growth.proofs.rows.singles.Statement.{statement}
 use Rattle.growth.proofs.rows.singles.Tie as tie
-use Rattle.growth.proofs.rows.singles.Reads as reads
-use Rattle.growth.proofs.rows.singles.Lts as lts
 
 abbrev Inv-loop : tie.InvT-loop
 Inv-loop depths classes₀ parents₀ v₀ classes parents v = Single depths classes parents v

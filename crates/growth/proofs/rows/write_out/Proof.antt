@@ -1,13 +1,10 @@
 -- `growth::rows::write_out` meets its contract.
-use Prim.Native.Nat.{ℕ, _+_, _-_, _≤_, _<_}
-use mathlib.Core.Path.{_≡_, refl, sym, _∙_}
+use Prim.Native.Nat.{_+_, _-_}
+use mathlib.Core.Path.{refl}
 use native.Mathlib.Omega.{arith}
-use lib.ListN.{length-set}
 use Rattle.growth.proofs.Passes.{Writing, write-none, write-one, written}
 use Rattle.growth.proofs.rows.write_out.Statement.{statement}
 use Rattle.growth.proofs.rows.write_out.Tie as tie
-use Rattle.growth.proofs.rows.write_out.Reads as reads
-use Rattle.growth.proofs.rows.write_out.Lts as lts
 
 abbrev Inv-loop : tie.InvT-loop
 Inv-loop n classes parents rows₀ ups₀ v₀ rows ups v = Writing n classes parents rows₀ rows ups₀ ups v

@@ -1,0 +1,192 @@
+-- For any formula and tables whose forest, set and climb are computed: the one outcome that the promise of each call allows.
+use Prim.Native.Nat.{ℕ, zero, suc, _+_, _-_, _≤_, _<_}
+use mathlib.Core.Path.{_≡_, refl, sym, ap, _∙_, subst, subst₂, subst₃}
+use mathlib.Core.Bool.{Bool, true, _&&_}
+use mathlib.Core.List.{List, [], _∷_, _++_, map, List·Memᴰ, List·Memᴰ·not-nil, List·Memᴰ·cases-cons}
+use mathlib.Core.Logic.{inl, ⊎-elim, _↔_}
+use native.Mathlib.Omega.{arith}
+use lib.Dec.{leb}
+use lib.IntN.{ℤ}
+use lib.ListN.{length, getD, drop, length-append, length-drop, List·getD-append}
+use lib.Seq.{sets, sets-eq, getD-append-add, getD-drop}
+use Rattle.terms.specs.Literals.{variableOf}
+use Rattle.terms.specs.Refusals.{None, NoneOf}
+use Rattle.terms.specs.declared.Filled.{Filled}
+use Rattle.terms.specs.declared.Filled.the-variants.{Count}
+use Rattle.terms.proofs.Common.{clash}
+use Rattle.terms.proofs.Verdicts.{at0-none}
+use Rattle.formula.specs.Causes.{checkOrder}
+use Rattle.formula.specs.Meaning.{level, isExistential}
+use Rattle.formula.specs.Tables.{literalAt}
+use Rattle.connection.specs.Reach.{Variables, Joined, Depends}
+use Rattle.connection.specs.Tables.{Table, row, lent, joins, WellFormed, Climbed, climb, EntryPoint}
+use Rattle.connection.specs.Forest.{Forest}
+use Rattle.connection.specs.Search.{has, reached, is-from, sift, set-of}
+use Rattle.connection.specs.Fusing.{Rows, table-of}
+use Rattle.connection.proofs.Choice.{choice}
+use Rattle.connection.proofs.Climb.{climb-entry, entry-rises}
+use Rattle.connection.proofs.Forest.{same-rows}
+use Rattle.connection.proofs.Growth.{forest-exists, forest-is, forest-fused, table-grows}
+use Rattle.connection.proofs.Rows.{row-same}
+use Rattle.connection.proofs.Search.{set-of-depends}
+use Rattle.connection.proofs.Sets.{set-members}
+use Rattle.forest.specs.declared.EntryAnswer.{EntryAnswer}
+use Rattle.forest.specs.declared.EntryAnswer.the-variants.{At}
+use Rattle.forest.specs.Formula.{variables, universal, joined, Shares}
+use Rattle.forest.specs.Causes.{ForestCause, listOrder}
+use Rattle.forest.specs.Answers.{Members, EntryAnswered, SetListed}
+use Rattle.forest.specs.Listed.{Ascending, Listed}
+use Rattle.forest.proofs.Agreeing.{lawful}
+use Rattle.forest.proofs.Demands.{universal-alone, own-forest-fine, listing-settled, entry-settled}
+use Rattle.forest.proofs.Picked.{listed-one}
+use Rattle.forest.proofs.Readings.{flag-within}
+use Rattle.growth.specs.Grown.{AddedCause, outside, clauseFirst, Past, Grown, Builds, Adds, withLast}
+use Rattle.growth.proofs.Appended.{joined-last}
+use Rattle.growth.proofs.Demand3.{build-tight, add-tight}
+use Rattle.cases.proofs.Computed.{ForestRows}
+
+-- A computed set is ascending.
+sift-least : {y : ℕ} (n s : ℕ) (p : ℕ → Bool) → List·Memᴰ y (sift n s p) → s ≤ y
+unfolding sift
+sift-least zero s p m = absurd (List·Memᴰ·not-nil m)
+sift-least {y} (suc n) s p m = choice (λ (l : List ℕ). List·Memᴰ y l → s ≤ y) (p s)
+    (λ t h. ⊎-elim (λ q. omega arith) (λ later. omega (arith, sift-least n (suc s) p later)) (List·Memᴰ·cases-cons h)) (λ t h. omega (arith, sift-least n (suc s) p h)) m
+
+sift-ascending : (n s : ℕ) (p : ℕ → Bool) → Ascending (sift n s p)
+unfolding sift
+sift-ascending zero s p = tt
+sift-ascending (suc n) s p = choice Ascending (p s) (λ t. (λ b m. sift-least n (suc s) p m, sift-ascending n (suc s) p)) (λ t. sift-ascending n (suc s) p)
+
+set-ascending : (X : Variables) (cs : List (List ℕ)) (x : ℕ) → Ascending (set-of X cs x)
+unfolding set-of
+set-ascending X cs x = sift-ascending (X .count) 1 (λ y. X .ex y && has y (reached (is-from X (X .lev x)) cs x))
+
+-- A clause whose literals have variables from 1 to n has no cause of 10.
+abbrev pub inRange : ℕ → List ℤ → Bool
+inRange n [] = true
+inRange n (z ∷ ls) = leb 1 (variableOf z) && leb (variableOf z) n && inRange n ls
+
+in-range : (n : ℕ) (ls : List ℤ) → inRange n ls ≡ true → (e : ℕ) → e < length ls → (1 ≤ variableOf (literalAt ls e)) × (variableOf (literalAt ls e) ≤ n)
+in-range n [] t e l = absurd (omega arith)
+in-range n (z ∷ ls) t zero l = let (a, b, _) = flag-within n (variableOf z) (inRange n ls) t in (a, b)
+in-range n (z ∷ ls) t (suc e) l = in-range n ls (flag-within n (variableOf z) (inRange n ls) t .2) e (omega arith)
+
+none-added : (n : ℕ) (ls : List ℤ) → inRange n ls ≡ true → None (AddedCause n ls)
+none-added n ls t k e (outside _ l bad) = let (a, b) = in-range n ls t e l in ⊎-elim (λ z. omega arith) (λ over. omega arith) bad
+
+-- Rows past n are not read, and computed rows put in front of what a lent table has past n leave that as it was.
+in-front : {n : ℕ} (rows more : List ℕ) → length rows ≡ n → (v : ℕ) → row n rows v ≡ row n (rows ++ more) v
+in-front {n} rows more q v = row-same n v rows (rows ++ more) (λ i l. sym (List·getD-append rows more 0 i (omega arith)))
+
+past-front : (n : ℕ) (rows table : List ℕ) → length rows ≡ n → n ≤ length table → Past n table (rows ++ drop n table)
+past-front n rows table q long =
+    record {
+      size = let all = length-append rows (drop n table) in let rest = length-drop n table in omega arith;
+      stays = λ u l.
+          let at : u ≡ length rows + (u - n) = omega arith in
+          let back : n + (u - n) ≡ u = omega arith in
+          ap (λ (i : ℕ). getD (rows ++ drop n table) i 0) at ∙ getD-append-add rows (drop n table) (u - n) 0 ∙ getD-drop n table (u - n) 0 ∙ ap (λ (i : ℕ). getD table i 0) back;
+    }
+
+module _ (n : ℕ) (es : List ℕ) where
+  abbrev X : Variables
+  X = variables n es
+
+  -- Computed rows are the forest, whatever stands past them.
+  pub rows-forest : {cs : List (List ℕ)} {rows ups : List ℕ} → ForestRows X cs rows ups → (more more′ : List ℕ) → Forest X (Joined cs) (lent X (rows ++ more) (ups ++ more′))
+  unfolding table-of lent
+  rows-forest {cs} {rows} {ups} f more more′ =
+      subst (Forest X (Joined cs)) (same-rows (λ v. (in-front rows more (f .long .0) v, in-front ups more′ (f .long .1) v)))
+      (subst (λ (R : Rows). Forest X (Joined cs) (table-of X R)) (f .computed) (forest-exists (lawful n es) cs))
+
+  -- Such rows, put in front of what the lent tables have past n, are how build and add leave them.
+  grown : {J : ℕ → ℕ → Type 0} (rows ups classes parents : List ℕ) → (length rows ≡ n) × (length ups ≡ n) → n ≤ length classes → n ≤ length parents
+      → Forest X J (lent X (rows ++ drop n classes) (ups ++ drop n parents)) → Grown X J classes parents (rows ++ drop n classes) (ups ++ drop n parents)
+  grown rows ups classes parents sizes long long′ forest =
+      record { past = (past-front n rows classes (sizes .0) long, past-front n ups parents (sizes .1) long′); forest = forest }
+
+  -- The forest of a table's joins and a clause, where the table is the forest of a list, is that of the list with the clause put last.
+  added-forest : {cs : List (List ℕ)} (clause : List ℕ) {W W′ : Table} → Forest X (Joined cs) W → Forest X (Joined (cs ++ (clause ∷ []))) W′ → Forest X (Joined (joins X W ++ (clause ∷ []))) W′
+  added-forest clause f g = table-grows (lawful n es) (forest-is (lawful n es) .0 f .formed) (forest-fused (lawful n es) f g)
+
+  module _ (ls : List ℤ) (accepted : NoneOf (checkOrder n es ls)) where
+    -- Build leaves the computed rows.
+    pub build-only : {rows ups : List ℕ} → ForestRows X (joined ls) rows ups → (classes parents : List ℕ) → n ≤ length classes → n ≤ length parents → (answer : Filled) (classes′ parents′ : List ℕ)
+        → Builds n es ls classes parents classes′ parents′ answer ↔ ((answer ≡ Count n) × (classes′ ≡ rows ++ drop n classes) × (parents′ ≡ ups ++ drop n parents))
+    build-only {rows} {ups} f classes parents long long′ answer classes′ parents′ =
+        (λ b. build-tight answer (Count n) b stated, λ q. subst₃ (λ r c p. Builds n es ls classes parents c p r) (sym (q .0)) (sym (q .1)) (sym (q .2)) stated)
+      where
+        stated : Builds n es ls classes parents (rows ++ drop n classes) (ups ++ drop n parents) (Count n)
+        stated = record {
+          judged = (accepted .0, (accepted .1 .0, (accepted .1 .1 .0, (accepted .1 .1 .1 .0, (at0-none 14 (⊎-elim (λ l. omega arith) (λ l. omega arith)), tt)))));
+          leaves = (refl, grown rows ups classes parents (f .long) long long′ (rows-forest f (drop n classes) (drop n parents)));
+        }
+
+    module _ (classes parents : List ℕ) (forest : Forest X (Shares ls) (lent X classes parents)) (long : n ≤ length classes) (long′ : n ≤ length parents) where
+      fine : None (ForestCause n es classes parents)
+      fine = own-forest-fine n es ls classes parents 0 forest long long′
+
+      -- Add of a clause leaves the computed rows of the list with the clause put last.
+      pub add-only : (clause : List ℤ) → inRange n clause ≡ true → length clause ≤ 16384 → {rows ups : List ℕ} → ForestRows X (joined (withLast ls clause)) rows ups → (answer : Filled) (classes′ parents′ : List ℕ)
+          → Adds n es classes parents clause classes′ parents′ answer ↔ ((answer ≡ Count n) × (classes′ ≡ rows ++ drop n classes) × (parents′ ≡ ups ++ drop n parents))
+      add-only clause range small {rows} {ups} f answer classes′ parents′ =
+          (λ a. add-tight answer (Count n) a stated, λ q. subst₃ (λ r c p. Adds n es classes parents clause c p r) (sym (q .0)) (sym (q .1)) (sym (q .2)) stated)
+        where
+          first : NoneOf (clauseFirst n es clause)
+          first = (accepted .0, (at0-none 2 (⊎-elim (λ l. accepted .1 .0 2 0 (refl, refl, inl l)) (λ l. omega arith)), (accepted .1 .1 .0, (none-added n clause range, tt))))
+
+          stated : Adds n es classes parents clause (rows ++ drop n classes) (ups ++ drop n parents) (Count n)
+          stated = record {
+            judged = (first .0, (first .1 .0, (first .1 .1 .0, (first .1 .1 .1 .0, (fine, tt)))));
+            leaves = (
+              refl,
+              grown rows ups classes parents (f .long) long long′ (added-forest (map variableOf clause) forest
+                  (subst (λ (cs : List (List ℕ)). Forest X (Joined cs) (lent X (rows ++ drop n classes) (ups ++ drop n parents))) (joined-last {ls = ls} {clause = clause} accepted first) (rows-forest f (drop n classes) (drop n parents)))),
+            );
+          }
+
+      module _ (x : ℕ) (u : universal n es x ≡ true) where
+        -- The set call lists the computed set.
+        pub set-only : {list : List ℕ} → set-of X (joined ls) x ≡ list → (before : List ℕ) → length list ≤ length before → (answer : Filled) (after : List ℕ)
+            → SetListed n es ls classes parents x before after answer ↔ ((answer ≡ Count (length list)) × (after ≡ list ++ drop (length list) before))
+        set-only {list} is before room answer after = (
+          λ a. listing-settled (listOrder n es ls classes parents x (Members n es ls classes parents x) before) (Members n es ls classes parents x) before after (list ++ drop (length list) before) answer (Count (length list)) a stated,
+          λ q. subst₂ (λ r t. SetListed n es ls classes parents x before t r) (sym (q .0)) (sym (q .1)) stated,
+        )
+          where
+            same : (y : ℕ) → Depends X (Shares ls) x y ↔ Members n es ls classes parents x y
+            same y = set-members {y = y} (lawful n es) forest (universal-alone n es x u)
+
+            listed : Listed (Members n es ls classes parents x) list
+            listed = subst (Listed (Members n es ls classes parents x)) is (record {
+              ascending = set-ascending X (joined ls) x;
+              each = λ y m. same y .0 (set-of-depends (lawful n es) .0 m);
+              all = λ y m. set-of-depends (lawful n es) .1 (same y .1 m);
+            })
+
+            front : list ++ drop (length list) before ≡ sets before 0 list
+            front = let q : 0 + length list ≡ length list = omega arith in sym (sets-eq list before 0 (omega arith) ∙ ap (λ (k : ℕ). list ++ drop k before) q)
+
+            stated : SetListed n es ls classes parents x before (list ++ drop (length list) before) (Count (length list))
+            stated = (
+              (accepted .0, (accepted .1 .0, (accepted .1 .1 .0, (accepted .1 .1 .1 .0, (fine, (at0-none 13 (clash u), (at0-none 14 (λ long. let size = ap length (listed-one (long .0) list (long .1) listed) in let over = long .2 in omega arith), tt))))))),
+              (list, listed, refl, front),
+            )
+
+        -- The entry point call answers where the climb ends.
+        pub entry-only : (y : ℕ) {e k : ℕ} → isExistential n es y ≡ true → level es x < level es y → climb X (lent X classes parents) (suc (level es x)) (lent X classes parents .cls y) 0 ≡ record { top = e; rises = k }
+            → (answer : EntryAnswer) → EntryAnswered n es classes parents x y answer ↔ (answer ≡ At (record { 0 = e }) k)
+        entry-only y {e} {k} ex deeper is answer =
+            (λ a. entry-settled n es classes parents x y answer (At (record { 0 = e }) k) a stated, λ q. subst (EntryAnswered n es classes parents x y) (sym q) stated)
+          where
+            formed : WellFormed X (lent X classes parents)
+            formed = forest-is (lawful n es) .0 forest .formed
+
+            entry : EntryPoint X (lent X classes parents) x y e k
+            entry = subst (λ (c : Climbed). EntryPoint X (lent X classes parents) x y (c .top) (c .rises)) is (climb-entry formed y ex deeper)
+
+            stated : EntryAnswered n es classes parents x y (At (record { 0 = e }) k)
+            stated = (
+              (accepted .0, (at0-none 2 (λ l. accepted .1 .0 2 0 (refl, refl, inl l)), (accepted .1 .1 .0, (fine, (at0-none 13 (⊎-elim (clash u) (⊎-elim (clash ex) (λ l. omega arith))), tt))))),
+              (entry, entry-rises formed ex entry),
+            )

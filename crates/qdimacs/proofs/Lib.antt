@@ -1,0 +1,16 @@
+pub mod Laws
+pub mod Numbers
+pub mod Lines
+pub mod Entries
+pub mod Rows
+pub mod Spelling
+pub mod Openings
+pub mod Bodies
+pub mod Scans
+pub mod Unique
+pub mod Verdicts
+pub mod Decimal
+pub mod Written
+pub mod Settled
+pub mod Stores
+pub mod Outputs

@@ -1,0 +1,170 @@
+-- A text is read in one way: each line leads to one stage, a text has one fault or is the text of one n and two tables.
+use Prim.Native.Nat.{ℕ, suc, _+_, _<_, _≤_}
+use mathlib.Core.Path.{_≡_, refl, sym, ap, ap₂, _∙_, subst, subst₃}
+use mathlib.Core.List.{List, [], _∷_, _++_}
+use mathlib.Core.Option.{some}
+use native.Mathlib.Omega.{arith}
+use lib.IntN.{ℤ}
+use Rattle.qdimacs.specs.declared.Number.the-variants.{Is}
+use Rattle.qdimacs.specs.declared.Stage.{Stage}
+use Rattle.qdimacs.specs.declared.Stage.the-variants.{Opening, Body}
+use Rattle.qdimacs.specs.Words.{LF, SPACE, LETTER-A, LETTER-C, LETTER-E, LETTER-P, onto, pieces, filled, words, numberOf, entriesOf}
+use Rattle.qdimacs.specs.Grammar.{variables, literals, CommentLine, comment, ProblemLine, p-cnf, QuantifierLine, e-line, a-line, ClauseLine, literals-line, Line, a-comment, the-problem, a-block, a-clause, Lines, no-line, one-more, TextOf, TooMany, too-many, Fault, outside, unended, no-problem, many, few, placeAfter, FaultIn}
+use Rattle.qdimacs.specs.Places.{front, later}
+use Rattle.qdimacs.proofs.Lines.{front-later, front-onto}
+use Rattle.qdimacs.proofs.Bodies.{exclusive}
+
+-- A line that begins with c is no problem line: its first word does.
+c-word : (bs : List ℕ) → words (LETTER-C ∷ bs) ≡ (LETTER-C ∷ front (pieces SPACE bs)) ∷ filled (later (pieces SPACE bs))
+unfolding words pieces filled onto front later
+c-word bs = ap (λ (ps : List (List ℕ)). filled (onto LETTER-C ps)) (front-later SPACE bs)
+
+comment-problem : {line : List ℕ} {n m : ℕ} → CommentLine line → ProblemLine line n m → ⊥
+comment-problem (comment {line} {bytes} is) (p-cnf e n-is m-is) =
+    let w = c-word bytes in
+    let q = ap words is in
+    let no : LETTER-C ≡ LETTER-P = cc in
+    omega arith
+
+problem-same : {line : List ℕ} {n m n′ m′ : ℕ} → ProblemLine line n m → ProblemLine line n′ m′ → (n ≡ n′) × (m ≡ m′)
+problem-same {line} {n} {m} {n′} {m′} (p-cnf {number = a} {count = b} e n-is m-is) (p-cnf {number = x} {count = y} e′ n-is′ m-is′) =
+    let q : a ≡ x = cc in
+    let r : b ≡ y = cc in
+    let s : Is n ≡ Is n′ = sym n-is ∙ ap numberOf q ∙ n-is′ in
+    let t : Is m ≡ Is m′ = sym m-is ∙ ap numberOf r ∙ m-is′ in
+    (cc, cc)
+
+block-same : {line bs bs′ : List ℕ} → QuantifierLine line bs → QuantifierLine line bs′ → bs ≡ bs′
+block-same (e-line {entries = es} {more = a} e r) (e-line {entries = es′} {more = b} e′ r′) =
+    let q : a ≡ b = cc in
+    let s : some es ≡ some es′ = sym r ∙ ap (entriesOf variables) q ∙ r′ in
+    cc
+block-same (e-line e r) (a-line e′ r′) = let no : LETTER-E ≡ LETTER-A = cc in let no : ⊥ = omega arith in absurd no
+block-same (a-line e r) (e-line e′ r′) = let no : LETTER-A ≡ LETTER-E = cc in let no : ⊥ = omega arith in absurd no
+block-same (a-line {entries = es} {more = a} e r) (a-line {entries = es′} {more = b} e′ r′) =
+    let q : a ≡ b = cc in
+    let s : some es ≡ some es′ = sym r ∙ ap (entriesOf variables) q ∙ r′ in
+    cc
+
+clause-same : {line : List ℕ} {cs cs′ : List ℤ} → ClauseLine line cs → ClauseLine line cs′ → cs ≡ cs′
+clause-same (literals-line r) (literals-line r′) = cc
+
+record OneWay (s s′ : Stage) (p p′ : List ℕ) (c c′ : List ℤ) : Type 0 where
+  stage : s ≡ s′
+  prefix : p ≡ p′
+  clauses : c ≡ c′
+
+line-same : {s t t′ : Stage} {l p p′ : List ℕ} {c c′ : List ℤ} → Line s l t p c → Line s l t′ p′ c′ → OneWay t t′ p p′ c c′
+line-same (a-comment x) (a-comment y) = record { stage = refl; prefix = refl; clauses = refl }
+line-same (a-comment x) (the-problem y) = absurd (comment-problem x y)
+line-same (the-problem x) (a-comment y) = absurd (comment-problem y x)
+line-same (the-problem x) (the-problem y) =
+    let q = problem-same x y in
+    record { stage = ap₂ (λ (a b : ℕ). Body a b 0) (q .0) (q .1); prefix = refl; clauses = refl }
+line-same (a-block z x) (a-block z′ y) = record { stage = refl; prefix = block-same x y; clauses = refl }
+line-same (a-block z x) (a-clause h y) = absurd (exclusive x y)
+line-same (a-clause h x) (a-block z y) = absurd (exclusive y x)
+line-same (a-clause h x) (a-clause h′ y) = record { stage = refl; prefix = refl; clauses = clause-same x y }
+
+-- What is left of a text at a stage, where no line can go on: there is a first piece, and if another follows it, it may not stand there.
+record Stops (s : Stage) (left : List (List ℕ)) : Type 0 where
+  head : List ℕ
+  tail : List (List ℕ)
+  is : left ≡ head ∷ tail
+  stuck : {t : Stage} {p : List ℕ} {c : List ℤ} (next : List ℕ) (more : List (List ℕ)) → tail ≡ next ∷ more → Line s head t p c → ⊥
+
+stops-last : (s : Stage) (l : List ℕ) → Stops s (l ∷ [])
+stops-last s l = record { head = l; tail = []; is = refl; stuck = λ next more e line. let no : _≡_ {A = ℕ} 0 1 = cc in omega arith }
+
+many-stuck : {s t : Stage} {l p : List ℕ} {c : List ℤ} → TooMany s l → Line s l t p c → ⊥
+many-stuck (too-many e x) (a-block z y) = exclusive y x
+many-stuck (too-many e x) (a-clause h y) = omega arith
+
+stops : {k : ℕ} {s : Stage} {left : List (List ℕ)} → Fault k s left → Stops s left
+stops (outside {line = line} {next = next} {more = more} none no-many) = record { head = line; tail = next ∷ more; is = refl; stuck = λ {t} {p} {c} next′ more′ e line′. none t p c line′ }
+stops {s = s} (unended {byte = byte} {bytes = bytes}) = stops-last s (byte ∷ bytes)
+stops {s = s} no-problem = stops-last s []
+stops (many {line = line} {next = next} {more = more} t) = record { head = line; tail = next ∷ more; is = refl; stuck = λ next′ more′ e line′. many-stuck t line′ }
+stops {s = s} (few h) = stops-last s []
+
+-- Two ways to a stop are one.
+record OnePath (ls ls′ left left′ : List (List ℕ)) (t t′ : Stage) (P P′ : List ℕ) (C C′ : List ℤ) : Type 0 where
+  lines : ls ≡ ls′
+  rest : left ≡ left′
+  stage : t ≡ t′
+  prefix : P ≡ P′
+  clauses : C ≡ C′
+
+-- a stop is no line's beginning
+goes-past : {s t u : Stage} {l p : List ℕ} {c : List ℤ} (left ls left′ : List (List ℕ)) → Stops s left → Stops u left′ → left ≡ l ∷ (ls ++ left′) → Line s l t p c → ⊥
+goes-past {s = s} {t = t} {l = l} {p = p} {c = c} left ls left′ a b e line = go ls e
+  where
+    step : (next : List ℕ) (more : List (List ℕ)) → left ≡ l ∷ next ∷ more → ⊥
+    step next more q =
+        let i = a .is in
+        let h : l ≡ a .head = cc in
+        let n : a .tail ≡ next ∷ more = cc in
+        a .stuck next more n (subst (λ (x : List ℕ). Line s x t p c) h line)
+
+    go : (ls : List (List ℕ)) → left ≡ l ∷ (ls ++ left′) → ⊥
+    go [] q = step (b .head) (b .tail) (q ∙ ap (λ (x : List (List ℕ)). l ∷ x) (b .is))
+    go (next ∷ more) q = step next (more ++ left′) q
+
+one-path : {s t t′ : Stage} {ls ls′ : List (List ℕ)} {P P′ : List ℕ} {C C′ : List ℤ} (left left′ : List (List ℕ)) → Lines s ls t P C → Lines s ls′ t′ P′ C′ → Stops t left → Stops t′ left′ → ls ++ left ≡ ls′ ++ left′
+    → OnePath ls ls′ left left′ t t′ P P′ C C′
+one-path left left′ no-line no-line a b e = record { lines = refl; rest = e; stage = refl; prefix = refl; clauses = refl }
+one-path left left′ no-line (one-more {lines = ls′} line more) a b e = absurd (goes-past left ls′ left′ a b e line)
+one-path left left′ (one-more {lines = ls} line more) no-line a b e = absurd (goes-past left′ ls left b a (sym e) line)
+one-path left left′ (one-more {next = n} {last = t} {line = l} {lines = ls} {p = p} {P = P} {c = c} {C = C} line more) (one-more {stage = s} {next = n′} {line = l′} {lines = ls′} {p = p′} {P = P′} {c = c′} {C = C′} line′ more′) a b e =
+    let q : l ≡ l′ = cc in
+    let r : ls ++ left ≡ ls′ ++ left′ = cc in
+    let w = line-same line (subst (λ (x : List ℕ). Line s x n′ p′ c′) (sym q) line′) in
+    let o = one-path left left′ (subst (λ (x : Stage). Lines x ls t P C) (w .stage) more) more′ a b r in
+    record {
+      lines = ap₂ (λ (x : List ℕ) (xs : List (List ℕ)). x ∷ xs) q (o .lines);
+      rest = o .rest;
+      stage = o .stage;
+      prefix = ap₂ (λ (x y : List ℕ). x ++ y) (w .prefix) (o .prefix);
+      clauses = ap₂ (λ (x y : List ℤ). x ++ y) (w .clauses) (o .clauses);
+    }
+
+-- One fault at one place.
+number-same : {k k′ : ℕ} {s : Stage} {left : List (List ℕ)} → Fault k s left → Fault k′ s left → k ≡ k′
+number-same (outside none no-many) (outside none′ no-many′) = refl
+number-same (outside none no-many) (many t) = absurd (no-many t)
+number-same unended unended = refl
+number-same no-problem no-problem = refl
+number-same (many t) (outside none no-many) = absurd (no-many t)
+number-same (many t) (many t′) = refl
+number-same (few h) (few h′) = refl
+
+pub fault-same : {text : List ℕ} {k k′ p p′ : ℕ} → FaultIn text k p → FaultIn text k′ p′ → (k ≡ k′) × (p ≡ p′)
+fault-same {k = k} {k′ = k′} a b =
+    let o = one-path (a .left) (b .left) (a .follow) (b .follow) (stops (a .fault)) (stops (b .fault)) (sym (a .cut) ∙ b .cut) in
+    let there : Fault k′ (a .stage) (a .left) = subst (λ (s : Stage). Fault k′ s (a .left)) (sym (o .stage)) (subst (Fault k′ (b .stage)) (sym (o .rest)) (b .fault)) in
+    (number-same (a .fault) there, a .at ∙ ap placeAfter (o .lines) ∙ sym (b .at))
+
+-- A text that is the text of tables has no fault.
+full-stop : {k n m : ℕ} (s : Stage) (left : List (List ℕ)) → Fault k s left → s ≡ Body n m m → left ≡ [] ∷ [] → ⊥
+full-stop s left (outside none no-many) e f = let no : _≡_ {A = ℕ} 0 1 = cc in omega arith
+full-stop s left unended e f = let no : _≡_ {A = ℕ} 0 1 = cc in omega arith
+full-stop s left no-problem e f = let no : _≡_ {A = ℕ} 0 1 = cc in omega arith
+full-stop s left (many t) e f = let no : _≡_ {A = ℕ} 0 1 = cc in omega arith
+full-stop {n = n} {m = m} s left (few {m = a} {k = b} h) e f = let p : a ≡ m = cc in let q : b ≡ m = cc in omega arith
+
+pub text-fault : {text P : List ℕ} {C : List ℤ} {n k p : ℕ} → TextOf n P C text → FaultIn text k p → ⊥
+text-fault {n = n} t f =
+    let o = one-path ([] ∷ []) (f .left) (t .follow) (f .follow) (stops-last (Body n (t .announced) (t .announced)) []) (stops (f .fault)) (sym (t .cut) ∙ f .cut) in
+    full-stop (f .stage) (f .left) (f .fault) (sym (o .stage)) (sym (o .rest))
+
+-- A text is the text of one n and two tables.
+pub record SameTables (n n′ : ℕ) (P P′ : List ℕ) (C C′ : List ℤ) : Type 0 where
+  pub number : n ≡ n′
+  pub prefix : P ≡ P′
+  pub clauses : C ≡ C′
+
+pub text-same : {text P P′ : List ℕ} {C C′ : List ℤ} {n n′ : ℕ} → TextOf n P C text → TextOf n′ P′ C′ text → SameTables n n′ P P′ C C′
+text-same {n = n} {n′ = n′} a b =
+    let o = one-path ([] ∷ []) ([] ∷ []) (a .follow) (b .follow) (stops-last (Body n (a .announced) (a .announced)) []) (stops-last (Body n′ (b .announced) (b .announced)) []) (sym (a .cut) ∙ b .cut) in
+    let s = o .stage in
+    record { number = cc; prefix = o .prefix; clauses = o .clauses }

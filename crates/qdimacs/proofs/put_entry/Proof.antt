@@ -1,0 +1,31 @@
+-- `qdimacs::put_entry` meets its contract: a store out of range does nothing.
+use mathlib.Core.Path.{sym}
+use lib.Seq.{set-out}
+use borrow.Author.Needs.{needs}
+use Rattle.qdimacs.proofs.put_entry.Statement.{statement}
+use Rattle.qdimacs.proofs.put_entry.Tie as tie
+use Rattle.qdimacs.proofs.put_entry.Reads as reads
+use Rattle.qdimacs.proofs.put_entry.Lts as lts
+
+-- src/lib.rt:266:9
+mul-table : tie.Need-mul-table
+mul-table c = search needs
+
+-- src/lib.rt:266:9
+slice-write-table : tie.Need-slice-write-table
+slice-write-table c = search needs
+
+-- src/lib.rt:262:1
+same-length : tie.Need-same-length
+same-length c = search needs
+
+-- src/lib.rt:262:1
+returns : tie.Need-returns
+returns c = search needs
+
+-- src/lib.rt:262:1
+returns-2 : tie.Need-returns-2
+returns-2 c = sym (set-out (c .before .args .table .now) (c .before .args .row) (c .before .args .entry) (c .if1 .left))
+
+pub put-entry-spec : {M : Type 1} → statement M
+put-entry-spec = tie.close (tie.spec mul-table slice-write-table same-length returns returns-2)

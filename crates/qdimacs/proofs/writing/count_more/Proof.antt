@@ -1,0 +1,43 @@
+-- `qdimacs::writing::count_more` meets its contract.
+use mathlib.Core.Path.{sym, ap, _∙_}
+use mathlib.Core.List.{[], _∷_}
+use native.Mathlib.Omega.{arith}
+use lib.IntN.{ℤ}
+use mir.Syntax.{w32}
+use mir.Val.{toZ, ofZ}
+use mir.Facts.{toZ-ofZ}
+use Rattle.qdimacs.specs.Writing.{clauseCount}
+use Rattle.qdimacs.proofs.Stores.{count-closes, count-goes-on}
+use borrow.Author.Needs.{needs}
+use Rattle.qdimacs.proofs.writing.count_more.Statement.{statement}
+use Rattle.qdimacs.proofs.writing.count_more.Tie as tie
+use Rattle.qdimacs.proofs.writing.count_more.Reads as reads
+use Rattle.qdimacs.proofs.writing.count_more.Lts as lts
+use Rattle.qdimacs.proofs.writing.closes.Reads as closes-reads
+
+-- src/writing.rt:161:8
+closes-requires : tie.Need-closes-requires
+closes-requires c κs = search needs
+
+-- src/writing.rt:162:16
+add-result : tie.Need-add-result
+add-result c = search needs
+
+-- src/writing.rt:162:9
+returns : tie.Need-returns
+returns c =
+    let a = c .before .before .args in
+    let same = ap (λ (z : ℤ). clauseCount (z ∷ [])) (toZ-ofZ (c .before .before .fits .literal)) in
+    let e = count-closes (toZ w32 (ofZ w32 (a .literal))) (sym (c .before .closes .ensures) ∙ c .if1 .taken) in
+    omega arith
+
+-- src/writing.rt:157:1
+returns-2 : tie.Need-returns-2
+returns-2 c =
+    let a = c .before .before .args in
+    let same = ap (λ (z : ℤ). clauseCount (z ∷ [])) (toZ-ofZ (c .before .before .fits .literal)) in
+    let e = count-goes-on (toZ w32 (ofZ w32 (a .literal))) (sym (c .before .closes .ensures) ∙ c .if1 .left) in
+    omega arith
+
+pub count-more-spec : {M : Type 1} → statement M
+count-more-spec = tie.close (tie.spec closes-requires add-result returns returns-2)

@@ -1,0 +1,134 @@
+-- What the functions on one line promise, in the grammar's words, for the line that stands at a place of a text.
+use Prim.Native.Nat.{ℕ, _+_, _<_, _≤_}
+use mathlib.Core.Path.{_≡_}
+use mathlib.Core.List.{List, [], _∷_}
+use mathlib.Core.Option.{some}
+use lib.ListN.{length, drop}
+use lib.Seq.{sets}
+use lib.IntN.{ℤ}
+use Rattle.qdimacs.specs.declared.Number.the-variants.{Is}
+use Rattle.qdimacs.specs.declared.Stage.{Stage}
+use Rattle.qdimacs.specs.declared.Stage.the-variants.{Opening, Body}
+use Rattle.qdimacs.specs.declared.Reading.{Reading}
+use Rattle.qdimacs.specs.declared.Reading.the-variants.{Read, Refused}
+use Rattle.qdimacs.specs.declared.Spelt.{Spelt}
+use Rattle.qdimacs.specs.declared.Spelt.the-variants.{Missing, Spelled}
+use Rattle.qdimacs.specs.declared.Counted.{Counted}
+use Rattle.qdimacs.specs.declared.Counted.the-variants.{Uncounted, Count}
+use Rattle.qdimacs.specs.declared.Opened.{Opened}
+use Rattle.qdimacs.specs.declared.Opened.the-variants.{Misfit, Comment, Problem}
+use Rattle.qdimacs.specs.declared.Mark.{Mark}
+use Rattle.qdimacs.specs.declared.Mark.the-variants.{Unmarked, Marked}
+use Rattle.qdimacs.specs.declared.Row.{Row}
+use Rattle.qdimacs.specs.declared.Row.the-variants.{Broken, Whole}
+use Rattle.qdimacs.specs.declared.Step.{Step}
+use Rattle.qdimacs.specs.declared.Step.the-variants.{Bad, Many, On}
+use Rattle.qdimacs.specs.Words.{LF, LETTER-A, LETTER-E, pieces, numberOf, entriesOf}
+use Rattle.qdimacs.specs.Grammar.{variables, CommentLine, ProblemLine, Line, TextOf, Fault, FaultIn}
+use Rattle.qdimacs.specs.Places.{past, inLine, lineAt, afterAt, wordsAt, Passed, NoRow}
+
+-- The next word of a line is this one, and the line goes on at `next`.
+pub record Goes (word : List ℕ) (text : List ℕ) (at next : ℕ) : Type 0 where
+  pub first : wordsAt text at ≡ word ∷ wordsAt text next
+  pub after : afterAt text at ≡ afterAt text next
+  pub line : past inLine text at ≡ past inLine text next
+  pub on : at < next
+  pub within : next ≤ length text
+
+-- Whether the next word is this one.
+abbrev pub SpeltIs : List ℕ → List ℕ → ℕ → Spelt → Type 0
+SpeltIs word text at Missing = (more : List (List ℕ)) → wordsAt text at ≡ word ∷ more → ⊥
+SpeltIs word text at (Spelled next) = Goes word text at next
+
+-- Whether the next word is a number.
+pub record Counts (text : List ℕ) (at value next : ℕ) : Type 0 where
+  pub word : List ℕ
+  pub goes : Goes word text at next
+  pub is : numberOf word ≡ Is value
+
+abbrev pub CountedIs : List ℕ → ℕ → Counted → Type 0
+CountedIs text at Uncounted = (word : List ℕ) (more : List (List ℕ)) (value : ℕ) → wordsAt text at ≡ word ∷ more → numberOf word ≡ Is value → ⊥
+CountedIs text at (Count value next) = Counts text at value next
+
+-- The line at a place is no comment.
+abbrev pub NoComment : List ℕ → ℕ → Type 0
+NoComment text at = CommentLine (lineAt text at) → ⊥
+
+-- The line at a place ends in LF and is what it is taken for; or it is neither a comment nor the problem line, or has no LF.
+pub data NoOpening (text : List ℕ) (at : ℕ) : Type 0 where
+  no-opening : (CommentLine (lineAt text at) → ⊥) → ((n m : ℕ) → ProblemLine (lineAt text at) n m → ⊥) → NoOpening text at
+  endless-line : afterAt text at ≡ [] → NoOpening text at
+
+abbrev pub OpenedIs : List ℕ → ℕ → Opened → Type 0
+OpenedIs text at Misfit = NoOpening text at
+OpenedIs text at (Comment next) = CommentLine (lineAt text at) × Passed text at next
+OpenedIs text at (Problem n m next) = ProblemLine (lineAt text at) n m × Passed text at next
+
+-- Whether a line begins with the word `e` or `a`, whose marks are 1 and 2.
+pub data MarkAt (text : List ℕ) (at mark next : ℕ) : Type 0 where
+  e-mark : mark ≡ 1 → Goes (LETTER-E ∷ []) text at next → MarkAt text at mark next
+  a-mark : mark ≡ 2 → Goes (LETTER-A ∷ []) text at next → MarkAt text at mark next
+
+abbrev pub MarkIs : List ℕ → ℕ → Mark → Type 0
+MarkIs text at Unmarked = SpeltIs (LETTER-E ∷ []) text at Missing × SpeltIs (LETTER-A ∷ []) text at Missing
+MarkIs text at (Marked mark next) = MarkAt text at mark next
+
+-- The entries of a quantifier line, from the place after its mark on: the mark, the variables and 0.
+pub record WholeBlock (mark : ℕ) (text : List ℕ) (at from : ℕ) (before after : List ℕ) (next count : ℕ) : Type 0 where
+  pub entries : List ℕ
+  pub read : entriesOf variables (wordsAt text at) ≡ some entries
+  pub passed : Passed text at next
+  pub counted : count ≡ from + length (mark ∷ entries)
+  pub stored : after ≡ sets before from (mark ∷ entries)
+  pub few : count ≤ next
+
+abbrev pub BlockIs : ℕ → List ℕ → ℕ → ℕ → List ℕ → List ℕ → Row → Type 0
+BlockIs mark text at from before after Broken = NoRow variables text at
+BlockIs mark text at from before after (Whole next count) = WholeBlock mark text at from before after next count
+
+-- The line at a place may stand at a stage: the stage it leads to, the next line, and what it added to the tables.
+pub record Went (stage : Stage) (text : List ℕ) (at entries literals : ℕ) (before after : List ℕ × List ℤ) (stage′ : Stage) (next entries′ literals′ : ℕ) : Type 0 where
+  pub p : List ℕ
+  pub c : List ℤ
+  pub line : Line stage (lineAt text at) stage′ p c
+  pub passed : Passed text at next
+  pub entries-counted : entries′ ≡ entries + length p
+  pub literals-counted : literals′ ≡ literals + length c
+  pub prefix-stored : after .0 ≡ sets (before .0) entries p
+  pub clauses-stored : after .1 ≡ sets (before .1) literals c
+  pub few-entries : entries′ ≤ next
+  pub few-literals : literals′ ≤ next
+
+-- What a line makes of a stage and two tables, which `before` and `after` hold: a fault, or the next stage.
+abbrev pub StepIs : Stage → List ℕ → ℕ → ℕ → ℕ → List ℕ × List ℤ → List ℕ × List ℤ → Step → Type 0
+StepIs stage text at entries literals before after Bad = Fault 16 stage (pieces LF (drop at text))
+StepIs stage text at entries literals before after Many = Fault 17 stage (pieces LF (drop at text))
+StepIs stage text at entries literals before after (On stage′ next entries′ literals′) = Went stage text at entries literals before after stage′ next entries′ literals′
+
+-- No more clause lines have stood than were announced.
+abbrev pub Sound : Stage → Type 0
+Sound Opening = Unit {0}
+Sound (Body n m k) = k ≤ m
+
+-- What a scan of a whole text finds: a fault, or n and tables whose text it is, which are stored as far as there are rows.
+pub record Scanned (n entries literals : ℕ) (text : List ℕ) (before after : List ℕ × List ℤ) : Type 0 where
+  pub P : List ℕ
+  pub C : List ℤ
+  pub text-of : TextOf n P C text
+  pub entries-counted : entries ≡ length P
+  pub literals-counted : literals ≡ length C
+  pub prefix-stored : after .0 ≡ sets (before .0) 0 P
+  pub clauses-stored : after .1 ≡ sets (before .1) 0 C
+
+abbrev pub ScanIs : List ℕ → List ℕ × List ℤ → List ℕ × List ℤ → Reading → Type 0
+ScanIs text before after (Read n entries literals) = Scanned n entries literals text before after
+ScanIs text before after (Refused number place) = FaultIn text number place
+
+-- What lies at the end of a text, after all its lines, at a stage: a fault, or nothing.
+abbrev pub announcedAt : Stage → ℕ
+announcedAt Opening = 0
+announcedAt (Body n m k) = m
+
+abbrev pub FinishIs : Stage → ℕ → ℕ → ℕ → Reading → Type 0
+FinishIs stage at entries literals (Read n e l) = (stage ≡ Body n (announcedAt stage) (announcedAt stage)) × (e ≡ entries) × (l ≡ literals)
+FinishIs stage at entries literals (Refused number place) = Fault number stage ([] ∷ []) × (place ≡ at)

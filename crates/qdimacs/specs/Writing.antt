@@ -1,0 +1,105 @@
+-- The text that is written for n and two tables (document 01, "QDIMACS lines"): no comments, single spaces and no stray ones.
+use Prim.Native.Nat.{ℕ, zero, suc, _+_, _<_, _/_, _%_}
+use mathlib.Core.Path.{_≡_}
+use mathlib.Core.Logic.{_⊎_}
+use mathlib.Core.Bool.{Bool, true, false, cond}
+use mathlib.Core.List.{List, [], _∷_, _++_}
+use lib.Dec.{eqb, ltb}
+use lib.ListN.{length, getD}
+use lib.Seq.{sets}
+use lib.IntN.{ℤ, pos, negsuc, natAbs}
+use Rattle.qdimacs.specs.Words.{LF, SPACE, MINUS, ZERO, LETTER-A, LETTER-C, LETTER-E, LETTER-F, LETTER-N, LETTER-P}
+
+-- The decimal digits of a number: those of its tenth, and one more; no more than the number given first.
+unfoldable pub digitsOf : ℕ → ℕ → List ℕ
+digitsOf zero value = []
+digitsOf (suc most) value = elim (ltb value 10) [ true ↦ (ZERO + value) ∷ [] | false ↦ digitsOf most (value / 10) ++ ((ZERO + value % 10) ∷ []) ]
+
+unfoldable pub decimal : ℕ → List ℕ
+decimal value = digitsOf (suc value) value
+
+-- The word of a mark, and of a literal.
+unfoldable pub markWord : ℕ → List ℕ
+markWord mark = cond (eqb mark 1) (LETTER-E ∷ []) (LETTER-A ∷ [])
+
+unfoldable pub literalWord : ℤ → List ℕ
+literalWord (pos n) = decimal n
+literalWord (negsuc n) = MINUS ∷ decimal (suc n)
+
+-- A space before each word of a line but the first, and LF after the closing 0.
+unfoldable pub spaced : Bool → List ℕ → List ℕ
+spaced true text = text
+spaced false text = SPACE ∷ text
+
+unfoldable pub ended : Bool → List ℕ → List ℕ
+ended true text = LF ∷ text
+ended false text = text
+
+-- The lines of the prefix table and of the clause table, from the first entry of a line on, or from a later one.
+unfoldable pub prefixText : Bool → List ℕ → List ℕ
+prefixText first [] = []
+prefixText true (mark ∷ more) = markWord mark ++ prefixText false more
+prefixText false (entry ∷ more) = spaced false (decimal entry ++ ended (eqb entry 0) (prefixText (eqb entry 0) more))
+
+unfoldable pub clauseText : Bool → List ℤ → List ℕ
+clauseText first [] = []
+clauseText first (entry ∷ more) = spaced first (literalWord entry ++ ended (eqb (natAbs entry) 0) (clauseText (eqb (natAbs entry) 0) more))
+
+-- How many clauses a clause table has: one for each 0.
+unfoldable pub clauseCount : List ℤ → ℕ
+clauseCount [] = 0
+clauseCount (entry ∷ more) = cond (eqb (natAbs entry) 0) (suc (clauseCount more)) (clauseCount more)
+
+-- The problem line, and then the two tables.
+abbrev pub cnfBytes : List ℕ
+cnfBytes = LETTER-P ∷ SPACE ∷ LETTER-C ∷ LETTER-N ∷ LETTER-F ∷ SPACE ∷ []
+
+unfoldable pub problemBytes : ℕ → ℕ → List ℕ
+problemBytes n m = cnfBytes ++ (decimal n ++ (SPACE ∷ (decimal m ++ (LF ∷ []))))
+
+unfoldable pub textOf : ℕ → List ℕ → List ℤ → List ℕ
+textOf n prefix clauses = problemBytes n (clauseCount clauses) ++ (prefixText true prefix ++ clauseText true clauses)
+
+-- Tables that a text can hold: blocks of a mark, nonzero variables and 0; clauses of nonzero literals and 0; numbers of at most five digits.
+-- The flag says whether a block or a clause begins here.
+pub data Blocks : Bool → List ℕ → Type 0 where
+  no-block : Blocks true []
+  block : {mark : ℕ} {more : List ℕ} → (mark ≡ 1) ⊎ (mark ≡ 2) → Blocks false more → Blocks true (mark ∷ more)
+  block-end : {more : List ℕ} → Blocks true more → Blocks false (0 ∷ more)
+  variable : {entry : ℕ} {more : List ℕ} → (entry ≡ 0 → ⊥) → entry < 100000 → Blocks false more → Blocks false (entry ∷ more)
+
+pub data Clauses : Bool → List ℤ → Type 0 where
+  no-clause : Clauses true []
+  clause-end : {first : Bool} {more : List ℤ} → Clauses true more → Clauses first (pos 0 ∷ more)
+  literal : {first : Bool} {entry : ℤ} {more : List ℤ} → (natAbs entry ≡ 0 → ⊥) → natAbs entry < 100000 → Clauses false more → Clauses first (entry ∷ more)
+
+pub record Holdable (n : ℕ) (prefix : List ℕ) (clauses : List ℤ) : Type 0 where
+  pub number : n < 100000
+  pub count : clauseCount clauses < 100000
+  pub blocks : Blocks true prefix
+  pub all-clauses : Clauses true clauses
+
+-- Bytes that were stored in a buffer from a place on, as far as it has room, and the place after them.
+pub record Wrote (bytes before after : List ℕ) (at next : ℕ) : Type 0 where
+  pub end : next ≡ at + length bytes
+  pub stored : after ≡ sets before at bytes
+
+-- The bytes of one entry, at the beginning of a line or after it.
+unfoldable pub entryBytes : Bool → ℕ → List ℕ
+entryBytes true mark = markWord mark
+entryBytes false entry = SPACE ∷ (decimal entry ++ ended (eqb entry 0) [])
+
+unfoldable pub literalBytes : Bool → ℤ → List ℕ
+literalBytes first entry = spaced first (literalWord entry ++ ended (eqb (natAbs entry) 0) [])
+
+-- Every entry is below 100,000, in either sign.
+abbrev pub SmallEntries : List ℕ → Type 0
+SmallEntries prefix = (i : ℕ) → i < length prefix → getD prefix i 0 < 100000
+
+abbrev pub SmallLiterals : List ℤ → Type 0
+SmallLiterals clauses = (i : ℕ) → i < length clauses → natAbs (getD clauses i (pos 0)) < 100000
+
+-- Whether a line begins after an entry of the prefix table: not after a mark, and else after the closing 0.
+unfoldable pub nextFirst : Bool → ℕ → Bool
+nextFirst true mark = false
+nextFirst false entry = eqb entry 0
