@@ -193,7 +193,7 @@ module _ {n : ℕ} {es : List ℕ} {i : ℕ} {opening fresh : Bool} {mark count 
       (λ k cause. ⊎-elim (λ w. let over = w .1 in omega arith) (λ w. let e = w .0 in omega arith) (at-variable shut some k cause))
 
 -- The end of the prefix is inside a block exactly if no block could open there.
-open-end : (es : List ℕ) (m : ℕ) → length es ≡ m → opens es m ≡ false → EndsInside 0 es
+pub open-end : (es : List ℕ) (m : ℕ) → length es ≡ m → opens es m ≡ false → EndsInside 0 es
 open-end es zero q shut = absurd (clash refl shut)
 open-end es (suc m) q shut = (omega arith, λ z. eqb-false (at es m) 0 shut (ap (at es) (let e : m ≡ length es - 1 = omega arith in e) ∙ z))
 

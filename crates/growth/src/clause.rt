@@ -3,6 +3,7 @@
 
 use crate::chains::merge;
 use formula::clauses::variable_at;
+use terms::Variable;
 ghost use Prim.Native.Nat.{ℕ};
 ghost use mathlib.Core.Path.{_≡_};
 ghost use mathlib.Core.List.{map};
@@ -11,9 +12,9 @@ ghost use Rattle.terms.specs.Literals.{variableOf};
 ghost use Rattle.growth.specs.Loose.{Growing, Grew, InRows, Deepest};
 
 // The deepest existential of a clause; a variable of depth 0 where it has none.
-fn deepest(depths: &[u32], clause: &[i32]) -> u32
+fn deepest(depths: &[u32], clause: &[i32]) -> Variable
     requires { ⌜ (length (now depths) ≡ 4097) × (getD (now depths) 0 0 ≡ 0) × InRows (now clause) ⌝ }
-    ensures { λ r. ⌜ Deepest (now (depths .entry)) (now (clause .entry)) r ⌝ }
+    ensures { λ r. ⌜ Deepest (now (depths .entry)) (now (clause .entry)) (r .0) ⌝ }
 {
     let mut found: u32 = 0;
     let mut depth: u32 = 0;
@@ -30,23 +31,28 @@ fn deepest(depths: &[u32], clause: &[i32]) -> u32
             i += 1;
         }
     }
-    found
+    Variable(found)
 }
 
 // Joins the chain of each existential of the clause to that of the deepest.
-fn join_all(depths: &[u32], classes: &mut [u32], parents: &mut [u32], clause: &[i32], deep: u32)
-    requires { ⌜ Growing (now depths) (now classes) (now parents) × InRows (now clause) × Deepest (now depths) (now clause) deep ⌝ }
+fn join_all(
+    depths: &[u32],
+    classes: &mut [u32],
+    parents: &mut [u32],
+    clause: &[i32],
+    deep: Variable,
+)
+    requires { ⌜ Growing (now depths) (now classes) (now parents) × InRows (now clause) × Deepest (now depths) (now clause) (deep .0) ⌝ }
     ensures { λ r. ⌜ Grew (now (depths .entry)) (now (classes .entry)) (now (parents .entry)) (map variableOf (now (clause .entry))) (now (classes .exit)) (now (parents .exit)) ⌝ }
 {
     let mut i = 0;
     while i < clause.len() {
         let variable = variable_at(clause, i);
-        let v = variable.0;
-        let here = depths[v as usize];
+        let here = depths[variable.0 as usize];
         if here == 0 {
             i += 1;
         } else {
-            merge(depths, classes, parents, deep, v);
+            merge(depths, classes, parents, deep, variable);
             i += 1;
         }
     }

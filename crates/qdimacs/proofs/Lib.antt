@@ -14,3 +14,5 @@ pub mod Written
 pub mod Settled
 pub mod Stores
 pub mod Outputs
+pub mod Accepted
+pub mod Calls

@@ -2,12 +2,15 @@
 -- in the order 15, 14. The causes 1 to 11 come before these: they are those of the tables.
 use Prim.Native.Nat.{ℕ, _<_, _≤_}
 use mathlib.Core.Path.{_≡_}
-use mathlib.Core.List.{List, [], _∷_}
+use mathlib.Core.List.{List, [], _∷_, _++_}
+use lib.IntN.{ℤ}
 use lib.ListN.{length, take, drop}
+use Rattle.formula.specs.Causes.{checkOrder}
 use Rattle.terms.specs.Refusals.{Causes, FirstOf, NoneOf}
 use Rattle.qdimacs.specs.declared.Output.{Output}
 use Rattle.qdimacs.specs.declared.Output.the-variants.{Written, Refused}
 use Rattle.qdimacs.specs.Reading.{Overlong}
+use Rattle.qdimacs.specs.Writing.{textOf}
 
 -- 14: the buffer is shorter than the text.
 pub data ShortOut (text out : List ℕ) : ℕ → ℕ → Type 0 where
@@ -26,3 +29,12 @@ pub record Stored (text out out′ : List ℕ) (count : ℕ) : Type 0 where
 abbrev pub WriteIs : List ℕ → List ℕ → List ℕ → Output → Type 0
 WriteIs text out out′ (Written count) = NoneOf (writeOrder text out) × Stored text out out′ count
 WriteIs text out out′ (Refused number place) = FirstOf (writeOrder text out) number place × (out′ ≡ out)
+
+-- The order of write: that of check, then 15 and 14.
+abbrev pub tablesOrder : ℕ → List ℕ → List ℤ → List ℕ → List Causes
+tablesOrder n prefix clauses out = checkOrder n prefix clauses ++ writeOrder (textOf n prefix clauses) out
+
+-- What write promises: the text of n and the two tables stands in front in the lent buffer, or nothing is changed.
+abbrev pub Writes : ℕ → List ℕ → List ℤ → List ℕ → List ℕ → Output → Type 0
+Writes n prefix clauses out out′ (Written count) = NoneOf (tablesOrder n prefix clauses out) × Stored (textOf n prefix clauses) out out′ count
+Writes n prefix clauses out out′ (Refused number place) = FirstOf (tablesOrder n prefix clauses out) number place × (out′ ≡ out)

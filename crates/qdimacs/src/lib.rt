@@ -2,6 +2,9 @@
 
 pub mod writing;
 
+use terms::Verdict;
+use writing::write_accepted;
+ghost use Rattle.qdimacs.specs.Stored.{Writes};
 ghost use mathlib.Core.Path.{_≡_};
 ghost use Prim.Native.Nat.{_+_, _<_, _≤_};
 ghost use lib.ListN.{length, set};
@@ -787,5 +790,15 @@ pub fn read(text: &[u8], prefix: &mut [u32], clauses: &mut [i32]) -> Reading
             }
             scan(text, prefix, clauses)
         }
+    }
+}
+
+// Writes the text of a formula into a lent buffer: refused as check refuses it, where the text is too long, or where it does not fit.
+pub fn write(n: u32, prefix: &[u32], clauses: &[i32], out: &mut [u8]) -> Output
+    ensures { λ r. ⌜ Writes n (now (prefix .entry)) (now (clauses .entry)) (now (out .entry)) (now (out .exit)) r ⌝ }
+{
+    match formula::check(n, prefix, clauses) {
+        Verdict::Refused(number, place) => Output::Refused { number, place },
+        Verdict::Accepted => write_accepted(n, prefix, clauses, out),
     }
 }

@@ -25,7 +25,7 @@ use crate::ZERO;
 use terms::Literal;
 
 // Stores a byte if the buffer has room for it.
-fn put_byte(out: &mut [u8], at: usize, byte: u8) -> usize
+pub fn put_byte(out: &mut [u8], at: usize, byte: u8) -> usize
     requires { ⌜ at < 4294967296 ⌝ }
     ensures { λ r. ⌜ Wrote (byte ∷ []) (now (out .entry)) (now (out .exit)) at r ⌝ }
 {
@@ -37,7 +37,7 @@ fn put_byte(out: &mut [u8], at: usize, byte: u8) -> usize
 }
 
 // The decimal digits of a number.
-fn put_number(out: &mut [u8], at: usize, value: u32) -> usize
+pub fn put_number(out: &mut [u8], at: usize, value: u32) -> usize
     requires { ⌜ (at < 4294967200) × (value < 100000) ⌝ }
     ensures { λ r. ⌜ Wrote (decimal value) (now (out .entry)) (now (out .exit)) at r ⌝ }
 {

@@ -7,10 +7,10 @@ use Rattle.growth.proofs.chains.root.Statement.{statement}
 use Rattle.growth.proofs.chains.root.Tie as tie
 
 abbrev Inv-loop : tie.InvT-loop
-Inv-loop classes₀ v at₀ up₀ classes at up = Following classes₀ v classes at up × (length classes ≡ length classes₀)
+Inv-loop classes₀ at₀ up₀ classes at up = Following classes₀ at₀ classes at up × (length classes ≡ length classes₀)
 
 abbrev μ-loop : tie.MeasureT-loop
-μ-loop classes₀ v at₀ up₀ classes at up = at
+μ-loop classes₀ at₀ up₀ classes at up = at
 
 cast-up : tie.Need-cast-up Inv-loop μ-loop
 cast-up c = let f = c .pre .within in omega arith
