@@ -1,0 +1,76 @@
+-- `listing::count_clauses` meets its contract: the zeros before an entry are counted.
+use Prim.Native.Nat.{_-_}
+use mathlib.Core.Path.{_∙_, sym}
+use mathlib.Core.Bool.{Bool}
+use native.Mathlib.Omega.{arith}
+use borrow.Author.Needs.{needs}
+use borrow.Author.Tests.{eq-eqb, ne-eqb}
+use lib.IntN.{ℤ, pos}
+use lib.ListN.{length}
+use Rattle.terms.specs.Literals.{variableOf}
+use Rattle.formula.specs.Meaning.{isZero, clauses}
+use Rattle.listing.proofs.Counts.{Counted, counted-none, counted-zero, counted-other, counted-all}
+use Rattle.listing.proofs.count_clauses.Statement.{statement}
+use Rattle.listing.proofs.count_clauses.Tie as tie
+
+-- the 0 that closes a clause
+abbrev closes : ℤ → Bool
+closes literal = isZero (variableOf literal)
+
+abbrev Inv-loop : tie.InvT-loop
+Inv-loop clauses count₀ i₀ count i = Counted closes (pos 0) clauses count i
+
+abbrev μ-loop : tie.MeasureT-loop
+μ-loop clauses count₀ i₀ count i = length clauses - i
+
+loop-holds : tie.Need-loop-holds Inv-loop μ-loop
+loop-holds c = counted-none closes (pos 0) (c .args .clauses .now)
+
+variable-at-requires : tie.Need-variable-at-requires Inv-loop μ-loop
+variable-at-requires c κs = search needs
+
+add-count : tie.Need-add-count Inv-loop μ-loop
+add-count c = let most = c .before .before .before .before .loop .inv .most in omega arith
+
+add-i : tie.Need-add-i Inv-loop μ-loop
+add-i c = omega arith
+
+loop-less : tie.Need-loop-less Inv-loop μ-loop
+loop-less c = omega arith
+
+loop-again : tie.Need-loop-again Inv-loop μ-loop
+loop-again c =
+    let l = c .before .before .before .before .loop in
+    counted-zero closes (pos 0) (c .before .before .before .before .before .args .clauses .now) (l .count) (l .i) (l .inv) (c .before .before .before .loop-test .taken) (eq-eqb _ 0 (sym (c .before .before .variable-at .ensures) ∙ c .if1 .taken))
+
+add-i-2 : tie.Need-add-i-2 Inv-loop μ-loop
+add-i-2 c = omega arith
+
+loop-less-2 : tie.Need-loop-less-2 Inv-loop μ-loop
+loop-less-2 c = omega arith
+
+loop-again-2 : tie.Need-loop-again-2 Inv-loop μ-loop
+loop-again-2 c =
+    let l = c .before .before .before .before .loop in
+    counted-other closes (pos 0) (c .before .before .before .before .before .args .clauses .now) (l .count) (l .i) (l .inv) (c .before .before .before .loop-test .taken) (ne-eqb _ 0 (λ z. c .if1 .left (c .before .before .variable-at .ensures ∙ z)))
+
+returns : tie.Need-returns Inv-loop μ-loop
+unfolding clauses
+returns c = let l = c .before .loop in counted-all closes (pos 0) (c .before .before .args .clauses .now) (l .count) (l .i) (l .inv) (c .loop-test .left)
+
+pub count-clauses-spec : {M : Type 1} → statement M
+count-clauses-spec =
+    tie.close
+    (tie.spec
+    Inv-loop
+    μ-loop
+    loop-holds
+    variable-at-requires
+    add-count
+    add-i
+    loop-less
+    loop-again
+    add-i-2
+    loop-less-2
+    loop-again-2
+    returns)

@@ -1,0 +1,89 @@
+-- `listing::print_universal` meets its contract.
+use mathlib.Core.Path.{sym, subst}
+use lib.ListN.{replicate}
+use lib.Seq.{length-take-le}
+use Rattle.forest.specs.Search.{Picks}
+use Rattle.listing.proofs.Printed.{picks-room, picks-small}
+use borrow.Author.Needs.{needs}
+use Rattle.listing.proofs.print_universal.Statement.{statement}
+use Rattle.listing.proofs.print_universal.Tie as tie
+
+slice-aggregate-list-flagged : tie.Need-slice-aggregate-list-flagged
+slice-aggregate-list-flagged c = search needs
+
+list-flagged-requires : tie.Need-list-flagged-requires
+list-flagged-requires c κs = search needs
+
+enum-told : tie.Need-enum-told
+enum-told c = search needs
+
+enum-known-found : tie.Need-enum-known-found
+enum-known-found c = search needs
+
+slice-aggregate-list-flagged-2 : tie.Need-slice-aggregate-list-flagged-2
+slice-aggregate-list-flagged-2 c = search needs
+
+list-flagged-requires-2 : tie.Need-list-flagged-requires-2
+list-flagged-requires-2 c κs = search needs
+
+enum-told-2 : tie.Need-enum-told-2
+enum-told-2 c = search needs
+
+enum-known-size : tie.Need-enum-known-size
+enum-known-size c = search needs
+
+cast-entries : tie.Need-cast-entries
+cast-entries c = search needs
+
+array-share-prefix-entries : tie.Need-array-share-prefix-entries
+array-share-prefix-entries c = picks-room (c .before .before .before .before .before .before .before .before .before .before .before .before .before .before .args .entered .now) (c .before .before .before .before .before .before .before .before .before .before .before .before .before .before .args .n) (replicate 4096 0) (c .before .before .before .before .before .before .before .before .before .before .list-flagged .last .1 .1 .0) (c .before .before .before .before .before .before .before .found .given .0 .0) (subst (Picks (c .before .before .before .before .before .before .before .before .before .before .before .before .before .before .args .entered .now) (c .before .before .before .before .before .before .before .before .before .before .before .before .before .before .args .n) (replicate 4096 0) (c .before .before .before .before .before .before .before .before .before .before .list-flagged .last .1 .1 .0)) (c .before .before .before .before .before .before .before .found .given .1) (c .before .before .before .before .before .before .before .before .before .before .list-flagged .ensures))
+
+slice-aggregate-print-lists : tie.Need-slice-aggregate-print-lists
+slice-aggregate-print-lists c = sym (length-take-le (c .before .before .before .before .before .before .before .before .found .given .0 .0) (c .before .before .before .before .before .before .before .before .before .before .before .list-flagged .last .1 .1 .0) (picks-room (c .before .before .before .before .before .before .before .before .before .before .before .before .before .before .before .args .entered .now) (c .before .before .before .before .before .before .before .before .before .before .before .before .before .before .before .args .n) (replicate 4096 0) (c .before .before .before .before .before .before .before .before .before .before .before .list-flagged .last .1 .1 .0) (c .before .before .before .before .before .before .before .before .found .given .0 .0) (subst (Picks (c .before .before .before .before .before .before .before .before .before .before .before .before .before .before .before .args .entered .now) (c .before .before .before .before .before .before .before .before .before .before .before .before .before .before .before .args .n) (replicate 4096 0) (c .before .before .before .before .before .before .before .before .before .before .before .list-flagged .last .1 .1 .0)) (c .before .before .before .before .before .before .before .before .found .given .1) (c .before .before .before .before .before .before .before .before .before .before .before .list-flagged .ensures))))
+
+cast-set : tie.Need-cast-set
+cast-set c = search needs
+
+array-share-prefix-set : tie.Need-array-share-prefix-set
+array-share-prefix-set c = picks-room (c .before .before .before .before .before .before .before .before .before .before .before .before .before .before .before .args .members .now) (c .before .before .before .before .before .before .before .before .before .before .before .before .before .before .before .args .n) (replicate 4096 0) (c .before .before .before .before .before .list-flagged2 .last .1 .1 .0) (c .before .before .size .given .0 .0) (subst (Picks (c .before .before .before .before .before .before .before .before .before .before .before .before .before .before .before .args .members .now) (c .before .before .before .before .before .before .before .before .before .before .before .before .before .before .before .args .n) (replicate 4096 0) (c .before .before .before .before .before .list-flagged2 .last .1 .1 .0)) (c .before .before .size .given .1) (c .before .before .before .before .before .list-flagged2 .ensures))
+
+slice-aggregate-print-lists-2 : tie.Need-slice-aggregate-print-lists-2
+slice-aggregate-print-lists-2 c = sym (length-take-le (c .before .before .before .size .given .0 .0) (c .before .before .before .before .before .before .list-flagged2 .last .1 .1 .0) (picks-room (c .before .before .before .before .before .before .before .before .before .before .before .before .before .before .before .before .args .members .now) (c .before .before .before .before .before .before .before .before .before .before .before .before .before .before .before .before .args .n) (replicate 4096 0) (c .before .before .before .before .before .before .list-flagged2 .last .1 .1 .0) (c .before .before .before .size .given .0 .0) (subst (Picks (c .before .before .before .before .before .before .before .before .before .before .before .before .before .before .before .before .args .members .now) (c .before .before .before .before .before .before .before .before .before .before .before .before .before .before .before .before .args .n) (replicate 4096 0) (c .before .before .before .before .before .before .list-flagged2 .last .1 .1 .0)) (c .before .before .before .size .given .1) (c .before .before .before .before .before .before .list-flagged2 .ensures))))
+
+print-lists-requires : tie.Need-print-lists-requires
+print-lists-requires c κs = (
+  picks-small (c .before .before .before .before .before .before .before .before .before .before .before .before .before .before .before .before .args .entered .now) (c .before .before .before .before .before .before .before .before .before .before .before .before .before .before .before .before .args .n) (replicate 4096 0) (c .before .before .before .before .before .before .before .before .before .before .before .before .list-flagged .last .1 .1 .0) (c .before .before .before .before .before .before .before .before .before .found .given .0 .0) (subst (Picks (c .before .before .before .before .before .before .before .before .before .before .before .before .before .before .before .before .args .entered .now) (c .before .before .before .before .before .before .before .before .before .before .before .before .before .before .before .before .args .n) (replicate 4096 0) (c .before .before .before .before .before .before .before .before .before .before .before .before .list-flagged .last .1 .1 .0)) (c .before .before .before .before .before .before .before .before .before .found .given .1) (c .before .before .before .before .before .before .before .before .before .before .before .before .list-flagged .ensures)) (c .before .before .before .before .before .before .before .before .before .before .before .before .before .before .before .before .pre),
+  picks-small (c .before .before .before .before .before .before .before .before .before .before .before .before .before .before .before .before .args .members .now) (c .before .before .before .before .before .before .before .before .before .before .before .before .before .before .before .before .args .n) (replicate 4096 0) (c .before .before .before .before .before .before .list-flagged2 .last .1 .1 .0) (c .before .before .before .size .given .0 .0) (subst (Picks (c .before .before .before .before .before .before .before .before .before .before .before .before .before .before .before .before .args .members .now) (c .before .before .before .before .before .before .before .before .before .before .before .before .before .before .before .before .args .n) (replicate 4096 0) (c .before .before .before .before .before .before .list-flagged2 .last .1 .1 .0)) (c .before .before .before .size .given .1) (c .before .before .before .before .before .before .list-flagged2 .ensures)) (c .before .before .before .before .before .before .before .before .before .before .before .before .before .before .before .before .pre),
+)
+
+returns : tie.Need-returns
+returns c = search needs
+
+returns-2 : tie.Need-returns-2
+returns-2 c = search needs
+
+returns-3 : tie.Need-returns-3
+returns-3 c = search needs
+
+pub print-universal-spec : {M : Type 1} → statement M
+print-universal-spec =
+    tie.close
+    (tie.spec
+    slice-aggregate-list-flagged
+    list-flagged-requires
+    enum-told
+    enum-known-found
+    slice-aggregate-list-flagged-2
+    list-flagged-requires-2
+    enum-told-2
+    enum-known-size
+    cast-entries
+    array-share-prefix-entries
+    slice-aggregate-print-lists
+    cast-set
+    array-share-prefix-set
+    slice-aggregate-print-lists-2
+    print-lists-requires
+    returns
+    returns-2
+    returns-3)

@@ -1,0 +1,208 @@
+// Lists the dependency sets of a QDIMACS text on standard input: a line for the formula, and one for each universal.
+
+mod lines;
+
+use forest::entering::find_entries;
+use forest::listing::list_flagged;
+use forest::marks::flag_members;
+use forest::rows::level_at;
+use forest::rows::universal_at;
+use formula::clauses::variable_at;
+use formula::levels::fill_levels;
+use libc::STDIN_FILENO;
+use libc::STDOUT_FILENO;
+use qdimacs::Reading;
+use terms::Filled;
+use terms::Level;
+use terms::Variable;
+ghost use Prim.Native.Nat.{_≤_, _<_};
+ghost use mathlib.Core.Path.{_≡_};
+ghost use lib.ListN.{length};
+ghost use Rattle.formula.specs.Levels.{SoundPrefix};
+ghost use Rattle.formula.specs.Meaning.{blocks};
+ghost use Rattle.formula.specs.Meaning.{clauses as Meaning·clauses};
+ghost use Rattle.connection.specs.Tables.{WellFormed, lent};
+ghost use Rattle.forest.specs.Formula.{variables, tabled};
+ghost use Rattle.forest.specs.Search.{rowsOf};
+ghost use Rattle.listing.specs.Lines.{Small};
+
+fn main() {
+    let mut text = [0u8; 65537];
+    let got = io::read_full(STDIN_FILENO, &mut text);
+    list_text(&text[..got]);
+}
+
+// Lists the formula of a text. A table longer than the buffers is refused by read.
+fn list_text(text: &[u8]) {
+    let mut prefix = [0u32; 8192];
+    let mut clauses = [0i32; 16384];
+    match qdimacs::read(text, &mut prefix, &mut clauses) {
+        Reading::Refused { number, place } => print_refusal(number, place),
+        Reading::Read {
+            n,
+            prefix: entries,
+            clauses: literals,
+        } => list_formula(n, &prefix[..entries], &clauses[..literals]),
+    }
+}
+
+// Prints a refusal. Numbers and places have at most five digits.
+fn print_refusal(number: u32, place: usize) {
+    let mut line = [0u8; 65536];
+    if number < 100000 {
+        if place < 100000 {
+            let end = lines::refused_line(&mut line, number, place as u32);
+            io::write_all(STDOUT_FILENO, &line[..end]);
+        }
+    }
+}
+
+// Lists an accepted formula; refusals 1 to 11 are build's.
+fn list_formula(n: u32, prefix: &[u32], clauses: &[i32]) {
+    let mut classes = [0u32; 4096];
+    let mut parents = [0u32; 4096];
+    match growth::build(n, prefix, clauses, &mut classes, &mut parents) {
+        Filled::Refused(number, place) => print_refusal(number, place),
+        Filled::Count(_) => list_forest(n, prefix, clauses, &classes, &parents),
+    }
+}
+
+// The first line, and then the universals in ascending order. The levels are looked up once for all of them.
+fn list_forest(n: u32, prefix: &[u32], clauses: &[i32], classes: &[u32], parents: &[u32])
+    requires { ⌜ SoundPrefix n (now prefix) × (length (now clauses) ≤ 16384) × WellFormed (variables n (now prefix)) (lent (variables n (now prefix)) (now classes) (now parents)) ⌝ }
+{
+    let mut levels = [0u32; 4097];
+    let mut universals = [false; 4097];
+    fill_levels(prefix, &mut levels, &mut universals);
+    let blocks = count_blocks(prefix);
+    let clause_count = count_clauses(clauses);
+    print_head(n, blocks, clause_count);
+    list_universals(n, &levels, &universals, clauses, classes, parents);
+}
+
+// Prints the first line.
+fn print_head(n: u32, blocks: usize, clauses: usize)
+    requires { ⌜ (n < 100000) × (blocks < 100000) × (clauses < 100000) ⌝ }
+{
+    let mut line = [0u8; 65536];
+    let end = lines::head_line(&mut line, n, blocks as u32, clauses as u32);
+    io::write_all(STDOUT_FILENO, &line[..end]);
+}
+
+// How many blocks a prefix has: one for each 0.
+fn count_blocks(prefix: &[u32]) -> usize
+    ensures { λ r. ⌜ (r ≡ length (blocks (now (prefix .entry)))) × (r ≤ length (now (prefix .entry))) ⌝ }
+{
+    let mut count = 0;
+    let mut i = 0;
+    while i < prefix.len() {
+        if prefix[i] == 0 {
+            count += 1;
+            i += 1;
+        } else {
+            i += 1;
+        }
+    }
+    count
+}
+
+// How many clauses a clause table has: one for each 0.
+fn count_clauses(clauses: &[i32]) -> usize
+    ensures { λ r. ⌜ (r ≡ length (Meaning·clauses (now (clauses .entry)))) × (r ≤ length (now (clauses .entry))) ⌝ }
+{
+    let mut count = 0;
+    let mut i = 0;
+    while i < clauses.len() {
+        if variable_at(clauses, i).0 == 0 {
+            count += 1;
+            i += 1;
+        } else {
+            i += 1;
+        }
+    }
+    count
+}
+
+// A line for each universal, in ascending order.
+fn list_universals(
+    n: u32,
+    levels: &[u32],
+    universals: &[bool],
+    clauses: &[i32],
+    classes: &[u32],
+    parents: &[u32],
+)
+    requires { ⌜ (n ≤ 4096) × WellFormed (tabled n (now levels) (now universals)) (rowsOf n (now classes) (now parents)) ⌝ }
+{
+    let mut passed = 0;
+    while passed < n {
+        passed += 1;
+        let x = Variable::new(passed);
+        if universal_at(n, universals, x) {
+            list_universal(n, levels, universals, clauses, classes, parents, x);
+        }
+    }
+}
+
+// The line of one universal: its entry points and its set are found once, and listed.
+fn list_universal(
+    n: u32,
+    levels: &[u32],
+    universals: &[bool],
+    clauses: &[i32],
+    classes: &[u32],
+    parents: &[u32],
+    x: Variable,
+)
+    requires { ⌜ (n ≤ 4096) × WellFormed (tabled n (now levels) (now universals)) (rowsOf n (now classes) (now parents)) ⌝ }
+{
+    let mut tops = [0u32; 4096];
+    let mut entered = [false; 4097];
+    let mut members = [false; 4097];
+    find_entries(
+        n,
+        levels,
+        universals,
+        clauses,
+        classes,
+        parents,
+        x,
+        &mut tops,
+        &mut entered,
+    );
+    flag_members(n, &entered, &tops, &mut members);
+    print_universal(n, x, level_at(levels, x), &entered, &members);
+}
+
+// Lists the flagged entry points and members, ascending, and prints them.
+fn print_universal(n: u32, x: Variable, level: Level, entered: &[bool], members: &[bool])
+    requires { ⌜ n ≤ 4096 ⌝ }
+{
+    let mut entries = [0u32; 4096];
+    let mut set = [0u32; 4096];
+    match list_flagged(n, entered, &mut entries) {
+        Filled::Refused(_, _) => {}
+        Filled::Count(found) => match list_flagged(n, members, &mut set) {
+            Filled::Refused(_, _) => {}
+            Filled::Count(size) => print_lists(
+                x,
+                level,
+                &entries[..found as usize],
+                &set[..size as usize],
+            ),
+        },
+    }
+}
+
+// Prints the line of a universal.
+fn print_lists(x: Variable, level: Level, entries: &[u32], set: &[u32])
+    requires { ⌜ Small (now entries) × Small (now set) ⌝ }
+{
+    let mut line = [0u8; 65536];
+    if x.0 < 100000 {
+        if level.0 < 100000 {
+            let end = lines::universal_line(&mut line, x.0, level.0, entries, set);
+            io::write_all(STDOUT_FILENO, &line[..end]);
+        }
+    }
+}
