@@ -1,0 +1,13 @@
+/* The functions of the C library that the programs here call, for the kit's clang, which comes with no headers. */
+#ifndef BARE_STRING_H
+#define BARE_STRING_H
+
+#include <stddef.h>
+
+void *memcpy(void *to, const void *from, size_t size);
+void *memmove(void *to, const void *from, size_t size);
+void *memset(void *to, int byte, size_t size);
+int memcmp(const void *a, const void *b, size_t size);
+size_t strlen(const char *text);
+
+#endif

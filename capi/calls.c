@@ -1,0 +1,235 @@
+/* The nine calls, each wrapped so that every byte that was lent is compared. */
+#include "agree.h"
+#include "calls.h"
+#include "lend.h"
+
+/* The formula and the forest, lent. */
+static struct formula lent;
+static struct forest rows;
+static uint32_t *place;
+
+static void lend_prefix(const struct formula *f)
+{
+    lent.n = f->n;
+    lent.prefix = lend(f->prefix, f->prefix_len * sizeof *f->prefix);
+    lent.prefix_len = f->prefix_len;
+}
+
+static void lend_clauses(const struct formula *f)
+{
+    lent.n = f->n;
+    lent.clauses = lend(f->clauses, f->clauses_len * sizeof *f->clauses);
+    lent.clauses_len = f->clauses_len;
+}
+
+static void lend_forest(const struct forest *w)
+{
+    rows.classes = lend(w->classes, w->classes_len * sizeof *w->classes);
+    rows.classes_len = w->classes_len;
+    rows.parents = lend(w->parents, w->parents_len * sizeof *w->parents);
+    rows.parents_len = w->parents_len;
+}
+
+static void lend_place(void)
+{
+    place = lend_cell();
+    lend_end();
+}
+
+/* A count within a table; a call that answers more has disagreed, and nothing of it is taken. */
+static int within(uint32_t count, size_t room)
+{
+    agree(count <= room, "the count is within the table");
+    return count <= room;
+}
+
+/* The verdict, once the answer of an accepted call has been taken. */
+static struct verdict settle(uint32_t number)
+{
+    struct verdict v = { number, 0 };
+
+    if (number != 0)
+        take(&v.place, place, sizeof v.place);
+    agree(nothing_else_changed(), number != 0 ? "a refusal changes nothing but its place" : "nothing else changes");
+    return v;
+}
+
+struct verdict call_check(const struct formula *f)
+{
+    lend_begin();
+    lend_prefix(f);
+    lend_clauses(f);
+    lend_place();
+    return settle(snow_check(lent.n, lent.prefix, lent.prefix_len, lent.clauses, lent.clauses_len, place));
+}
+
+/* Takes the first n rows of both tables back. */
+static void take_rows(struct forest *w, uint32_t n)
+{
+    if (!within(n, w->classes_len) || !within(n, w->parents_len))
+        return;
+    take(w->classes, rows.classes, n * sizeof *w->classes);
+    take(w->parents, rows.parents, n * sizeof *w->parents);
+}
+
+struct verdict call_build(const struct formula *f, struct forest *w, uint32_t *count)
+{
+    uint32_t *cell, number;
+
+    lend_begin();
+    lend_prefix(f);
+    lend_clauses(f);
+    lend_forest(w);
+    cell = lend_cell();
+    lend_place();
+    number = snow_build(lent.n, lent.prefix, lent.prefix_len, lent.clauses, lent.clauses_len,
+                        rows.classes, rows.classes_len, rows.parents, rows.parents_len, cell, place);
+    if (number == 0) {
+        take(count, cell, sizeof *count);
+        take_rows(w, f->n);
+    }
+    return settle(number);
+}
+
+struct verdict call_clause(const struct formula *f, uint32_t number, uint32_t *start, uint32_t *len)
+{
+    uint32_t *start_cell, *len_cell, refusal;
+
+    lend_begin();
+    lend_clauses(f);
+    start_cell = lend_cell();
+    len_cell = lend_cell();
+    lend_place();
+    refusal = snow_clause(lent.n, lent.clauses, lent.clauses_len, number, start_cell, len_cell, place);
+    if (refusal == 0) {
+        take(start, start_cell, sizeof *start);
+        take(len, len_cell, sizeof *len);
+    }
+    return settle(refusal);
+}
+
+struct verdict call_entry_point(const struct formula *f, const struct forest *w, uint32_t x, uint32_t y,
+                                uint32_t *entry, uint32_t *rises)
+{
+    uint32_t *entry_cell, *rises_cell, number;
+
+    lend_begin();
+    lend_prefix(f);
+    lend_forest(w);
+    entry_cell = lend_cell();
+    rises_cell = lend_cell();
+    lend_place();
+    number = snow_entry_point(lent.n, lent.prefix, lent.prefix_len, rows.classes, rows.classes_len,
+                              rows.parents, rows.parents_len, x, y, entry_cell, rises_cell, place);
+    if (number == 0) {
+        take(entry, entry_cell, sizeof *entry);
+        take(rises, rises_cell, sizeof *rises);
+    }
+    return settle(number);
+}
+
+/* The two calls that list variables of x have the same parameters. */
+typedef uint32_t (*listing)(uint32_t, const uint32_t *, size_t, const int32_t *, size_t, const uint32_t *, size_t,
+                            const uint32_t *, size_t, uint32_t, uint32_t *, size_t, uint32_t *, uint32_t *);
+
+static struct verdict call_listing(listing call, const struct formula *f, const struct forest *w, uint32_t x,
+                                   uint32_t *out, size_t out_len, uint32_t *count)
+{
+    uint32_t *table, *cell, number;
+
+    lend_begin();
+    lend_prefix(f);
+    lend_clauses(f);
+    lend_forest(w);
+    table = lend(out, out_len * sizeof *out);
+    cell = lend_cell();
+    lend_place();
+    number = call(lent.n, lent.prefix, lent.prefix_len, lent.clauses, lent.clauses_len,
+                  rows.classes, rows.classes_len, rows.parents, rows.parents_len, x, table, out_len, cell, place);
+    if (number == 0) {
+        take(count, cell, sizeof *count);
+        if (within(*count, out_len))
+            take(out, table, *count * sizeof *out);
+    }
+    return settle(number);
+}
+
+struct verdict call_entry_points(const struct formula *f, const struct forest *w, uint32_t x,
+                                 uint32_t *out, size_t out_len, uint32_t *count)
+{
+    return call_listing(snow_entry_points, f, w, x, out, out_len, count);
+}
+
+struct verdict call_set(const struct formula *f, const struct forest *w, uint32_t x,
+                        uint32_t *out, size_t out_len, uint32_t *count)
+{
+    return call_listing(snow_set, f, w, x, out, out_len, count);
+}
+
+struct verdict call_add(const struct formula *f, struct forest *w, const int32_t *clause, size_t clause_len)
+{
+    const int32_t *literals;
+    uint32_t number;
+
+    lend_begin();
+    lend_prefix(f);
+    lend_forest(w);
+    literals = lend(clause, clause_len * sizeof *clause);
+    lend_place();
+    number = snow_add(lent.n, lent.prefix, lent.prefix_len, rows.classes, rows.classes_len,
+                      rows.parents, rows.parents_len, literals, clause_len, place);
+    if (number == 0)
+        take_rows(w, f->n);
+    return settle(number);
+}
+
+struct verdict call_read(const uint8_t *text, size_t text_len, uint32_t *n,
+                         uint32_t *prefix, size_t prefix_len, uint32_t *prefix_count,
+                         int32_t *clauses, size_t clauses_len, uint32_t *clauses_count)
+{
+    const uint8_t *copy;
+    uint32_t *prefix_table, *n_cell, *prefix_cell, *clauses_cell, number;
+    int32_t *clause_table;
+
+    lend_begin();
+    copy = lend(text, text_len);
+    prefix_table = lend(prefix, prefix_len * sizeof *prefix);
+    clause_table = lend(clauses, clauses_len * sizeof *clauses);
+    n_cell = lend_cell();
+    prefix_cell = lend_cell();
+    clauses_cell = lend_cell();
+    lend_place();
+    number = snow_read(copy, text_len, n_cell, prefix_table, prefix_len, prefix_cell,
+                       clause_table, clauses_len, clauses_cell, place);
+    if (number == 0) {
+        take(n, n_cell, sizeof *n);
+        take(prefix_count, prefix_cell, sizeof *prefix_count);
+        take(clauses_count, clauses_cell, sizeof *clauses_count);
+        if (within(*prefix_count, prefix_len))
+            take(prefix, prefix_table, *prefix_count * sizeof *prefix);
+        if (within(*clauses_count, clauses_len))
+            take(clauses, clause_table, *clauses_count * sizeof *clauses);
+    }
+    return settle(number);
+}
+
+struct verdict call_write(const struct formula *f, uint8_t *text, size_t text_len, uint32_t *count)
+{
+    uint8_t *table;
+    uint32_t *cell, number;
+
+    lend_begin();
+    lend_prefix(f);
+    lend_clauses(f);
+    table = lend(text, text_len);
+    cell = lend_cell();
+    lend_place();
+    number = snow_write(lent.n, lent.prefix, lent.prefix_len, lent.clauses, lent.clauses_len,
+                        table, text_len, cell, place);
+    if (number == 0) {
+        take(count, cell, sizeof *count);
+        if (within(*count, text_len))
+            take(text, table, *count);
+    }
+    return settle(number);
+}

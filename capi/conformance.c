@@ -1,0 +1,17 @@
+/*
+ * The conformance test of the library as C callers see it: every call,
+ * accepted and refused, with every byte compared that was lent to it. Prints
+ * what was compared; ends with 1 if anything disagreed.
+ */
+#include "agree.h"
+#include "tests.h"
+
+int main(void)
+{
+    test_formula_a();
+    test_refusals();
+    test_texts();
+    test_limits();
+    test_drawn();
+    return agreed_all();
+}

@@ -1,0 +1,42 @@
+/* What a test expects of a call, and formula A. */
+#include <string.h>
+
+#include "agree.h"
+#include "expect.h"
+
+static const uint32_t a_prefix[] = { 1, 1, 2, 0, 2, 3, 0, 1, 4, 5, 0, 2, 6, 0, 1, 7, 8, 9, 0 };
+static const int32_t a_clauses[] = { 3, 4, 7, 0, -4, 8, 0, 6, 9, 0, 5, 9, 0, 1, 5, 0 };
+
+const struct formula formula_a = { 9, a_prefix, LEN(a_prefix), a_clauses, LEN(a_clauses) };
+
+struct forest forest_a(void)
+{
+    static const uint32_t a_classes[ROWS] = { 1, 2, 0, 4, 5, 0, 7, 8, 9, 0xFFFFFFFF, 77, 0 };
+    static const uint32_t a_parents[ROWS] = { 0, 0, 0, 0, 1, 0, 4, 4, 5, 0xFFFFFFFF, 77, 0 };
+    static uint32_t classes[ROWS], parents[ROWS];
+    struct forest w = { classes, ROWS, parents, ROWS };
+
+    memcpy(classes, a_classes, sizeof classes);
+    memcpy(parents, a_parents, sizeof parents);
+    return w;
+}
+
+void expect_verdict(struct verdict v, struct verdict expected, const char *call)
+{
+    agree(v.number == expected.number && v.place == expected.place, call);
+}
+
+void expect_accepted(struct verdict v, const char *call)
+{
+    agree(v.number == 0, call);
+}
+
+void expect_refused(struct verdict v, uint32_t number, uint32_t place, const char *call)
+{
+    agree(v.number == number && v.place == place, call);
+}
+
+void expect_rows(const uint32_t *rows, const uint32_t *expected, size_t count, const char *what)
+{
+    agree(count == 0 || memcmp(rows, expected, count * sizeof *rows) == 0, what);
+}

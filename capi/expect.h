@@ -1,0 +1,22 @@
+/* What a test expects of a call, and formula A, which many tests start from. */
+#ifndef EXPECT_H
+#define EXPECT_H
+
+#include "calls.h"
+
+#define LEN(table) (sizeof(table) / sizeof *(table))
+
+/* Formula A: n 9, blocks e 1 2, a 3, e 4 5, a 6, e 7 8 9, clauses {3 4 7} {-4 8} {6 9} {5 9} {1 5}. */
+extern const struct formula formula_a;
+
+enum { ROWS = 12 };  /* rows of its forest tables, which are longer than n */
+
+/* The forest of A, as tables of ROWS rows, the last three filled with what no call may touch. */
+struct forest forest_a(void);
+
+void expect_accepted(struct verdict v, const char *call);
+void expect_refused(struct verdict v, uint32_t number, uint32_t place, const char *call);
+void expect_verdict(struct verdict v, struct verdict expected, const char *call);
+void expect_rows(const uint32_t *rows, const uint32_t *expected, size_t count, const char *what);
+
+#endif

@@ -1,0 +1,235 @@
+/* Formula A and the worked examples on it, P1 to P10; every call accepted, on tables longer than n, exactly n, and empty. */
+#include <string.h>
+
+#include "agree.h"
+#include "expect.h"
+#include "tests.h"
+
+/* P1 and P2: its classes and parents, from tables that held anything. */
+static void builds(void)
+{
+    struct forest a = forest_a(), w;
+    uint32_t classes[ROWS], parents[ROWS], count = 0;
+    uint32_t length;
+
+    about("rows lent", 0);
+    for (length = 9; length <= ROWS; length++) {
+        about("rows lent", length);
+        memset(classes, 0x5A, sizeof classes);
+        memset(parents, 0xFF, sizeof parents);
+        w.classes = classes;
+        w.classes_len = length;
+        w.parents = parents;
+        w.parents_len = ROWS + 9 - length;
+        expect_accepted(call_check(&formula_a), "check");
+        expect_accepted(call_build(&formula_a, &w, &count), "build");
+        agree(count == 9, "build gives n");
+        expect_rows(classes, a.classes, 9, "P1 classes");
+        expect_rows(parents, a.parents, 9, "P2 parents");
+    }
+}
+
+/* The set of x is the list given. */
+static void has_set(const struct formula *f, const struct forest *w, uint32_t x, const uint32_t *list, uint32_t length,
+                    const char *what)
+{
+    uint32_t out[9], count = 0;
+
+    memset(out, 0x5A, sizeof out);
+    expect_accepted(call_set(f, w, x, out, 9, &count), what);
+    agree(count == length, what);
+    expect_rows(out, list, length, what);
+    /* a table of just that length will do */
+    expect_accepted(call_set(f, w, x, out, length, &count), what);
+    expect_rows(out, list, length, what);
+}
+
+/* P3 and P4, and the entry points that the listing prints. */
+static void sets(void)
+{
+    static const uint32_t set_3[] = { 4, 7, 8 }, set_6[] = { 9 };
+    struct forest w = forest_a();
+    uint32_t out[9], count = 0;
+
+    has_set(&formula_a, &w, 3, set_3, 3, "P3 set of 3");
+    has_set(&formula_a, &w, 6, set_6, 1, "P4 set of 6");
+    expect_accepted(call_entry_points(&formula_a, &w, 3, out, 9, &count), "entry points of 3");
+    agree(count == 1 && out[0] == 4, "entry points of 3");
+    expect_accepted(call_entry_points(&formula_a, &w, 6, out, 1, &count), "entry points of 6");
+    agree(count == 1 && out[0] == 9, "entry points of 6");
+}
+
+/* A with one clause more, in a table of its own. */
+static struct formula with_clause(const int32_t *clause, size_t length)
+{
+    static int32_t clauses[32];
+    struct formula f = formula_a;
+
+    memcpy(clauses, formula_a.clauses, formula_a.clauses_len * sizeof *clauses);
+    memcpy(clauses + formula_a.clauses_len, clause, length * sizeof *clauses);
+    clauses[formula_a.clauses_len + length] = 0;
+    f.clauses = clauses;
+    f.clauses_len = formula_a.clauses_len + length + 1;
+    return f;
+}
+
+/* Adds a clause to A's forest; the rows become those given, and build gives the same of A with the clause. */
+static void adds(const int32_t *clause, size_t length, const uint32_t *classes, const uint32_t *parents, struct forest *w,
+                 const char *what)
+{
+    struct formula f = with_clause(clause, length);
+    uint32_t count;
+
+    *w = forest_a();
+    expect_accepted(call_add(&formula_a, w, clause, length), what);
+    expect_rows(w->classes, classes, 9, what);
+    expect_rows(w->parents, parents, 9, what);
+    *w = forest_a();
+    expect_accepted(call_build(&f, w, &count), what);
+    expect_rows(w->classes, classes, 9, what);
+    expect_rows(w->parents, parents, 9, what);
+}
+
+/* P5 to P9. */
+static void additions(void)
+{
+    static const int32_t seven_nine[] = { 7, -9 }, five_eight[] = { 5, 8 }, one_two[] = { 1, -2 };
+    static const uint32_t p5_classes[] = { 1, 2, 0, 4, 4, 0, 7, 8, 7 }, p5_parents[] = { 0, 0, 0, 1, 0, 0, 4, 4, 0 };
+    static const uint32_t p7_classes[] = { 1, 2, 0, 4, 4, 0, 7, 8, 9 }, p7_parents[] = { 0, 0, 0, 1, 0, 0, 4, 4, 4 };
+    static const uint32_t p8_classes[] = { 1, 1, 0, 4, 5, 0, 7, 8, 9 };
+    static const uint32_t all[] = { 4, 5, 7, 8, 9 }, set_6[] = { 7, 9 }, nine[] = { 9 };
+    struct forest a = forest_a(), w;
+    uint32_t a_classes[9], a_parents[9];
+    struct formula f;
+
+    memcpy(a_classes, a.classes, sizeof a_classes);
+    memcpy(a_parents, a.parents, sizeof a_parents);
+    adds(seven_nine, 2, p5_classes, p5_parents, &w, "P5 add 7 -9");
+    f = with_clause(seven_nine, 2);
+    has_set(&f, &w, 3, all, 5, "P6 set of 3");
+    has_set(&f, &w, 6, set_6, 2, "P6 set of 6");
+    adds(five_eight, 2, p7_classes, p7_parents, &w, "P7 add 5 8");
+    f = with_clause(five_eight, 2);
+    has_set(&f, &w, 6, nine, 1, "P7 set of 6");
+    has_set(&f, &w, 3, all, 5, "P7 set of 3");
+    adds(one_two, 2, p8_classes, a_parents, &w, "P8 add 1 -2");
+    adds(one_two, 0, a_classes, a_parents, &w, "P9 add the empty clause");
+}
+
+static void has_entry_point(uint32_t x, uint32_t y, uint32_t entry, uint32_t rises, const char *what)
+{
+    struct forest w = forest_a();
+    uint32_t got = 0, passed = 99;
+
+    expect_accepted(call_entry_point(&formula_a, &w, x, y, &got, &passed), what);
+    agree(got == entry && passed == rises, what);
+}
+
+/* P10, and an entry point several blocks over y. */
+static void entry_points(void)
+{
+    has_entry_point(3, 8, 4, 1, "P10 entry point of 3 for 8");
+    has_entry_point(6, 9, 9, 0, "P10 entry point of 6 for 9");
+    has_entry_point(3, 9, 5, 1, "entry point of 3 for 9");
+    has_entry_point(3, 5, 5, 0, "entry point of 3 for 5");
+}
+
+static void clauses(void)
+{
+    static const uint32_t starts[] = { 0, 4, 7, 10, 13 }, lengths[] = { 3, 2, 2, 2, 2 };
+    uint32_t k, start, length;
+
+    for (k = 0; k < 5; k++) {
+        about("clause", k);
+        start = length = 99;
+        expect_accepted(call_clause(&formula_a, k, &start, &length), "clause");
+        agree(start == starts[k] && length == lengths[k], "where the clause stands");
+    }
+}
+
+/* Its text, written and read back. */
+static void texts(void)
+{
+    static const char text[] = "p cnf 9 5\ne 1 2 0\na 3 0\ne 4 5 0\na 6 0\ne 7 8 9 0\n3 4 7 0\n-4 8 0\n6 9 0\n5 9 0\n1 5 0\n";
+    uint8_t out[128];
+    uint32_t prefix[32], count = 0, n = 0, prefix_count = 0, clauses_count = 0;
+    int32_t table[32];
+
+    expect_accepted(call_write(&formula_a, out, sizeof out, &count), "write");
+    agree(count == sizeof text - 1 && memcmp(out, text, count) == 0, "the text");
+    expect_accepted(call_write(&formula_a, out, sizeof text - 1, &count), "write, with no byte to spare");
+    expect_accepted(call_read((const uint8_t *)text, sizeof text - 1, &n, prefix, 32, &prefix_count, table, 32, &clauses_count), "read");
+    agree(n == 9 && prefix_count == formula_a.prefix_len && clauses_count == formula_a.clauses_len, "the counts");
+    expect_rows(prefix, formula_a.prefix, prefix_count, "the prefix");
+    agree(memcmp(table, formula_a.clauses, sizeof *table * clauses_count) == 0, "the clauses");
+    expect_accepted(call_read((const uint8_t *)text, sizeof text - 1, &n, prefix, formula_a.prefix_len, &prefix_count,
+                              table, formula_a.clauses_len, &clauses_count), "read, with no entry to spare");
+}
+
+/* n 0 with empty tables: check, build, add and write accept; nothing else has an x or a clause to ask for. Twice, for both pointers of an empty table. */
+static void empty(void)
+{
+    static const struct formula nothing = { 0, NULL, 0, NULL, 0 };
+    static const char text[] = "p cnf 0 0\n";
+    struct forest w = { NULL, 0, NULL, 0 };
+    uint32_t count, n, entry, rises, start, length, prefix_count, clauses_count;
+    uint8_t out[16];
+    unsigned round;
+
+    for (round = 0; round < 2; round++) {
+        about("round", round);
+        count = 99;
+        expect_accepted(call_check(&nothing), "check");
+        expect_accepted(call_build(&nothing, &w, &count), "build");
+        agree(count == 0, "build gives n");
+        expect_accepted(call_add(&nothing, &w, NULL, 0), "add");
+        expect_refused(call_clause(&nothing, 0, &start, &length), 13, 0, "clause");
+        expect_refused(call_entry_point(&nothing, &w, 1, 1, &entry, &rises), 13, 0, "entry point");
+        expect_refused(call_entry_points(&nothing, &w, 1, NULL, 0, &count), 13, 0, "entry points");
+        expect_refused(call_set(&nothing, &w, 1, NULL, 0, &count), 13, 0, "set");
+        expect_accepted(call_write(&nothing, out, sizeof out, &count), "write");
+        agree(count == sizeof text - 1 && memcmp(out, text, count) == 0, "the text");
+        expect_accepted(call_read((const uint8_t *)text, sizeof text - 1, &n, NULL, 0, &prefix_count, NULL, 0, &clauses_count), "read");
+        agree(n == 0 && prefix_count == 0 && clauses_count == 0, "the counts");
+        expect_refused(call_read(NULL, 0, &n, NULL, 0, &prefix_count, NULL, 0, &clauses_count), 16, 0, "read the empty text");
+        call_check(&nothing);  /* an odd number of calls, so that the next round has the other pointer */
+    }
+}
+
+/* An empty set, of a universal in the innermost block: no output table is needed. */
+static void empty_sets(void)
+{
+    static const uint32_t prefix[] = { 1, 1, 0, 2, 2, 0 };
+    static const int32_t table[] = { 1, 2, 0 };
+    static const struct formula f = { 2, prefix, LEN(prefix), table, LEN(table) };
+    uint32_t classes[2] = { 1, 0 }, parents[2] = { 0, 0 }, count;
+    struct forest w = { classes, 2, parents, 2 };
+    unsigned round;
+
+    for (round = 0; round < 2; round++) {
+        about("round", round);
+        count = 99;
+        expect_accepted(call_set(&f, &w, 2, NULL, 0, &count), "set");
+        agree(count == 0, "it is empty");
+        expect_accepted(call_entry_points(&f, &w, 2, NULL, 0, &count), "entry points");
+        agree(count == 0, "there are none");
+        call_check(&f);
+    }
+}
+
+void test_formula_a(void)
+{
+    group("formula A: check, build");
+    builds();
+    group("formula A: sets and entry points");
+    sets();
+    entry_points();
+    group("formula A: add");
+    additions();
+    group("formula A: clause, write, read");
+    clauses();
+    texts();
+    group("empty tables");
+    empty();
+    empty_sets();
+}

@@ -1,0 +1,48 @@
+/*
+ * What the table of refusal numbers says, written from its lines one by one:
+ * for each number, whether its cause holds at a place. Slow, and no scan
+ * with a state: it is held against the calls, which work otherwise.
+ */
+#ifndef JUDGE_H
+#define JUDGE_H
+
+#include "calls.h"
+
+/* 1, 2 and the causes in the prefix: what a call says that takes n and a prefix. */
+struct verdict judge_prefix(const struct formula *f);
+
+/* 1, 2 and the causes in the clause table: what a call says that takes n and clauses. */
+struct verdict judge_clauses(const struct formula *f);
+
+/* Both, in their order: check. */
+struct verdict judge_formula(const struct formula *f);
+
+/* The same for a clause to be added, in place of the clause table. */
+struct verdict judge_added(const struct formula *f, const int32_t *clause, size_t clause_len);
+
+/* 12, for an accepted prefix. */
+struct verdict judge_forest(const struct formula *f, const struct forest *w);
+
+/* The block of a variable, and whether it is universal, for an accepted prefix. */
+uint32_t judge_block(const struct formula *f, uint32_t v);
+int judge_universal(const struct formula *f, uint32_t v);
+int judge_existential(const struct formula *f, uint32_t v);
+
+/* The number of clauses of an accepted table. */
+uint32_t judge_clause_count(const struct formula *f);
+
+/*
+ * What a text says by the rules of the format: 15, 16, 17, or n and both
+ * tables, with their lengths. The tables have room for 65,536 entries.
+ */
+struct reading {
+    uint32_t n;
+    uint32_t prefix[65536];
+    uint32_t prefix_count;
+    int32_t clauses[65536];
+    uint32_t clauses_count;
+};
+
+struct verdict judge_text(const uint8_t *text, size_t length, struct reading *r);
+
+#endif

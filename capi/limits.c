@@ -1,0 +1,272 @@
+/* Each limit, at it and one past it. */
+#include <string.h>
+
+#include "agree.h"
+#include "expect.h"
+#include "tests.h"
+
+enum { SIDE = 64 };  /* the large formula has 64 blocks of 64 variables */
+
+static uint32_t prefix[SNOW_MOST_PREFIX + 1];
+static int32_t clauses[SNOW_MOST_CLAUSES + 1];
+static uint32_t class_rows[SNOW_MOST_VARIABLES + 2], parent_rows[SNOW_MOST_VARIABLES + 2];
+static uint32_t out[SNOW_MOST_VARIABLES + 2];
+static uint8_t text[SNOW_MOST_TEXT + 2];
+
+/* `blocks` blocks of `each` variables, in order of their numbers, the first existential; gives the length. */
+static size_t fill_prefix(uint32_t blocks, uint32_t each)
+{
+    uint32_t b, k, v = 0;
+    size_t at = 0;
+
+    for (b = 1; b <= blocks; b++) {
+        prefix[at++] = b % 2 == 1 ? 1 : 2;
+        for (k = 0; k < each; k++)
+            prefix[at++] = ++v;
+        prefix[at++] = 0;
+    }
+    return at;
+}
+
+/* One clause of `length - 1` literals, all variables from 1 to n in turn and again, and its 0. */
+static void fill_clause(uint32_t n, size_t length)
+{
+    size_t k;
+
+    for (k = 0; k + 1 < length; k++)
+        clauses[k] = k % 2 == 0 ? (int32_t)(k % n + 1) : -(int32_t)(k % n + 1);
+    clauses[length - 1] = 0;
+}
+
+static struct formula formula(uint32_t n, size_t prefix_len, size_t clauses_len)
+{
+    struct formula f = { n, prefix, prefix_len, clauses, clauses_len };
+
+    return f;
+}
+
+static struct forest forest(uint32_t rows)
+{
+    struct forest w = { class_rows, rows, parent_rows, rows };
+
+    return w;
+}
+
+/* Every call with an n over the limit, or tables over theirs, as check refuses it. */
+static void every_call(const struct formula *f, uint32_t number, uint32_t place)
+{
+    struct forest w = forest(SNOW_MOST_VARIABLES + 2);
+    uint32_t count;
+
+    expect_refused(call_check(f), number, place, "check");
+    expect_refused(call_build(f, &w, &count), number, place, "build");
+    expect_refused(call_entry_points(f, &w, 1, out, 1, &count), number, place, "entry points");
+    expect_refused(call_set(f, &w, 1, out, 1, &count), number, place, "set");
+    expect_refused(call_write(f, text, 64, &count), number, place, "write");
+}
+
+static void prefix_calls(const struct formula *f, uint32_t number, uint32_t place)
+{
+    struct forest w = forest(SNOW_MOST_VARIABLES + 2);
+    uint32_t entry, rises;
+
+    expect_refused(call_entry_point(f, &w, 1, 1, &entry, &rises), number, place, "entry point");
+    expect_refused(call_add(f, &w, NULL, 0), number, place, "add");
+}
+
+/* The row that v has once one clause joins all variables of 64 blocks of 64: the lowest of its block, over it that of the existential block before. */
+static uint32_t joined_class(uint32_t v)
+{
+    uint32_t block = (v - 1) / SIDE + 1;
+
+    return block % 2 == 1 ? (block - 1) * SIDE + 1 : 0;
+}
+
+static uint32_t joined_parent(uint32_t v)
+{
+    return joined_class(v) == v && v > 2 * SIDE ? v - 2 * SIDE : 0;
+}
+
+static void joined_forest(const char *what)
+{
+    uint32_t v, wrong = 0;
+
+    for (v = 1; v <= SNOW_MOST_VARIABLES; v++)
+        wrong += class_rows[v - 1] != joined_class(v) || parent_rows[v - 1] != joined_parent(v);
+    agree(wrong == 0, what);
+}
+
+/* All existentials of blocks deeper than b, ascending. */
+static void joined_set(const struct formula *f, uint32_t x)
+{
+    struct forest w = forest(SNOW_MOST_VARIABLES);
+    uint32_t count = 0, v, listed = 0, wrong = 0;
+
+    expect_accepted(call_set(f, &w, x, out, SNOW_MOST_VARIABLES, &count), "set");
+    for (v = x; v <= SNOW_MOST_VARIABLES; v++)
+        if (joined_class(v) != 0)
+            wrong += out[listed++] != v;
+    agree(count == listed && wrong == 0, "the set is all that is deeper");
+}
+
+/* n 4,096, 64 blocks, a clause table of 16,384 entries. */
+static void largest(void)
+{
+    struct formula f = formula(SNOW_MOST_VARIABLES, fill_prefix(SIDE, SIDE), SNOW_MOST_CLAUSES);
+    struct forest w = forest(SNOW_MOST_VARIABLES);
+    uint32_t count = 0, entry = 0, rises = 0, start = 0, length = 0;
+
+    fill_clause(SNOW_MOST_VARIABLES, SNOW_MOST_CLAUSES);
+    expect_accepted(call_check(&f), "check");
+    expect_accepted(call_build(&f, &w, &count), "build");
+    agree(count == SNOW_MOST_VARIABLES, "build gives n");
+    joined_forest("the forest of one giant clause");
+    joined_set(&f, SIDE + 1);
+    joined_set(&f, 31 * SIDE + 7);
+    joined_set(&f, SNOW_MOST_VARIABLES);
+    expect_accepted(call_entry_point(&f, &w, SIDE + 1, 62 * SIDE + 1, &entry, &rises), "entry point");
+    agree(entry == 2 * SIDE + 1 && rises == 30, "thirty rises");
+    expect_accepted(call_entry_points(&f, &w, SIDE + 1, out, 1, &count), "entry points");
+    agree(count == 1 && out[0] == 2 * SIDE + 1, "one entry point");
+    expect_accepted(call_clause(&f, 0, &start, &length), "clause");
+    agree(start == 0 && length == SNOW_MOST_CLAUSES - 1, "where it stands");
+    expect_refused(call_clause(&f, 1, &start, &length), 13, 0, "clause 1");
+    expect_refused(call_write(&f, text, sizeof text, &count), 15, SNOW_MOST_TEXT, "write");
+}
+
+/* An added clause of 16,384 literals, and one of 16,385. */
+static void largest_added(void)
+{
+    struct formula f = formula(SNOW_MOST_VARIABLES, fill_prefix(SIDE, SIDE), 0);
+    struct forest w = forest(SNOW_MOST_VARIABLES);
+    uint32_t count;
+
+    expect_accepted(call_build(&f, &w, &count), "build");
+    fill_clause(SNOW_MOST_VARIABLES, SNOW_MOST_CLAUSES + 1);
+    clauses[SNOW_MOST_CLAUSES] = 1;
+    expect_refused(call_add(&f, &w, clauses, SNOW_MOST_CLAUSES + 1), 2, 0, "add 16,385 literals");
+    expect_accepted(call_add(&f, &w, clauses, SNOW_MOST_CLAUSES), "add 16,384 literals");
+    joined_forest("the forest of one giant clause, added");
+    w.classes_len = 0;
+    expect_refused(call_add(&f, &w, clauses, SNOW_MOST_CLAUSES + 1), 2, 0, "2 before 12");
+    f.prefix_len = 1;
+    expect_refused(call_add(&f, &w, clauses, SNOW_MOST_CLAUSES + 1), 2, 0, "2 before 3");
+}
+
+/* n 4,097, 65 blocks, the tables one entry too long, the smallest literal. */
+static void past(void)
+{
+    struct formula f;
+    uint32_t start, length;
+
+    f = formula(SNOW_MOST_VARIABLES + 1, fill_prefix(1, 1), 0);
+    every_call(&f, 1, 0);
+    prefix_calls(&f, 1, 0);
+    expect_refused(call_clause(&f, 0, &start, &length), 1, 0, "clause");
+    f = formula(SNOW_MOST_VARIABLES, fill_prefix(64, 1), 0);
+    expect_accepted(call_check(&f), "64 blocks");
+    f = formula(SNOW_MOST_VARIABLES, fill_prefix(65, 1), 0);
+    every_call(&f, 6, 192);
+    prefix_calls(&f, 6, 192);
+    prefix[192] = 2;
+    every_call(&f, 5, 192);
+    prefix[192] = 3;
+    every_call(&f, 4, 192);
+    f = formula(SNOW_MOST_VARIABLES, fill_prefix(63, 1), 0);
+    clauses[0] = 1;
+    clauses[1] = -2147483647 - 1;
+    clauses[2] = 0;
+    f.clauses_len = 3;
+    every_call(&f, 10, 1);
+    expect_refused(call_clause(&f, 0, &start, &length), 10, 1, "clause");
+}
+
+static void long_tables(void)
+{
+    struct formula f = formula(SNOW_MOST_VARIABLES, 0, 0);
+    uint32_t start, length;
+    size_t k;
+
+    /* no prefix of 8,192 entries is accepted; it is not refused for its length */
+    for (k = 0; k <= SNOW_MOST_PREFIX; k++)
+        prefix[k] = 1;
+    f.prefix_len = SNOW_MOST_PREFIX;
+    every_call(&f, 8, 2);
+    f.prefix_len = SNOW_MOST_PREFIX + 1;
+    every_call(&f, 2, 0);
+    prefix_calls(&f, 2, 0);
+    f.prefix_len = 0;
+    memset(clauses, 0, sizeof clauses);
+    f.clauses_len = SNOW_MOST_CLAUSES;
+    expect_accepted(call_check(&f), "16,384 empty clauses");
+    expect_accepted(call_clause(&f, SNOW_MOST_CLAUSES - 1, &start, &length), "clause");
+    agree(start == SNOW_MOST_CLAUSES - 1 && length == 0, "the last of them");
+    expect_refused(call_clause(&f, SNOW_MOST_CLAUSES, &start, &length), 13, 0, "clause");
+    f.clauses_len = SNOW_MOST_CLAUSES + 1;
+    every_call(&f, 2, 0);
+    expect_refused(call_clause(&f, 0, &start, &length), 2, 0, "clause");
+    f.n = SNOW_MOST_VARIABLES + 1;
+    every_call(&f, 1, 0);
+}
+
+/* A clause whose text is 65,536 bytes, or one more: `-4096 ` has 6, `1000 ` 5, `1 ` 2, and the rest 15. */
+static struct formula wide_formula(int one_more)
+{
+    size_t at = 0;
+
+    while (at < 10919)
+        clauses[at++] = -4096;
+    clauses[at++] = one_more ? -1000 : 1000;
+    clauses[at++] = 1;
+    clauses[at++] = 0;
+    return formula(SNOW_MOST_VARIABLES, 0, at);
+}
+
+static void long_texts(void)
+{
+    static int32_t table[SNOW_MOST_CLAUSES];
+    struct formula f = wide_formula(0);
+    uint32_t count = 0, n = 0, prefix_count = 0, clauses_count = 0;
+
+    expect_refused(call_write(&f, text, SNOW_MOST_TEXT - 1, &count), 14, 0, "write to 65,535 bytes");
+    expect_accepted(call_write(&f, text, sizeof text, &count), "write 65,536 bytes");
+    agree(count == SNOW_MOST_TEXT && memcmp(text, "p cnf 4096 1\n-4096 -4096 ", 25) == 0
+          && memcmp(text + SNOW_MOST_TEXT - 10, " 1000 1 0\n", 10) == 0, "the text");
+    expect_accepted(call_read(text, SNOW_MOST_TEXT, &n, NULL, 0, &prefix_count, table, SNOW_MOST_CLAUSES, &clauses_count),
+                    "read 65,536 bytes");
+    agree(n == SNOW_MOST_VARIABLES && prefix_count == 0 && clauses_count == f.clauses_len, "the counts");
+    agree(memcmp(table, f.clauses, f.clauses_len * sizeof *table) == 0, "the clauses");
+    text[SNOW_MOST_TEXT] = '\n';
+    expect_refused(call_read(text, SNOW_MOST_TEXT + 1, &n, NULL, 0, &prefix_count, NULL, 0, &clauses_count), 15, SNOW_MOST_TEXT,
+                   "read 65,537 bytes");
+    memset(text, 0, sizeof text);
+    expect_refused(call_read(text, SNOW_MOST_TEXT + 1, &n, NULL, 0, &prefix_count, NULL, 0, &clauses_count), 15, SNOW_MOST_TEXT,
+                   "15 before 16");
+    f = wide_formula(1);
+    expect_refused(call_write(&f, text, sizeof text, &count), 15, SNOW_MOST_TEXT, "write 65,537 bytes");
+    expect_refused(call_write(&f, text, 0, &count), 15, SNOW_MOST_TEXT, "15 before 14");
+}
+
+/* A comment may be as long as a text. */
+static void long_comment(void)
+{
+    uint32_t n = 0, prefix_count = 0, clauses_count = 0;
+
+    memset(text, 'c', SNOW_MOST_TEXT);
+    memcpy(text + SNOW_MOST_TEXT - 11, "\np cnf 7 0\n", 11);
+    expect_accepted(call_read(text, SNOW_MOST_TEXT, &n, NULL, 0, &prefix_count, NULL, 0, &clauses_count), "read");
+    agree(n == 7, "n");
+}
+
+void test_limits(void)
+{
+    group("limits: the largest formula");
+    largest();
+    largest_added();
+    group("limits: one past each");
+    past();
+    long_tables();
+    group("limits: texts");
+    long_texts();
+    long_comment();
+}

@@ -1,0 +1,58 @@
+/*
+ * An independent slow search, written from the definitions of reach, class,
+ * parent, entry point and set, for small formulas that are accepted. Nothing
+ * here is clever: reach is a closure, all else is looked up in it.
+ */
+#ifndef SEARCH_H
+#define SEARCH_H
+
+#include "calls.h"
+
+enum { SMALL = 72 };  /* most variables of a formula that is searched */
+
+/* A small formula: the block of each variable, which are existential, and which share a clause. Row 0 is unused. */
+struct world {
+    uint32_t n;
+    uint32_t block[SMALL + 1];
+    unsigned char existential[SMALL + 1];
+    unsigned char together[SMALL + 1][SMALL + 1];
+    /* reach[i][v][y]: v reaches y at level i; search_close fills it */
+    unsigned char reach[SNOW_MOST_BLOCKS + 1][SMALL + 1][SMALL + 1];
+};
+
+/* A formula's variables and no clause. */
+void search_variables(struct world *w, const struct formula *f);
+
+/* One more clause, by its variables in either sign. */
+void search_join(struct world *w, const int32_t *clause, size_t clause_len);
+
+/* All clauses of a table. */
+void search_clauses(struct world *w, const struct formula *f);
+
+/* {v, class name of v} for each existential and {class, parent} for each class with one. */
+void search_forest(struct world *w, const struct forest *rows);
+
+/* Reach at every level; before any question below. */
+void search_close(struct world *w);
+
+/* The class of v, by its lowest variable, and the parent of the class that v names; 0 for a universal, and where v names none. */
+uint32_t search_class(const struct world *w, uint32_t v);
+uint32_t search_parent(const struct world *w, uint32_t v);
+
+/* Whether y is in the set of the universal x. */
+int search_in_set(const struct world *w, uint32_t x, uint32_t y);
+
+/* Whether y is existential and deeper than x. */
+int search_deeper(const struct world *w, uint32_t x, uint32_t y);
+
+/* Entry point of x for y, and its rises, by the classes above that of y. */
+uint32_t search_entry(const struct world *w, uint32_t x, uint32_t y, uint32_t *rises);
+
+/* The same by lent tables, which need not be the formula's. */
+uint32_t search_lent_entry(const struct world *w, const struct forest *rows, uint32_t x, uint32_t y, uint32_t *rises);
+
+/* Whether e is an entry point of x, and y in the set of x, by lent tables and the clauses of the world. */
+int search_lent_entry_point(const struct world *w, const struct forest *rows, uint32_t x, uint32_t e);
+int search_lent_in_set(const struct world *w, const struct forest *rows, uint32_t x, uint32_t y);
+
+#endif

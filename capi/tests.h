@@ -1,0 +1,11 @@
+/* The groups of tests; each file holds one kind. */
+#ifndef TESTS_H
+#define TESTS_H
+
+void test_formula_a(void);  /* formula_a.c: every call accepted, by the worked examples */
+void test_refusals(void);   /* refusals.c: each refusal of each call, by hand */
+void test_texts(void);      /* texts.c: QDIMACS lines, within and outside the rules */
+void test_limits(void);     /* limits.c: each limit, at it and one past it */
+void test_drawn(void);      /* drawn.c: random formulas, forests and texts, against the slow search */
+
+#endif

@@ -1,0 +1,120 @@
+-- Every place fits a cell of 32 bits.
+use Prim.Native.Nat.{ℕ, _≤_, _<_}
+use mathlib.Core.Path.{refl}
+use mathlib.Core.List.{List, [], _∷_, _++_}
+use mathlib.Core.Logic.{_⊎_, inl, inr}
+use native.Mathlib.Omega.{arith}
+use lib.IntN.{ℤ}
+use lib.ListN.{length}
+use Rattle.terms.specs.Refusals.{Causes, At0, FirstOf, NoneOf}
+use Rattle.formula.specs.Meaning.{clauses}
+use Rattle.formula.specs.Causes.{VariableCount, PrefixLong, ClausesLong, PrefixCause, ClauseCause, checkOrder, clauseOrder}
+use Rattle.forest.specs.Causes.{ForestCause, short, bad-row, NotUniversal, NotDeeper, prefixOrder, entryOrder, listOrder}
+use Rattle.forest.specs.Listed.{TooLong}
+use Rattle.growth.specs.Grown.{AddedCause, TooShort, buildOrder, addOrder, clauseFirst}
+
+-- the places of an order's causes fit 32 bits, if each is the first one
+abbrev pub Small : List Causes → Type 0
+Small order = (number place : ℕ) → FirstOf order number place → place < 4294967296
+
+-- Orders one after the other: the second is looked at where the first has no cause.
+pub small-then : (order more : List Causes) → Small order → (NoneOf order → Small more) → Small (order ++ more)
+small-then [] more first later k p f = later tt k p f
+small-then (causes ∷ rest) more first later k p (inl f) = first k p (inl f)
+small-then (causes ∷ rest) more first later k p (inr f) = small-then rest more (λ k′ p′ g. first k′ p′ (inr (f .0, g))) (λ none. later (f .0, none)) k p (f .1)
+
+-- causes whose places are all within a bound that fits
+pub small-within : (causes : Causes) (most : ℕ) → most < 4294967296 → ((k p : ℕ) → causes k p → p ≤ most) → Small (causes ∷ [])
+small-within causes most fits within k p (inl f) = let l = within k p (f .holds) in omega arith
+small-within causes most fits within k p (inr f) = absurd (f .1)
+
+pub small-at0 : (number : ℕ) (condition : Type 0) → Small (At0 number condition ∷ [])
+small-at0 number condition = small-within (At0 number condition) 0 (omega arith) (λ k p cause. let q = cause .1 in omega arith)
+
+-- the entries of a prefix and of a clause table, and their lengths
+prefix-place : {n : ℕ} {es : List ℕ} (k p : ℕ) → PrefixCause n es k p → p ≤ length es
+prefix-place k p (PrefixCause.ends-inside _ q _) = omega arith
+prefix-place k p (PrefixCause.no-mark _ m _ _) = let l = m .0 in omega arith
+prefix-place k p (PrefixCause.same-mark _ _ m _ _) = let l = m .0 in omega arith
+prefix-place k p (PrefixCause.too-many-blocks _ m _) = let l = m .0 in omega arith
+prefix-place k p (PrefixCause.outside _ m _) = let l = m .0 in omega arith
+prefix-place k p (PrefixCause.named-before _ _ m _ _ _) = let l = m .0 in omega arith
+prefix-place k p (PrefixCause.empty-block _ _ _ _ m) = let l = m .0 in omega arith
+
+clause-place : {n : ℕ} {ls : List ℤ} (k p : ℕ) → ClauseCause n ls k p → p ≤ length ls
+clause-place k p (ClauseCause.outside _ l _ _) = omega arith
+clause-place k p (ClauseCause.ends-inside _ q _) = omega arith
+
+added-place : {n : ℕ} {ls : List ℤ} (k p : ℕ) → AddedCause n ls k p → p ≤ length ls
+added-place k p (AddedCause.outside _ l _) = omega arith
+
+-- the variables of a forest
+forest-place : (n : ℕ) (es classes parents : List ℕ) (k p : ℕ) → ForestCause n es classes parents k p → p ≤ n
+forest-place n es classes parents k p (short _ q _) = omega arith
+forest-place n es classes parents k p (bad-row _ _ l _) = l
+
+-- What is known of n and the lengths where neither 1 nor 2 is given.
+few : (n : ℕ) → NoneOf (VariableCount n ∷ []) → n ≤ 4096
+few n none = let over : ¬ (4096 < n) = λ l. none .0 1 0 (refl, refl, l) in omega arith
+
+module _ (n : ℕ) (es : List ℕ) where
+  -- A prefix of a length within its limit, and whatever is looked at after it.
+  small-prefix : length es ≤ 8192 → Small (PrefixCause n es ∷ [])
+  small-prefix l = small-within (PrefixCause n es) 8192 (omega arith) (λ k p cause. let m = prefix-place k p cause in omega arith)
+
+  small-clauses : (ls : List ℤ) → length ls ≤ 16384 → Small (ClauseCause n ls ∷ [])
+  small-clauses ls l = small-within (ClauseCause n ls) 16384 (omega arith) (λ k p cause. let m = clause-place k p cause in omega arith)
+
+  small-added : (ls : List ℤ) → length ls ≤ 16384 → Small (AddedCause n ls ∷ [])
+  small-added ls l = small-within (AddedCause n ls) 16384 (omega arith) (λ k p cause. let m = added-place k p cause in omega arith)
+
+  small-forest : (classes parents : List ℕ) → n ≤ 4096 → Small (ForestCause n es classes parents ∷ [])
+  small-forest classes parents l = small-within (ForestCause n es classes parents) 4096 (omega arith) (λ k p cause. let m = forest-place n es classes parents k p cause in omega arith)
+
+  -- 1, 2, the prefix, and then causes in a table of literals
+  small-two : (ls : List ℤ) (causes : Causes) → (length ls ≤ 16384 → Small (causes ∷ [])) → Small (VariableCount n ∷ At0 2 (PrefixLong es ⊎ ClausesLong ls) ∷ PrefixCause n es ∷ causes ∷ [])
+  small-two ls causes last =
+      small-then (VariableCount n ∷ []) (At0 2 (PrefixLong es ⊎ ClausesLong ls) ∷ PrefixCause n es ∷ causes ∷ []) (small-at0 1 (4096 < n))
+      (λ _. small-then (At0 2 (PrefixLong es ⊎ ClausesLong ls) ∷ []) (PrefixCause n es ∷ causes ∷ []) (small-at0 2 (PrefixLong es ⊎ ClausesLong ls))
+      (λ none.
+      let long : ¬ (8192 < length es) = λ l. none .0 2 0 (refl, refl, inl l) in
+      let large : ¬ (16384 < length ls) = λ l. none .0 2 0 (refl, refl, inr l) in
+      small-then (PrefixCause n es ∷ []) (causes ∷ []) (small-prefix (omega arith)) (λ _. last (omega arith))))
+
+  pub small-check : (ls : List ℤ) → Small (checkOrder n es ls)
+  small-check ls = small-two ls (ClauseCause n ls) (small-clauses ls)
+
+  pub small-build : (ls : List ℤ) (classes parents : List ℕ) → Small (buildOrder n es ls classes parents)
+  small-build ls classes parents =
+      small-then (checkOrder n es ls) (At0 14 (TooShort n classes parents) ∷ []) (small-check ls) (λ _. small-at0 14 (TooShort n classes parents))
+
+  pub small-add : (classes parents : List ℕ) (ls : List ℤ) → Small (addOrder n es classes parents ls)
+  small-add classes parents ls =
+      small-then (clauseFirst n es ls) (ForestCause n es classes parents ∷ []) (small-two ls (AddedCause n ls) (small-added ls))
+      (λ none. small-forest classes parents (few n (none .0, tt)))
+
+  small-prefixes : Small (prefixOrder n es)
+  small-prefixes =
+      small-then (VariableCount n ∷ []) (At0 2 (PrefixLong es) ∷ PrefixCause n es ∷ []) (small-at0 1 (4096 < n))
+      (λ _. small-then (At0 2 (PrefixLong es) ∷ []) (PrefixCause n es ∷ []) (small-at0 2 (PrefixLong es))
+      (λ none. let long : ¬ (8192 < length es) = λ l. none .0 2 0 (refl, refl, l) in small-prefix (omega arith)))
+
+  pub small-entry : (classes parents : List ℕ) (x y : ℕ) → Small (entryOrder n es classes parents x y)
+  small-entry classes parents x y =
+      small-then (prefixOrder n es) (ForestCause n es classes parents ∷ At0 13 (NotUniversal n es x ⊎ NotDeeper n es x y) ∷ []) small-prefixes
+      (λ none. small-then (ForestCause n es classes parents ∷ []) (At0 13 (NotUniversal n es x ⊎ NotDeeper n es x y) ∷ []) (small-forest classes parents (few n (none .0, tt)))
+      (λ _. small-at0 13 (NotUniversal n es x ⊎ NotDeeper n es x y)))
+
+  pub small-list : (ls : List ℤ) (classes parents : List ℕ) (x : ℕ) (P : ℕ → Type 0) (before : List ℕ) → Small (listOrder n es ls classes parents x P before)
+  small-list ls classes parents x P before =
+      small-then (checkOrder n es ls) (ForestCause n es classes parents ∷ At0 13 (NotUniversal n es x) ∷ At0 14 (TooLong P before) ∷ []) (small-check ls)
+      (λ none. small-then (ForestCause n es classes parents ∷ []) (At0 13 (NotUniversal n es x) ∷ At0 14 (TooLong P before) ∷ []) (small-forest classes parents (few n (none .0, tt)))
+      (λ _. small-then (At0 13 (NotUniversal n es x) ∷ []) (At0 14 (TooLong P before) ∷ []) (small-at0 13 (NotUniversal n es x)) (λ _. small-at0 14 (TooLong P before))))
+
+pub small-clause : (n : ℕ) (ls : List ℤ) (asked : ℕ) → Small (clauseOrder n ls asked)
+small-clause n ls asked =
+    small-then (VariableCount n ∷ []) (At0 2 (ClausesLong ls) ∷ ClauseCause n ls ∷ At0 13 (length (clauses ls) ≤ asked) ∷ []) (small-at0 1 (4096 < n))
+    (λ _. small-then (At0 2 (ClausesLong ls) ∷ []) (ClauseCause n ls ∷ At0 13 (length (clauses ls) ≤ asked) ∷ []) (small-at0 2 (ClausesLong ls))
+    (λ none.
+    let large : ¬ (16384 < length ls) = λ l. none .0 2 0 (refl, refl, l) in
+    small-then (ClauseCause n ls ∷ []) (At0 13 (length (clauses ls) ≤ asked) ∷ []) (small-clauses n [] ls (omega arith)) (λ _. small-at0 13 (length (clauses ls) ≤ asked))))

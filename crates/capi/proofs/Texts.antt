@@ -1,0 +1,156 @@
+-- Places in a text, and the counts of what is read from one, fit 32 bits: a text holds no more entries than bytes.
+use Prim.Native.Nat.{ℕ, _+_, _≤_, _<_}
+use mathlib.Core.Path.{_≡_, refl, sym, ap, _∙_}
+use mathlib.Core.Bool.{Bool, true, false, cond}
+use mathlib.Core.List.{List, [], _∷_, _++_}
+use mathlib.Core.Option.{Option, none, some}
+use native.Mathlib.Omega.{arith}
+use lib.Dec.{eqb}
+use lib.IntN.{ℤ}
+use lib.ListN.{length, length-append}
+use lib.Seq.{length-take-le}
+use Rattle.terms.specs.Refusals.{NoneOf}
+use Rattle.qdimacs.specs.declared.Stage.{Stage}
+use Rattle.qdimacs.specs.declared.Item.{Item}
+use Rattle.qdimacs.specs.declared.Item.the-variants.{Closing, Plain, Negated, Other}
+use Rattle.qdimacs.specs.Words.{LF, SPACE, pieces, onto, filled, words, itemOf, Kind, prepend, closed, entry, entriesOf}
+use Rattle.qdimacs.specs.Grammar.{QuantifierLine, e-line, a-line, ClauseLine, literals-line, Line, a-comment, the-problem, a-block, a-clause, Lines, no-line, one-more, TextOf, Fault, outside, unended, no-problem, many, few, placeAfter, FaultIn}
+use Rattle.qdimacs.specs.Reading.{Overlong, overlong, NoRoom, no-room-prefix, no-room-clauses, readOrder, ReadInto}
+use Rattle.capi.proofs.Places.{Small, small-then, small-within}
+
+-- Cut at a mark, bytes are as many as their pieces with a mark each, but for the last.
+onto-place : (byte : ℕ) (cut : List (List ℕ)) → 0 < placeAfter cut → placeAfter (onto byte cut) ≡ placeAfter cut + 1
+unfolding onto
+onto-place byte [] l = absurd (omega arith)
+onto-place byte (piece ∷ more) l = omega arith
+
+pieces-place : (mark : ℕ) (bytes : List ℕ) → placeAfter (pieces mark bytes) ≡ length bytes + 1
+unfolding pieces
+pieces-place mark [] = refl
+pieces-place mark (byte ∷ bytes) = by-mark (eqb byte mark) (pieces-place mark bytes) where
+  by-mark : (b : Bool) → placeAfter (pieces mark bytes) ≡ length bytes + 1 → placeAfter (cond b ([] ∷ pieces mark bytes) (onto byte (pieces mark bytes))) ≡ length (byte ∷ bytes) + 1
+  by-mark true q = omega arith
+  by-mark false q = let r = onto-place byte (pieces mark bytes) (omega arith) in omega arith
+
+place-append : (lines more : List (List ℕ)) → placeAfter (lines ++ more) ≡ placeAfter lines + placeAfter more
+place-append [] more = omega arith
+place-append (line ∷ lines) more = let q = place-append lines more in omega arith
+
+-- A line has at most one word more than bytes, and as many entries as words.
+filled-few : (cut : List (List ℕ)) → length (filled cut) ≤ placeAfter cut
+unfolding filled
+filled-few [] = omega arith
+filled-few ([] ∷ more) = let l = filled-few more in omega arith
+filled-few ((byte ∷ bytes) ∷ more) = let l = filled-few more in omega arith
+
+words-few : (line : List ℕ) → length (words line) ≤ length line + 1
+unfolding words
+words-few line = let l = filled-few (pieces SPACE line) in let q = pieces-place SPACE line in omega arith
+
+module _ {A : Type 0} where
+  sized : Option (List A) → ℕ
+  sized none = 0
+  sized (some entries) = length entries
+
+  prepend-few : (first : Option A) (later : Option (List A)) → sized (prepend first later) ≤ sized later + 1
+  unfolding sized prepend
+  prepend-few none later = omega arith
+  prepend-few (some first) none = omega arith
+  prepend-few (some first) (some later) = omega arith
+
+  closed-few : (zero : A) (more : List (List ℕ)) → sized (closed zero more) ≤ length more + 1
+  unfolding sized closed
+  closed-few zero [] = omega arith
+  closed-few zero (word ∷ more) = omega arith
+
+  entry-few : (kind : Kind A) (item : Item) (more : List (List ℕ)) (later : Option (List A)) → sized later ≤ length more → sized (entry kind item more later) ≤ length more + 1
+  unfolding sized entry
+  entry-few kind Closing more later l = closed-few (kind .positive 0) more
+  entry-few kind (Plain value) more later l = let m = prepend-few (some (kind .positive value)) later in omega arith
+  entry-few kind (Negated value) more later l = let m = prepend-few (kind .negative value) later in omega arith
+  entry-few kind Other more later l = omega arith
+
+  sized-few : (kind : Kind A) (ws : List (List ℕ)) → sized (entriesOf kind ws) ≤ length ws
+  unfolding sized entriesOf
+  sized-few kind [] = omega arith
+  sized-few kind (word ∷ more) = let l = entry-few kind (itemOf word) more (entriesOf kind more) (sized-few kind more) in omega arith
+
+  entries-few : (kind : Kind A) (ws : List (List ℕ)) {entries : List A} → entriesOf kind ws ≡ some entries → length entries ≤ length ws
+  unfolding sized
+  entries-few kind ws {entries} q = let l = sized-few kind ws in let r : sized (entriesOf kind ws) ≡ length entries = ap sized q in omega arith
+
+-- A line adds no more entries than it has bytes and its LF, and a text no more than it has bytes.
+quantifier-few : {line entries : List ℕ} → QuantifierLine line entries → length entries ≤ length line + 1
+quantifier-few {line} (e-line {more = more} q r) = let w = words-few line in let s : length (words line) ≡ length more + 1 = ap length q ∙ omega arith in let l = entries-few _ more r in omega arith
+quantifier-few {line} (a-line {more = more} q r) = let w = words-few line in let s : length (words line) ≡ length more + 1 = ap length q ∙ omega arith in let l = entries-few _ more r in omega arith
+
+clause-few : {line : List ℕ} {entries : List ℤ} → ClauseLine line entries → length entries ≤ length line + 1
+clause-few {line} (literals-line q) = let w = words-few line in let l = entries-few _ (words line) q in omega arith
+
+line-few : {stage next : Stage} {line p : List ℕ} {c : List ℤ} → Line stage line next p c → length p + length c ≤ length line + 1
+line-few (a-comment _) = omega arith
+line-few (the-problem _) = omega arith
+line-few (a-block _ block) = let l = quantifier-few block in omega arith
+line-few (a-clause _ clause) = let l = clause-few clause in omega arith
+
+lines-few : {stage last : Stage} {lines : List (List ℕ)} {P : List ℕ} {C : List ℤ} → Lines stage lines last P C → length P + length C ≤ placeAfter lines
+lines-few no-line = omega arith
+lines-few (one-more {p = p} {P = P} {c = c} {C = C} line lines) =
+    let l = line-few line in
+    let m = lines-few lines in
+    let q = length-append p P in
+    let r = length-append c C in
+    omega arith
+
+pub text-few : {n : ℕ} {P : List ℕ} {C : List ℤ} {text : List ℕ} → TextOf n P C text → length P + length C ≤ length text
+text-few {text = text} t =
+    let l = lines-few (t .follow) in
+    let q = place-append (t .lines) ([] ∷ []) in
+    let r : placeAfter (pieces LF text) ≡ placeAfter (t .lines ++ ([] ∷ [])) = ap placeAfter (t .cut) in
+    let s = pieces-place LF text in
+    omega arith
+
+-- A fault stands in what is left of a text, which has a piece at least.
+fault-some : {k : ℕ} {stage : Stage} {left : List (List ℕ)} → Fault k stage left → 0 < placeAfter left
+fault-some (outside _ _) = omega arith
+fault-some unended = omega arith
+fault-some no-problem = omega arith
+fault-some (many _) = omega arith
+fault-some (few _) = omega arith
+
+fault-place : (text : List ℕ) (k p : ℕ) → FaultIn text k p → p ≤ length text
+fault-place text k p f =
+    let some-left = fault-some (f .fault) in
+    let q = place-append (f .lines) (f .left) in
+    let r : placeAfter (pieces LF text) ≡ placeAfter (f .lines ++ f .left) = ap placeAfter (f .cut) in
+    let s = pieces-place LF text in
+    let at = f .at in
+    omega arith
+
+pub overlong-place : {text : List ℕ} {k p : ℕ} → Overlong text k p → p ≤ 65536
+overlong-place (overlong l) = omega arith
+
+no-room-place : {text prefix : List ℕ} {clauses : List ℤ} {k p : ℕ} → NoRoom text prefix clauses k p → p ≤ 0
+no-room-place (no-room-prefix _ _) = omega arith
+no-room-place (no-room-clauses _ _) = omega arith
+
+pub small-read : (text prefix : List ℕ) (clauses : List ℤ) → Small (readOrder text prefix clauses)
+small-read text prefix clauses =
+    small-then (Overlong text ∷ []) (FaultIn text ∷ NoRoom text prefix clauses ∷ []) (small-within (Overlong text) 65536 (omega arith) (λ k p cause. overlong-place cause))
+    (λ clean.
+    let long : ¬ (65536 < length text) = λ l. clean .0 15 65536 (overlong l) in
+    small-then (FaultIn text ∷ []) (NoRoom text prefix clauses ∷ []) (small-within (FaultIn text) 65536 (omega arith) (λ k p cause. let l = fault-place text k p cause in omega arith))
+    (λ _. small-within (NoRoom text prefix clauses) 0 (omega arith) (λ k p cause. no-room-place cause)))
+
+-- the counts of what was read
+pub counts-few : (n entries literals : ℕ) (text prefix prefix′ : List ℕ) (clauses clauses′ : List ℤ) → NoneOf (readOrder text prefix clauses) → ReadInto n entries literals text prefix prefix′ clauses clauses′ → (entries ≤ 65536) × (literals ≤ 65536)
+counts-few n entries literals text prefix prefix′ clauses clauses′ clean r =
+    let long : ¬ (65536 < length text) = λ l. clean .0 15 65536 (overlong l) in
+    let room = r .prefix-room in
+    let space = r .clauses-room in
+    let size = r .prefix-length in
+    let extent = r .clauses-length in
+    let p = length-take-le entries prefix′ (omega arith) in
+    let q = length-take-le literals clauses′ (omega arith) in
+    let l = text-few (r .text-of) in
+    (omega arith, omega arith)

@@ -1,0 +1,252 @@
+// The calls of the library for C, as include/snowcoddle.h has them: each calls the library and lays its answer out. A slice is a pointer and
+// a length there, and a `&mut` to a number is a cell.
+
+use forest::EntryAnswer;
+use formula::clauses::Found;
+use qdimacs::Output;
+use qdimacs::Reading;
+use terms::Filled;
+use terms::Variable;
+use terms::Verdict;
+ghost use mathlib.Core.Path.{_≡_};
+ghost use Rattle.formula.specs.Causes.{checkOrder, clauseOrder};
+ghost use Rattle.forest.specs.Causes.{entryOrder, listOrder};
+ghost use Rattle.forest.specs.Answers.{Entry, Entries, Members};
+ghost use Rattle.forest.specs.Formula.{variables, Shares};
+ghost use Rattle.growth.specs.Grown.{buildOrder, addOrder, Extended, Grown};
+ghost use Rattle.qdimacs.specs.Reading.{ReadInto, readOrder};
+ghost use Rattle.qdimacs.specs.Stored.{Stored, tablesOrder};
+ghost use Rattle.qdimacs.specs.Writing.{textOf};
+ghost use Rattle.capi.specs.Told.{Told, Clause, Written};
+
+// Check: whether a formula keeps every rule.
+#[no_mangle]
+pub extern "C" fn snow_check(n: u32, prefix: &[u32], clauses: &[i32], place: &mut u32) -> u32
+    ensures { λ r. ⌜ Told (checkOrder n (now (prefix .entry)) (now (clauses .entry))) (Unit {0}) (Unit {0}) r (now (place .entry)) (now (place .exit)) ⌝ }
+{
+    match formula::check(n, prefix, clauses) {
+        Verdict::Accepted => 0,
+        Verdict::Refused(number, at) => {
+            *place = at as u32;
+            number
+        }
+    }
+}
+
+// The clause with a given number: where it stands in the lent table, and how many literals it has.
+#[no_mangle]
+pub extern "C" fn snow_clause(
+    n: u32,
+    clauses: &[i32],
+    asked: u32,
+    start: &mut u32,
+    len: &mut u32,
+    place: &mut u32,
+) -> u32
+    ensures { λ r. ⌜ Told (clauseOrder n (now (clauses .entry)) asked) (Clause (now (clauses .entry)) asked (now (start .exit)) (now (len .exit))) ((now (start .exit) ≡ now (start .entry)) × (now (len .exit) ≡ now (len .entry))) r (now (place .entry)) (now (place .exit)) ⌝ }
+{
+    match formula::clause_verdict(n, clauses, asked) {
+        Verdict::Refused(number, at) => {
+            *place = at as u32;
+            number
+        }
+        Verdict::Accepted => match formula::clauses::find(clauses, asked) {
+            Found::At { start: from, end } => {
+                *start = from as u32;
+                *len = (end - from) as u32;
+                0
+            }
+            Found::Nowhere => 13,
+        },
+    }
+}
+
+// Build: the forest of a formula, with n as the count of its rows.
+#[no_mangle]
+pub extern "C" fn snow_build(
+    n: u32,
+    prefix: &[u32],
+    clauses: &[i32],
+    classes: &mut [u32],
+    parents: &mut [u32],
+    count: &mut u32,
+    place: &mut u32,
+) -> u32
+    ensures { λ r. ⌜ Told (buildOrder n (now (prefix .entry)) (now (clauses .entry)) (now (classes .entry)) (now (parents .entry))) ((now (count .exit) ≡ n) × Grown (variables n (now (prefix .entry))) (Shares (now (clauses .entry))) (now (classes .entry)) (now (parents .entry)) (now (classes .exit)) (now (parents .exit))) ((now (count .exit) ≡ now (count .entry)) × (now (classes .exit) ≡ now (classes .entry)) × (now (parents .exit) ≡ now (parents .entry))) r (now (place .entry)) (now (place .exit)) ⌝ }
+{
+    match growth::build(n, prefix, clauses, classes, parents) {
+        Filled::Count(written) => {
+            *count = written;
+            0
+        }
+        Filled::Refused(number, at) => {
+            *place = at as u32;
+            number
+        }
+    }
+}
+
+// The entry point of x for y, and the number of rises up to it.
+#[no_mangle]
+pub extern "C" fn snow_entry_point(
+    n: u32,
+    prefix: &[u32],
+    classes: &[u32],
+    parents: &[u32],
+    x: u32,
+    y: u32,
+    entry: &mut u32,
+    rises: &mut u32,
+    place: &mut u32,
+) -> u32
+    ensures { λ r. ⌜ Told (entryOrder n (now (prefix .entry)) (now (classes .entry)) (now (parents .entry)) x y) (Entry n (now (prefix .entry)) (now (classes .entry)) (now (parents .entry)) x y (now (entry .exit)) (now (rises .exit))) ((now (entry .exit) ≡ now (entry .entry)) × (now (rises .exit) ≡ now (rises .entry))) r (now (place .entry)) (now (place .exit)) ⌝ }
+{
+    match forest::entry_point(
+        n,
+        prefix,
+        classes,
+        parents,
+        Variable::new(x),
+        Variable::new(y),
+    ) {
+        EntryAnswer::At(class, passed) => {
+            *entry = class.0;
+            *rises = passed;
+            0
+        }
+        EntryAnswer::Refused(number, at) => {
+            *place = at as u32;
+            number
+        }
+    }
+}
+
+// The entry points of x, ascending, with their count.
+#[no_mangle]
+pub extern "C" fn snow_entry_points(
+    n: u32,
+    prefix: &[u32],
+    clauses: &[i32],
+    classes: &[u32],
+    parents: &[u32],
+    x: u32,
+    out: &mut [u32],
+    count: &mut u32,
+    place: &mut u32,
+) -> u32
+    ensures { λ r. ⌜ Told (listOrder n (now (prefix .entry)) (now (clauses .entry)) (now (classes .entry)) (now (parents .entry)) x (Entries n (now (prefix .entry)) (now (clauses .entry)) (now (classes .entry)) (now (parents .entry)) x) (now (out .entry))) (Written (Entries n (now (prefix .entry)) (now (clauses .entry)) (now (classes .entry)) (now (parents .entry)) x) (now (out .entry)) (now (out .exit)) (now (count .exit))) ((now (count .exit) ≡ now (count .entry)) × (now (out .exit) ≡ now (out .entry))) r (now (place .entry)) (now (place .exit)) ⌝ }
+{
+    match forest::entry_points(n, prefix, clauses, classes, parents, Variable::new(x), out) {
+        Filled::Count(written) => {
+            *count = written;
+            0
+        }
+        Filled::Refused(number, at) => {
+            *place = at as u32;
+            number
+        }
+    }
+}
+
+// The set of x, ascending, with the count of its members.
+#[no_mangle]
+pub extern "C" fn snow_set(
+    n: u32,
+    prefix: &[u32],
+    clauses: &[i32],
+    classes: &[u32],
+    parents: &[u32],
+    x: u32,
+    out: &mut [u32],
+    count: &mut u32,
+    place: &mut u32,
+) -> u32
+    ensures { λ r. ⌜ Told (listOrder n (now (prefix .entry)) (now (clauses .entry)) (now (classes .entry)) (now (parents .entry)) x (Members n (now (prefix .entry)) (now (clauses .entry)) (now (classes .entry)) (now (parents .entry)) x) (now (out .entry))) (Written (Members n (now (prefix .entry)) (now (clauses .entry)) (now (classes .entry)) (now (parents .entry)) x) (now (out .entry)) (now (out .exit)) (now (count .exit))) ((now (count .exit) ≡ now (count .entry)) × (now (out .exit) ≡ now (out .entry))) r (now (place .entry)) (now (place .exit)) ⌝ }
+{
+    match forest::set_of(n, prefix, clauses, classes, parents, Variable::new(x), out) {
+        Filled::Count(written) => {
+            *count = written;
+            0
+        }
+        Filled::Refused(number, at) => {
+            *place = at as u32;
+            number
+        }
+    }
+}
+
+// Add a clause: the lent rows become those of the forest with it.
+#[no_mangle]
+pub extern "C" fn snow_add(
+    n: u32,
+    prefix: &[u32],
+    classes: &mut [u32],
+    parents: &mut [u32],
+    clause: &[i32],
+    place: &mut u32,
+) -> u32
+    ensures { λ r. ⌜ Told (addOrder n (now (prefix .entry)) (now (classes .entry)) (now (parents .entry)) (now (clause .entry))) (Grown (variables n (now (prefix .entry))) (Extended n (now (prefix .entry)) (now (classes .entry)) (now (parents .entry)) (now (clause .entry))) (now (classes .entry)) (now (parents .entry)) (now (classes .exit)) (now (parents .exit))) ((now (classes .exit) ≡ now (classes .entry)) × (now (parents .exit) ≡ now (parents .entry))) r (now (place .entry)) (now (place .exit)) ⌝ }
+{
+    match growth::add(n, prefix, classes, parents, clause) {
+        Filled::Count(_) => 0,
+        Filled::Refused(number, at) => {
+            *place = at as u32;
+            number
+        }
+    }
+}
+
+// Read a text: n, and both tables with the counts of their entries.
+#[no_mangle]
+pub extern "C" fn snow_read(
+    text: &[u8],
+    n: &mut u32,
+    prefix: &mut [u32],
+    prefix_count: &mut u32,
+    clauses: &mut [i32],
+    clauses_count: &mut u32,
+    place: &mut u32,
+) -> u32
+    ensures { λ r. ⌜ Told (readOrder (now (text .entry)) (now (prefix .entry)) (now (clauses .entry))) (ReadInto (now (n .exit)) (now («prefix_count» .exit)) (now («clauses_count» .exit)) (now (text .entry)) (now (prefix .entry)) (now (prefix .exit)) (now (clauses .entry)) (now (clauses .exit))) ((now (n .exit) ≡ now (n .entry)) × (now («prefix_count» .exit) ≡ now («prefix_count» .entry)) × (now («clauses_count» .exit) ≡ now («clauses_count» .entry)) × (now (prefix .exit) ≡ now (prefix .entry)) × (now (clauses .exit) ≡ now (clauses .entry))) r (now (place .entry)) (now (place .exit)) ⌝ }
+{
+    match qdimacs::read(text, prefix, clauses) {
+        Reading::Read {
+            n: variables,
+            prefix: entries,
+            clauses: literals,
+        } => {
+            *n = variables;
+            *prefix_count = entries as u32;
+            *clauses_count = literals as u32;
+            0
+        }
+        Reading::Refused { number, place: at } => {
+            *place = at as u32;
+            number
+        }
+    }
+}
+
+// Write a text, with the count of its bytes.
+#[no_mangle]
+pub extern "C" fn snow_write(
+    n: u32,
+    prefix: &[u32],
+    clauses: &[i32],
+    text: &mut [u8],
+    count: &mut u32,
+    place: &mut u32,
+) -> u32
+    ensures { λ r. ⌜ Told (tablesOrder n (now (prefix .entry)) (now (clauses .entry)) (now (text .entry))) (Stored (textOf n (now (prefix .entry)) (now (clauses .entry))) (now (text .entry)) (now (text .exit)) (now (count .exit))) ((now (count .exit) ≡ now (count .entry)) × (now (text .exit) ≡ now (text .entry))) r (now (place .entry)) (now (place .exit)) ⌝ }
+{
+    match qdimacs::write(n, prefix, clauses, text) {
+        Output::Written { count: written } => {
+            *count = written as u32;
+            0
+        }
+        Output::Refused { number, place: at } => {
+            *place = at as u32;
+            number
+        }
+    }
+}

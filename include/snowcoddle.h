@@ -1,0 +1,275 @@
+/*
+ * snowcoddle.h: dependency sets of quantified Boolean formulas, for C and C++.
+ *
+ * The library takes a formula in prenex conjunctive form, builds its
+ * connection forest, answers which existentials depend on a universal, takes
+ * further clauses, and reads and writes QDIMACS text. Every call is proved
+ * against its contract. There is no state between calls and no allocation:
+ * all tables are the caller's, lent for the time of the call.
+ *
+ * Link target/staticlib/libcapi.a, which `rt staticlib capi` writes. It is
+ * for x86-64 Linux, and calls nothing but memset. A call keeps its own tables
+ * on the stack, some 100 KiB at most.
+ *
+ *
+ * THE FORMULA
+ *
+ * n         The variable count, 0 to 4,096. Variables are 1 to n.
+ *
+ * prefix    The blocks, outermost first. A block is a mark (1 existential,
+ *           2 universal), its variables, then 0. Marks alternate. Blocks are
+ *           numbered from 1; at most 64 of them, at most 8,192 entries.
+ *           A variable in no block is free: it is existential, and belongs to
+ *           block 1 if that is existential, else to block 0.
+ *           "Deeper" means a greater block number.
+ *
+ * clauses   Literals, v or -v, each clause closed by 0; at most 16,384
+ *           entries with the zeros. Clauses are numbered from 0. A clause may
+ *           be empty and may repeat a literal.
+ *
+ * Formula A, for the examples below: n is 9,
+ *           prefix   1 1 2 0  2 3 0  1 4 5 0  2 6 0  1 7 8 9 0
+ *           clauses  3 4 7 0  -4 8 0  6 9 0  5 9 0  1 5 0
+ *
+ *
+ * THE FOREST
+ *
+ * classes   Row v-1 is the class of variable v, by the name of its lowest
+ *           member; 0 for a universal.
+ * parents   Row v-1 is the parent of the class that v names: the deepest
+ *           class above it, or 0. 0 too where v names no class.
+ *
+ * Of A: classes 1 2 0 4 5 0 7 8 9, parents 0 0 0 0 1 0 4 4 5.
+ *
+ * Either table may be longer than n; rows past n are neither read nor
+ * written. Tables that are lent as input must be well formed, else the call
+ * is refused as 12: a universal's rows are 0; an existential's class name is
+ * at most its own number, is existential, of the same block, and names
+ * itself; a parent is 0 or a class name of a lesser block, and only a class
+ * name has one. They need not come from the clauses lent beside them; then
+ * entry points and sets are those of the tables as lent.
+ *
+ *
+ * WHAT A CALL GIVES
+ *
+ * Each call returns 0 if it accepts, else the number of the refusal. On a
+ * refusal it writes *place and nothing else. On acceptance it leaves *place
+ * as it was and writes every other cell and table that it fills; rows or
+ * bytes past those written stay as they were.
+ *
+ *  no.  given exactly when                              *place
+ *   1   n is over 4,096                                 0
+ *   2   prefix over 8,192 entries; clause table or
+ *       added clause over 16,384                        0
+ *   3   prefix ends inside a block                      its length
+ *   4   a mark is neither 1 nor 2                       the entry
+ *   5   a mark equals that of the block before          the entry
+ *   6   mark of a 65th block                            the entry
+ *   7   a prefix variable is outside 1 to n             the entry
+ *   8   a variable was named before                     the entry
+ *   9   0 stands directly after a mark                  the entry
+ *  10   a literal's variable is outside 1 to n;
+ *       0 in an added clause                            the entry
+ *  11   clause table ends inside a clause               its length
+ *  12   forest tables lent as input are not well        the variable of the
+ *       formed, or shorter than n                       first bad row; 0 if
+ *                                                       shorter
+ *  13   clause number not below the count; x not
+ *       universal; y not existential and deeper than x  0
+ *  14   an output table is shorter than needed          0
+ *  15   text over 65,536 bytes, read or to be written   65,536
+ *  16   a line is outside the rules of the format       its first byte
+ *  17   clause lines are not as many as announced       first line too many,
+ *                                                       or the text's length
+ *
+ * Entries and bytes are counted from 0. Where several refusals apply, the
+ * first in this order is given: 1, 2, the prefix from the left, the clause
+ * literals from the left, 12, 13, 15 (writing), 14; at one entry the lower
+ * number. snow_read gives 15, then 16 and 17 by the earliest line, then 14.
+ * A call skips what it does not take; the list above each prototype says
+ * which refusals it can give.
+ *
+ *
+ * WHAT THE CALLER OWES
+ *
+ * - A pointer to each cell (place, count, n, entry, ..) is a valid one, also
+ *   where the call turns out not to write through it.
+ * - A table is a pointer and a length in entries (bytes for a text). With
+ *   length 0 any pointer will do, NULL too: nothing is read or written
+ *   through it.
+ * - Undefined: a length that lies, that is, more entries than there are; a
+ *   table that is not aligned for its type; a table or a cell that is
+ *   written and overlaps any other table or cell of the same call (tables
+ *   that are only read may overlap); another thread that writes to what is
+ *   lent, or reads what is written, while the call runs.
+ *
+ * Nothing else is undefined: any contents of any table are answered or
+ * refused.
+ */
+#ifndef SNOWCODDLE_H
+#define SNOWCODDLE_H
+
+#include <stddef.h>
+#include <stdint.h>
+
+#ifdef __cplusplus
+extern "C" {
+#endif
+
+/*
+ * The limits, and table lengths that always suffice.
+ */
+#define SNOW_MOST_VARIABLES 4096
+#define SNOW_MOST_BLOCKS 64
+#define SNOW_MOST_PREFIX 8192
+#define SNOW_MOST_CLAUSES 16384
+#define SNOW_MOST_TEXT 65536
+
+/*
+ * Check: whether a formula keeps every rule. All other calls check what they
+ * take by themselves; none needs this one first.
+ *
+ * Refuses 1 to 11.
+ */
+uint32_t snow_check(uint32_t n, const uint32_t *prefix, size_t prefix_len,
+                    const int32_t *clauses, size_t clauses_len,
+                    uint32_t *place);
+
+/*
+ * Build: the forest of a formula. Fills n rows of classes and of parents,
+ * and gives *count = n. What the rows held before does not matter.
+ *
+ * Refuses 1 to 11, and 14 where either table has fewer than n rows.
+ */
+uint32_t snow_build(uint32_t n, const uint32_t *prefix, size_t prefix_len,
+                    const int32_t *clauses, size_t clauses_len,
+                    uint32_t *classes, size_t classes_len,
+                    uint32_t *parents, size_t parents_len,
+                    uint32_t *count, uint32_t *place);
+
+/*
+ * Clause: where the clause with a given number stands in the lent table. Its
+ * literals are clauses[*start] to clauses[*start + *len - 1]; the closing 0,
+ * which *len does not count, comes after them.
+ *
+ * Of A: clause 1 has *start = 4, *len = 2.
+ *
+ * Refuses 1, 2, 10, 11, and 13 where there are not so many clauses.
+ */
+uint32_t snow_clause(uint32_t n, const int32_t *clauses, size_t clauses_len,
+                     uint32_t number,
+                     uint32_t *start, uint32_t *len, uint32_t *place);
+
+/*
+ * Entry point of x for y, where x is universal and y is existential and
+ * deeper than x: of the class of y and the classes above it, the least deep
+ * that is still deeper than x. *entry is its name, *rises the number of
+ * classes passed from the class of y up to it, the first not counted.
+ *
+ * Of A: for x = 3, y = 8 it is 4, with one rise.
+ *
+ * Refuses 1 to 9, 12, 13.
+ */
+uint32_t snow_entry_point(uint32_t n, const uint32_t *prefix, size_t prefix_len,
+                          const uint32_t *classes, size_t classes_len,
+                          const uint32_t *parents, size_t parents_len,
+                          uint32_t x, uint32_t y,
+                          uint32_t *entry, uint32_t *rises, uint32_t *place);
+
+/*
+ * Entry points of the universal x: those for every existential deeper than x
+ * that shares a clause with x. Written ascending into out; *count says how
+ * many.
+ *
+ * Of A: 4 for x = 3.
+ *
+ * Refuses 1 to 13, and 14 where out has fewer than *count entries; n of them
+ * always suffice.
+ */
+uint32_t snow_entry_points(uint32_t n, const uint32_t *prefix, size_t prefix_len,
+                           const int32_t *clauses, size_t clauses_len,
+                           const uint32_t *classes, size_t classes_len,
+                           const uint32_t *parents, size_t parents_len,
+                           uint32_t x, uint32_t *out, size_t out_len,
+                           uint32_t *count, uint32_t *place);
+
+/*
+ * Set of the universal x: the members of every class at or below its entry
+ * points. With the forest of the formula these are the existentials reached
+ * from x: by any number of steps from variable to variable in one clause,
+ * each to an existential of x's block or deeper. Written ascending into out;
+ * *count says how many.
+ *
+ * Of A: 4 7 8 for x = 3.
+ *
+ * Refuses 1 to 13, and 14 where out has fewer than *count entries; n of them
+ * always suffice.
+ */
+uint32_t snow_set(uint32_t n, const uint32_t *prefix, size_t prefix_len,
+                  const int32_t *clauses, size_t clauses_len,
+                  const uint32_t *classes, size_t classes_len,
+                  const uint32_t *parents, size_t parents_len,
+                  uint32_t x, uint32_t *out, size_t out_len,
+                  uint32_t *count, uint32_t *place);
+
+/*
+ * Add a clause: rewrites the n rows of the lent forest to those of the
+ * forest with the clause. The clause is given by its literals, with no
+ * closing 0. With the forest of a formula this gives what snow_build gives
+ * of the formula with the clause behind its last one.
+ *
+ * snow_entry_points and snow_set take the clause table too: append the clause
+ * there as well, with its 0.
+ *
+ * Of A: adding 7 -9 gives classes 1 2 0 4 4 0 7 8 7, parents
+ * 0 0 0 1 0 0 4 4 0.
+ *
+ * Refuses 1 to 9, 10 for a bad literal of the clause or a 0 in it, and 12.
+ */
+uint32_t snow_add(uint32_t n, const uint32_t *prefix, size_t prefix_len,
+                  uint32_t *classes, size_t classes_len,
+                  uint32_t *parents, size_t parents_len,
+                  const int32_t *clause, size_t clause_len,
+                  uint32_t *place);
+
+/*
+ * Read QDIMACS text. Gives *n, the variable count of the problem line, and
+ * fills prefix and clauses; *prefix_count and *clauses_count say how many
+ * entries each took. It does not check the tables that it fills: snow_check
+ * does, and every other call.
+ *
+ * Every line ends in LF. Lines that begin with c stand only before the
+ * problem line `p cnf n m`. Then come quantifier lines (a or e, variables or
+ * none, 0), then m clause lines. Words are separated by one or more spaces;
+ * spaces may lead or trail. A number has one to five digits and no leading
+ * zero except 0 itself; only a nonzero literal may carry `-`. In quantifier
+ * and clause lines the last number, and no other, is 0. Outside comments,
+ * blank lines, tabs and CR are refused.
+ *
+ * Refuses 15, 16 (at the text's length where there is no problem line), 17,
+ * and 14 where a table is too short; 8,192 and 16,384 entries take all that
+ * snow_check can accept, 65,536 of each whatever can be read.
+ */
+uint32_t snow_read(const uint8_t *text, size_t text_len, uint32_t *n,
+                   uint32_t *prefix, size_t prefix_len, uint32_t *prefix_count,
+                   int32_t *clauses, size_t clauses_len, uint32_t *clauses_count,
+                   uint32_t *place);
+
+/*
+ * Write QDIMACS text: no comments, single spaces and no stray ones. *count
+ * says how many bytes; there is no terminating 0 byte. snow_read gives the
+ * same n, prefix and clauses back.
+ *
+ * Refuses 1 to 11, 15 where the text would be longer than 65,536 bytes, and
+ * 14 where text has fewer than *count; 65,536 bytes always suffice.
+ */
+uint32_t snow_write(uint32_t n, const uint32_t *prefix, size_t prefix_len,
+                    const int32_t *clauses, size_t clauses_len,
+                    uint8_t *text, size_t text_len,
+                    uint32_t *count, uint32_t *place);
+
+#ifdef __cplusplus
+}
+#endif
+
+#endif
