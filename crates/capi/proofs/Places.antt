@@ -8,8 +8,8 @@ use lib.IntN.{ℤ}
 use lib.ListN.{length}
 use Rattle.terms.specs.Refusals.{Causes, At0, FirstOf, NoneOf}
 use Rattle.formula.specs.Meaning.{clauses}
-use Rattle.formula.specs.Causes.{VariableCount, PrefixLong, ClausesLong, PrefixCause, ClauseCause, checkOrder, clauseOrder}
-use Rattle.forest.specs.Causes.{ForestCause, short, bad-row, NotUniversal, NotDeeper, prefixOrder, entryOrder, listOrder}
+use Rattle.formula.specs.Causes.{VariableCount, PrefixLong, ClausesLong, PrefixCause, ClauseCause, prefixOrder, checkOrder, clauseOrder}
+use Rattle.forest.specs.Causes.{ForestCause, short, bad-row, NotUniversal, NotDeeper, entryOrder, listOrder}
 use Rattle.forest.specs.Listed.{TooLong}
 use Rattle.growth.specs.Grown.{AddedCause, TooShort, buildOrder, addOrder, clauseFirst}
 
@@ -71,15 +71,17 @@ module _ (n : ℕ) (es : List ℕ) where
   small-forest : (classes parents : List ℕ) → n ≤ 4096 → Small (ForestCause n es classes parents ∷ [])
   small-forest classes parents l = small-within (ForestCause n es classes parents) 4096 (omega arith) (λ k p cause. let m = forest-place n es classes parents k p cause in omega arith)
 
-  -- 1, 2, the prefix, and then causes in a table of literals
-  small-two : (ls : List ℤ) (causes : Causes) → (length ls ≤ 16384 → Small (causes ∷ [])) → Small (VariableCount n ∷ At0 2 (PrefixLong es ⊎ ClausesLong ls) ∷ PrefixCause n es ∷ causes ∷ [])
+  -- 1, 2 and the prefix; and then causes in a table of literals
+  small-first : (entries : ℕ) → Small (prefixOrder n es entries)
+  small-first entries =
+      small-then (VariableCount n ∷ []) (At0 2 (PrefixLong es ⊎ ClausesLong entries) ∷ PrefixCause n es ∷ []) (small-at0 1 (4096 < n))
+      (λ _. small-then (At0 2 (PrefixLong es ⊎ ClausesLong entries) ∷ []) (PrefixCause n es ∷ []) (small-at0 2 (PrefixLong es ⊎ ClausesLong entries))
+      (λ none. let long : ¬ (8192 < length es) = λ l. none .0 2 0 (refl, refl, inl l) in small-prefix (omega arith)))
+
+  small-two : (ls : List ℤ) (causes : Causes) → (length ls ≤ 16384 → Small (causes ∷ [])) → Small (prefixOrder n es (length ls) ++ (causes ∷ []))
   small-two ls causes last =
-      small-then (VariableCount n ∷ []) (At0 2 (PrefixLong es ⊎ ClausesLong ls) ∷ PrefixCause n es ∷ causes ∷ []) (small-at0 1 (4096 < n))
-      (λ _. small-then (At0 2 (PrefixLong es ⊎ ClausesLong ls) ∷ []) (PrefixCause n es ∷ causes ∷ []) (small-at0 2 (PrefixLong es ⊎ ClausesLong ls))
-      (λ none.
-      let long : ¬ (8192 < length es) = λ l. none .0 2 0 (refl, refl, inl l) in
-      let large : ¬ (16384 < length ls) = λ l. none .0 2 0 (refl, refl, inr l) in
-      small-then (PrefixCause n es ∷ []) (causes ∷ []) (small-prefix (omega arith)) (λ _. last (omega arith))))
+      small-then (prefixOrder n es (length ls)) (causes ∷ []) (small-first (length ls))
+      (λ none. let large : ¬ (16384 < length ls) = λ l. none .1 .0 2 0 (refl, refl, inr l) in last (omega arith))
 
   pub small-check : (ls : List ℤ) → Small (checkOrder n es ls)
   small-check ls = small-two ls (ClauseCause n ls) (small-clauses ls)
@@ -93,15 +95,9 @@ module _ (n : ℕ) (es : List ℕ) where
       small-then (clauseFirst n es ls) (ForestCause n es classes parents ∷ []) (small-two ls (AddedCause n ls) (small-added ls))
       (λ none. small-forest classes parents (few n (none .0, tt)))
 
-  small-prefixes : Small (prefixOrder n es)
-  small-prefixes =
-      small-then (VariableCount n ∷ []) (At0 2 (PrefixLong es) ∷ PrefixCause n es ∷ []) (small-at0 1 (4096 < n))
-      (λ _. small-then (At0 2 (PrefixLong es) ∷ []) (PrefixCause n es ∷ []) (small-at0 2 (PrefixLong es))
-      (λ none. let long : ¬ (8192 < length es) = λ l. none .0 2 0 (refl, refl, l) in small-prefix (omega arith)))
-
   pub small-entry : (classes parents : List ℕ) (x y : ℕ) → Small (entryOrder n es classes parents x y)
   small-entry classes parents x y =
-      small-then (prefixOrder n es) (ForestCause n es classes parents ∷ At0 13 (NotUniversal n es x ⊎ NotDeeper n es x y) ∷ []) small-prefixes
+      small-then (prefixOrder n es 0) (ForestCause n es classes parents ∷ At0 13 (NotUniversal n es x ⊎ NotDeeper n es x y) ∷ []) (small-first 0)
       (λ none. small-then (ForestCause n es classes parents ∷ []) (At0 13 (NotUniversal n es x ⊎ NotDeeper n es x y) ∷ []) (small-forest classes parents (few n (none .0, tt)))
       (λ _. small-at0 13 (NotUniversal n es x ⊎ NotDeeper n es x y)))
 
@@ -113,8 +109,8 @@ module _ (n : ℕ) (es : List ℕ) where
 
 pub small-clause : (n : ℕ) (ls : List ℤ) (asked : ℕ) → Small (clauseOrder n ls asked)
 small-clause n ls asked =
-    small-then (VariableCount n ∷ []) (At0 2 (ClausesLong ls) ∷ ClauseCause n ls ∷ At0 13 (length (clauses ls) ≤ asked) ∷ []) (small-at0 1 (4096 < n))
-    (λ _. small-then (At0 2 (ClausesLong ls) ∷ []) (ClauseCause n ls ∷ At0 13 (length (clauses ls) ≤ asked) ∷ []) (small-at0 2 (ClausesLong ls))
+    small-then (VariableCount n ∷ []) (At0 2 (ClausesLong (length ls)) ∷ ClauseCause n ls ∷ At0 13 (length (clauses ls) ≤ asked) ∷ []) (small-at0 1 (4096 < n))
+    (λ _. small-then (At0 2 (ClausesLong (length ls)) ∷ []) (ClauseCause n ls ∷ At0 13 (length (clauses ls) ≤ asked) ∷ []) (small-at0 2 (ClausesLong (length ls)))
     (λ none.
     let large : ¬ (16384 < length ls) = λ l. none .0 2 0 (refl, refl, l) in
     small-then (ClauseCause n ls ∷ []) (At0 13 (length (clauses ls) ≤ asked) ∷ []) (small-clauses n [] ls (omega arith)) (λ _. small-at0 13 (length (clauses ls) ≤ asked))))

@@ -187,6 +187,6 @@ module _ (n : ℕ) (es : List ℕ) where
 
             stated : EntryAnswered n es classes parents x y (At (record { 0 = e }) k)
             stated = (
-              (accepted .0, (at0-none 2 (λ l. accepted .1 .0 2 0 (refl, refl, inl l)), (accepted .1 .1 .0, (fine, (at0-none 13 (⊎-elim (clash u) (⊎-elim (clash ex) (λ l. omega arith))), tt))))),
+              (accepted .0, (at0-none 2 (⊎-elim (λ l. accepted .1 .0 2 0 (refl, refl, inl l)) (λ l. omega arith)), (accepted .1 .1 .0, (fine, (at0-none 13 (⊎-elim (clash u) (⊎-elim (clash ex) (λ l. omega arith))), tt))))),
               (entry, entry-rises formed ex entry),
             )

@@ -3,19 +3,19 @@ use Prim.Native.Nat.{ℕ, suc, _<_}
 use mathlib.Core.Path.{_≡_, sym, _∙_, ap, subst, subst₂}
 use mathlib.Core.Bool.{true}
 use mathlib.Core.List.{List, [], _∷_, _++_, List·Memᴰ}
-use mathlib.Core.Logic.{_⊎_, inl, inr, _↔_, _≢_, Iff·symm, Iff·trans, by-cases}
+use mathlib.Core.Logic.{_⊎_, inl, inr, _↔_, _≢_, by-cases}
 use native.Mathlib.Decide.{ℕ-discrete}
 use native.Mathlib.Omega.{arith}
 use Rattle.connection.specs.Reach.{Variables, Lawful, Universal, From, Joined, Reach, here, step, Depends, Follows}
-use Rattle.connection.specs.Tables.{Table, ClassName, WellFormed, Above, start, rise, top, EntryPoint, EntryPointOf, Member}
+use Rattle.connection.specs.Tables.{Table, ClassName, WellFormed, Above, start, rise, top, EntryPoint, EntryPointOf}
 use Rattle.connection.specs.Forest.{Forest}
 use Rattle.connection.specs.Growth.{Added, before, added, LeavesAlone, Represents, Marked, FusedClass, merged, kept, FusedParent, chained, carried, Fused}
 use Rattle.connection.proofs.Reach.{reach-first, reach-ends, reach-one, reach-trans, reach-along, reach-level, allow, joined-added}
 use Rattle.connection.proofs.Climb.{Ends, above-falls, entry-ends, climb-entry, entry-one}
 use Rattle.connection.proofs.Represent.{from-class, class-top, parent-top}
-use Rattle.connection.proofs.Fuse.{marked-least, zero-universal, new-class, fused-formed, fused-represents}
+use Rattle.connection.proofs.Fuse.{marked-least, zero-universal, new-class, fused-formed}
 use Rattle.connection.proofs.Growth.{forest-is, forest-fused}
-use Rattle.connection.proofs.Sets.{depends-deeper, follows-member}
+use Rattle.connection.proofs.Sets.{depends-deeper}
 
 module _ {X : Variables} {J : ℕ → ℕ → Type 0} {C : List ℕ} {x : ℕ} (alone : LeavesAlone X J C x) where
   -- The clause has nothing that x reaches.
@@ -38,18 +38,6 @@ module _ {X : Variables} {J : ℕ → ℕ → Type 0} {C : List ℕ} {x : ℕ} (
     λ d. record { existential = d .existential; reached = alone-reach here (d .reached) },
     λ d. record { existential = d .existential; reached = reach-along (λ a b. before) (d .reached) },
   )
-
-  -- The set of x by any first steps that are joins stays: the premise speaks of the set by all of them.
-  pub alone-follows : {S : ℕ → ℕ → Type 0} {y : ℕ} → ((z : ℕ) → S x z → J x z)
-      → Follows (Added S C) (Added J C) (From X (X .lev x)) x y ↔ Follows S J (From X (X .lev x)) x y
-  alone-follows {S} {y} starts = (
-    λ f. there f (f .starts),
-    λ f. record { first = f .first; starts = before (f .starts); allowed = f .allowed; onward = reach-along (λ a b. before) (f .onward) },
-  )
-    where
-      there : (f : Follows (Added S C) (Added J C) (From X (X .lev x)) x y) → Added S C x (f .first) → Follows S J (From X (X .lev x)) x y
-      there f (before s) = record { first = f .first; starts = s; allowed = f .allowed; onward = alone-reach (reach-one (starts (f .first) s) (f .allowed)) (f .onward) }
-      there f (added l m) = absurd (alone .itself l)
 
 module _ {X : Variables} {J : ℕ → ℕ → Type 0} {C : List ℕ} {W W′ : Table} {x : ℕ}
     (lawful : Lawful X) (rep : Represents X J W) (fused : Fused X W C W′) (u : Universal X x) (alone : LeavesAlone X J C x) where
@@ -173,11 +161,6 @@ module _ {X : Variables} {J : ℕ → ℕ → Type 0} {C : List ℕ} {W W′ : T
         entry = alone-entry (in-set s (o .existential) (o .deeper)) .1 (o .entry);
       }
       back o (added l m) = absurd (alone .itself l)
-
-  -- The members at or below them stay.
-  pub alone-members : {S : ℕ → ℕ → Type 0} {y : ℕ} → ((z : ℕ) → S x z → J x z) → Member X W S x y ↔ Member X W′ (Added S C) x y
-  alone-members starts =
-      Iff·trans (Iff·symm (follows-member rep u)) (Iff·trans (Iff·symm (alone-follows alone starts)) (follows-member (fused-represents lawful formed fused rep) u))
 
 -- The same of lists: the clause stands last in the longer one.
 pub set-stays : {X : Variables} {cs : List (List ℕ)} {C : List ℕ} {x y : ℕ} → LeavesAlone X (Joined cs) C x

@@ -85,19 +85,6 @@ module _ {X : Variables} {W : Table} (formed : WellFormed X W) where
   unfolding climb
   climb-ends {c = c} e r = ends-by (X .lev c) r (omega arith) (e .above) (e .deep) (e .stop)
 
-  -- The search stops: the parent is 0 or not of block i or deeper.
-  pub climb-stop : (i c r : ℕ) → (W .par c ≢ 0 → X .lev (W .par c) < i) → climb X W i c r ≡ record { top = c; rises = r }
-  unfolding climb
-  climb-stop i c r h = stop-by i (X .lev c) c r h
-
-  -- The search rises: the parent is not 0, and is of block i or deeper.
-  pub climb-rise : (i c r : ℕ) → W .par c ≢ 0 → i ≤ X .lev (W .par c) → climb X W i c r ≡ climb X W i (W .par c) (r + 1)
-  climb-rise i c r n d =
-      let e = ends-exist (W .par c) d in
-      let here : Ends X W i c (e .0) (suc (e .1)) = record { above = rise n (e .2 .above); deep = e .2 .deep; stop = e .2 .stop } in
-      let sum : r + suc (e .1) ≡ (r + 1) + e .1 = omega arith in
-      climb-ends here r ∙ ap (λ (m : ℕ). record { top = e .0; rises = m }) sum ∙ sym (climb-ends (e .2) (r + 1))
-
   -- A climb has one end.
   pub ends-one : {i c p k q n : ℕ} → Ends X W i c p k → Ends X W i c q n → (p ≡ q) × (k ≡ n)
   ends-one {k = k} {n = n} a b =

@@ -1,4 +1,4 @@
--- Formula A of document 01, computed: P1 to P10, and the readings that look right and are not.
+-- The errors of document 01 that look right, refuted by computing on formula A. (That P1 to P10 hold of the calls is the crate `cases`.)
 use Prim.Native.Nat.{ℕ, suc, _≤_, _<_}
 use mathlib.Core.Path.{_≡_, refl, subst}
 use mathlib.Core.Bool.{true, false}
@@ -13,7 +13,7 @@ use Rattle.connection.specs.Tables.{Table, row, lent, WellFormed, Above,
 use Rattle.connection.specs.Forest.{Forest}
 use Rattle.connection.specs.Search.{has, meets, keep, put-back, find, see, spread, reached, reaches, is-from, sift, set-of}
 use Rattle.connection.specs.Fusing.{fill, classes-up, marks, goes-before, under, fuse-class, fuse-parent, Rows, table-of, rows-by, fuse-marks, fuse, fuse-all, singles, forest-of}
-use Rattle.connection.proofs.Growth.{forest-represents, forest-exists, forest-is}
+use Rattle.connection.proofs.Growth.{forest-represents, forest-exists}
 use Rattle.connection.proofs.Climb.{climb-entry, entry-one, above-falls}
 use Rattle.connection.proofs.Reach.{joined-sym}
 use Rattle.connection.proofs.Forest.{forest-one}
@@ -39,27 +39,9 @@ with C = clauses ++ (C ∷ [])
 abbrev B : List (List ℕ)
 B = (3 ∷ 7 ∷ []) ∷ (4 ∷ 7 ∷ []) ∷ (4 ∷ 8 ∷ []) ∷ []
 
--- The rows of P1 and P2, and the table that they are.
-abbrev A-rows : Rows
-A-rows = record { classes = 1 ∷ 2 ∷ 0 ∷ 4 ∷ 5 ∷ 0 ∷ 7 ∷ 8 ∷ 9 ∷ []; parents = 0 ∷ 0 ∷ 0 ∷ 0 ∷ 1 ∷ 0 ∷ 4 ∷ 4 ∷ 5 ∷ [] }
-
-abbrev A-forest : Table
-A-forest = lent A (A-rows .classes) (A-rows .parents)
-
 -- What antt computes.
 record Computed : Type 0 where
-  forest-A : forest-of A clauses ≡ A-rows
   forest-79 : forest-of A (with (7 ∷ 9 ∷ [])) ≡ record { classes = 1 ∷ 2 ∷ 0 ∷ 4 ∷ 4 ∷ 0 ∷ 7 ∷ 8 ∷ 7 ∷ []; parents = 0 ∷ 0 ∷ 0 ∷ 1 ∷ 0 ∷ 0 ∷ 4 ∷ 4 ∷ 0 ∷ [] }
-  forest-12 : forest-of A (with (1 ∷ 2 ∷ [])) ≡ record { classes = 1 ∷ 1 ∷ 0 ∷ 4 ∷ 5 ∷ 0 ∷ 7 ∷ 8 ∷ 9 ∷ []; parents = A-rows .parents }
-  forest-nil : forest-of A (with []) ≡ A-rows
-  set-3 : set-of A clauses 3 ≡ 4 ∷ 7 ∷ 8 ∷ []
-  set-6 : set-of A clauses 6 ≡ 9 ∷ []
-  set-3-79 : set-of A (with (7 ∷ 9 ∷ [])) 3 ≡ 4 ∷ 5 ∷ 7 ∷ 8 ∷ 9 ∷ []
-  set-6-79 : set-of A (with (7 ∷ 9 ∷ [])) 6 ≡ 7 ∷ 9 ∷ []
-  set-3-58 : set-of A (with (5 ∷ 8 ∷ [])) 3 ≡ 4 ∷ 5 ∷ 7 ∷ 8 ∷ 9 ∷ []
-  set-6-58 : set-of A (with (5 ∷ 8 ∷ [])) 6 ≡ 9 ∷ []
-  climb-3-8 : climb A A-forest 3 8 0 ≡ record { top = 4; rises = 1 }
-  climb-6-9 : climb A A-forest 5 9 0 ≡ record { top = 9; rises = 0 }
   set-3-B : set-of A B 3 ≡ 4 ∷ 7 ∷ 8 ∷ []
   climb-3-7-B : climb A (table-of A (forest-of A B)) 3 7 0 ≡ record { top = 4; rises = 1 }
   too-far-4 : reaches (is-from A 4) clauses 3 4 ≡ false
@@ -70,7 +52,7 @@ record Computed : Type 0 where
 -- It computes so.
 computed : Computed
 unfolding has fill classes-up marks goes-before under fuse-class fuse-parent table-of lent row rows-by fuse-marks fuse fuse-all singles forest-of climb climb-by set-of sift reached is-from meets reaches keep put-back find see spread
-computed = record { forest-A = refl; forest-79 = refl; forest-12 = refl; forest-nil = refl; set-3 = refl; set-6 = refl; set-3-79 = refl; set-6-79 = refl; set-3-58 = refl; set-6-58 = refl; climb-3-8 = refl; climb-6-9 = refl; set-3-B = refl; climb-3-7-B = refl; too-far-4 = refl; too-far-8 = refl; through = refl; not-through = refl }
+computed = record { forest-79 = refl; set-3-B = refl; climb-3-7-B = refl; too-far-4 = refl; too-far-8 = refl; through = refl; not-through = refl }
 
 -- Its existentials are in range.
 A-lawful : Lawful A
@@ -92,44 +74,6 @@ set-by {cs} {x} e y = subst (λ (l : List ℕ). Depends A (Joined cs) x y ↔ Li
 -- The entry point is where the climb ended.
 entry-by : {x e k : ℕ} (y : ℕ) {W : Table} → WellFormed A W → A .ex y ≡ true → A .lev x < A .lev y → climb A W (suc (A .lev x)) (W .cls y) 0 ≡ record { top = e; rises = k } → EntryPoint A W x y e k
 entry-by {x} y {W} formed ex l e = subst (λ (c : Climbed). EntryPoint A W x y (c .top) (c .rises)) e (climb-entry formed y ex l)
-
--- The cases of document 01.
-pub record Cases : Type 0 where
-  pub P1-P2 : Forest A (Joined clauses) A-forest
-  pub P3 : (y : ℕ) → Depends A (Joined clauses) 3 y ↔ List·Memᴰ y (4 ∷ 7 ∷ 8 ∷ [])
-  pub P4 : (y : ℕ) → Depends A (Joined clauses) 6 y ↔ List·Memᴰ y (9 ∷ [])
-  pub P5 : Forest A (Joined (with (7 ∷ 9 ∷ []))) (lent A (1 ∷ 2 ∷ 0 ∷ 4 ∷ 4 ∷ 0 ∷ 7 ∷ 8 ∷ 7 ∷ []) (0 ∷ 0 ∷ 0 ∷ 1 ∷ 0 ∷ 0 ∷ 4 ∷ 4 ∷ 0 ∷ []))
-  pub P6-3 : (y : ℕ) → Depends A (Joined (with (7 ∷ 9 ∷ []))) 3 y ↔ List·Memᴰ y (4 ∷ 5 ∷ 7 ∷ 8 ∷ 9 ∷ [])
-  pub P6-6 : (y : ℕ) → Depends A (Joined (with (7 ∷ 9 ∷ []))) 6 y ↔ List·Memᴰ y (7 ∷ 9 ∷ [])
-  pub P7-6 : (y : ℕ) → Depends A (Joined (with (5 ∷ 8 ∷ []))) 6 y ↔ List·Memᴰ y (9 ∷ [])
-  pub P7-3 : (y : ℕ) → Depends A (Joined (with (5 ∷ 8 ∷ []))) 3 y ↔ List·Memᴰ y (4 ∷ 5 ∷ 7 ∷ 8 ∷ 9 ∷ [])
-  pub P8 : Forest A (Joined (with (1 ∷ 2 ∷ []))) (lent A (1 ∷ 1 ∷ 0 ∷ 4 ∷ 5 ∷ 0 ∷ 7 ∷ 8 ∷ 9 ∷ []) (0 ∷ 0 ∷ 0 ∷ 0 ∷ 1 ∷ 0 ∷ 4 ∷ 4 ∷ 5 ∷ []))
-  pub P9 : Forest A (Joined (with [])) A-forest
-  pub P10-3 : EntryPoint A A-forest 3 8 4 1
-  pub P10-6 : EntryPoint A A-forest 6 9 9 0
-
--- P1 and P2 are well formed.
-A-formed : WellFormed A A-forest
-unfolding table-of
-A-formed = forest-is A-lawful .0 (forest-by (computed .forest-A)) .formed
-
--- All of them hold.
-pub cases : Cases
-unfolding table-of has row lent
-cases = record {
-  P1-P2 = forest-by (computed .forest-A);
-  P3 = set-by (computed .set-3);
-  P4 = set-by (computed .set-6);
-  P5 = forest-by (computed .forest-79);
-  P6-3 = set-by (computed .set-3-79);
-  P6-6 = set-by (computed .set-6-79);
-  P7-6 = set-by (computed .set-6-58);
-  P7-3 = set-by (computed .set-3-58);
-  P8 = forest-by (computed .forest-12);
-  P9 = forest-by (computed .forest-nil);
-  P10-3 = entry-by 8 A-formed refl (lit≤ tt) (computed .climb-3-8);
-  P10-6 = entry-by 9 A-formed refl (lit≤ tt) (computed .climb-6-9);
-}
 
 -- The errors that look right, each against what holds.
 pub record Refuted : Type 0 where
@@ -163,7 +107,7 @@ refuted = record {
   not-deepest = λ k h. let e = entry-one B-formed least h .0 in omega arith;
   lost = λ k a. omega (arith, above-falls B-formed a);
   in-set = set-by (computed .set-3-B) 4 .1 (List·Memᴰ·head refl);
-  unmerged = λ f. let e = forest-one joined-sym f (cases .P5) 5 .0 in omega arith;
+  unmerged = λ f. let e = forest-one joined-sym f (forest-by (computed .forest-79)) 5 .0 in omega arith;
 }
   where
     least : EntryPoint A (table-of A (forest-of A B)) 3 7 4 1

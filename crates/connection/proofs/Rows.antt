@@ -2,14 +2,14 @@
 use Prim.Native.Nat.{ℕ, zero, suc, _-_, _≤_, _<_}
 use mathlib.Core.Path.{_≡_, refl, sym, _∙_, ap}
 use mathlib.Core.List.{List}
-use mathlib.Core.Logic.{_↔_, by-cases}
-use native.Mathlib.Decide.{decLe, decLt}
+use mathlib.Core.Logic.{by-cases}
+use native.Mathlib.Decide.{decLt}
 use native.Mathlib.Omega.{arith}
 use lib.ListN.{length, getD}
 use lib.Seq.{ext-getD}
 use borrow.Author.Tests.{lt-ltb, le-ltb}
-use Rattle.connection.specs.Reach.{Variables, Lawful}
-use Rattle.connection.specs.Tables.{row, lent, Row, WellFormed}
+use Rattle.connection.specs.Reach.{Variables}
+use Rattle.connection.specs.Tables.{row, lent}
 use Rattle.connection.specs.Forest.{Forest}
 use Rattle.connection.proofs.Reach.{Symmetric}
 use Rattle.connection.proofs.Forest.{forest-one}
@@ -36,25 +36,6 @@ row-same n zero xs ys h = row-out n 0 xs (λ l. absurd (omega arith)) ∙ sym (r
 row-same n (suc v) xs ys h = by-cases (decLt v n)
     (λ l. row-suc n v xs l ∙ h v l ∙ sym (row-suc n v ys l))
     (λ l. row-out n (suc v) xs (λ i. omega arith) ∙ sym (row-out n (suc v) ys (λ i. omega arith)))
-
--- A lent table is well formed if each row of 1 to n is right.
-pub lent-formed : {X : Variables} → Lawful X → (cs ps : List ℕ) → ((v : ℕ) → 1 ≤ v → v ≤ X .count → Row X (lent X cs ps) v) ↔ WellFormed X (lent X cs ps)
-unfolding lent
-lent-formed {X} lawful cs ps = (
-  λ h. record {
-    right = λ v. by-cases (decLe 1 v)
-        (λ l. by-cases (decLe v (X .count)) (h v l) (λ g. outside v (λ i. omega arith)))
-        (λ l. outside v (λ i. absurd (l i)));
-  },
-  λ f v l h. f .right v,
-)
-  where
-    outside : (v : ℕ) → (1 ≤ v → X .count < v) → Row X (lent X cs ps) v
-    outside v h = record {
-      universal = λ e. (row-out (X .count) v cs h, row-out (X .count) v ps h);
-      class = λ e. absurd (let w = lawful .within v e in omega (arith, h (w .0)));
-      parent = λ n. absurd (n (row-out (X .count) v ps h));
-    }
 
 -- Two lists of rows of one length that read alike, and are alike past n, are one.
 rows-one : (n : ℕ) (xs ys : List ℕ) → length xs ≡ length ys → ((v : ℕ) → row n xs v ≡ row n ys v) → ((i : ℕ) → n ≤ i → getD xs i 0 ≡ getD ys i 0) → xs ≡ ys

@@ -4,22 +4,20 @@ use mathlib.Core.Path.{_≡_, refl, sym, ap, _∙_, subst}
 use mathlib.Core.Bool.{Bool, true, false, not}
 use mathlib.Core.List.{List, [], _∷_}
 use mathlib.Core.Logic.{_≢_, inl, inr, ⊎-elim, _↔_, by-cases}
-use native.Mathlib.Decide.{decLt, decLe}
+use native.Mathlib.Decide.{decLt}
 use native.Mathlib.Omega.{arith}
-use lib.IntN.{ℤ}
 use lib.ListN.{length, getD, replicate, length-replicate, getD-replicate, List·getD-eq-default}
-use Rattle.terms.specs.Refusals.{NoneOf, Judged}
+use Rattle.terms.specs.Refusals.{Judged}
 use Rattle.terms.specs.declared.Verdict.the-variants.{Accepted}
 use Rattle.terms.proofs.Common.{clash}
 use Rattle.formula.specs.Meaning.{level, isExistential}
 use Rattle.formula.specs.Levels.{SoundPrefix, Levelled}
-use Rattle.formula.specs.Causes.{checkOrder}
 use Rattle.connection.specs.Reach.{Variables, Lawful}
 use Rattle.connection.specs.Tables.{Table, row, lent, WellFormed, EntryPoint, EntryPointOf, Member, Climbed}
 use Rattle.connection.proofs.Climb.{above-class, entry-one, entry-climb, entry-rises}
 use Rattle.connection.proofs.Sets.{member-deeper, member-climb}
 use Rattle.forest.specs.Formula.{variables, universal, tabled, existentialIn, universalIn}
-use Rattle.forest.specs.Causes.{RowsCause, NotUniversal, NotDeeper, prefixOrder}
+use Rattle.forest.specs.Causes.{RowsCause, NotUniversal, NotDeeper}
 use Rattle.forest.specs.Answers.{Entry}
 use Rattle.forest.specs.Search.{rowsOf, Deeper, EntryRows, Flagged, EntryOf, BelowEntry, Blank, Enters}
 use Rattle.forest.proofs.Readings.{flag-within}
@@ -146,20 +144,3 @@ module _ {n : ℕ} {es levels : List ℕ} {universals : List Bool} (sound : Soun
       go true e (yes l) = absurd (shallow (deeper-same (same-back s) (formed-same s formed) (sym (own-level u)) (e, l)))
       go true e (no l) = inr (omega arith)
       go false e d = inl e
-
--- A formula and a prefix that are accepted.
-pub sound-check : {n : ℕ} {es : List ℕ} {ls : List ℤ} → NoneOf (checkOrder n es ls) → SoundPrefix n es
-sound-check {n} {es} none =
-    record {
-      few = by-cases (decLe n 4096) (λ l. l) (λ l. absurd (none .0 1 0 (refl, refl, omega arith)));
-      short = by-cases (decLe (length es) 8192) (λ l. l) (λ l. absurd (none .1 .0 2 0 (refl, refl, inl (omega arith))));
-      faultless = none .1 .1 .0;
-    }
-
-pub sound-prefix : {n : ℕ} {es : List ℕ} → NoneOf (prefixOrder n es) → SoundPrefix n es
-sound-prefix {n} {es} none =
-    record {
-      few = by-cases (decLe n 4096) (λ l. l) (λ l. absurd (none .0 1 0 (refl, refl, omega arith)));
-      short = by-cases (decLe (length es) 8192) (λ l. l) (λ l. absurd (none .1 .0 2 0 (refl, refl, omega arith)));
-      faultless = none .1 .1 .0;
-    }

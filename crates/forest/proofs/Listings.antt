@@ -21,7 +21,8 @@ use Rattle.forest.specs.Listed.{Listed, TooLong, Listing, picked}
 use Rattle.forest.specs.Search.{Picks, Enters, Flagged, BelowEntry, Blank}
 use Rattle.forest.proofs.Picked.{picked-listed, listed-one}
 use Rattle.forest.proofs.Agreeing.{lawful, none-formed}
-use Rattle.forest.proofs.Entered.{flags-are, of-within, members-of, sound-check}
+use Rattle.formula.proofs.Sound.{sound-check}
+use Rattle.forest.proofs.Entered.{flags-are, of-within, members-of}
 
 -- An answer, once an order before it has accepted.
 pub answered-then : (order more : List Causes) (P : ℕ → ℕ → Type 0) {v : Verdict} → v ≡ Accepted → Judged order v → (r : EntryAnswer) → Answered more P r → Answered (order ++ more) P r

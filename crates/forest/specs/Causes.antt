@@ -7,7 +7,7 @@ use mathlib.Core.Logic.{_⊎_}
 use lib.IntN.{ℤ}
 use lib.ListN.{length}
 use Rattle.terms.specs.Refusals.{Causes, At0}
-use Rattle.formula.specs.Causes.{VariableCount, PrefixLong, PrefixCause, checkOrder}
+use Rattle.formula.specs.Causes.{prefixOrder, checkOrder}
 use Rattle.formula.specs.Meaning.{level, isExistential}
 use Rattle.connection.specs.Reach.{Variables}
 use Rattle.connection.specs.Tables.{Row, lent}
@@ -32,13 +32,9 @@ NotUniversal n es x = universal n es x ≡ false
 abbrev pub NotDeeper : ℕ → List ℕ → ℕ → ℕ → Type 0
 NotDeeper n es x y = (isExistential n es y ≡ false) ⊎ (level es y ≤ level es x)
 
--- what is looked for before anything of a forest, where a call takes no clauses: 1, 2, prefix from the left
-abbrev pub prefixOrder : ℕ → List ℕ → List Causes
-prefixOrder n es = VariableCount n ∷ At0 2 (PrefixLong es) ∷ PrefixCause n es ∷ []
-
--- the order of the entry point of x for y: 1, 2, prefix, 12, 13
+-- the order of the entry point of x for y, which takes no clauses: 1, 2, prefix, 12, 13
 abbrev pub entryOrder : ℕ → List ℕ → List ℕ → List ℕ → ℕ → ℕ → List Causes
-entryOrder n es classes parents x y = prefixOrder n es ++ (ForestCause n es classes parents ∷ At0 13 (NotUniversal n es x ⊎ NotDeeper n es x y) ∷ [])
+entryOrder n es classes parents x y = prefixOrder n es 0 ++ (ForestCause n es classes parents ∷ At0 13 (NotUniversal n es x ⊎ NotDeeper n es x y) ∷ [])
 
 -- the order of what a call that lists for x looks at before its output: that of check, 12, 13
 abbrev pub readOrder : ℕ → List ℕ → List ℤ → List ℕ → List ℕ → ℕ → List Causes

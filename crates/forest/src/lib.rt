@@ -8,7 +8,7 @@ pub mod search;
 
 use entering::enter;
 use formula::levels::fill_levels;
-use formula::prefix::check_prefix;
+use formula::prefix::prefix_verdict;
 use listing::list_flagged;
 use marks::flag_members;
 use rows::check_rows;
@@ -16,14 +16,13 @@ use rows::universal_at;
 use search::Found;
 use search::find_entry;
 use terms::Filled;
-use terms::Level;
 use terms::Variable;
 use terms::Verdict;
 ghost use mathlib.Core.List.{[], _∷_};
 ghost use mathlib.Core.Logic.{_⊎_};
 ghost use Rattle.terms.specs.Refusals.{At0, Judged};
 ghost use Rattle.formula.specs.Levels.{SoundPrefix};
-ghost use Rattle.forest.specs.Causes.{ForestCause, NotUniversal, NotDeeper, prefixOrder};
+ghost use Rattle.forest.specs.Causes.{ForestCause, NotUniversal, NotDeeper};
 ghost use Rattle.forest.specs.Answers.{Answered, Entry, EntryAnswered, EntriesListed, SetListed};
 
 // What the entry point call says: the class and the number of rises, or the number of the refusal and its place.
@@ -44,7 +43,7 @@ pub fn entry_point(
 ) -> EntryAnswer
     ensures { λ r. ⌜ EntryAnswered n (now (prefix .entry)) (now (classes .entry)) (now (parents .entry)) (x .0) (y .0) r ⌝ }
 {
-    match prefix_verdict(n, prefix) {
+    match prefix_verdict(n, prefix, 0) {
         Verdict::Refused(number, place) => EntryAnswer::Refused(number, place),
         Verdict::Accepted => sound_entry(n, prefix, classes, parents, x, y),
     }
@@ -110,19 +109,6 @@ pub fn set_of(
             list_flagged(n, &members, out)
         }
     }
-}
-
-// Refusals 1, 2 and those of the prefix, for a call that takes no clauses.
-fn prefix_verdict(n: u32, prefix: &[u32]) -> Verdict
-    ensures { λ r. ⌜ Judged (prefixOrder n (now (prefix .entry))) r ⌝ }
-{
-    if Variable::MOST < n {
-        return Verdict::Refused(1, 0);
-    }
-    if Level::ENTRIES < prefix.len() {
-        return Verdict::Refused(2, 0);
-    }
-    check_prefix(n, prefix)
 }
 
 // The entry point of x for y, once the prefix is accepted.

@@ -1,9 +1,9 @@
 -- Acceptance decided by computing: a test on the lists that, where it comes out true, shows that check accepts.
 use Prim.Native.Nat.{ℕ, zero, suc, _≤_, _<_, _+_}
-use mathlib.Core.Path.{_≡_, refl, sym, ap, _∙_, subst}
+use mathlib.Core.Path.{_≡_, refl, sym, ap, _∙_}
 use mathlib.Core.Bool.{Bool, true, false, cond, not, _&&_}
 use mathlib.Core.List.{List, [], _∷_}
-use mathlib.Core.Logic.{_≢_, inl, inr, ⊎-elim}
+use mathlib.Core.Logic.{inl, inr, ⊎-elim}
 use native.Mathlib.Decide.{ℕ-discrete}
 use native.Mathlib.Numerals.{add-one}
 use native.Mathlib.Omega.{arith}
@@ -16,7 +16,7 @@ use Rattle.terms.specs.Literals.{variableOf}
 use Rattle.terms.specs.Refusals.{None, NoneOf}
 use Rattle.terms.proofs.Common.{clash}
 use Rattle.terms.proofs.Verdicts.{at0-none}
-use Rattle.formula.specs.Tables.{at, opens, literalAt}
+use Rattle.formula.specs.Tables.{at, literalAt}
 use Rattle.formula.specs.Causes.{PrefixCause, ClauseCause, checkOrder}
 use Rattle.formula.specs.Meaning.{has}
 use Rattle.formula.specs.Scan.{IsMark, MarkFault}

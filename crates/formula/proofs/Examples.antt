@@ -1,6 +1,6 @@
 -- Worked examples of document 01, as verdicts that the promise of check leaves no choice in.
 use Prim.Native.Nat.{ℕ, zero, suc, _-_, _<_}
-use mathlib.Core.Path.{_≡_, refl, sym}
+use mathlib.Core.Path.{_≡_, refl}
 use mathlib.Core.List.{List, [], _∷_}
 use mathlib.Core.Logic.{inl, inr, ⊎-elim}
 use native.Mathlib.Omega.{arith}
@@ -10,7 +10,7 @@ use Rattle.terms.specs.declared.Verdict.{Verdict}
 use Rattle.terms.specs.declared.Verdict.the-variants.{Accepted, Refused}
 use Rattle.terms.specs.Refusals.{None, Judged}
 use Rattle.terms.proofs.Verdicts.{at0-first, at0-none, judged-unique}
-use Rattle.formula.specs.Causes.{PrefixCause, ClauseCause, checkOrder}
+use Rattle.formula.specs.Causes.{PrefixCause, checkOrder}
 use Rattle.formula.proofs.Accepts.{prefixPasses, goodMark, clausesPass, accepts}
 use Rattle.formula.proofs.Scanned.{scan-none, none-in-prefix}
 use Rattle.formula.proofs.Literals.{read-none, fault-at-literal, none-in-clauses}

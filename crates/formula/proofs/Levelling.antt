@@ -1,9 +1,9 @@
 -- How one pass over an accepted prefix finds what the blocks say of every variable.
 use Prim.Native.Nat.{ℕ, zero, suc, _≤_, _<_, _+_, _-_}
-use mathlib.Core.Path.{_≡_, refl, sym, ap, _∙_, subst}
+use mathlib.Core.Path.{_≡_, refl, sym, ap, _∙_}
 use mathlib.Core.Bool.{Bool, true, false, cond}
 use mathlib.Core.List.{List, [], _∷_}
-use mathlib.Core.Logic.{_≢_, ⊎-elim}
+use mathlib.Core.Logic.{_≢_}
 use native.Mathlib.Nat.{not-suc-le-zero, le-of-suc-le-suc}
 use native.Mathlib.Decide.{ℕ-discrete}
 use native.Mathlib.Numerals.{add-one}
@@ -12,9 +12,9 @@ use borrow.Author.Tests.{eq-eqb, ne-eqb}
 use lib.Dec.{eqb}
 use lib.ListN.{length, getD, set, drop, length-drop, drop-of-length-le, length-set}
 use lib.Seq.{drop-cons, getD-drop, getD-set-same, getD-set-other}
-use Rattle.formula.specs.Tables.{at, opens, cut, push, EndsInside, VariableAt}
-use Rattle.formula.specs.Causes.{PrefixCause, ends-inside, no-mark, outside}
-use Rattle.formula.specs.Meaning.{isZero, blocks, markOf, has, names, saidOf, firstMark, freeLevel, level, isUniversal}
+use Rattle.formula.specs.Tables.{at, opens, cut, push}
+use Rattle.formula.specs.Causes.{ends-inside, no-mark, outside}
+use Rattle.formula.specs.Meaning.{isZero, blocks, has, saidOf, firstMark, freeLevel, level, isUniversal}
 use Rattle.formula.specs.Levels.{SoundPrefix, Levelled}
 
 -- a list with a 0 in it holds a list that the 0 closes

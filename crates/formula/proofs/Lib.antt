@@ -5,7 +5,8 @@ pub mod Literals
 -- The lists that a table holds, and the clause with a given number.
 pub mod Cuts
 pub mod Lookups
--- The level table.
+-- An accepted prefix, and its level table.
+pub mod Sound
 pub mod Levelling
 -- Nothing is left open; acceptance by computing, and worked examples.
 pub mod Tight

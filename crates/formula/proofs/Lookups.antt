@@ -1,17 +1,15 @@
 -- How the clause with a given number is found: what is passed, a clause at a time.
 use Prim.Native.Nat.{ℕ, zero, suc, _≤_, _<_, _+_, _-_}
 use mathlib.Core.Path.{_≡_, refl, sym, ap, _∙_}
-use mathlib.Core.Bool.{Bool, true, false}
+use mathlib.Core.Bool.{Bool}
 use mathlib.Core.List.{List, [], _∷_}
 use mathlib.Core.Logic.{_≢_}
 use native.Mathlib.Omega.{arith}
 use native.Mathlib.Nat.{add-zero}
-use native.Mathlib.Numerals.{add-one}
 use borrow.Author.Tests.{eq-eqb, ne-eqb}
-use lib.Dec.{eqb}
 use lib.IntN.{ℤ, pos}
 use lib.ListN.{length, getD, take, drop, length-drop}
-use lib.Seq.{getD-drop, drop-drop, drop-length, length-take-le}
+use lib.Seq.{getD-drop, drop-drop, length-take-le}
 use Rattle.terms.specs.Literals.{variableOf}
 use Rattle.formula.specs.Tables.{literalAt, cut}
 use Rattle.formula.specs.Meaning.{clauses, isZero}

@@ -14,7 +14,7 @@ use lib.Seq.{getD-set-same, getD-set-other}
 use Rattle.terms.specs.Refusals.{First, None}
 use Rattle.terms.proofs.Common.{below-suc, clash}
 use Rattle.terms.proofs.Verdicts.{first-at}
-use Rattle.formula.specs.Tables.{at, opens, MarkAt, VariableAt, CloseAt, LastMark, marksBefore, EndsInside}
+use Rattle.formula.specs.Tables.{at, opens, VariableAt, LastMark, marksBefore, EndsInside}
 use Rattle.formula.specs.Causes.{PrefixCause, ends-inside, no-mark, same-mark, too-many-blocks, outside, named-before, empty-block}
 use Rattle.formula.specs.Scan.{IsMark, MarkFault}
 

@@ -1,8 +1,7 @@
 -- The causes of refusals 1 to 11, and of 13 for a clause number, line by line as the table of document 01 has them, and the orders in which check and the clause call look for them.
 use Prim.Native.Nat.{ℕ, suc, _<_, _≤_}
 use mathlib.Core.Path.{_≡_}
-use mathlib.Core.Bool.{true}
-use mathlib.Core.List.{List, [], _∷_}
+use mathlib.Core.List.{List, [], _∷_, _++_}
 use mathlib.Core.Logic.{_⊎_, _≢_}
 use lib.ListN.{length}
 use lib.IntN.{ℤ, pos}
@@ -10,7 +9,7 @@ use Rattle.terms.specs.Limits.{mostVariables, mostBlocks, prefixEntries, clause
 use Rattle.terms.specs.Literals.{variableOf}
 use Rattle.terms.specs.Refusals.{Causes, At0}
 use Rattle.formula.specs.Meaning.{clauses}
-use Rattle.formula.specs.Tables.{at, literalAt, opens, MarkAt, VariableAt, CloseAt, LastMark, marksBefore, EndsInside}
+use Rattle.formula.specs.Tables.{at, literalAt, MarkAt, VariableAt, CloseAt, LastMark, marksBefore, EndsInside}
 
 -- 1: n over 4,096
 abbrev pub VariableCount : ℕ → Causes
@@ -20,8 +19,8 @@ VariableCount n = At0 1 (mostVariables < n)
 abbrev pub PrefixLong : List ℕ → Type 0
 PrefixLong es = prefixEntries < length es
 
-abbrev pub ClausesLong : List ℤ → Type 0
-ClausesLong ls = clauseEntries < length ls
+abbrev pub ClausesLong : ℕ → Type 0
+ClausesLong entries = clauseEntries < entries
 
 -- 3 to 9, from the left
 pub data PrefixCause (n : ℕ) (es : List ℕ) (number e : ℕ) : Type 0 where
@@ -47,10 +46,14 @@ pub data ClauseCause (n : ℕ) (ls : List ℤ) (number e : ℕ) : Type 0 where
   -- 11: clause table ends inside a clause; place its length
   ends-inside : number ≡ 11 → e ≡ length ls → EndsInside (pos 0) ls → ClauseCause n ls number e
 
+-- what every call that takes a prefix looks at first: 1, 2, prefix from the left; beside it so many clause entries are lent, 0 where a call takes none
+abbrev pub prefixOrder : ℕ → List ℕ → ℕ → List Causes
+prefixOrder n es entries = VariableCount n ∷ At0 2 (PrefixLong es ⊎ ClausesLong entries) ∷ PrefixCause n es ∷ []
+
 -- the order of check: 1, 2, prefix from the left, clause literals from the left
 abbrev pub checkOrder : ℕ → List ℕ → List ℤ → List Causes
-checkOrder n es ls = VariableCount n ∷ At0 2 (PrefixLong es ⊎ ClausesLong ls) ∷ PrefixCause n es ∷ ClauseCause n ls ∷ []
+checkOrder n es ls = prefixOrder n es (length ls) ++ (ClauseCause n ls ∷ [])
 
 -- the order of the clause call: 1, 2, clause literals from the left, 13: clause number not below the count
 abbrev pub clauseOrder : ℕ → List ℤ → ℕ → List Causes
-clauseOrder n ls asked = VariableCount n ∷ At0 2 (ClausesLong ls) ∷ ClauseCause n ls ∷ At0 13 (length (clauses ls) ≤ asked) ∷ []
+clauseOrder n ls asked = VariableCount n ∷ At0 2 (ClausesLong (length ls)) ∷ ClauseCause n ls ∷ At0 13 (length (clauses ls) ≤ asked) ∷ []

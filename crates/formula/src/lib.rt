@@ -5,7 +5,6 @@ pub mod levels;
 pub mod prefix;
 
 use clauses::Found;
-use terms::Level;
 use terms::Literal;
 use terms::Variable;
 use terms::Verdict;
@@ -17,16 +16,7 @@ ghost use Rattle.formula.specs.Lookup.{ClausePart};
 pub fn check(n: u32, prefix: &[u32], clauses: &[i32]) -> Verdict
     ensures { λ r. ⌜ Judged (checkOrder n (now (prefix .entry)) (now (clauses .entry))) r ⌝ }
 {
-    if Variable::MOST < n {
-        return Verdict::Refused(1, 0);
-    }
-    if Level::ENTRIES < prefix.len() {
-        return Verdict::Refused(2, 0);
-    }
-    if Literal::ENTRIES < clauses.len() {
-        return Verdict::Refused(2, 0);
-    }
-    match prefix::check_prefix(n, prefix) {
+    match prefix::prefix_verdict(n, prefix, clauses.len()) {
         Verdict::Refused(number, place) => Verdict::Refused(number, place),
         Verdict::Accepted => clauses::check_clauses(n, clauses),
     }

@@ -1,16 +1,35 @@
-// The prefix, scanned once from the left for refusals 3 to 9.
+// What is judged first of a lent formula: n, the lengths, and the prefix, scanned once from the left for refusals 3 to 9.
 
 use terms::Level;
+use terms::Literal;
+use terms::Variable;
 use terms::Verdict;
 ghost use Prim.Native.Nat.{_≤_};
 ghost use mathlib.Core.List.{[], _∷_};
 ghost use Rattle.terms.specs.Refusals.{Judged};
-ghost use Rattle.formula.specs.Causes.{PrefixCause};
+ghost use Rattle.formula.specs.Causes.{PrefixCause, prefixOrder};
 ghost use Rattle.formula.specs.Scan.{MarkFault};
+
+// Refusals 1, 2 and those of the prefix, which every call that takes a prefix looks at first. Beside the prefix so many clause entries are
+// lent, 0 where a call takes none.
+pub fn prefix_verdict(n: u32, prefix: &[u32], entries: usize) -> Verdict
+    ensures { λ r. ⌜ Judged (prefixOrder n (now (prefix .entry)) entries) r ⌝ }
+{
+    if Variable::MOST < n {
+        return Verdict::Refused(1, 0);
+    }
+    if Level::ENTRIES < prefix.len() {
+        return Verdict::Refused(2, 0);
+    }
+    if Literal::ENTRIES < entries {
+        return Verdict::Refused(2, 0);
+    }
+    check_prefix(n, prefix)
+}
 
 // The first cause of a refusal in the prefix of a formula with n variables.
 // A table of the variables named so far, a row for each number up to the limit, spares every search.
-pub fn check_prefix(n: u32, prefix: &[u32]) -> Verdict
+fn check_prefix(n: u32, prefix: &[u32]) -> Verdict
     requires { ⌜ n ≤ 4096 ⌝ }
     ensures { λ r. ⌜ Judged (PrefixCause n (now (prefix .entry)) ∷ []) r ⌝ }
 {

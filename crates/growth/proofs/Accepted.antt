@@ -14,9 +14,10 @@ use Rattle.terms.specs.declared.Verdict.{Verdict}
 use Rattle.terms.specs.declared.Verdict.the-variants.{Accepted, Refused}
 use Rattle.terms.proofs.Common.{below-suc}
 use Rattle.terms.proofs.Verdicts.{first-at, at0-first, at0-none, refused-first, accepted-then}
-use Rattle.formula.specs.Causes.{VariableCount, PrefixLong, ClausesLong, PrefixCause, ClauseCause, checkOrder}
+use Rattle.formula.specs.Causes.{ClauseCause, checkOrder}
 use Rattle.formula.specs.Levels.{SoundPrefix}
 use Rattle.formula.specs.Tables.{literalAt}
+use Rattle.formula.proofs.Sound.{sound-prefix, sound-check}
 use Rattle.connection.specs.Tables.{WellFormed, lent}
 use Rattle.forest.specs.Causes.{ForestCause, RowsCause}
 use Rattle.forest.specs.Formula.{variables}
@@ -24,25 +25,12 @@ use Rattle.forest.proofs.Agreeing.{lawful, none-formed}
 use Rattle.growth.specs.Grown.{TooShort, buildOrder, AddedCause, outside, clauseFirst}
 use Rattle.growth.specs.Loose.{InRows}
 
--- A single condition at place 0 that is no cause does not hold.
-few-of : {n : ℕ} → None (VariableCount n) → n ≤ 4096
-few-of {n} none = by-cases (decLt 4096 n) (λ l. absurd (none 1 0 (refl, refl, l))) (λ l. omega arith)
-
-short-of : (es : List ℕ) {more : Type 0} → None (At0 2 (PrefixLong es ⊎ more)) → length es ≤ 8192
-short-of es none = by-cases (decLt 8192 (length es)) (λ l. absurd (none 2 0 (refl, refl, inl l))) (λ l. omega arith)
-
-pub sound-of : {n : ℕ} {es : List ℕ} {more : Type 0} → None (VariableCount n) → None (At0 2 (PrefixLong es ⊎ more)) → None (PrefixCause n es) → SoundPrefix n es
-sound-of {es = es} few short prefix = record { few = few-of few; short = short-of es short; faultless = prefix }
-
--- An accepted formula has a sound prefix, and its clauses have variables up to n.
+-- The clauses of an accepted formula have variables up to n.
 module _ {n : ℕ} {es : List ℕ} {ls : List ℤ} (accepted : NoneOf (checkOrder n es ls)) where
-  pub check-sound : SoundPrefix n es
-  check-sound = sound-of (accepted .0) (accepted .1 .0) (accepted .1 .1 .0)
-
   pub check-rows : InRows ls
   check-rows e l = by-cases (decLt n (variableOf (literalAt ls e)))
       (λ over. absurd (accepted .1 .1 .1 .0 10 e (ClauseCause.outside refl l (λ z. let q = ap variableOf z in omega arith) over)))
-      (λ low. omega (arith, few-of (accepted .0)))
+      (λ low. omega (arith, sound-check {ls = ls} accepted .few))
 
 -- The order of build: a refusal of check stands, and after it stands 14.
 module _ (n : ℕ) (es : List ℕ) (ls : List ℤ) (classes parents : List ℕ) {v : Verdict} (judged : Judged (checkOrder n es ls) v) where
@@ -82,20 +70,15 @@ module _ {n : ℕ} {ls : List ℤ} {i : ℕ} (s : Named n ls i) where
   pub named-all : length ls ≤ i → None (AddedCause n ls)
   named-all done k e (outside q h bad) = no-cause e (omega (arith, s .within)) k (outside q h bad)
 
--- What is left of the first part of add's order once n and the lengths are within their limits.
-pub added-within : (n : ℕ) (es : List ℕ) (ls : List ℤ) (v : Verdict) → n ≤ 4096 → length es ≤ 8192 → length ls ≤ 16384 → Judged (PrefixCause n es ∷ AddedCause n ls ∷ []) v → Judged (clauseFirst n es ls) v
-added-within n es ls v few short small later =
-    accepted-then (VariableCount n ∷ At0 2 (PrefixLong es ⊎ ClausesLong ls) ∷ []) (PrefixCause n es ∷ AddedCause n ls ∷ []) {v = Accepted} v refl
-    (at0-none 1 (λ over. omega arith), (at0-none 2 (λ over. ⊎-elim (λ l. omega arith) (λ l. omega arith) over), tt)) later
-
+-- An accepted clause that is to be added likewise.
 module _ {n : ℕ} {es : List ℕ} {ls : List ℤ} (accepted : NoneOf (clauseFirst n es ls)) where
   pub added-sound : SoundPrefix n es
-  added-sound = sound-of (accepted .0) (accepted .1 .0) (accepted .1 .1 .0)
+  added-sound = sound-prefix (length ls) (AddedCause n ls ∷ []) accepted
 
   pub added-rows : InRows ls
   added-rows e l = by-cases (decLt n (variableOf (literalAt ls e)))
       (λ over. absurd (accepted .1 .1 .1 .0 10 e (outside refl l (inr over))))
-      (λ low. omega (arith, few-of (accepted .0)))
+      (λ low. omega (arith, added-sound .few))
 
 -- Tables that have no cause of 12 have rows enough, and are well formed.
 module _ (n : ℕ) (es classes parents : List ℕ) (none : None (ForestCause n es classes parents)) where

@@ -10,7 +10,7 @@ use Rattle.terms.specs.Literals.{variableOf}
 use Rattle.terms.specs.Refusals.{Causes, At0, Judged}
 use Rattle.terms.specs.declared.Filled.{Filled}
 use Rattle.terms.specs.declared.Filled.the-variants.{Count, Refused}
-use Rattle.formula.specs.Causes.{VariableCount, PrefixLong, ClausesLong, PrefixCause, checkOrder}
+use Rattle.formula.specs.Causes.{prefixOrder, checkOrder}
 use Rattle.formula.specs.Tables.{literalAt}
 use Rattle.forest.specs.Causes.{ForestCause}
 use Rattle.forest.specs.Formula.{variables, Shares}
@@ -32,7 +32,7 @@ pub data AddedCause (n : ℕ) (ls : List ℤ) (number e : ℕ) : Type 0 where
 
 -- the order of add: 1, 2, prefix from the left, the clause's literals from the left, 12
 abbrev pub clauseFirst : ℕ → List ℕ → List ℤ → List Causes
-clauseFirst n es ls = VariableCount n ∷ At0 2 (PrefixLong es ⊎ ClausesLong ls) ∷ PrefixCause n es ∷ AddedCause n ls ∷ []
+clauseFirst n es ls = prefixOrder n es (length ls) ++ (AddedCause n ls ∷ [])
 
 abbrev pub addOrder : ℕ → List ℕ → List ℕ → List ℕ → List ℤ → List Causes
 addOrder n es classes parents ls = clauseFirst n es ls ++ (ForestCause n es classes parents ∷ [])

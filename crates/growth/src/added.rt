@@ -1,10 +1,7 @@
 // What is looked at of an added clause and its prefix before any table: refusals 1 to 9, and 10.
 
 use formula::clauses::variable_at;
-use formula::prefix::check_prefix;
-use terms::Level;
-use terms::Literal;
-use terms::Variable;
+use formula::prefix::prefix_verdict;
 use terms::Verdict;
 ghost use mathlib.Core.List.{[], _∷_};
 ghost use Rattle.terms.specs.Refusals.{Judged};
@@ -14,16 +11,7 @@ ghost use Rattle.growth.specs.Grown.{AddedCause, clauseFirst};
 pub fn added_verdict(n: u32, prefix: &[u32], clause: &[i32]) -> Verdict
     ensures { λ r. ⌜ Judged (clauseFirst n (now (prefix .entry)) (now (clause .entry))) r ⌝ }
 {
-    if Variable::MOST < n {
-        return Verdict::Refused(1, 0);
-    }
-    if Level::ENTRIES < prefix.len() {
-        return Verdict::Refused(2, 0);
-    }
-    if Literal::ENTRIES < clause.len() {
-        return Verdict::Refused(2, 0);
-    }
-    match check_prefix(n, prefix) {
+    match prefix_verdict(n, prefix, clause.len()) {
         Verdict::Refused(number, place) => Verdict::Refused(number, place),
         Verdict::Accepted => check_added(n, clause),
     }

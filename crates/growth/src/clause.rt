@@ -4,7 +4,6 @@
 use crate::chains::merge;
 use formula::clauses::variable_at;
 use terms::Variable;
-ghost use Prim.Native.Nat.{ℕ};
 ghost use mathlib.Core.Path.{_≡_};
 ghost use mathlib.Core.List.{map};
 ghost use lib.ListN.{length, getD};

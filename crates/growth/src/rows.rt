@@ -10,7 +10,7 @@ ghost use mathlib.Core.List.{[]};
 ghost use lib.ListN.{length, getD};
 ghost use Rattle.connection.specs.Tables.{row};
 ghost use Rattle.forest.specs.Formula.{joined};
-ghost use Rattle.growth.specs.Loose.{Growing, InRows};
+ghost use Rattle.growth.specs.Loose.{InRows};
 ghost use Rattle.growth.specs.Rows.{Holds, Settled, Written};
 
 // Each existential in a class of its own, with no parents.

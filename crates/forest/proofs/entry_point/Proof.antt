@@ -6,8 +6,9 @@ use borrow.Author.Needs.{needs}
 use Rattle.terms.specs.Refusals.{At0, Judged}
 use Rattle.terms.proofs.Verdicts.{refused-first}
 use Rattle.forest.specs.Answers.{Entry}
-use Rattle.forest.specs.Causes.{ForestCause, NotUniversal, NotDeeper, prefixOrder}
-use Rattle.forest.proofs.Entered.{sound-prefix}
+use Rattle.forest.specs.Causes.{ForestCause, NotUniversal, NotDeeper}
+use Rattle.formula.specs.Causes.{prefixOrder}
+use Rattle.formula.proofs.Sound.{sound-prefix}
 use Rattle.forest.proofs.Listings.{answered-then}
 use Rattle.forest.proofs.entry_point.Statement.{statement}
 use Rattle.forest.proofs.entry_point.Tie as tie
@@ -24,17 +25,17 @@ enum-told c = search needs
 sound-entry-requires : tie.Need-sound-entry-requires
 sound-entry-requires c κs =
     let a = c .before .before .before .before .before .before .args in
-    sound-prefix (subst (Judged (prefixOrder (a .n) (a .prefix .now))) (c .enum-told .given .1) (c .before .before .prefix-verdict .ensures))
+    sound-prefix 0 [] (subst (Judged (prefixOrder (a .n) (a .prefix .now) 0)) (c .enum-told .given .1) (c .before .before .prefix-verdict .ensures))
 
 returns : tie.Need-returns
 returns c =
     let a = c .before .before .before .before .before .before .before .args in
-    refused-first (prefixOrder (a .n) (a .prefix .now)) (ForestCause (a .n) (a .prefix .now) (a .classes .now) (a .parents .now) ∷ At0 13 (NotUniversal (a .n) (a .prefix .now) (a .x .0) ⊎ NotDeeper (a .n) (a .prefix .now) (a .x .0) (a .y .0)) ∷ []) (c .before .number .given .1) (c .before .before .before .prefix-verdict .ensures)
+    refused-first (prefixOrder (a .n) (a .prefix .now) 0) (ForestCause (a .n) (a .prefix .now) (a .classes .now) (a .parents .now) ∷ At0 13 (NotUniversal (a .n) (a .prefix .now) (a .x .0) ⊎ NotDeeper (a .n) (a .prefix .now) (a .x .0) (a .y .0)) ∷ []) (c .before .number .given .1) (c .before .before .before .prefix-verdict .ensures)
 
 returns-2 : tie.Need-returns-2
 returns-2 c =
     let a = c .before .before .before .before .before .before .before .args in
-    answered-then (prefixOrder (a .n) (a .prefix .now)) (ForestCause (a .n) (a .prefix .now) (a .classes .now) (a .parents .now) ∷ At0 13 (NotUniversal (a .n) (a .prefix .now) (a .x .0) ⊎ NotDeeper (a .n) (a .prefix .now) (a .x .0) (a .y .0)) ∷ []) (Entry (a .n) (a .prefix .now) (a .classes .now) (a .parents .now) (a .x .0) (a .y .0)) (c .before .enum-told .given .1) (c .before .before .before .prefix-verdict .ensures) (c .sound-entry .result) (c .sound-entry .ensures)
+    answered-then (prefixOrder (a .n) (a .prefix .now) 0) (ForestCause (a .n) (a .prefix .now) (a .classes .now) (a .parents .now) ∷ At0 13 (NotUniversal (a .n) (a .prefix .now) (a .x .0) ⊎ NotDeeper (a .n) (a .prefix .now) (a .x .0) (a .y .0)) ∷ []) (Entry (a .n) (a .prefix .now) (a .classes .now) (a .parents .now) (a .x .0) (a .y .0)) (c .before .enum-told .given .1) (c .before .before .before .prefix-verdict .ensures) (c .sound-entry .result) (c .sound-entry .ensures)
 
 pub entry-point-spec : {M : Type 1} → statement M
 entry-point-spec =

@@ -1,5 +1,5 @@
 -- `formula::clause_verdict` meets its contract.
-use Prim.Native.Nat.{ℕ, _≤_, _<_}
+use Prim.Native.Nat.{ℕ, _≤_}
 use mathlib.Core.Path.{refl, subst}
 use mathlib.Core.List.{List, [], _∷_}
 use mathlib.Core.Logic.{inl, inr}
@@ -20,7 +20,7 @@ use Rattle.formula.proofs.clause_verdict.Tie as tie
 -- What is left to judge once n and the length are within their limits.
 within : (n : ℕ) (ls : List ℤ) (asked : ℕ) (v : Verdict) → n ≤ 4096 → length ls ≤ 16384 → Judged (ClauseCause n ls ∷ At0 13 (length (clauses ls) ≤ asked) ∷ []) v → Judged (clauseOrder n ls asked) v
 within n ls asked v few small later =
-    accepted-then (VariableCount n ∷ At0 2 (ClausesLong ls) ∷ []) (ClauseCause n ls ∷ At0 13 (length (clauses ls) ≤ asked) ∷ []) {v = Accepted} v refl
+    accepted-then (VariableCount n ∷ At0 2 (ClausesLong (length ls)) ∷ []) (ClauseCause n ls ∷ At0 13 (length (clauses ls) ≤ asked) ∷ []) {v = Accepted} v refl
     (at0-none 1 (λ over. omega arith), (at0-none 2 (λ over. omega arith), tt))
     later
 

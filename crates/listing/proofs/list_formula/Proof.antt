@@ -8,7 +8,7 @@ use Rattle.terms.specs.Refusals.{NoneOf}
 use Rattle.formula.specs.Causes.{checkOrder}
 use Rattle.connection.proofs.Growth.{forest-is}
 use Rattle.forest.proofs.Agreeing.{lawful}
-use Rattle.forest.proofs.Entered.{sound-check}
+use Rattle.formula.proofs.Sound.{sound-check}
 use Rattle.growth.specs.Grown.{Builds}
 use borrow.Author.Needs.{needs}
 use Rattle.listing.proofs.list_formula.Statement.{statement}

@@ -1,6 +1,6 @@
 -- `terms::magnitude` meets its contract.
 use borrow.Author.Needs.{needs}
-use Rattle.terms.proofs.Signed.{Complement, complement, whole}
+use Rattle.terms.proofs.Signed.{complement, whole}
 use Rattle.terms.proofs.magnitude.Statement.{statement}
 use Rattle.terms.proofs.magnitude.Tie as tie
 

@@ -6,7 +6,7 @@ use Rattle.terms.specs.Refusals.{At0, Judged}
 use Rattle.terms.proofs.Verdicts.{refused-first, accepted-then}
 use Rattle.formula.specs.Causes.{checkOrder}
 use Rattle.forest.specs.Causes.{ForestCause, NotUniversal}
-use Rattle.forest.proofs.Entered.{sound-check}
+use Rattle.formula.proofs.Sound.{sound-check}
 use Rattle.forest.proofs.entering.enter.Statement.{statement}
 use Rattle.forest.proofs.entering.enter.Tie as tie
 

@@ -1,5 +1,5 @@
 -- `formula::clauses::next_zero` meets its contract: every entry passed is a literal.
-use Prim.Native.Nat.{ℕ, _≤_, _<_, _+_, _-_}
+use Prim.Native.Nat.{ℕ, _≤_, _<_, _-_}
 use mathlib.Core.Path.{_∙_, sym}
 use mathlib.Core.Logic.{_≢_}
 use native.Mathlib.Omega.{arith}

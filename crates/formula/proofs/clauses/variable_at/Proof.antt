@@ -9,11 +9,6 @@ use Rattle.terms.specs.Literals.{variableOf}
 use borrow.Author.Needs.{needs}
 use Rattle.formula.proofs.clauses.variable_at.Statement.{statement}
 use Rattle.formula.proofs.clauses.variable_at.Tie as tie
-use Rattle.formula.proofs.clauses.variable_at.Reads as reads
-use Rattle.formula.proofs.clauses.variable_at.Lts as lts
-use Rattle.terms.proofs.Literal.new.Reads as Literal-new-reads
-use Rattle.terms.proofs.Literal.variable.Reads as variable-reads
-use Rattle.terms.proofs.Variable.new.Reads as Variable-new-reads
 
 -- src/clauses.rt:18:22
 mul-new : tie.Need-mul-new

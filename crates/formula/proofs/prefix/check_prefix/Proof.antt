@@ -1,7 +1,7 @@
 -- `formula::prefix::check_prefix` meets its contract: the scan's invariant is `Scanned`.
 use Prim.Native.Nat.{_-_}
-use mathlib.Core.Path.{sym, _∙_, subst}
-use mathlib.Core.Logic.{inl, inr}
+use mathlib.Core.Path.{sym, _∙_}
+use mathlib.Core.Logic.{inl}
 use native.Mathlib.Omega.{arith}
 use borrow.Author.Needs.{needs}
 use lib.ListN.{length}

@@ -4,7 +4,7 @@ use mathlib.Core.Path.{refl}
 use mathlib.Core.Logic.{⊎-elim, inl, inr}
 use native.Mathlib.Nat.{eq-or-lt-of-le, le-of-suc-le-suc}
 use native.Mathlib.Omega.{arith}
-use Rattle.formula.specs.Scan.{IsMark, MarkFault, fine, no-mark, same-mark, too-many}
+use Rattle.formula.specs.Scan.{IsMark, fine, no-mark, same-mark, too-many}
 use Rattle.formula.proofs.prefix.mark_fault.Statement.{statement}
 use Rattle.formula.proofs.prefix.mark_fault.Tie as tie
 
