@@ -19,10 +19,11 @@ use Rattle.connection.proofs.Sets.{member-deeper, member-climb}
 use Rattle.forest.specs.Formula.{variables, universal, tabled, existentialIn, universalIn}
 use Rattle.forest.specs.Causes.{RowsCause, NotUniversal, NotDeeper}
 use Rattle.forest.specs.Answers.{Entry}
-use Rattle.forest.specs.Search.{rowsOf, Deeper, EntryRows, Flagged, EntryOf, BelowEntry, Blank, Enters}
+use Rattle.forest.specs.Search.{rowsOf, Deeper, EntryRows, TopRows, Flagged, Via, Blank, Enters}
 use Rattle.forest.proofs.Readings.{flag-within}
-use Rattle.forest.proofs.Flags.{flag-as, row-within}
-use Rattle.forest.proofs.Agreeing.{Same, same-back, formed-same, deeper-same, entry-same, of-same, entry-row-same, tables-agree, level-agrees, universal-agrees, universal-within, none-formed}
+use Rattle.forest.proofs.Climbing.{tops-entries}
+use Rattle.forest.proofs.Flags.{flag-as}
+use Rattle.forest.proofs.Agreeing.{Same, same-back, formed-same, deeper-same, entry-same, entry-row-same, tables-agree, level-agrees, universal-agrees, universal-within, lawful, none-formed}
 
 -- A new table of flags, and what is flagged in it.
 pub fresh : Blank (replicate 4097 false)
@@ -55,43 +56,42 @@ module _ {X : Variables} {W : Table} (law : Lawful X) (formed : WellFormed X W) 
         go false e d = absurd (some (rows y .none (λ d. clash (d .0) e)))
 
     -- The entries of those that share a clause with x are the entry points of x.
-    pub entries-of : {S : ℕ → ℕ → Type 0} (shared : List Bool) → ((v : ℕ) → v ≤ X .count → (getD shared v false ≡ true) ↔ S x v) → (e : ℕ) → EntryOf (X .count) shared tops e ↔ EntryPointOf X W S x e
-    entries-of {S} shared tells e = (there, back)
+    pub entries-of : {S : ℕ → ℕ → Type 0} (e : ℕ) → Via (X .count) tops (S x) e ↔ EntryPointOf X W S x e
+    entries-of {S} e = (there, back)
       where
-        there : EntryOf (X .count) shared tops e → EntryPointOf X W S x e
-        there o =
-            let v = o .for in
-            let some : row (X .count) tops v ≢ 0 = λ z. o .some (sym (o .is) ∙ z) in
-            let (deep, found) = row-found v some in
+        there : Via (X .count) tops (S x) e → EntryPointOf X W S x e
+        there t =
+            let v = t .for in
+            let (deep, found) = row-found v (λ z. t .some (sym (t .is) ∙ z)) in
             let (k, p) = found in
-            record { for = v; shares = tells v (row-within (X .count) tops v some .1) .0 (o .flagged); existential = deep .0; deeper = deep .1; rises = k; entry = subst (λ d. EntryPoint X W x v d k) (o .is) p }
+            record { for = v; shares = t .holds; existential = deep .0; deeper = deep .1; rises = k; entry = subst (λ d. EntryPoint X W x v d k) (t .is) p }
 
-        back : EntryPointOf X W S x e → EntryOf (X .count) shared tops e
+        back : EntryPointOf X W S x e → Via (X .count) tops (S x) e
         back o =
             let v = o .for in
             let (k, p) = rows v .found (o .existential, o .deeper) in
-            record { for = v; flagged = tells v (law .within v (o .existential) .1) .1 (o .shares); is = entry-one formed p (o .entry) .0; some = λ z. let a = entry-within (o .existential) (o .entry) .0 in omega arith }
+            record { for = v; holds = o .shares; is = entry-one formed p (o .entry) .0; some = λ z. let a = entry-within (o .existential) (o .entry) .0 in omega arith }
 
     -- Those whose entry is an entry point of x are the set of x.
-    pub members-of : {S : ℕ → ℕ → Type 0} (entered : List Bool) → ((e : ℕ) → e ≤ X .count → (getD entered e false ≡ true) ↔ EntryPointOf X W S x e) → (y : ℕ) → BelowEntry (X .count) entered tops y ↔ Member X W S x y
+    pub members-of : {S : ℕ → ℕ → Type 0} (entered : List Bool) → ((e : ℕ) → e ≤ X .count → (getD entered e false ≡ true) ↔ EntryPointOf X W S x e) → (y : ℕ) → (getD entered (row (X .count) tops y) false ≡ true) ↔ Member X W S x y
     members-of {S} entered tells y = (there, back)
       where
-        there : BelowEntry (X .count) entered tops y → Member X W S x y
-        there b =
-            let (deep, found) = row-found y (b .some) in
-            let (k, p) = found in
-            record { existential = deep .0; entry = row (X .count) tops y; entered = tells (row (X .count) tops y) (entry-within (deep .0) p .1) .0 (b .flagged); rises = k; below = p .above }
+        -- no entry is no entry point
+        some : getD entered (row (X .count) tops y) false ≡ true → row (X .count) tops y ≢ 0
+        some t z = let a = of-within (tells 0 (omega arith) .0 (ap (λ e. getD entered e false) (sym z) ∙ t)) .0 in omega arith
 
-        back : Member X W S x y → BelowEntry (X .count) entered tops y
+        there : getD entered (row (X .count) tops y) false ≡ true → Member X W S x y
+        there t =
+            let (deep, found) = row-found y (some t) in
+            let (k, p) = found in
+            record { existential = deep .0; entry = row (X .count) tops y; entered = tells (row (X .count) tops y) (entry-within (deep .0) p .1) .0 t; rises = k; below = p .above }
+
+        back : Member X W S x y → getD entered (row (X .count) tops y) false ≡ true
         back m =
             let f = member-deeper formed m in
             let (k, p) = rows y .found (f .existential, f .deep) in
             let top = ap (λ (c : Climbed). c .top) (entry-climb formed p) in
-            let in-range = entry-within (f .existential) p in
-            record {
-              some = λ z. let a = in-range .0 in omega arith;
-              flagged = tells (row (X .count) tops y) (in-range .1) .1 (subst (EntryPointOf X W S x) top (member-climb formed (f .existential) (f .deep) .0 m));
-            }
+            tells (row (X .count) tops y) (entry-within (f .existential) p .1) .1 (subst (EntryPointOf X W S x) top (member-climb formed (f .existential) (f .deep) .0 m))
 
 pub tabled-lawful : (n : ℕ) (levels : List ℕ) (universals : List Bool) → Lawful (tabled n levels universals)
 unfolding existentialIn
@@ -108,13 +108,15 @@ module _ {n : ℕ} {es levels : List ℕ} {universals : List Bool} (sound : Soun
   own-level : universalIn n universals x ≡ true → getD levels x 0 ≡ level es x
   own-level u = level-agrees sound table x (universal-within n es x (sym (universal-agrees sound table x) ∙ u) .1)
 
-  pub sound-enters : {S : ℕ → ℕ → Type 0} (tops : List ℕ) {old new : List Bool} → WellFormed (tabled n levels universals) (rowsOf n classes parents) → universalIn n universals x ≡ true
-      → EntryRows (tabled n levels universals) (rowsOf n classes parents) x tops → Flagged (EntryPointOf (tabled n levels universals) (rowsOf n classes parents) S x) old new → Enters (variables n es) (lent (variables n es) classes parents) S x tops old new Accepted
+  -- The tops over the level of x, and the flags of those of variables that share a clause with x.
+  pub sound-enters : {S : ℕ → ℕ → Type 0} (floor : ℕ) (tops : List ℕ) {old new : List Bool} → WellFormed (tabled n levels universals) (rowsOf n classes parents) → universalIn n universals x ≡ true → floor ≡ getD levels x 0
+      → TopRows (tabled n levels universals) (rowsOf n classes parents) floor tops → Flagged (Via n tops (S x)) old new → Enters (variables n es) (lent (variables n es) classes parents) S x tops old new Accepted
   unfolding lent
-  sound-enters tops formed u rows f =
+  sound-enters {S} floor tops formed u low tops-are f =
       let s = tables-agree sound table in
       let own = own-level u in
-      (λ y. entry-row-same s formed own (rows y), flag-as f (λ e. (of-same s formed own, of-same (same-back s) (formed-same s formed) (sym own))))
+      let rows : EntryRows (variables n es) (lent (variables n es) classes parents) x tops = λ y. entry-row-same s formed own (tops-entries formed floor tops low tops-are y) in
+      (rows, flag-as f (entries-of (lawful n es) (formed-same s formed) tops rows))
 
   -- x universal by the level table is universal.
   pub sound-universal : {b : Bool} → b ≡ universalIn n universals x → b ≡ true → NotUniversal n es x → ⊥

@@ -1,4 +1,4 @@
--- Tables of flags: one flag more, a sweep over all variables, and the clauses passed one after the other.
+-- Tables of flags: one flag more, and the tops of the variables of clauses that are passed one after the other.
 use Prim.Native.Nat.{ℕ, zero, suc, _+_, _-_, _≤_, _<_}
 use mathlib.Core.Path.{_≡_, refl, sym, ap, _∙_, subst}
 use mathlib.Core.Bool.{Bool, true, false}
@@ -10,7 +10,6 @@ use lib.IntN.{ℤ, pos}
 use lib.ListN.{length, getD, set, take, drop, length-set, length-drop}
 use lib.Seq.{getD-set-same, getD-set-other, getD-take, getD-drop, length-take-le}
 use Rattle.terms.specs.Literals.{variableOf}
-use Rattle.terms.proofs.Common.{clash}
 use Rattle.formula.specs.Tables.{literalAt}
 use Rattle.formula.specs.Meaning.{clauses}
 use Rattle.formula.specs.Lookup.{NextZero}
@@ -18,7 +17,7 @@ use Rattle.formula.proofs.Lookups.{clauses-closed}
 use Rattle.connection.specs.Reach.{Joined}
 use Rattle.connection.specs.Tables.{row}
 use Rattle.forest.specs.Formula.{joined, Shares}
-use Rattle.forest.specs.Search.{Has, Flagged, EntryOf, BelowEntry}
+use Rattle.forest.specs.Search.{Has, Flagged, Via}
 use Rattle.forest.proofs.Readings.{row-none, row-over}
 
 -- One flag.
@@ -49,65 +48,9 @@ flag-then f g =
           (λ t. ⊎-elim (λ o. ⊎-elim (λ o′. inl o′) (λ p. inr (inl p)) (m .0 o)) (λ q. inr (inr q)) (n .0 t), ⊎-elim (λ o. n .1 (inl (m .1 (inl o)))) (⊎-elim (λ p. n .1 (inl (m .1 (inr p)))) (λ q. n .1 (inr q))));
     }
 
--- A sweep over the variables 1 to n, where v has the numbers w flagged of which P v w holds.
-pub record Swept (P : ℕ → ℕ → Type 0) (passed w : ℕ) : Type 0 where
-  pub by : ℕ
-  pub some : 1 ≤ by
-  pub most : by ≤ passed
-  pub flagged : P by w
-
-pub record Sweep (P : ℕ → ℕ → Type 0) (n : ℕ) (old new : List Bool) (passed : ℕ) : Type 0 where
-  pub most : passed ≤ n
-  pub done : Flagged (Swept P passed) old new
-
-pub sweep-none : (P : ℕ → ℕ → Type 0) (n : ℕ) (old : List Bool) → Sweep P n old old 0
-sweep-none P n old = record { most = omega arith; done = flag-nothing old (λ v l s. let a = s .some in let b = s .most in omega arith) }
-
-module _ {P : ℕ → ℕ → Type 0} {n : ℕ} {old new : List Bool} {passed : ℕ} (s : Sweep P n old new passed) (more : passed < n) where
-  swept-more : {w : ℕ} → Swept P (passed + 1) w → Swept P passed w ⊎ P (passed + 1) w
-  swept-more {w} t = by-cases (ℕ-discrete (t .by) (passed + 1)) (λ q. inr (subst (λ v. P v w) q (t .flagged))) (λ other. inl (record { by = t .by; some = t .some; most = let m = t .most in omega arith; flagged = t .flagged }))
-
-  swept-before : {w : ℕ} → Swept P passed w → Swept P (passed + 1) w
-  swept-before t = record { by = t .by; some = t .some; most = let m = t .most in omega arith; flagged = t .flagged }
-
-  swept-here : {w : ℕ} → P (passed + 1) w → Swept P (passed + 1) w
-  swept-here p = record { by = passed + 1; some = omega arith; most = omega arith; flagged = p }
-
-  -- The next variable has one number flagged, or none.
-  pub sweep-hit : {next : List Bool} (e : ℕ) → Flagged (λ w. w ≡ e) new next → ((w : ℕ) → P (passed + 1) w → w ≡ e) → P (passed + 1) e → Sweep P n old next (passed + 1)
-  sweep-hit e f only here =
-      record {
-        most = omega arith;
-        done = flag-as (flag-then (s .done) f) (λ w. (⊎-elim swept-before (λ q. swept-here (subst (P (passed + 1)) (sym q) here)), λ t. ⊎-elim (λ b. inl b) (λ p. inr (only w p)) (swept-more t)));
-      }
-
-  pub sweep-miss : ((w : ℕ) → P (passed + 1) w → ⊥) → Sweep P n old new (passed + 1)
-  sweep-miss none = record { most = omega arith; done = flag-as (s .done) (λ w. (swept-before, λ t. ⊎-elim (λ b. b) (λ p. absurd (none w p)) (swept-more t))) }
-
-pub sweep-all : {P : ℕ → ℕ → Type 0} {Q : ℕ → Type 0} {n : ℕ} {old new : List Bool} {passed : ℕ} → Sweep P n old new passed → n ≤ passed
-    → ((w : ℕ) → Swept P n w ↔ Q w) → Flagged Q old new
-sweep-all {P} {Q} {n} {passed = passed} s done same = flag-as (s .done) (λ w. let q : passed ≡ n = let m = s .most in omega arith in subst (λ m. Swept P m w ↔ Q w) (sym q) (same w))
-
 -- a row that is not 0 is of a variable from 1 to n
 pub row-within : (n : ℕ) (rows : List ℕ) (v : ℕ) → row n rows v ≢ 0 → (1 ≤ v) × (v ≤ n)
 row-within n rows v some = (by-cases (ℕ-discrete v 0) (λ z. absurd (some (row-none n rows v z))) (λ n. omega arith), by-cases (decLe v n) (λ l. l) (λ l. absurd (some (row-over n rows v (omega arith)))))
-
--- Entries: v has its entry flagged if v is flagged as shared. Members: v has itself flagged if its entry is flagged.
-abbrev pub HasEntry : ℕ → List Bool → List ℕ → ℕ → ℕ → Type 0
-HasEntry n shared tops v e = (getD shared v false ≡ true) × (row n tops v ≡ e) × (e ≢ 0)
-
-abbrev pub IsBelow : ℕ → List Bool → List ℕ → ℕ → ℕ → Type 0
-IsBelow n entered tops v w = (w ≡ v) × BelowEntry n entered tops v
-
-pub entries-all : (n : ℕ) (shared : List Bool) (tops : List ℕ) (w : ℕ) → Swept (HasEntry n shared tops) n w ↔ EntryOf n shared tops w
-entries-all n shared tops w = (
-  λ s. record { for = s .by; flagged = s .flagged .0; is = s .flagged .1; some = s .flagged .2 },
-  λ e. let (a, b) = row-within n tops (e .for) (λ z. e .some (sym (e .is) ∙ z)) in record { by = e .for; some = a; most = b; flagged = (e .flagged, e .is, e .some) },
-)
-
-pub members-all : (n : ℕ) (entered : List Bool) (tops : List ℕ) (w : ℕ) → Swept (IsBelow n entered tops) n w ↔ BelowEntry n entered tops w
-members-all n entered tops w =
-    (λ s. subst (BelowEntry n entered tops) (sym (s .flagged .0)) (s .flagged .1), λ b. let (a, m) = row-within n tops w (b .some) in record { by = w; some = a; most = m; flagged = (refl, b) })
 
 -- The entries of a clause, passed one after the other.
 pub has-none : (ls : List ℤ) (start v : ℕ) → Has ls start start v → ⊥
@@ -178,58 +121,70 @@ module _ (ls : List ℤ) (x start z : ℕ) (next : NextZero ls start z) (closed 
         λ s. subst (λ cs. Joined cs x v) (sym cut) (joined-cons .1 (⊎-elim (λ m. inl (has x .1 (m .0), has v .1 (m .1))) (λ r. inr r) s)),
       )
 
--- What is flagged, and what is to come, are the flags at first and all that share a clause with x.
-pub record Sharing (ls : List ℤ) (x : ℕ) (old new : List Bool) (start : ℕ) : Type 0 where
+-- The tops of those variables of which P holds: nothing more where P holds of nothing more, and those of two together.
+via-as : {n : ℕ} {tops : List ℕ} {P Q : ℕ → Type 0} {e : ℕ} → ((v : ℕ) → P v → Q v) → Via n tops P e → Via n tops Q e
+via-as more t = record { for = t .for; holds = more (t .for) (t .holds); is = t .is; some = t .some }
+
+via-or : {n : ℕ} {tops : List ℕ} {P Q : ℕ → Type 0} {e : ℕ} → Via n tops (λ v. P v ⊎ Q v) e → Via n tops P e ⊎ Via n tops Q e
+via-or {n} {tops} {P} {Q} {e} t = go (t .holds)
+  where
+    go : P (t .for) ⊎ Q (t .for) → Via n tops P e ⊎ Via n tops Q e
+    go (inl p) = inl (record { for = t .for; holds = p; is = t .is; some = t .some })
+    go (inr q) = inr (record { for = t .for; holds = q; is = t .is; some = t .some })
+
+-- One entry more of a clause: its top is flagged, if it has one.
+module _ (n : ℕ) (tops : List ℕ) (ls : List ℤ) (start i v top : ℕ) (low : start ≤ i) (is : v ≡ variableOf (literalAt ls i)) (above : top ≡ row n tops v) where
+  tops-before : (e : ℕ) → Via n tops (Has ls start i) e → Via n tops (Has ls start (i + 1)) e
+  tops-before e = via-as (λ w h. has-more ls start i w low .0 (inl h))
+
+  tops-more : (e : ℕ) → Via n tops (Has ls start (i + 1)) e → Via n tops (Has ls start i) e ⊎ (e ≡ top)
+  tops-more e t = ⊎-elim inl (λ o. inr (sym (o .is) ∙ ap (row n tops) (o .holds ∙ sym is) ∙ sym above)) (via-or (via-as (λ w h. has-more ls start i w low .1 h) t))
+
+  pub tops-none : {old new : List Bool} → top ≡ 0 → Flagged (Via n tops (Has ls start i)) old new → Flagged (Via n tops (Has ls start (i + 1))) old new
+  tops-none z f = flag-as f (λ e. (tops-before e, λ t. ⊎-elim (λ b. b) (λ q. absurd (t .some (q ∙ z))) (tops-more e t)))
+
+  pub tops-one : {old mid new : List Bool} → top ≢ 0 → Flagged (Via n tops (Has ls start i)) old mid → Flagged (λ w. w ≡ top) mid new → Flagged (Via n tops (Has ls start (i + 1))) old new
+  tops-one some f g =
+      flag-as (flag-then f g)
+      (λ e. (⊎-elim (tops-before e) (λ q. record { for = v; holds = has-more ls start i v low .0 (inr is); is = sym above ∙ sym q; some = λ z. some (sym q ∙ z) }), tops-more e))
+
+-- What is flagged, and what is to come, are the flags at first and the tops of all that share a clause with x.
+pub record Sharing (n : ℕ) (tops : List ℕ) (ls : List ℤ) (x : ℕ) (old new : List Bool) (start : ℕ) : Type 0 where
   pub size : length new ≡ length old
-  pub flags : (v : ℕ) → v < length old → ((getD new v false ≡ true) ⊎ Rest ls x start v) ↔ ((getD old v false ≡ true) ⊎ Shares ls x v)
+  pub flags : (e : ℕ) → e < length old → ((getD new e false ≡ true) ⊎ Via n tops (Rest ls x start) e) ↔ ((getD old e false ≡ true) ⊎ Via n tops (Shares ls x) e)
 
-pub share-none : (ls : List ℤ) (x : ℕ) (old : List Bool) → Sharing ls x old old 0
-share-none ls x old = record { size = refl; flags = λ v l. (λ s. s, λ s. s) }
+pub share-none : (n : ℕ) (tops : List ℕ) (ls : List ℤ) (x : ℕ) (old : List Bool) → Sharing n tops ls x old old 0
+share-none n tops ls x old = record { size = refl; flags = λ v l. (λ s. s, λ s. s) }
 
-module _ {ls : List ℤ} {x : ℕ} {old new : List Bool} {start : ℕ} (s : Sharing ls x old new start) where
-  -- A clause that has x: its variables are flagged.
-  pub share-has : {next : List Bool} (z : ℕ) → NextZero ls start z → z < length ls → Has ls start z x → Flagged (Has ls start z) new next → Sharing ls x old next (z + 1)
+module _ {n : ℕ} {tops : List ℕ} {ls : List ℤ} {x : ℕ} {old new : List Bool} {start : ℕ} (s : Sharing n tops ls x old new start) where
+  -- A clause that has x: the tops of its variables are flagged.
+  pub share-has : {next : List Bool} (z : ℕ) → NextZero ls start z → z < length ls → Has ls start z x → Flagged (Via n tops (Has ls start z)) new next → Sharing n tops ls x old next (z + 1)
   share-has z closes less here f =
       record {
         size = f .size ∙ s .size;
-        flags = λ v l.
-            let m = s .flags v l in
-            let n = f .flags v (let q = s .size in omega arith) in
-            let split = rest-split ls x start z closes less v in (
-              ⊎-elim (λ t. ⊎-elim (λ o. m .0 (inl o)) (λ h. m .0 (inr (split .1 (inl (here, h))))) (n .0 t)) (λ r. m .0 (inr (split .1 (inr r)))),
-              λ t. ⊎-elim (λ o. inl (n .1 (inl o))) (λ r. ⊎-elim (λ h. inl (n .1 (inr (h .1)))) (λ r′. inr r′) (split .0 r)) (m .1 t),
+        flags = λ e l.
+            let m = s .flags e l in
+            let k = f .flags e (let q = s .size in omega arith) in
+            let split : (v : ℕ) → Rest ls x start v ↔ ((Has ls start z x × Has ls start z v) ⊎ Rest ls x (z + 1) v) = rest-split ls x start z closes less in (
+              ⊎-elim (λ t. ⊎-elim (λ o. m .0 (inl o)) (λ h. m .0 (inr (via-as (λ v h′. split v .1 (inl (here, h′))) h))) (k .0 t)) (λ r. m .0 (inr (via-as (λ v r′. split v .1 (inr r′)) r))),
+              λ t. ⊎-elim (λ o. inl (k .1 (inl o))) (λ r. ⊎-elim (λ h. inl (k .1 (inr (via-as (λ v b. b .1) h)))) inr (via-or (via-as (λ v r′. split v .0 r′) r))) (m .1 t),
             );
       }
 
   -- A clause that does not: nothing is.
-  pub share-not : (z : ℕ) → NextZero ls start z → z < length ls → (Has ls start z x → ⊥) → Sharing ls x old new (z + 1)
+  pub share-not : (z : ℕ) → NextZero ls start z → z < length ls → (Has ls start z x → ⊥) → Sharing n tops ls x old new (z + 1)
   share-not z closes less none =
       record {
         size = s .size;
-        flags = λ v l.
-            let m = s .flags v l in
-            let split = rest-split ls x start z closes less v in
-            (⊎-elim (λ o. m .0 (inl o)) (λ r. m .0 (inr (split .1 (inr r)))), λ t. ⊎-elim (λ o. inl o) (λ r. ⊎-elim (λ h. absurd (none (h .0))) (λ r′. inr r′) (split .0 r)) (m .1 t));
+        flags = λ e l.
+            let m = s .flags e l in
+            let split : (v : ℕ) → Rest ls x start v ↔ ((Has ls start z x × Has ls start z v) ⊎ Rest ls x (z + 1) v) = rest-split ls x start z closes less in (
+              ⊎-elim (λ o. m .0 (inl o)) (λ r. m .0 (inr (via-as (λ v r′. split v .1 (inr r′)) r))),
+              λ t. ⊎-elim inl (λ r. inr (via-as (λ v r′. ⊎-elim (λ h. absurd (none (h .0))) (λ later. later) (split v .0 r′)) r)) (m .1 t),
+            );
       }
 
   -- No clause is left.
-  pub share-all : clauses (drop start ls) ≡ [] → Flagged (Shares ls x) old new
+  pub share-all : clauses (drop start ls) ≡ [] → Flagged (Via n tops (Shares ls x)) old new
   unfolding joined
-  share-all none = record { size = s .size; flags = λ v l. (λ t. s .flags v l .0 (inl t), λ t. ⊎-elim (λ o. o) (λ r. absurd (List·Memᴰ·not-nil (subst (λ cs. List·Memᴰ (r .clause) (map (map variableOf) cs)) none (r .listed)))) (s .flags v l .1 t)) }
-
--- One variable more of the two sweeps: v is the next, e its entry.
-next-row : (n : ℕ) (tops : List ℕ) (passed : ℕ) {v e : ℕ} → v ≡ passed + 1 → e ≡ row n tops v → row n tops (passed + 1) ≡ e
-next-row n tops passed is entry = ap (row n tops) (sym is) ∙ sym entry
-
-module _ (n : ℕ) (flags : List Bool) (tops : List ℕ) {passed v e : ℕ} (more : passed < n) (is : v ≡ passed + 1) (entry : e ≡ row n tops v) {old new : List Bool} where
-  pub entries-hit : {next : List Bool} → Sweep (HasEntry n flags tops) n old new passed → e ≢ 0 → getD flags v false ≡ true → Flagged (λ w. w ≡ e) new next → Sweep (HasEntry n flags tops) n old next (passed + 1)
-  entries-hit s some shared f = sweep-hit s more e f (λ w h. sym (h .1) ∙ (next-row n tops passed is entry)) (ap (λ u. getD flags u false) (sym is) ∙ shared, (next-row n tops passed is entry), some)
-
-  pub entries-miss : Sweep (HasEntry n flags tops) n old new passed → (e ≢ 0 → getD flags v false ≡ false) → Sweep (HasEntry n flags tops) n old new (passed + 1)
-  entries-miss s none = sweep-miss s more (λ w h. clash (ap (λ u. getD flags u false) is ∙ h .0) (none (λ z. h .2 (sym (h .1) ∙ (next-row n tops passed is entry) ∙ z))))
-
-  pub members-hit : {next : List Bool} → Sweep (IsBelow n flags tops) n old new passed → e ≢ 0 → getD flags e false ≡ true → Flagged (λ w. w ≡ v) new next → Sweep (IsBelow n flags tops) n old next (passed + 1)
-  members-hit s some entered f = sweep-hit s more v f (λ w h. h .0 ∙ sym is) (is, record { some = λ z. some (sym (next-row n tops passed is entry) ∙ z); flagged = ap (λ u. getD flags u false) (next-row n tops passed is entry) ∙ entered })
-
-  pub members-miss : Sweep (IsBelow n flags tops) n old new passed → (e ≢ 0 → getD flags e false ≡ false) → Sweep (IsBelow n flags tops) n old new (passed + 1)
-  members-miss s none = sweep-miss s more (λ w h. clash (ap (λ u. getD flags u false) (sym (next-row n tops passed is entry)) ∙ h .1 .flagged) (none (λ z. h .1 .some ((next-row n tops passed is entry) ∙ z))))
+  share-all none = record { size = s .size; flags = λ e l. (λ t. s .flags e l .0 (inl t), λ t. ⊎-elim (λ o. o) (λ r. absurd (List·Memᴰ·not-nil (subst (λ cs. List·Memᴰ (r .holds .clause) (map (map variableOf) cs)) none (r .holds .listed)))) (s .flags e l .1 t)) }

@@ -1,6 +1,7 @@
 pub mod Readings
 pub mod Formed
 pub mod Climbing
+pub mod Tops
 pub mod Picked
 pub mod Flags
 pub mod Agreeing

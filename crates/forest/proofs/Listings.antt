@@ -16,9 +16,11 @@ use Rattle.connection.specs.Tables.{lent, WellFormed}
 use Rattle.forest.specs.declared.EntryAnswer.{EntryAnswer}
 use Rattle.forest.specs.Formula.{variables, Shares}
 use Rattle.forest.specs.Causes.{readOrder}
-use Rattle.forest.specs.Answers.{Answered, Entries, Members}
-use Rattle.forest.specs.Listed.{Listed, TooLong, Listing, picked}
-use Rattle.forest.specs.Search.{Picks, Enters, Flagged, BelowEntry, Blank}
+use Rattle.forest.specs.Answers.{Answered}
+use Rattle.forest.specs.Listed.{Listed, TooLong, Listing}
+use Rattle.forest.specs.declared.listing.Asked.{Asked}
+use Rattle.forest.specs.declared.listing.Asked.the-variants.{Points, Set}
+use Rattle.forest.specs.Search.{pick, picked, Wanted, Picks, Enters, Blank}
 use Rattle.forest.proofs.Picked.{picked-listed, listed-one}
 use Rattle.forest.proofs.Agreeing.{lawful, none-formed}
 use Rattle.formula.proofs.Sound.{sound-check}
@@ -30,12 +32,12 @@ answered-then order more P q judged (EntryAnswer.At class rises) a = (accepted-t
 answered-then order more P q judged (EntryAnswer.Refused number place) a = accepted-then order more (Refused number place) q judged a
 
 -- What is picked is what is listed, and there is room for it or not.
-pub picks-listing : (order : List Causes) {P : ℕ → Type 0} (flags : List Bool) (n : ℕ) (before after : List ℕ) → NoneOf order → Listed P (picked flags n) → (r : Filled) → Picks flags n before after r → Listing (order ++ (At0 14 (TooLong P before) ∷ [])) P before after r
-picks-listing order {P} flags n before after none listed (Filled.Count count) picks =
-    let fits : TooLong P before → ⊥ = λ long. let q = ap length (listed-one (long .0) (picked flags n) (long .1) listed) in let l = long .2 in let room = picks .1 in omega arith in
-    (accepted-then order (At0 14 (TooLong P before) ∷ []) {v = Accepted} Accepted refl none (at0-none 14 fits, tt), (picked flags n, listed, picks .0, picks .2))
-picks-listing order {P} flags n before after none listed (Filled.Refused number place) picks =
-    let first : FirstOf (order ++ (At0 14 (TooLong P before) ∷ [])) 14 0 = accepted-then order (At0 14 (TooLong P before) ∷ []) {v = Accepted} (Refused 14 0) refl none (inl (at0-first 14 (picked flags n, listed, picks .2))) in
+pub picks-listing : (order : List Causes) {P : ℕ → Type 0} (f : ℕ → Bool) (n : ℕ) (before after : List ℕ) → NoneOf order → Listed P (picked f n) → (r : Filled) → Picks f n before after r → Listing (order ++ (At0 14 (TooLong P before) ∷ [])) P before after r
+picks-listing order {P} f n before after none listed (Filled.Count count) picks =
+    let fits : TooLong P before → ⊥ = λ long. let q = ap length (listed-one (long .0) (picked f n) (long .1) listed) in let l = long .2 in let room = picks .1 in omega arith in
+    (accepted-then order (At0 14 (TooLong P before) ∷ []) {v = Accepted} Accepted refl none (at0-none 14 fits, tt), (picked f n, listed, picks .0, picks .2))
+picks-listing order {P} f n before after none listed (Filled.Refused number place) picks =
+    let first : FirstOf (order ++ (At0 14 (TooLong P before) ∷ [])) 14 0 = accepted-then order (At0 14 (TooLong P before) ∷ []) {v = Accepted} (Refused 14 0) refl none (inl (at0-first 14 (picked f n, listed, picks .2))) in
     (subst₂ (FirstOf (order ++ (At0 14 (TooLong P before) ∷ []))) (sym (picks .0)) (sym (picks .1)) first, picks .3)
 
 module _ {n : ℕ} {es : List ℕ} {ls : List ℤ} {classes parents : List ℕ} (x : ℕ) (none : NoneOf (readOrder n es ls classes parents x)) where
@@ -47,11 +49,10 @@ module _ {n : ℕ} {es : List ℕ} {ls : List ℤ} {classes parents : List ℕ} 
   few = sound-check (none .0, (none .1 .0, (none .1 .1 .0, (none .1 .1 .1 .0, tt)))) .few
 
   module _ {old entered : List Bool} (tops : List ℕ) (blank : Blank old) (enters : Enters (variables n es) (lent (variables n es) classes parents) (Shares ls) x tops old entered Accepted) where
-    pub entries-listed : Listed (Entries n es ls classes parents x) (picked entered n)
-    entries-listed = picked-listed entered n (λ e o. of-within (lawful n es) formed o) (λ e _ l. flags-are blank (enters .1) e (let f = few in omega arith))
-
-    pub members-listed : {members : List Bool} → Flagged (BelowEntry n entered tops) old members → Listed (Members n es ls classes parents x) (picked members n)
-    members-listed {members} f =
-        let members-are = members-of (lawful n es) formed tops (enters .0) entered (λ e l. flags-are blank (enters .1) e (let f = few in omega arith)) in
-        picked-listed members n (λ y m. lawful n es .within y (m .existential))
-        (λ y _ l. let here = flags-are blank f y (let f = few in omega arith) in (λ t. members-are y .0 (here .0 t), λ m. here .1 (members-are y .1 m)))
+    -- What is picked by the flags of the entry points is what is asked for.
+    pub asked-listed : (asked : Asked) → Listed (Wanted asked n es ls classes parents x) (picked (pick asked n entered tops) n)
+    unfolding pick lent
+    asked-listed Points = picked-listed (pick Points n entered tops) n (λ e o. of-within (lawful n es) formed o) (λ e _ l. flags-are blank (enters .1) e (let f = few in omega arith))
+    asked-listed Set =
+        picked-listed (pick Set n entered tops) n (λ y m. lawful n es .within y (m .existential))
+        (λ y _ _. members-of (lawful n es) formed tops (enters .0) entered (λ e l. flags-are blank (enters .1) e (let f = few in omega arith)) y)

@@ -1,4 +1,4 @@
--- The flagged numbers as a list: how the loops that count and write them go on, and that the list is ascending and holds exactly them.
+-- The picked numbers as a list: how the loops that count and write them go on, and that the list is ascending and holds exactly them.
 use Prim.Native.Nat.{ℕ, zero, suc, _+_, _-_, _≤_, _<_}
 use mathlib.Core.Path.{_≡_, refl, sym, ap, _∙_, subst}
 use mathlib.Core.Bool.{Bool, true, false, cond}
@@ -7,60 +7,61 @@ use mathlib.Core.Logic.{⊎-elim, _↔_}
 use native.Mathlib.Decide.{ℕ-discrete}
 use native.Mathlib.Numerals.{add-one}
 use native.Mathlib.Omega.{arith}
-use lib.ListN.{length, getD, set, length-append}
+use lib.ListN.{length, set, length-append}
 use lib.Seq.{sets}
-use Rattle.forest.specs.Listed.{Ascending, Listed, picked}
+use Rattle.forest.specs.Listed.{Ascending, Listed}
+use Rattle.forest.specs.Search.{picked}
 
--- One number more: it is added if it is flagged.
-pub picked-more : (flags : List Bool) (m : ℕ) → getD flags (m + 1) false ≡ true → picked flags (m + 1) ≡ picked flags m ++ ((m + 1) ∷ [])
+-- One number more: it is added if it is picked.
+pub picked-more : (f : ℕ → Bool) (m : ℕ) → f (m + 1) ≡ true → picked f (m + 1) ≡ picked f m ++ ((m + 1) ∷ [])
 unfolding picked
-picked-more flags m = rw (add-one m) (λ q. ap (λ b. picked flags m ++ cond b (suc m ∷ []) []) q)
+picked-more f m = rw (add-one m) (λ q. ap (λ b. picked f m ++ cond b (suc m ∷ []) []) q)
 
-pub picked-same : (flags : List Bool) (m : ℕ) → getD flags (m + 1) false ≡ false → picked flags (m + 1) ≡ picked flags m
+pub picked-same : (f : ℕ → Bool) (m : ℕ) → f (m + 1) ≡ false → picked f (m + 1) ≡ picked f m
 unfolding picked
-picked-same flags m = rw (add-one m) (λ q. ap (λ b. picked flags m ++ cond b (suc m ∷ []) []) q ∙ append-nil (picked flags m))
+picked-same f m = rw (add-one m) (λ q. ap (λ b. picked f m ++ cond b (suc m ∷ []) []) q ∙ append-nil (picked f m))
 
-pub length-more : (flags : List Bool) (m : ℕ) → getD flags (m + 1) false ≡ true → length (picked flags (m + 1)) ≡ length (picked flags m) + 1
-length-more flags m q = ap length (picked-more flags m q) ∙ length-append (picked flags m) ((m + 1) ∷ [])
+pub length-more : (f : ℕ → Bool) (m : ℕ) → f (m + 1) ≡ true → length (picked f (m + 1)) ≡ length (picked f m) + 1
+length-more f m q = ap length (picked-more f m q) ∙ length-append (picked f m) ((m + 1) ∷ [])
 
 -- No more are picked than there are numbers, and none is lost on the way.
-pub picked-most : (flags : List Bool) (m : ℕ) → length (picked flags m) ≤ m
+pub picked-most : (f : ℕ → Bool) (m : ℕ) → length (picked f m) ≤ m
 unfolding picked
-picked-most flags zero = omega arith
-picked-most flags (suc m) = go (getD flags (suc m) false) (picked-most flags m)
+picked-most f zero = omega arith
+picked-most f (suc m) = go (f (suc m)) (picked-most f m)
   where
-    go : (b : Bool) → length (picked flags m) ≤ m → length (picked flags m ++ cond b (suc m ∷ []) []) ≤ suc m
-    go true l = rw (length-append (picked flags m) (suc m ∷ [])) (omega arith)
-    go false l = rw (append-nil (picked flags m)) (omega arith)
+    go : (b : Bool) → length (picked f m) ≤ m → length (picked f m ++ cond b (suc m ∷ []) []) ≤ suc m
+    go true l = rw (length-append (picked f m) (suc m ∷ [])) (omega arith)
+    go false l = rw (append-nil (picked f m)) (omega arith)
 
-pub picked-grows : (flags : List Bool) (m k : ℕ) → length (picked flags m) ≤ length (picked flags (m + k))
+pub picked-grows : (f : ℕ → Bool) (m k : ℕ) → length (picked f m) ≤ length (picked f (m + k))
 unfolding picked
-picked-grows flags m zero = let q : m + zero ≡ m = omega arith in rw q (omega arith)
-picked-grows flags m (suc k) = let q : m + suc k ≡ suc (m + k) = omega arith in rw (q, length-append (picked flags (m + k)) (cond (getD flags (suc (m + k)) false) (suc (m + k) ∷ []) [])) (omega (arith, picked-grows flags m k))
+picked-grows f m zero = let q : m + zero ≡ m = omega arith in rw q (omega arith)
+picked-grows f m (suc k) = let q : m + suc k ≡ suc (m + k) = omega arith in rw (q, length-append (picked f (m + k)) (cond (f (suc (m + k))) (suc (m + k) ∷ []) [])) (omega (arith, picked-grows f m k))
 
 -- A store behind a run of stores lengthens it.
 pub sets-more : (before : List ℕ) (at a : ℕ) (list : List ℕ) → set (sets before at list) (at + length list) a ≡ sets before at (list ++ (a ∷ []))
 sets-more before at a [] = let q : at + 0 ≡ at = omega arith in ap (λ i. set before i a) q
 sets-more before at a (b ∷ list) = let q : at + suc (length list) ≡ suc at + length list = omega arith in ap (λ i. set (sets (set before at b) (suc at) list) i a) q ∙ sets-more (set before at b) (suc at) a list
 
--- What is picked is flagged, from 1 to m, and all of that is picked.
-pub picked-flag : (flags : List Bool) (m v : ℕ) → List·Memᴰ v (picked flags m) → (1 ≤ v) × (v ≤ m) × (getD flags v false ≡ true)
+-- What is picked is from 1 to m and has f, and all of that is picked.
+pub picked-flag : (f : ℕ → Bool) (m v : ℕ) → List·Memᴰ v (picked f m) → (1 ≤ v) × (v ≤ m) × (f v ≡ true)
 unfolding picked
-picked-flag flags zero v m∈ = absurd (List·Memᴰ·not-nil m∈)
-picked-flag flags (suc m) v m∈ = ⊎-elim (λ old. let (a, b, f) = picked-flag flags m v old in (a, omega arith, f)) (new (getD flags (suc m) false) refl) (List·Memᴰ·append-cases (picked flags m) m∈)
+picked-flag f zero v m∈ = absurd (List·Memᴰ·not-nil m∈)
+picked-flag f (suc m) v m∈ = ⊎-elim (λ old. let (a, b, t) = picked-flag f m v old in (a, omega arith, t)) (new (f (suc m)) refl) (List·Memᴰ·append-cases (picked f m) m∈)
   where
-    new : (b : Bool) → getD flags (suc m) false ≡ b → List·Memᴰ v (cond b (suc m ∷ []) []) → (1 ≤ v) × (v ≤ suc m) × (getD flags v false ≡ true)
-    new true q here = let e = List·Memᴰ·eq-of-singleton here in (omega arith, omega arith, ap (λ w. getD flags w false) e ∙ q)
+    new : (b : Bool) → f (suc m) ≡ b → List·Memᴰ v (cond b (suc m ∷ []) []) → (1 ≤ v) × (v ≤ suc m) × (f v ≡ true)
+    new true q here = let e = List·Memᴰ·eq-of-singleton here in (omega arith, omega arith, ap f e ∙ q)
     new false q here = absurd (List·Memᴰ·not-nil here)
 
-pub flag-picked : (flags : List Bool) (m v : ℕ) → 1 ≤ v → v ≤ m → getD flags v false ≡ true → List·Memᴰ v (picked flags m)
+pub flag-picked : (f : ℕ → Bool) (m v : ℕ) → 1 ≤ v → v ≤ m → f v ≡ true → List·Memᴰ v (picked f m)
 unfolding picked
-flag-picked flags zero v a b f = absurd (omega arith)
-flag-picked flags (suc m) v a b f = go (ℕ-discrete v (suc m)) (λ l. flag-picked flags m v a l f)
+flag-picked f zero v a b t = absurd (omega arith)
+flag-picked f (suc m) v a b t = go (ℕ-discrete v (suc m)) (λ l. flag-picked f m v a l t)
   where
-    go : Dec (v ≡ suc m) → (v ≤ m → List·Memᴰ v (picked flags m)) → List·Memᴰ v (picked flags m ++ cond (getD flags (suc m) false) (suc m ∷ []) [])
-    go (yes q) old = Memᴰ·append-right (picked flags m) (rw (sym (ap (λ w. getD flags w false) q) ∙ f) (List·Memᴰ·head q))
-    go (no other) old = Memᴰ·append-left (cond (getD flags (suc m) false) (suc m ∷ []) []) (old (omega arith))
+    go : Dec (v ≡ suc m) → (v ≤ m → List·Memᴰ v (picked f m)) → List·Memᴰ v (picked f m ++ cond (f (suc m)) (suc m ∷ []) [])
+    go (yes q) old = Memᴰ·append-right (picked f m) (rw (sym (ap f q) ∙ t) (List·Memᴰ·head q))
+    go (no other) old = Memᴰ·append-left (cond (f (suc m)) (suc m ∷ []) []) (old (omega arith))
 
 ascending-snoc : (list : List ℕ) (w : ℕ) → Ascending list → ((v : ℕ) → List·Memᴰ v list → v < w) → Ascending (list ++ (w ∷ []))
 ascending-snoc [] w up low = (λ b m. absurd (List·Memᴰ·not-nil m), tt)
@@ -69,22 +70,22 @@ ascending-snoc (a ∷ list) w up low = (
   ascending-snoc list w (up .1) (λ v m. low v (List·Memᴰ·tail m)),
 )
 
-picked-up : (flags : List Bool) (m : ℕ) → Ascending (picked flags m)
+picked-up : (f : ℕ → Bool) (m : ℕ) → Ascending (picked f m)
 unfolding picked
-picked-up flags zero = tt
-picked-up flags (suc m) = go (getD flags (suc m) false) (picked-up flags m)
+picked-up f zero = tt
+picked-up f (suc m) = go (f (suc m)) (picked-up f m)
   where
-    go : (b : Bool) → Ascending (picked flags m) → Ascending (picked flags m ++ cond b (suc m ∷ []) [])
-    go true up = ascending-snoc (picked flags m) (suc m) up (λ v m∈. let l = picked-flag flags m v m∈ .1 in omega arith)
-    go false up = rw (append-nil (picked flags m)) up
+    go : (b : Bool) → Ascending (picked f m) → Ascending (picked f m ++ cond b (suc m ∷ []) [])
+    go true up = ascending-snoc (picked f m) (suc m) up (λ v m∈. let l = picked-flag f m v m∈ .1 in omega arith)
+    go false up = rw (append-nil (picked f m)) up
 
--- If the flags from 1 to n are those numbers of which P holds, the list of P is what is picked.
-pub picked-listed : {P : ℕ → Type 0} (flags : List Bool) (n : ℕ) → ((v : ℕ) → P v → (1 ≤ v) × (v ≤ n)) → ((v : ℕ) → 1 ≤ v → v ≤ n → (getD flags v false ≡ true) ↔ P v) → Listed P (picked flags n)
-picked-listed flags n within tells =
+-- If f tells of the numbers from 1 to n whether P holds, the list of P is what is picked.
+pub picked-listed : {P : ℕ → Type 0} (f : ℕ → Bool) (n : ℕ) → ((v : ℕ) → P v → (1 ≤ v) × (v ≤ n)) → ((v : ℕ) → 1 ≤ v → v ≤ n → (f v ≡ true) ↔ P v) → Listed P (picked f n)
+picked-listed f n within tells =
     record {
-      ascending = picked-up flags n;
-      each = λ v m. let (a, b, f) = picked-flag flags n v m in tells v a b .0 f;
-      all = λ v p. let (a, b) = within v p in flag-picked flags n v a b (tells v a b .1 p);
+      ascending = picked-up f n;
+      each = λ v m. let (a, b, t) = picked-flag f n v m in tells v a b .0 t;
+      all = λ v p. let (a, b) = within v p in flag-picked f n v a b (tells v a b .1 p);
     }
 
 -- Two ascending lists of the same numbers are one.
@@ -103,42 +104,41 @@ listed-one list other l o = same list other (l .ascending) (o .ascending) (λ v 
         (λ v m. ⊎-elim (λ e. let l = up .0 v m in absurd (omega arith)) (λ m′. m′) (List·Memᴰ·cases-cons (there v (List·Memᴰ·tail m))))
         (λ v m. ⊎-elim (λ e. let l = up′ .0 v m in absurd (omega arith)) (λ m′. m′) (List·Memᴰ·cases-cons (back v (List·Memᴰ·tail m)))))
 
--- What the loop that counts knows, and the one that writes.
-pub record Counted (n : ℕ) (flags : List Bool) (count passed : ℕ) : Type 0 where
+-- What the loop that counts knows, and the one that writes: both count from a first entry on.
+pub record Counted (n : ℕ) (f : ℕ → Bool) (first count passed : ℕ) : Type 0 where
   pub most : passed ≤ n
-  pub counted : count ≡ length (picked flags passed)
+  pub counted : count ≡ first + length (picked f passed)
 
-pub count-none : (n : ℕ) (flags : List Bool) → Counted n flags 0 0
+pub count-none : (n : ℕ) (f : ℕ → Bool) (first : ℕ) → Counted n f first first 0
 unfolding picked
-count-none n flags = record { most = omega arith; counted = refl }
+count-none n f first = record { most = omega arith; counted = omega arith }
 
-module _ {n : ℕ} {flags : List Bool} {count passed : ℕ} (c : Counted n flags count passed) (more : passed < n) (v : ℕ) (b : Bool) (is : v ≡ passed + 1) (told : b ≡ getD flags v false) where
-  flag : getD flags (passed + 1) false ≡ b
-  flag = ap (λ w. getD flags w false) (sym is) ∙ sym told
+module _ {n : ℕ} {f : ℕ → Bool} {first count passed : ℕ} (c : Counted n f first count passed) (more : passed < n) (v : ℕ) (b : Bool) (is : v ≡ passed + 1) (told : b ≡ f v) where
+  flag : f (passed + 1) ≡ b
+  flag = ap f (sym is) ∙ sym told
 
-  pub count-more : b ≡ true → Counted n flags (count + 1) (passed + 1)
-  count-more yes′ = record { most = omega arith; counted = ap (λ k. k + 1) (c .counted) ∙ sym (length-more flags passed (flag ∙ yes′)) }
+  pub count-more : b ≡ true → Counted n f first (count + 1) (passed + 1)
+  count-more yes′ = record { most = omega arith; counted = let one = length-more f passed (flag ∙ yes′) in let here = c .counted in omega arith }
 
-  pub count-same : b ≡ false → Counted n flags count (passed + 1)
-  count-same no′ = record { most = omega arith; counted = c .counted ∙ sym (ap length (picked-same flags passed (flag ∙ no′))) }
+  pub count-same : b ≡ false → Counted n f first count (passed + 1)
+  count-same no′ = record { most = omega arith; counted = c .counted ∙ ap (λ l. first + length l) (sym (picked-same f passed (flag ∙ no′))) }
 
   -- there is room for one number more
-  pub count-room : (room : ℕ) → b ≡ true → length (picked flags n) ≤ room → count < room
+  pub count-room : (room : ℕ) → b ≡ true → first + length (picked f n) ≤ room → count < room
   count-room room yes′ fits =
       let q : (passed + 1) + (n - (passed + 1)) ≡ n = omega arith in
-      let grows = subst (λ m. length (picked flags (passed + 1)) ≤ length (picked flags m)) q (picked-grows flags (passed + 1) (n - (passed + 1))) in
-      let one = length-more flags passed (flag ∙ yes′) in
+      let grows = subst (λ m. length (picked f (passed + 1)) ≤ length (picked f m)) q (picked-grows f (passed + 1) (n - (passed + 1))) in
+      let one = length-more f passed (flag ∙ yes′) in
       let here = c .counted in
       omega arith
 
-  pub write-more : (old : List ℕ) {out : List ℕ} → out ≡ sets old 0 (picked flags passed) → b ≡ true → set out count (passed + 1) ≡ sets old 0 (picked flags (passed + 1))
+  pub write-more : (old : List ℕ) {out : List ℕ} → out ≡ sets old first (picked f passed) → b ≡ true → set out count (passed + 1) ≡ sets old first (picked f (passed + 1))
   write-more old written yes′ =
-      let q : count ≡ 0 + length (picked flags passed) = let here = c .counted in omega arith in
-      ap (λ (o : List ℕ). set o count (passed + 1)) written ∙ ap (λ (i : ℕ). set (sets old 0 (picked flags passed)) i (passed + 1)) q
-      ∙ sets-more old 0 (passed + 1) (picked flags passed) ∙ sym (ap (sets old 0) (picked-more flags passed (flag ∙ yes′)))
+      ap (λ (o : List ℕ). set o count (passed + 1)) written ∙ ap (λ (i : ℕ). set (sets old first (picked f passed)) i (passed + 1)) (c .counted)
+      ∙ sets-more old first (passed + 1) (picked f passed) ∙ sym (ap (sets old first) (picked-more f passed (flag ∙ yes′)))
 
-  pub write-same : (old : List ℕ) {out : List ℕ} → out ≡ sets old 0 (picked flags passed) → b ≡ false → out ≡ sets old 0 (picked flags (passed + 1))
-  write-same old written no′ = written ∙ sym (ap (sets old 0) (picked-same flags passed (flag ∙ no′)))
+  pub write-same : (old : List ℕ) {out : List ℕ} → out ≡ sets old first (picked f passed) → b ≡ false → out ≡ sets old first (picked f (passed + 1))
+  write-same old written no′ = written ∙ sym (ap (sets old first) (picked-same f passed (flag ∙ no′)))
 
-pub count-all : {n : ℕ} {flags : List Bool} {count passed : ℕ} → Counted n flags count passed → n ≤ passed → count ≡ length (picked flags n)
-count-all {n} {flags} {passed = passed} c done = let q : passed ≡ n = let m = c .most in omega arith in c .counted ∙ ap (λ m. length (picked flags m)) q
+pub count-all : {n : ℕ} {f : ℕ → Bool} {first count passed : ℕ} → Counted n f first count passed → n ≤ passed → count ≡ first + length (picked f n)
+count-all {n} {f} {first} {passed = passed} c done = let q : passed ≡ n = let m = c .most in omega arith in c .counted ∙ ap (λ m. first + length (picked f m)) q

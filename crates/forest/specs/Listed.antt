@@ -1,9 +1,8 @@
 -- Numbers written ascending into a lent table: what a call lists, and what it leaves.
-use Prim.Native.Nat.{ℕ, zero, suc, _<_}
+use Prim.Native.Nat.{ℕ, _<_}
 use mathlib.Core.Path.{_≡_}
-use mathlib.Core.Bool.{Bool, false, cond}
-use mathlib.Core.List.{List, [], _∷_, _++_, List·Memᴰ}
-use lib.ListN.{length, getD}
+use mathlib.Core.List.{List, [], _∷_, List·Memᴰ}
+use lib.ListN.{length}
 use lib.Seq.{sets}
 use Rattle.terms.specs.Refusals.{Causes, FirstOf, NoneOf}
 use Rattle.terms.specs.declared.Filled.{Filled}
@@ -29,8 +28,3 @@ TooLong P before = (list : List ℕ) × Listed P list × (length before < length
 abbrev pub Listing : List Causes → (ℕ → Type 0) → List ℕ → List ℕ → Filled → Type 0
 Listing order P before after (Count count) = NoneOf order × ((list : List ℕ) × Listed P list × (count ≡ length list) × (after ≡ sets before 0 list))
 Listing order P before after (Refused number place) = FirstOf order number place × (after ≡ before)
-
--- The numbers 1 to m that a table of flags has, ascending.
-unfoldable pub picked : List Bool → ℕ → List ℕ
-picked flags zero = []
-picked flags (suc m) = picked flags m ++ cond (getD flags (suc m) false) (suc m ∷ []) []

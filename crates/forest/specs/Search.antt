@@ -1,8 +1,8 @@
 -- What the inner functions find in lent rows, by the level table. What a reader must believe of the calls is in Causes, Answers and Listed.
-use Prim.Native.Nat.{ℕ, _+_, _≤_, _<_}
+use Prim.Native.Nat.{ℕ, zero, suc, _+_, _≤_, _<_}
 use mathlib.Core.Path.{_≡_}
-use mathlib.Core.Bool.{Bool, true, false}
-use mathlib.Core.List.{List, []}
+use mathlib.Core.Bool.{Bool, true, false, cond}
+use mathlib.Core.List.{List, [], _∷_, _++_}
 use mathlib.Core.Logic.{_⊎_, _≢_, _↔_}
 use lib.IntN.{ℤ}
 use lib.ListN.{length, getD}
@@ -15,10 +15,12 @@ use Rattle.terms.specs.declared.Filled.the-variants.{Count, Refused}
 use Rattle.formula.specs.Tables.{literalAt}
 use Rattle.connection.specs.Reach.{Variables}
 use Rattle.connection.specs.Tables.{Table, row, lent, Above, EntryPoint, EntryPointOf}
+use Rattle.forest.specs.declared.listing.Asked.{Asked}
+use Rattle.forest.specs.declared.listing.Asked.the-variants.{Points, Set}
 use Rattle.forest.specs.declared.search.Found.{Found}
 use Rattle.forest.specs.declared.search.Found.the-variants.{At, Nowhere}
 use Rattle.forest.specs.Formula.{tabled}
-use Rattle.forest.specs.Listed.{picked}
+use Rattle.forest.specs.Answers.{Entries, Members}
 
 -- a flag tells whether P holds
 abbrev pub Tells : Bool → Type 0 → Type 0
@@ -43,18 +45,35 @@ abbrev pub Falling : ℕ → List ℕ → List ℕ → Type 0
 Falling n levels parents = (c : ℕ) → row n parents c ≢ 0 → getD levels (row n parents c) 0 < getD levels c 0
 
 -- p is where the search from c ends, k rises above it: deeper than the floor, and its parent, if it has one, is not
-pub record Searched (n : ℕ) (levels parents : List ℕ) (floor c p k : ℕ) : Type 0 where
-  pub above : Above (parentTable n parents) p c k
-  pub deeper : floor < getD levels p 0
-  pub stop : row n parents p ≢ 0 → getD levels (row n parents p) 0 ≤ floor
+pub record Searched (X : Variables) (W : Table) (floor c p k : ℕ) : Type 0 where
+  pub above : Above W p c k
+  pub deeper : floor < X .lev p
+  pub stop : W .par p ≢ 0 → X .lev (W .par p) ≤ floor
 
--- the same with some rises before: p and all rises
+-- the same in the parent rows alone, with some rises before: p and all rises
 abbrev pub Climbs : ℕ → List ℕ → List ℕ → ℕ → ℕ → ℕ → ℕ → ℕ → Type 0
-Climbs n levels parents floor c before p all = (k : ℕ) × (all ≡ before + k) × Searched n levels parents floor c p k
+Climbs n levels parents floor c before p all = (k : ℕ) × (all ≡ before + k) × Searched (tabled n levels []) (parentTable n parents) floor c p k
+
+-- y is existential and deeper than the floor
+abbrev pub Under : Variables → ℕ → ℕ → Type 0
+Under X floor y = (X .ex y ≡ true) × (floor < X .lev y)
+
+-- the top of y over a floor: where the search from its class ends, and 0 if y is not existential and deeper
+pub record TopRow (X : Variables) (W : Table) (floor y top : ℕ) : Type 0 where
+  pub found : Under X floor y → (rises : ℕ) × Searched X W floor (W .cls y) top rises
+  pub none : (Under X floor y → ⊥) → top ≡ 0
+
+-- the row of every y is its top
+abbrev pub TopRows : Variables → Table → ℕ → List ℕ → Type 0
+TopRows X W floor tops = (y : ℕ) → TopRow X W floor y (row (X .count) tops y)
+
+-- the rows of the variables below v are
+abbrev pub TopsBelow : Variables → Table → ℕ → List ℕ → ℕ → Type 0
+TopsBelow X W floor tops v = (y : ℕ) → y < v → TopRow X W floor y (row (X .count) tops y)
 
 -- y is existential and deeper than x
 abbrev pub Deeper : Variables → ℕ → ℕ → Type 0
-Deeper X x y = (X .ex y ≡ true) × (X .lev x < X .lev y)
+Deeper X x y = Under X (X .lev x) y
 
 -- what the search from the class of y finds: the entry point of x for y, with its rises, if y is existential and deeper than x
 abbrev pub Finds : Variables → Table → ℕ → ℕ → Found → Type 0
@@ -82,17 +101,27 @@ pub record Flagged (P : ℕ → Type 0) (old new : List Bool) : Type 0 where
   pub size : length new ≡ length old
   pub flags : (v : ℕ) → v < length old → (getD new v false ≡ true) ↔ ((getD old v false ≡ true) ⊎ P v)
 
--- e is the entry of some variable from 1 to n that is flagged
-pub record EntryOf (n : ℕ) (shared : List Bool) (tops : List ℕ) (e : ℕ) : Type 0 where
+-- e is the top of a variable of which P holds
+pub record Via (n : ℕ) (tops : List ℕ) (P : ℕ → Type 0) (e : ℕ) : Type 0 where
   pub for : ℕ
-  pub flagged : getD shared for false ≡ true
+  pub holds : P for
   pub is : row n tops for ≡ e
   pub some : e ≢ 0
 
--- the entry of v is flagged
-pub record BelowEntry (n : ℕ) (entered : List Bool) (tops : List ℕ) (v : ℕ) : Type 0 where
-  pub some : row n tops v ≢ 0
-  pub flagged : getD entered (row n tops v) false ≡ true
+-- whether v is listed: by its own flag if entry points are asked for, by the flag of its top if the set is
+unfoldable pub pick : Asked → ℕ → List Bool → List ℕ → ℕ → Bool
+pick Points n flags tops v = getD flags v false
+pick Set n flags tops v = getD flags (row n tops v) false
+
+-- the numbers 1 to m that are picked, ascending
+unfoldable pub picked : (ℕ → Bool) → ℕ → List ℕ
+picked f zero = []
+picked f (suc m) = picked f m ++ cond (f (suc m)) (suc m ∷ []) []
+
+-- what is asked for, by the lent tables
+abbrev pub Wanted : Asked → ℕ → List ℕ → List ℤ → List ℕ → List ℕ → ℕ → ℕ → Type 0
+Wanted Points n es ls classes parents x = Entries n es ls classes parents x
+Wanted Set n es ls classes parents x = Members n es ls classes parents x
 
 -- where a call is not refused: the entry of every variable, and the entry points flagged
 abbrev pub Enters : Variables → Table → (ℕ → ℕ → Type 0) → ℕ → List ℕ → List Bool → List Bool → Verdict → Type 0
@@ -104,7 +133,7 @@ pub record Blank (flags : List Bool) : Type 0 where
   pub size : length flags ≡ 4097
   pub blank : (v : ℕ) → getD flags v false ≡ false
 
--- the flagged numbers are written, ascending, or there is too little room for them
-abbrev pub Picks : List Bool → ℕ → List ℕ → List ℕ → Filled → Type 0
-Picks flags n before after (Count count) = (count ≡ length (picked flags n)) × (length (picked flags n) ≤ length before) × (after ≡ sets before 0 (picked flags n))
-Picks flags n before after (Refused number place) = (number ≡ 14) × (place ≡ 0) × (length before < length (picked flags n)) × (after ≡ before)
+-- the picked numbers are written, ascending, or there is too little room for them
+abbrev pub Picks : (ℕ → Bool) → ℕ → List ℕ → List ℕ → Filled → Type 0
+Picks f n before after (Count count) = (count ≡ length (picked f n)) × (length (picked f n) ≤ length before) × (after ≡ sets before 0 (picked f n))
+Picks f n before after (Refused number place) = (number ≡ 14) × (place ≡ 0) × (length before < length (picked f n)) × (after ≡ before)

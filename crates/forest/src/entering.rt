@@ -1,23 +1,22 @@
 // What the two calls that list share: every refusal but 14, and then the entry of each variable and the entry points of x.
 
 use crate::marks::flag_entries;
-use crate::marks::flag_shared;
 use crate::rows::check_rows;
+use crate::rows::level_at;
 use crate::rows::universal_at;
 use crate::search::fill_tops;
 use formula::levels::fill_levels;
 use terms::Variable;
 use terms::Verdict;
-ghost use Prim.Native.Nat.{_≤_};
 ghost use mathlib.Core.Path.{_≡_};
 ghost use mathlib.Core.List.{[], _∷_};
 ghost use lib.ListN.{length};
 ghost use Rattle.terms.specs.Refusals.{At0, Judged};
 ghost use Rattle.formula.specs.Levels.{SoundPrefix};
-ghost use Rattle.connection.specs.Tables.{lent, WellFormed, EntryPointOf};
-ghost use Rattle.forest.specs.Formula.{variables, tabled, Shares};
+ghost use Rattle.connection.specs.Tables.{lent};
+ghost use Rattle.forest.specs.Formula.{variables, Shares};
 ghost use Rattle.forest.specs.Causes.{ForestCause, NotUniversal, readOrder};
-ghost use Rattle.forest.specs.Search.{rowsOf, EntryRows, Flagged, Enters, Blank};
+ghost use Rattle.forest.specs.Search.{Enters, Blank};
 
 // Refusals 1 to 13, and where there is none the rows `tops` with the entry point of x for each variable, and the flags of all entry points of x.
 pub fn enter(
@@ -62,43 +61,13 @@ fn sound_enter(
         Verdict::Refused(number, place) => Verdict::Refused(number, place),
         Verdict::Accepted => {
             if universal_at(n, &universals, x) {
-                find_entries(
-                    n,
-                    &levels,
-                    &universals,
-                    clauses,
-                    classes,
-                    parents,
-                    x,
-                    tops,
-                    entered,
-                );
+                let floor = level_at(&levels, x);
+                fill_tops(n, &levels, &universals, classes, parents, floor, tops);
+                flag_entries(n, clauses, x, tops, entered);
                 Verdict::Accepted
             } else {
                 Verdict::Refused(13, 0)
             }
         }
     }
-}
-
-// The entry point of x for each variable, one climb each, and the flags of those for variables that share a clause with x.
-pub fn find_entries(
-    n: u32,
-    levels: &[u32],
-    universals: &[bool],
-    clauses: &[i32],
-    classes: &[u32],
-    parents: &[u32],
-    x: Variable,
-    tops: &mut [u32],
-    entered: &mut [bool],
-)
-    requires { ⌜ WellFormed (tabled n (now levels) (now universals)) (rowsOf n (now classes) (now parents)) × (n ≤ 4096) × (length (now tops) ≡ 4096) ⌝ }
-    ensures { λ r. ⌜ EntryRows (tabled n (now (levels .entry)) (now (universals .entry))) (rowsOf n (now (classes .entry)) (now (parents .entry))) (x .0) (now (tops .exit)) ⌝ }
-    ensures { λ r. ⌜ Flagged (EntryPointOf (tabled n (now (levels .entry)) (now (universals .entry))) (rowsOf n (now (classes .entry)) (now (parents .entry))) (Shares (now (clauses .entry))) (x .0)) (now (entered .entry)) (now (entered .exit)) ⌝ }
-{
-    fill_tops(n, levels, universals, classes, parents, x, tops);
-    let mut shared = [false; 4097];
-    flag_shared(clauses, x, &mut shared);
-    flag_entries(n, &shared, tops, entered);
 }

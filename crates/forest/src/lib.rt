@@ -9,8 +9,8 @@ pub mod search;
 use entering::enter;
 use formula::levels::fill_levels;
 use formula::prefix::prefix_verdict;
-use listing::list_flagged;
-use marks::flag_members;
+use listing::Asked;
+use listing::list_picked;
 use rows::check_rows;
 use rows::universal_at;
 use search::Found;
@@ -22,8 +22,10 @@ ghost use mathlib.Core.List.{[], _∷_};
 ghost use mathlib.Core.Logic.{_⊎_};
 ghost use Rattle.terms.specs.Refusals.{At0, Judged};
 ghost use Rattle.formula.specs.Levels.{SoundPrefix};
-ghost use Rattle.forest.specs.Causes.{ForestCause, NotUniversal, NotDeeper};
+ghost use Rattle.forest.specs.Causes.{ForestCause, NotUniversal, NotDeeper, listOrder};
 ghost use Rattle.forest.specs.Answers.{Answered, Entry, EntryAnswered, EntriesListed, SetListed};
+ghost use Rattle.forest.specs.Listed.{Listing};
+ghost use Rattle.forest.specs.Search.{Wanted};
 
 // What the entry point call says: the class and the number of rises, or the number of the refusal and its place.
 pub enum EntryAnswer {
@@ -61,21 +63,7 @@ pub fn entry_points(
 ) -> Filled
     ensures { λ r. ⌜ EntriesListed n (now (prefix .entry)) (now (clauses .entry)) (now (classes .entry)) (now (parents .entry)) (x .0) (now (out .entry)) (now (out .exit)) r ⌝ }
 {
-    let mut tops = [0u32; 4096];
-    let mut entered = [false; 4097];
-    match enter(
-        n,
-        prefix,
-        clauses,
-        classes,
-        parents,
-        x,
-        &mut tops,
-        &mut entered,
-    ) {
-        Verdict::Refused(number, place) => Filled::Refused(number, place),
-        Verdict::Accepted => list_flagged(n, &entered, out),
-    }
+    list_asked(n, prefix, clauses, classes, parents, x, Asked::Points, out)
 }
 
 // The set of x, written ascending into `out`, with the count of its members.
@@ -90,6 +78,22 @@ pub fn set_of(
 ) -> Filled
     ensures { λ r. ⌜ SetListed n (now (prefix .entry)) (now (clauses .entry)) (now (classes .entry)) (now (parents .entry)) (x .0) (now (out .entry)) (now (out .exit)) r ⌝ }
 {
+    list_asked(n, prefix, clauses, classes, parents, x, Asked::Set, out)
+}
+
+// What both do: the entry points of x are flagged, and what is asked for is listed by the flags.
+fn list_asked(
+    n: u32,
+    prefix: &[u32],
+    clauses: &[i32],
+    classes: &[u32],
+    parents: &[u32],
+    x: Variable,
+    asked: Asked,
+    out: &mut [u32],
+) -> Filled
+    ensures { λ r. ⌜ Listing (listOrder n (now (prefix .entry)) (now (clauses .entry)) (now (classes .entry)) (now (parents .entry)) (x .0) (Wanted asked n (now (prefix .entry)) (now (clauses .entry)) (now (classes .entry)) (now (parents .entry)) (x .0)) (now (out .entry))) (Wanted asked n (now (prefix .entry)) (now (clauses .entry)) (now (classes .entry)) (now (parents .entry)) (x .0)) (now (out .entry)) (now (out .exit)) r ⌝ }
+{
     let mut tops = [0u32; 4096];
     let mut entered = [false; 4097];
     match enter(
@@ -103,11 +107,7 @@ pub fn set_of(
         &mut entered,
     ) {
         Verdict::Refused(number, place) => Filled::Refused(number, place),
-        Verdict::Accepted => {
-            let mut members = [false; 4097];
-            flag_members(n, &entered, &tops, &mut members);
-            list_flagged(n, &members, out)
-        }
+        Verdict::Accepted => list_picked(n, asked, &entered, &tops, out),
     }
 }
 

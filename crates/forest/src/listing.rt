@@ -1,54 +1,92 @@
-// Flagged numbers, written ascending into a lent table.
+// Numbers from 1 to n that are picked by their flags, written ascending into a lent table.
 
 use crate::rows::flag_at;
+use crate::rows::row_of;
 use terms::Filled;
 use terms::Variable;
-ghost use Prim.Native.Nat.{_≤_};
+ghost use Prim.Native.Nat.{_+_, _≤_};
 ghost use mathlib.Core.Path.{_≡_};
 ghost use lib.ListN.{length};
 ghost use lib.Seq.{sets};
-ghost use Rattle.forest.specs.Listed.{picked};
-ghost use Rattle.forest.specs.Search.{Picks};
+ghost use Rattle.forest.specs.Search.{Tells, pick, picked, Picks};
 
-// Writes the flagged numbers from 1 to n into the front of `out`, ascending, if there is room for all of them; counts before the first write.
-pub fn list_flagged(n: u32, flags: &[bool], out: &mut [u32]) -> Filled
-    ensures { λ r. ⌜ Picks (now (flags .entry)) n (now (out .entry)) (now (out .exit)) r ⌝ }
-{
-    let count = count_flagged(n, flags);
-    if out.len() < count as usize {
-        return Filled::Refused(14, 0);
-    }
-    write_flagged(n, flags, out);
-    Filled::Count(count)
+// What is listed: the flagged entry points themselves, or the set, which is the variables with a flagged top.
+pub enum Asked {
+    Points,
+    Set,
 }
 
-// How many of the numbers from 1 to n are flagged.
-fn count_flagged(n: u32, flags: &[bool]) -> u32
-    ensures { λ r. ⌜ r ≡ length (picked (now (flags .entry)) n) ⌝ }
+// Writes the picked numbers from 1 to n into the front of `out`, ascending, if there is room for all of them.
+pub fn list_picked(n: u32, asked: Asked, flags: &[bool], tops: &[u32], out: &mut [u32]) -> Filled
+    ensures { λ r. ⌜ Picks (pick asked n (now (flags .entry)) (now (tops .entry))) n (now (out .entry)) (now (out .exit)) r ⌝ }
+{
+    if !has_room(n, asked, flags, tops, out.len()) {
+        return Filled::Refused(14, 0);
+    }
+    let end = write_picked(n, asked, flags, tops, 0, out);
+    Filled::Count(end as u32)
+}
+
+// Whether so much room is enough for the picked numbers. They are counted only where there is room for less than n.
+fn has_room(n: u32, asked: Asked, flags: &[bool], tops: &[u32], room: usize) -> bool
+    ensures { λ r. ⌜ Tells r (length (picked (pick asked n (now (flags .entry)) (now (tops .entry))) n) ≤ room) ⌝ }
+{
+    if n as usize <= room {
+        return true;
+    }
+    let count = count_picked(n, asked, flags, tops);
+    if room < count as usize {
+        return false;
+    }
+    true
+}
+
+// How many of the numbers from 1 to n are picked.
+fn count_picked(n: u32, asked: Asked, flags: &[bool], tops: &[u32]) -> u32
+    ensures { λ r. ⌜ r ≡ length (picked (pick asked n (now (flags .entry)) (now (tops .entry))) n) ⌝ }
 {
     let mut count: u32 = 0;
     let mut passed: u32 = 0;
     while passed < n {
         passed += 1;
-        if flag_at(flags, Variable::new(passed)) {
+        if picks(n, asked, flags, tops, Variable::new(passed)) {
             count += 1;
         }
     }
     count
 }
 
-// Writes the flagged numbers from 1 to n, ascending.
-fn write_flagged(n: u32, flags: &[bool], out: &mut [u32])
-    requires { ⌜ length (picked (now flags) n) ≤ length (now out) ⌝ }
-    ensures { λ r. ⌜ now (out .exit) ≡ sets (now (out .entry)) 0 (picked (now (flags .entry)) n) ⌝ }
+// Writes the picked numbers from 1 to n, ascending, from the entry `at` on; gives the entry behind them.
+pub fn write_picked(
+    n: u32,
+    asked: Asked,
+    flags: &[bool],
+    tops: &[u32],
+    at: usize,
+    out: &mut [u32],
+) -> usize
+    requires { ⌜ at + length (picked (pick asked n (now flags) (now tops)) n) ≤ length (now out) ⌝ }
+    ensures { λ r. ⌜ r ≡ at + length (picked (pick asked n (now (flags .entry)) (now (tops .entry))) n) ⌝ }
+    ensures { λ r. ⌜ now (out .exit) ≡ sets (now (out .entry)) at (picked (pick asked n (now (flags .entry)) (now (tops .entry))) n) ⌝ }
 {
-    let mut at: usize = 0;
+    let mut end = at;
     let mut passed: u32 = 0;
     while passed < n {
         passed += 1;
-        if flag_at(flags, Variable::new(passed)) {
-            out[at] = passed;
-            at += 1;
+        if picks(n, asked, flags, tops, Variable::new(passed)) {
+            out[end] = passed;
+            end += 1;
         }
+    }
+    end
+}
+
+// Whether v is picked.
+fn picks(n: u32, asked: Asked, flags: &[bool], tops: &[u32], v: Variable) -> bool
+    ensures { λ r. ⌜ r ≡ pick asked n (now (flags .entry)) (now (tops .entry)) (v .0) ⌝ }
+{
+    match asked {
+        Asked::Points => flag_at(flags, v),
+        Asked::Set => flag_at(flags, row_of(n, tops, v)),
     }
 }

@@ -1,29 +1,33 @@
-// Tables of flags, a flag for each variable: those that share a clause with x, the entry points of x, and the set of x.
+// Flags of the entry points of x, found clause by clause.
 
-use crate::rows::flag_at;
 use crate::rows::row_of;
-use formula::clauses::next_zero;
 use formula::clauses::variable_at;
 use terms::Variable;
-ghost use Prim.Native.Nat.{ℕ, _≤_, _<_};
+ghost use Prim.Native.Nat.{ℕ, _≤_};
 ghost use mathlib.Core.Path.{_≡_};
-ghost use lib.ListN.{length};
-ghost use Rattle.connection.specs.Tables.{row};
+ghost use Rattle.formula.specs.Lookup.{NextZero};
 ghost use Rattle.forest.specs.Formula.{Shares};
-ghost use Rattle.forest.specs.Search.{Tells, Has, Flagged, EntryOf, BelowEntry};
+ghost use Rattle.forest.specs.Search.{Tells, Has, Flagged, Via};
 
-// Flags the variables that share a clause with x, clause by clause.
-pub fn flag_shared(clauses: &[i32], x: Variable, flags: &mut [bool])
-    ensures { λ r. ⌜ Flagged (Shares (now (clauses .entry)) (x .0)) (now (flags .entry)) (now (flags .exit)) ⌝ }
+// What one scan finds of a clause: the entry of its 0, the end of the table where there is none, and whether it has x.
+pub struct Scan {
+    pub end: usize,
+    pub has: bool,
+}
+
+// Flags the tops of the variables that share a clause with x.
+pub fn flag_entries(n: u32, clauses: &[i32], x: Variable, tops: &[u32], flags: &mut [bool])
+    ensures { λ r. ⌜ Flagged (Via n (now (tops .entry)) (Shares (now (clauses .entry)) (x .0))) (now (flags .entry)) (now (flags .exit)) ⌝ }
 {
     let mut start = 0;
     while start < clauses.len() {
-        let end = next_zero(clauses, start);
+        let scan = scan_clause(clauses, start, x);
+        let end = scan.end;
         if clauses.len() <= end {
             return;
         }
-        if has_variable(clauses, start, end, x) {
-            flag_clause(clauses, start, end, flags);
+        if scan.has {
+            flag_tops(n, clauses, start, end, tops, flags);
             start = end + 1;
         } else {
             start = end + 1;
@@ -31,31 +35,48 @@ pub fn flag_shared(clauses: &[i32], x: Variable, flags: &mut [bool])
     }
 }
 
-// Whether the entries from start up to end have the variable x.
-fn has_variable(clauses: &[i32], start: usize, end: usize, x: Variable) -> bool
-    ensures { λ r. ⌜ Tells r (Has (now (clauses .entry)) start end (x .0)) ⌝ }
+// Where the clause from `start` on ends, and whether it has the variable x.
+fn scan_clause(clauses: &[i32], start: usize, x: Variable) -> Scan
+    ensures { λ r. ⌜ NextZero (now (clauses .entry)) start (r .end) × Tells (r .has) (Has (now (clauses .entry)) start (r .end) (x .0)) ⌝ }
 {
+    let mut has = false;
     let mut i = start;
-    while i < end {
+    while i < clauses.len() {
         let variable = variable_at(clauses, i);
-        if variable.0 == x.0 {
-            return true;
+        if variable.0 == 0 {
+            return Scan { end: i, has };
         }
-        i += 1;
+        if variable.0 == x.0 {
+            has = true;
+            i += 1;
+        } else {
+            i += 1;
+        }
     }
-    false
+    Scan { end: i, has }
 }
 
-// Flags the variables of the entries from start up to end.
-fn flag_clause(clauses: &[i32], start: usize, end: usize, flags: &mut [bool])
+// Flags the tops of the variables of the entries from start up to end.
+pub fn flag_tops(
+    n: u32,
+    clauses: &[i32],
+    start: usize,
+    end: usize,
+    tops: &[u32],
+    flags: &mut [bool],
+)
     requires { ⌜ start ≤ end ⌝ }
-    ensures { λ r. ⌜ Flagged (Has (now (clauses .entry)) start end) (now (flags .entry)) (now (flags .exit)) ⌝ }
+    ensures { λ r. ⌜ Flagged (Via n (now (tops .entry)) (Has (now (clauses .entry)) start end)) (now (flags .entry)) (now (flags .exit)) ⌝ }
 {
     let mut i = start;
     while i < end {
-        let variable = variable_at(clauses, i);
-        flag(flags, variable);
-        i += 1;
+        let top = row_of(n, tops, variable_at(clauses, i));
+        if top.0 == 0 {
+            i += 1;
+        } else {
+            flag(flags, top);
+            i += 1;
+        }
     }
 }
 
@@ -66,39 +87,5 @@ fn flag(flags: &mut [bool], v: Variable)
     let at = v.0 as usize;
     if at < flags.len() {
         flags[at] = true;
-    }
-}
-
-// Flags the entries of the variables that are flagged as shared.
-pub fn flag_entries(n: u32, shared: &[bool], tops: &[u32], flags: &mut [bool])
-    ensures { λ r. ⌜ Flagged (EntryOf n (now (shared .entry)) (now (tops .entry))) (now (flags .entry)) (now (flags .exit)) ⌝ }
-{
-    let mut passed: u32 = 0;
-    while passed < n {
-        passed += 1;
-        let v = Variable::new(passed);
-        let entry = row_of(n, tops, v);
-        if entry.0 != 0 {
-            if flag_at(shared, v) {
-                flag(flags, entry);
-            }
-        }
-    }
-}
-
-// Flags the variables whose entry is flagged as entered.
-pub fn flag_members(n: u32, entered: &[bool], tops: &[u32], flags: &mut [bool])
-    ensures { λ r. ⌜ Flagged (BelowEntry n (now (entered .entry)) (now (tops .entry))) (now (flags .entry)) (now (flags .exit)) ⌝ }
-{
-    let mut passed: u32 = 0;
-    while passed < n {
-        passed += 1;
-        let v = Variable::new(passed);
-        let own = row_of(n, tops, v);
-        if own.0 != 0 {
-            if flag_at(entered, own) {
-                flag(flags, v);
-            }
-        }
     }
 }

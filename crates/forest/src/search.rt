@@ -10,7 +10,7 @@ ghost use mathlib.Core.Path.{_≡_};
 ghost use lib.ListN.{length, getD};
 ghost use Rattle.connection.specs.Tables.{WellFormed};
 ghost use Rattle.forest.specs.Formula.{tabled};
-ghost use Rattle.forest.specs.Search.{rowsOf, Falling, Climbs, Finds, EntryRow, EntryRows};
+ghost use Rattle.forest.specs.Search.{rowsOf, Falling, Climbs, Finds, TopRow, TopRows, TopsBelow};
 
 // Where a climb ends, and how many classes it passed, the first not counted.
 pub struct End {
@@ -69,50 +69,77 @@ pub fn find_entry(
     Found::At(class, rises)
 }
 
-// The entry point of x for y, 0 where y is not existential and deeper than x.
-fn top_of(
-    n: u32,
-    levels: &[u32],
-    universals: &[bool],
-    classes: &[u32],
-    parents: &[u32],
-    x: Variable,
-    y: Variable,
-) -> u32
-    requires { ⌜ WellFormed (tabled n (now levels) (now universals)) (rowsOf n (now classes) (now parents)) ⌝ }
-    ensures { λ r. ⌜ EntryRow (tabled n (now (levels .entry)) (now (universals .entry))) (rowsOf n (now (classes .entry)) (now (parents .entry))) (x .0) (y .0) r ⌝ }
-{
-    match find_entry(n, levels, universals, classes, parents, x, y) {
-        Found::At(class, _) => class.0,
-        Found::Nowhere => 0,
-    }
-}
-
-// Fills the row of each variable with the entry point of x for it: one climb for each.
+// Fills the row of each variable with its top over the floor: the class name where the search from its class ends, 0 for a variable that is
+// not existential and deeper.
 pub fn fill_tops(
     n: u32,
     levels: &[u32],
     universals: &[bool],
     classes: &[u32],
     parents: &[u32],
-    x: Variable,
+    floor: Level,
     tops: &mut [u32],
 )
     requires { ⌜ WellFormed (tabled n (now levels) (now universals)) (rowsOf n (now classes) (now parents)) × (n ≤ length (now tops)) ⌝ }
-    ensures { λ r. ⌜ EntryRows (tabled n (now (levels .entry)) (now (universals .entry))) (rowsOf n (now (classes .entry)) (now (parents .entry))) (x .0) (now (tops .exit)) ⌝ }
+    ensures { λ r. ⌜ TopRows (tabled n (now (levels .entry)) (now (universals .entry))) (rowsOf n (now (classes .entry)) (now (parents .entry))) (floor .0) (now (tops .exit)) ⌝ }
 {
     let mut passed: u32 = 0;
     while passed < n {
-        let at = passed as usize;
-        tops[at] = top_of(
-            n,
-            levels,
-            universals,
-            classes,
-            parents,
-            x,
-            Variable::new(passed + 1),
-        );
+        let v = Variable::new(passed + 1);
+        let top = top_of(n, levels, universals, classes, parents, floor, tops, v);
+        tops[passed as usize] = top.0;
         passed += 1;
+    }
+}
+
+// The top of v, once the rows below v are filled: that of its class, if the class has another name; else that of its parent, if it is there
+// already; and else where the climb from v ends.
+fn top_of(
+    n: u32,
+    levels: &[u32],
+    universals: &[bool],
+    classes: &[u32],
+    parents: &[u32],
+    floor: Level,
+    tops: &[u32],
+    v: Variable,
+) -> Variable
+    requires { ⌜ WellFormed (tabled n (now levels) (now universals)) (rowsOf n (now classes) (now parents)) × TopsBelow (tabled n (now levels) (now universals)) (rowsOf n (now classes) (now parents)) (floor .0) (now tops) (v .0) ⌝ }
+    ensures { λ r. ⌜ TopRow (tabled n (now (levels .entry)) (now (universals .entry))) (rowsOf n (now (classes .entry)) (now (parents .entry))) (floor .0) (v .0) (r .0) ⌝ }
+{
+    if !existential_at(n, universals, v) {
+        return Variable::new(0);
+    }
+    let class = row_of(n, classes, v);
+    if class.0 < v.0 {
+        return row_of(n, tops, class);
+    }
+    if level_at(levels, v).0 <= floor.0 {
+        return Variable::new(0);
+    }
+    let parent = row_of(n, parents, v);
+    if v.0 <= parent.0 {
+        return climb(n, levels, parents, floor, v, 0).class;
+    }
+    let above = row_of(n, tops, parent);
+    if above.0 == 0 { v } else { above }
+}
+
+// Refills the rows, which are tops over one floor, if another floor is wanted.
+pub fn retop(
+    n: u32,
+    levels: &[u32],
+    universals: &[bool],
+    classes: &[u32],
+    parents: &[u32],
+    was: Level,
+    floor: Level,
+    tops: &mut [u32],
+)
+    requires { ⌜ WellFormed (tabled n (now levels) (now universals)) (rowsOf n (now classes) (now parents)) × (n ≤ length (now tops)) × TopRows (tabled n (now levels) (now universals)) (rowsOf n (now classes) (now parents)) (was .0) (now tops) ⌝ }
+    ensures { λ r. ⌜ TopRows (tabled n (now (levels .entry)) (now (universals .entry))) (rowsOf n (now (classes .entry)) (now (parents .entry))) (floor .0) (now (tops .exit)) ⌝ }
+{
+    if was.0 != floor.0 {
+        fill_tops(n, levels, universals, classes, parents, floor, tops);
     }
 }

@@ -8,8 +8,7 @@ use native.Mathlib.Omega.{arith}
 use lib.ListN.{length, getD, take, drop}
 use lib.Seq.{sets, sets-eq, length-sets, take-at}
 use Rattle.terms.specs.declared.Filled.the-variants.{Count}
-use Rattle.forest.specs.Listed.{picked}
-use Rattle.forest.specs.Search.{Picks}
+use Rattle.forest.specs.Search.{picked, Picks}
 use Rattle.forest.proofs.Picked.{picked-most, picked-flag}
 use Rattle.listing.specs.Lines.{Small}
 
@@ -19,25 +18,25 @@ member-at [] i more = absurd (not-suc-le-zero more)
 member-at (x ∷ xs) zero more = List·Memᴰ·head refl
 member-at (x ∷ xs) (suc i) more = List·Memᴰ·tail (member-at xs i (le-of-suc-le-suc more))
 
-picked-small : (flags : List Bool) (n : ℕ) → n ≤ 4096 → Small (picked flags n)
-picked-small flags n few =
+picked-small : (f : ℕ → Bool) (n : ℕ) → n ≤ 4096 → Small (picked f n)
+picked-small f n few =
     record {
-      few = let most = picked-most flags n in omega arith;
-      short = λ i more. let inside = picked-flag flags n (getD (picked flags n) i 0) (member-at (picked flags n) i more) .1 in omega arith;
+      few = let most = picked-most f n in omega arith;
+      short = λ i more. let inside = picked-flag f n (getD (picked f n) i 0) (member-at (picked f n) i more) .1 in omega arith;
     }
 
-module _ (flags : List Bool) (n : ℕ) (before after : List ℕ) (found : ℕ) (p : Picks flags n before after (Count found)) where
+module _ (f : ℕ → Bool) (n : ℕ) (before after : List ℕ) (found : ℕ) (p : Picks f n before after (Count found)) where
   -- the listed numbers are within the table, and are what stands in front of it
   pub picks-room : found ≤ length after
   picks-room =
       let counted = p .0 in
       let room = p .1 in
-      let size : length after ≡ length before = ap length (p .2) ∙ length-sets before 0 (picked flags n) in
+      let size : length after ≡ length before = ap length (p .2) ∙ length-sets before 0 (picked f n) in
       omega arith
 
-  front : take found after ≡ picked flags n
+  front : take found after ≡ picked f n
   front =
-      ap (take found) (p .2 ∙ sets-eq (picked flags n) before 0 (let room = p .1 in omega arith)) ∙ take-at (picked flags n) (drop (0 + length (picked flags n)) before) found (sym (p .0))
+      ap (take found) (p .2 ∙ sets-eq (picked f n) before 0 (let room = p .1 in omega arith)) ∙ take-at (picked f n) (drop (0 + length (picked f n)) before) found (sym (p .0))
 
   pub picks-small : n ≤ 4096 → Small (take found after)
-  picks-small few = subst Small (sym front) (picked-small flags n few)
+  picks-small few = subst Small (sym front) (picked-small f n few)

@@ -2,11 +2,12 @@
 
 mod lines;
 
-use forest::entering::find_entries;
-use forest::listing::list_flagged;
-use forest::marks::flag_members;
+use forest::listing::Asked;
+use forest::listing::list_picked;
+use forest::marks::flag_entries;
 use forest::rows::level_at;
 use forest::rows::universal_at;
+use forest::search::retop;
 use formula::clauses::variable_at;
 use formula::levels::fill_levels;
 use libc::STDIN_FILENO;
@@ -123,7 +124,8 @@ fn count_clauses(clauses: &[i32]) -> usize
     count
 }
 
-// A line for each universal, in ascending order.
+// A line for each universal, in ascending order. The tops depend on its block only, and stay while the block does; at first they are those
+// over a level that nothing is deeper than.
 fn list_universals(
     n: u32,
     levels: &[u32],
@@ -134,55 +136,48 @@ fn list_universals(
 )
     requires { ⌜ (n ≤ 4096) × WellFormed (tabled n (now levels) (now universals)) (rowsOf n (now classes) (now parents)) ⌝ }
 {
+    let mut tops = [0u32; 4096];
+    let mut floor = Level::new(4294967295);
     let mut passed = 0;
     while passed < n {
         passed += 1;
         let x = Variable::new(passed);
         if universal_at(n, universals, x) {
-            list_universal(n, levels, universals, clauses, classes, parents, x);
+            let level = level_at(levels, x);
+            retop(
+                n,
+                levels,
+                universals,
+                classes,
+                parents,
+                floor,
+                level,
+                &mut tops,
+            );
+            floor = level;
+            list_universal(n, clauses, x, level, &tops);
         }
     }
 }
 
-// The line of one universal: its entry points and its set are found once, and listed.
-fn list_universal(
-    n: u32,
-    levels: &[u32],
-    universals: &[bool],
-    clauses: &[i32],
-    classes: &[u32],
-    parents: &[u32],
-    x: Variable,
-)
-    requires { ⌜ (n ≤ 4096) × WellFormed (tabled n (now levels) (now universals)) (rowsOf n (now classes) (now parents)) ⌝ }
+// The line of one universal: its entry points are flagged once, and they and its set are listed.
+fn list_universal(n: u32, clauses: &[i32], x: Variable, level: Level, tops: &[u32])
+    requires { ⌜ n ≤ 4096 ⌝ }
 {
-    let mut tops = [0u32; 4096];
     let mut entered = [false; 4097];
-    let mut members = [false; 4097];
-    find_entries(
-        n,
-        levels,
-        universals,
-        clauses,
-        classes,
-        parents,
-        x,
-        &mut tops,
-        &mut entered,
-    );
-    flag_members(n, &entered, &tops, &mut members);
-    print_universal(n, x, level_at(levels, x), &entered, &members);
+    flag_entries(n, clauses, x, tops, &mut entered);
+    print_universal(n, x, level, &entered, tops);
 }
 
-// Lists the flagged entry points and members, ascending, and prints them.
-fn print_universal(n: u32, x: Variable, level: Level, entered: &[bool], members: &[bool])
+// Lists the entry points and the set, ascending, and prints them.
+fn print_universal(n: u32, x: Variable, level: Level, entered: &[bool], tops: &[u32])
     requires { ⌜ n ≤ 4096 ⌝ }
 {
     let mut entries = [0u32; 4096];
     let mut set = [0u32; 4096];
-    match list_flagged(n, entered, &mut entries) {
+    match list_picked(n, Asked::Points, entered, tops, &mut entries) {
         Filled::Refused(_, _) => {}
-        Filled::Count(found) => match list_flagged(n, members, &mut set) {
+        Filled::Count(found) => match list_picked(n, Asked::Set, entered, tops, &mut set) {
             Filled::Refused(_, _) => {}
             Filled::Count(size) => print_lists(
                 x,

@@ -2,17 +2,18 @@
 use mathlib.Core.Path.{sym, subst}
 use lib.ListN.{replicate}
 use lib.Seq.{length-take-le}
-use Rattle.forest.specs.Search.{Picks}
+use Rattle.forest.specs.declared.listing.Asked.the-variants.{Points, Set}
+use Rattle.forest.specs.Search.{pick, Picks}
 use Rattle.listing.proofs.Printed.{picks-room, picks-small}
 use borrow.Author.Needs.{needs}
 use Rattle.listing.proofs.print_universal.Statement.{statement}
 use Rattle.listing.proofs.print_universal.Tie as tie
 
-slice-aggregate-list-flagged : tie.Need-slice-aggregate-list-flagged
-slice-aggregate-list-flagged c = search needs
+slice-aggregate-list-picked : tie.Need-slice-aggregate-list-picked
+slice-aggregate-list-picked c = search needs
 
-list-flagged-requires : tie.Need-list-flagged-requires
-list-flagged-requires c κs = search needs
+list-picked-requires : tie.Need-list-picked-requires
+list-picked-requires c κs = search needs
 
 enum-told : tie.Need-enum-told
 enum-told c = search needs
@@ -20,11 +21,11 @@ enum-told c = search needs
 enum-known-found : tie.Need-enum-known-found
 enum-known-found c = search needs
 
-slice-aggregate-list-flagged-2 : tie.Need-slice-aggregate-list-flagged-2
-slice-aggregate-list-flagged-2 c = search needs
+slice-aggregate-list-picked-2 : tie.Need-slice-aggregate-list-picked-2
+slice-aggregate-list-picked-2 c = search needs
 
-list-flagged-requires-2 : tie.Need-list-flagged-requires-2
-list-flagged-requires-2 c κs = search needs
+list-picked-requires-2 : tie.Need-list-picked-requires-2
+list-picked-requires-2 c κs = search needs
 
 enum-told-2 : tie.Need-enum-told-2
 enum-told-2 c = search needs
@@ -36,25 +37,30 @@ cast-entries : tie.Need-cast-entries
 cast-entries c = search needs
 
 array-share-prefix-entries : tie.Need-array-share-prefix-entries
-array-share-prefix-entries c = picks-room (c .before .before .before .before .before .before .before .before .before .before .before .before .before .before .args .entered .now) (c .before .before .before .before .before .before .before .before .before .before .before .before .before .before .args .n) (replicate 4096 0) (c .before .before .before .before .before .before .before .before .before .before .list-flagged .last .1 .1 .0) (c .before .before .before .before .before .before .before .found .given .0 .0) (subst (Picks (c .before .before .before .before .before .before .before .before .before .before .before .before .before .before .args .entered .now) (c .before .before .before .before .before .before .before .before .before .before .before .before .before .before .args .n) (replicate 4096 0) (c .before .before .before .before .before .before .before .before .before .before .list-flagged .last .1 .1 .0)) (c .before .before .before .before .before .before .before .found .given .1) (c .before .before .before .before .before .before .before .before .before .before .list-flagged .ensures))
+array-share-prefix-entries c =
+    let a = c .before .before .before .before .before .before .before .before .before .before .before .before .before .before .args in
+    picks-room (pick Points (a .n) (a .entered .now) (a .tops .now)) (a .n) (replicate 4096 0) (c .before .before .before .before .before .before .before .before .before .before .list-picked .last .1 .1 .1 .1 .0) (c .before .before .before .before .before .before .before .found .given .0 .0) (subst (Picks (pick Points (a .n) (a .entered .now) (a .tops .now)) (a .n) (replicate 4096 0) (c .before .before .before .before .before .before .before .before .before .before .list-picked .last .1 .1 .1 .1 .0)) (c .before .before .before .before .before .before .before .found .given .1) (c .before .before .before .before .before .before .before .before .before .before .list-picked .ensures))
 
 slice-aggregate-print-lists : tie.Need-slice-aggregate-print-lists
-slice-aggregate-print-lists c = sym (length-take-le (c .before .before .before .before .before .before .before .before .found .given .0 .0) (c .before .before .before .before .before .before .before .before .before .before .before .list-flagged .last .1 .1 .0) (picks-room (c .before .before .before .before .before .before .before .before .before .before .before .before .before .before .before .args .entered .now) (c .before .before .before .before .before .before .before .before .before .before .before .before .before .before .before .args .n) (replicate 4096 0) (c .before .before .before .before .before .before .before .before .before .before .before .list-flagged .last .1 .1 .0) (c .before .before .before .before .before .before .before .before .found .given .0 .0) (subst (Picks (c .before .before .before .before .before .before .before .before .before .before .before .before .before .before .before .args .entered .now) (c .before .before .before .before .before .before .before .before .before .before .before .before .before .before .before .args .n) (replicate 4096 0) (c .before .before .before .before .before .before .before .before .before .before .before .list-flagged .last .1 .1 .0)) (c .before .before .before .before .before .before .before .before .found .given .1) (c .before .before .before .before .before .before .before .before .before .before .before .list-flagged .ensures))))
+slice-aggregate-print-lists c = sym (length-take-le (c .before .before .before .before .before .before .before .before .found .given .0 .0) (c .before .before .before .before .before .before .before .before .before .before .before .list-picked .last .1 .1 .1 .1 .0) (array-share-prefix-entries (c .before)))
 
 cast-set : tie.Need-cast-set
 cast-set c = search needs
 
 array-share-prefix-set : tie.Need-array-share-prefix-set
-array-share-prefix-set c = picks-room (c .before .before .before .before .before .before .before .before .before .before .before .before .before .before .before .args .members .now) (c .before .before .before .before .before .before .before .before .before .before .before .before .before .before .before .args .n) (replicate 4096 0) (c .before .before .before .before .before .list-flagged2 .last .1 .1 .0) (c .before .before .size .given .0 .0) (subst (Picks (c .before .before .before .before .before .before .before .before .before .before .before .before .before .before .before .args .members .now) (c .before .before .before .before .before .before .before .before .before .before .before .before .before .before .before .args .n) (replicate 4096 0) (c .before .before .before .before .before .list-flagged2 .last .1 .1 .0)) (c .before .before .size .given .1) (c .before .before .before .before .before .list-flagged2 .ensures))
+array-share-prefix-set c =
+    let a = c .before .before .before .before .before .before .before .before .before .before .before .before .before .before .before .args in
+    picks-room (pick Set (a .n) (a .entered .now) (a .tops .now)) (a .n) (replicate 4096 0) (c .before .before .before .before .before .list-picked2 .last .1 .1 .1 .1 .0) (c .before .before .size .given .0 .0) (subst (Picks (pick Set (a .n) (a .entered .now) (a .tops .now)) (a .n) (replicate 4096 0) (c .before .before .before .before .before .list-picked2 .last .1 .1 .1 .1 .0)) (c .before .before .size .given .1) (c .before .before .before .before .before .list-picked2 .ensures))
 
 slice-aggregate-print-lists-2 : tie.Need-slice-aggregate-print-lists-2
-slice-aggregate-print-lists-2 c = sym (length-take-le (c .before .before .before .size .given .0 .0) (c .before .before .before .before .before .before .list-flagged2 .last .1 .1 .0) (picks-room (c .before .before .before .before .before .before .before .before .before .before .before .before .before .before .before .before .args .members .now) (c .before .before .before .before .before .before .before .before .before .before .before .before .before .before .before .before .args .n) (replicate 4096 0) (c .before .before .before .before .before .before .list-flagged2 .last .1 .1 .0) (c .before .before .before .size .given .0 .0) (subst (Picks (c .before .before .before .before .before .before .before .before .before .before .before .before .before .before .before .before .args .members .now) (c .before .before .before .before .before .before .before .before .before .before .before .before .before .before .before .before .args .n) (replicate 4096 0) (c .before .before .before .before .before .before .list-flagged2 .last .1 .1 .0)) (c .before .before .before .size .given .1) (c .before .before .before .before .before .before .list-flagged2 .ensures))))
+slice-aggregate-print-lists-2 c = sym (length-take-le (c .before .before .before .size .given .0 .0) (c .before .before .before .before .before .before .list-picked2 .last .1 .1 .1 .1 .0) (array-share-prefix-set (c .before)))
 
 print-lists-requires : tie.Need-print-lists-requires
-print-lists-requires c κs = (
-  picks-small (c .before .before .before .before .before .before .before .before .before .before .before .before .before .before .before .before .args .entered .now) (c .before .before .before .before .before .before .before .before .before .before .before .before .before .before .before .before .args .n) (replicate 4096 0) (c .before .before .before .before .before .before .before .before .before .before .before .before .list-flagged .last .1 .1 .0) (c .before .before .before .before .before .before .before .before .before .found .given .0 .0) (subst (Picks (c .before .before .before .before .before .before .before .before .before .before .before .before .before .before .before .before .args .entered .now) (c .before .before .before .before .before .before .before .before .before .before .before .before .before .before .before .before .args .n) (replicate 4096 0) (c .before .before .before .before .before .before .before .before .before .before .before .before .list-flagged .last .1 .1 .0)) (c .before .before .before .before .before .before .before .before .before .found .given .1) (c .before .before .before .before .before .before .before .before .before .before .before .before .list-flagged .ensures)) (c .before .before .before .before .before .before .before .before .before .before .before .before .before .before .before .before .pre),
-  picks-small (c .before .before .before .before .before .before .before .before .before .before .before .before .before .before .before .before .args .members .now) (c .before .before .before .before .before .before .before .before .before .before .before .before .before .before .before .before .args .n) (replicate 4096 0) (c .before .before .before .before .before .before .list-flagged2 .last .1 .1 .0) (c .before .before .before .size .given .0 .0) (subst (Picks (c .before .before .before .before .before .before .before .before .before .before .before .before .before .before .before .before .args .members .now) (c .before .before .before .before .before .before .before .before .before .before .before .before .before .before .before .before .args .n) (replicate 4096 0) (c .before .before .before .before .before .before .list-flagged2 .last .1 .1 .0)) (c .before .before .before .size .given .1) (c .before .before .before .before .before .before .list-flagged2 .ensures)) (c .before .before .before .before .before .before .before .before .before .before .before .before .before .before .before .before .pre),
-)
+print-lists-requires c κs =
+    let a = c .before .before .before .before .before .before .before .before .before .before .before .before .before .before .before .before .args in (
+      picks-small (pick Points (a .n) (a .entered .now) (a .tops .now)) (a .n) (replicate 4096 0) (c .before .before .before .before .before .before .before .before .before .before .before .before .list-picked .last .1 .1 .1 .1 .0) (c .before .before .before .before .before .before .before .before .before .found .given .0 .0) (subst (Picks (pick Points (a .n) (a .entered .now) (a .tops .now)) (a .n) (replicate 4096 0) (c .before .before .before .before .before .before .before .before .before .before .before .before .list-picked .last .1 .1 .1 .1 .0)) (c .before .before .before .before .before .before .before .before .before .found .given .1) (c .before .before .before .before .before .before .before .before .before .before .before .before .list-picked .ensures)) (c .before .before .before .before .before .before .before .before .before .before .before .before .before .before .before .before .pre),
+      picks-small (pick Set (a .n) (a .entered .now) (a .tops .now)) (a .n) (replicate 4096 0) (c .before .before .before .before .before .before .list-picked2 .last .1 .1 .1 .1 .0) (c .before .before .before .size .given .0 .0) (subst (Picks (pick Set (a .n) (a .entered .now) (a .tops .now)) (a .n) (replicate 4096 0) (c .before .before .before .before .before .before .list-picked2 .last .1 .1 .1 .1 .0)) (c .before .before .before .size .given .1) (c .before .before .before .before .before .before .list-picked2 .ensures)) (c .before .before .before .before .before .before .before .before .before .before .before .before .before .before .before .before .pre),
+    )
 
 returns : tie.Need-returns
 returns c = search needs
@@ -69,12 +75,12 @@ pub print-universal-spec : {M : Type 1} → statement M
 print-universal-spec =
     tie.close
     (tie.spec
-    slice-aggregate-list-flagged
-    list-flagged-requires
+    slice-aggregate-list-picked
+    list-picked-requires
     enum-told
     enum-known-found
-    slice-aggregate-list-flagged-2
-    list-flagged-requires-2
+    slice-aggregate-list-picked-2
+    list-picked-requires-2
     enum-told-2
     enum-known-size
     cast-entries

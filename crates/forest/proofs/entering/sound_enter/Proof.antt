@@ -2,7 +2,7 @@
 use mathlib.Core.Path.{sym, subst, _∙_}
 use mathlib.Core.List.{[], _∷_}
 use mathlib.Core.Logic.{inl, inr}
-use borrow.Author.Needs.{needs}
+use native.Mathlib.Omega.{arith}
 use Rattle.terms.specs.declared.Verdict.the-variants.{Accepted}
 use Rattle.terms.specs.Refusals.{At0, Judged}
 use Rattle.terms.proofs.Verdicts.{at0-first, at0-none, refused-first}
@@ -10,6 +10,7 @@ use Rattle.forest.specs.Formula.{tabled}
 use Rattle.forest.specs.Causes.{RowsCause, ForestCause, NotUniversal}
 use Rattle.forest.proofs.Agreeing.{tables-agree, rows-judged}
 use Rattle.forest.proofs.Entered.{rows-formed, sound-enters, sound-universal, sound-not-universal}
+use borrow.Author.Needs.{needs}
 use Rattle.forest.proofs.entering.sound_enter.Statement.{statement}
 use Rattle.forest.proofs.entering.sound_enter.Tie as tie
 
@@ -43,18 +44,29 @@ slice-aggregate-universal-at c = search needs
 universal-at-requires : tie.Need-universal-at-requires
 universal-at-requires c κs = search needs
 
-slice-aggregate-find-entries : tie.Need-slice-aggregate-find-entries
-slice-aggregate-find-entries c = search needs
+slice-aggregate-level-at : tie.Need-slice-aggregate-level-at
+slice-aggregate-level-at c = search needs
 
-slice-aggregate-find-entries-2 : tie.Need-slice-aggregate-find-entries-2
-slice-aggregate-find-entries-2 c = search needs
+level-at-requires : tie.Need-level-at-requires
+level-at-requires c κs = search needs
 
-find-entries-requires : tie.Need-find-entries-requires
-find-entries-requires c κs =
-    let a = c .before .before .before .before .before .before .before .before .before .before .before .before .before .before .before .before .before .before .before .before .before .before .args in
-    let levels = c .before .before .before .before .before .before .before .before .before .before .before .before .before .before .fill-levels .last .1 .0 in
-    let universals = c .before .before .before .before .before .before .before .before .before .before .before .before .before .before .fill-levels .last .1 .1 .0 in
-    (rows-formed (a .n) levels universals (a .classes .now) (a .parents .now) (subst (Judged (RowsCause (tabled (a .n) levels universals) (a .classes .now) (a .parents .now) ∷ [])) (c .before .before .before .before .before .before .before .enum-told .given .1) (c .before .before .before .before .before .before .before .before .before .check-rows .ensures)), c .before .before .before .before .before .before .before .before .before .before .before .before .before .before .before .before .before .before .before .before .before .before .pre .0 .few, c .before .before .before .before .before .before .before .before .before .before .before .before .before .before .before .before .before .before .before .before .before .before .pre .1)
+slice-aggregate-fill-tops : tie.Need-slice-aggregate-fill-tops
+slice-aggregate-fill-tops c = search needs
+
+slice-aggregate-fill-tops-2 : tie.Need-slice-aggregate-fill-tops-2
+slice-aggregate-fill-tops-2 c = search needs
+
+fill-tops-requires : tie.Need-fill-tops-requires
+fill-tops-requires c κs =
+    let a = c .before .before .before .before .before .before .before .before .before .before .before .before .before .before .before .before .before .before .before .before .before .before .before .args in
+    let levels = c .before .before .before .before .before .before .before .before .before .before .before .before .before .before .before .fill-levels .last .1 .0 in
+    let universals = c .before .before .before .before .before .before .before .before .before .before .before .before .before .before .before .fill-levels .last .1 .1 .0 in
+    let few = c .before .before .before .before .before .before .before .before .before .before .before .before .before .before .before .before .before .before .before .before .before .before .before .pre .0 .few in
+    let long = c .before .before .before .before .before .before .before .before .before .before .before .before .before .before .before .before .before .before .before .before .before .before .before .pre .1 in
+    (rows-formed (a .n) levels universals (a .classes .now) (a .parents .now) (subst (Judged (RowsCause (tabled (a .n) levels universals) (a .classes .now) (a .parents .now) ∷ [])) (c .before .before .before .before .before .before .before .before .enum-told .given .1) (c .before .before .before .before .before .before .before .before .before .before .check-rows .ensures)), omega arith)
+
+flag-entries-requires : tie.Need-flag-entries-requires
+flag-entries-requires c κs = search needs
 
 returns : tie.Need-returns
 returns c =
@@ -72,14 +84,14 @@ same-length-2 c = search needs
 
 returns-2 : tie.Need-returns-2
 returns-2 c =
-    let a = c .before .before .before .before .before .before .before .before .before .before .before .before .before .before .before .before .before .before .before .before .before .before .before .before .before .before .before .args in
-    let levels = c .before .before .before .before .before .before .before .before .before .before .before .before .before .before .before .before .before .before .before .fill-levels .last .1 .0 in
-    let universals = c .before .before .before .before .before .before .before .before .before .before .before .before .before .before .before .before .before .before .before .fill-levels .last .1 .1 .0 in
-    let table = c .before .before .before .before .before .before .before .before .before .before .before .before .before .before .before .before .before .before .before .fill-levels .ensures in
-    let accepted = subst (Judged (RowsCause (tabled (a .n) levels universals) (a .classes .now) (a .parents .now) ∷ [])) (c .before .before .before .before .before .before .before .before .before .before .before .before .enum-told .given .1) (c .before .before .before .before .before .before .before .before .before .before .before .before .before .before .check-rows .ensures) in
-    let judged = rows-judged levels universals (a .prefix .now) (a .classes .now) (a .parents .now) (tables-agree (c .before .before .before .before .before .before .before .before .before .before .before .before .before .before .before .before .before .before .before .before .before .before .before .before .before .before .before .pre .0) table) Accepted accepted in (
-      (judged .0, (at0-none 13 (sound-universal (c .before .before .before .before .before .before .before .before .before .before .before .before .before .before .before .before .before .before .before .before .before .before .before .before .before .before .before .pre .0) table (a .classes .now) (a .parents .now) (a .x .0) (c .before .before .before .before .before .before .before .before .before .before .universal-at .ensures) (c .before .before .before .before .before .before .before .before .before .if1 .taken)), tt)),
-      sound-enters (c .before .before .before .before .before .before .before .before .before .before .before .before .before .before .before .before .before .before .before .before .before .before .before .before .before .before .before .pre .0) table (a .classes .now) (a .parents .now) (a .x .0) (c .before .before .before .before .find-entries .last .1 .1 .1 .1 .1 .1 .1 .0) (rows-formed (a .n) levels universals (a .classes .now) (a .parents .now) accepted) (sym (c .before .before .before .before .before .before .before .before .before .before .universal-at .ensures) ∙ c .before .before .before .before .before .before .before .before .before .if1 .taken) (c .before .before .before .before .find-entries .ensures .0) (c .before .before .before .before .find-entries .ensures .1),
+    let a = c .before .before .before .before .before .before .before .before .before .before .before .before .before .before .before .before .before .before .before .before .before .before .before .before .before .before .before .before .before .before .before .args in
+    let levels = c .before .before .before .before .before .before .before .before .before .before .before .before .before .before .before .before .before .before .before .before .before .before .before .fill-levels .last .1 .0 in
+    let universals = c .before .before .before .before .before .before .before .before .before .before .before .before .before .before .before .before .before .before .before .before .before .before .before .fill-levels .last .1 .1 .0 in
+    let table = c .before .before .before .before .before .before .before .before .before .before .before .before .before .before .before .before .before .before .before .before .before .before .before .fill-levels .ensures in
+    let accepted = subst (Judged (RowsCause (tabled (a .n) levels universals) (a .classes .now) (a .parents .now) ∷ [])) (c .before .before .before .before .before .before .before .before .before .before .before .before .before .before .before .before .enum-told .given .1) (c .before .before .before .before .before .before .before .before .before .before .before .before .before .before .before .before .before .before .check-rows .ensures) in
+    let judged = rows-judged levels universals (a .prefix .now) (a .classes .now) (a .parents .now) (tables-agree (c .before .before .before .before .before .before .before .before .before .before .before .before .before .before .before .before .before .before .before .before .before .before .before .before .before .before .before .before .before .before .before .pre .0) table) Accepted accepted in (
+      (judged .0, (at0-none 13 (sound-universal (c .before .before .before .before .before .before .before .before .before .before .before .before .before .before .before .before .before .before .before .before .before .before .before .before .before .before .before .before .before .before .before .pre .0) table (a .classes .now) (a .parents .now) (a .x .0) (c .before .before .before .before .before .before .before .before .before .before .before .before .before .before .universal-at .ensures) (c .before .before .before .before .before .before .before .before .before .before .before .before .before .if1 .taken)), tt)),
+      sound-enters (c .before .before .before .before .before .before .before .before .before .before .before .before .before .before .before .before .before .before .before .before .before .before .before .before .before .before .before .before .before .before .before .pre .0) table (a .classes .now) (a .parents .now) (a .x .0) (c .before .before .before .before .before .before .before .before .before .before .before .level-at .result .0) (c .before .before .before .before .before .before .before .fill-tops .last .1 .1 .1 .1 .1 .1 .0) (rows-formed (a .n) levels universals (a .classes .now) (a .parents .now) accepted) (sym (c .before .before .before .before .before .before .before .before .before .before .before .before .before .before .universal-at .ensures) ∙ c .before .before .before .before .before .before .before .before .before .before .before .before .before .if1 .taken) (c .before .before .before .before .before .before .before .before .before .before .before .level-at .ensures) (c .before .before .before .before .before .before .before .fill-tops .ensures) (c .before .before .flag-entries .ensures),
     )
 
 returns-3 : tie.Need-returns-3
@@ -106,9 +118,12 @@ sound-enter-spec =
     enum-told
     slice-aggregate-universal-at
     universal-at-requires
-    slice-aggregate-find-entries
-    slice-aggregate-find-entries-2
-    find-entries-requires
+    slice-aggregate-level-at
+    level-at-requires
+    slice-aggregate-fill-tops
+    slice-aggregate-fill-tops-2
+    fill-tops-requires
+    flag-entries-requires
     returns
     same-length
     same-length-2

@@ -1,66 +1,62 @@
 -- `forest::marks::flag_entries` meets its contract.
 use Prim.Native.Nat.{_-_}
-use mathlib.Core.Path.{sym, _∙_}
+use mathlib.Core.Path.{ap}
 use native.Mathlib.Omega.{arith}
+use lib.ListN.{length, drop-of-length-le}
+use Rattle.formula.specs.Meaning.{clauses}
+use Rattle.formula.specs.Tables.{cut}
+use Rattle.formula.proofs.Lookups.{clauses-unclosed}
+use Rattle.forest.proofs.Readings.{told, told-not}
+use Rattle.forest.proofs.Flags.{Sharing, share-none, share-has, share-not, share-all}
 use borrow.Author.Needs.{needs}
-use Rattle.forest.proofs.Flags.{Sweep, HasEntry, sweep-none, sweep-all, entries-hit, entries-miss, entries-all}
 use Rattle.forest.proofs.marks.flag_entries.Statement.{statement}
 use Rattle.forest.proofs.marks.flag_entries.Tie as tie
 
 abbrev Inv-loop : tie.InvT-loop
-Inv-loop n shared tops flags₀ passed₀ flags passed = Sweep (HasEntry n shared tops) n flags₀ flags passed
+Inv-loop n clauses x tops flags₀ start₀ flags start = Sharing n tops clauses (x .0) flags₀ flags start
 
 abbrev μ-loop : tie.MeasureT-loop
-μ-loop n shared tops flags₀ passed₀ flags passed = n - passed
+μ-loop n clauses x tops flags₀ start₀ flags start = length clauses - start
 
 loop-holds : tie.Need-loop-holds Inv-loop μ-loop
-loop-holds c =
-    let a = c .before .before .before .args in
-    sweep-none (HasEntry (a .n) (a .shared .now) (a .tops .now)) (a .n) (a .flags .now)
+loop-holds c = share-none (c .before .before .args .n) (c .before .before .args .tops .now) (c .before .before .args .clauses .now) (c .before .before .args .x .0) (c .before .before .args .flags .now)
 
-add-passed : tie.Need-add-passed Inv-loop μ-loop
-add-passed c = omega arith
-
-new-requires : tie.Need-new-requires Inv-loop μ-loop
-new-requires c κs = search needs
-
-row-of-requires : tie.Need-row-of-requires Inv-loop μ-loop
-row-of-requires c κs = search needs
-
-flag-at-requires : tie.Need-flag-at-requires Inv-loop μ-loop
-flag-at-requires c κs = search needs
-
-flag-requires : tie.Need-flag-requires Inv-loop μ-loop
-flag-requires c κs = search needs
-
-loop-less : tie.Need-loop-less Inv-loop μ-loop
-loop-less c = omega arith
-
-loop-again : tie.Need-loop-again Inv-loop μ-loop
-loop-again c =
-    entries-hit (c .before .before .before .before .before .before .before .before .before .before .before .before .before .before .before .args .n) (c .before .before .before .before .before .before .before .before .before .before .before .before .before .before .before .args .shared .now) (c .before .before .before .before .before .before .before .before .before .before .before .before .before .before .before .args .tops .now) (c .before .before .before .before .before .before .before .before .before .before .loop-test .taken) (c .before .before .before .before .before .before .before .before .before .new .ensures) (c .before .before .before .before .before .before .before .before .row-of .ensures) (c .before .before .before .before .before .before .before .before .before .before .before .loop .inv) (c .before .before .before .before .before .before .if1 .taken) (sym (c .before .before .before .before .before .flag-at .ensures) ∙ c .before .before .before .before .if2 .taken) (c .before .before .flag .ensures)
-
-loop-less-2 : tie.Need-loop-less-2 Inv-loop μ-loop
-loop-less-2 c = omega arith
-
-loop-again-2 : tie.Need-loop-again-2 Inv-loop μ-loop
-loop-again-2 c =
-    entries-miss (c .before .before .before .before .before .before .before .before .before .before .before .args .n) (c .before .before .before .before .before .before .before .before .before .before .before .args .shared .now) (c .before .before .before .before .before .before .before .before .before .before .before .args .tops .now) (c .before .before .before .before .before .before .loop-test .taken) (c .before .before .before .before .before .new .ensures) (c .before .before .before .before .row-of .ensures) (c .before .before .before .before .before .before .before .loop .inv) (λ _. sym (c .before .flag-at .ensures) ∙ c .if2 .left)
-
-loop-less-3 : tie.Need-loop-less-3 Inv-loop μ-loop
-loop-less-3 c = omega arith
-
-loop-again-3 : tie.Need-loop-again-3 Inv-loop μ-loop
-loop-again-3 c =
-    entries-miss (c .before .before .before .before .before .before .before .before .before .args .n) (c .before .before .before .before .before .before .before .before .before .args .shared .now) (c .before .before .before .before .before .before .before .before .before .args .tops .now) (c .before .before .before .before .loop-test .taken) (c .before .before .before .new .ensures) (c .before .before .row-of .ensures) (c .before .before .before .before .before .loop .inv) (λ some. absurd (some (c .if1 .left)))
+scan-clause-requires : tie.Need-scan-clause-requires Inv-loop μ-loop
+scan-clause-requires c κs = search needs
 
 same-length : tie.Need-same-length Inv-loop μ-loop
-same-length c = c .before .loop .inv .done .size
+same-length c = c .before .before .before .loop .inv .size
 
 returns : tie.Need-returns Inv-loop μ-loop
-returns c =
-    let a = c .before .before .before .before .before .args in
-    sweep-all (c .before .loop .inv) (c .loop-test .left) (entries-all (a .n) (a .shared .now) (a .tops .now))
+returns c = share-all (c .before .before .before .loop .inv) (clauses-unclosed (c .before .before .before .before .before .before .args .clauses .now) (c .before .before .before .loop .start) (c .before .scan-clause .result .end) (c .before .scan-clause .ensures .0) (c .if1 .taken))
+
+flag-tops-requires : tie.Need-flag-tops-requires Inv-loop μ-loop
+flag-tops-requires c κs = c .before .before .before .scan-clause .ensures .0 .from
+
+add-start : tie.Need-add-start Inv-loop μ-loop
+add-start c = omega arith
+
+loop-less : tie.Need-loop-less Inv-loop μ-loop
+loop-less c = let from = c .before .before .before .before .before .before .scan-clause .ensures .0 .from in let less = c .before .before .before .before .before .if1 .left in omega arith
+
+loop-again : tie.Need-loop-again Inv-loop μ-loop
+loop-again c = share-has (c .before .before .before .before .before .before .before .before .loop .inv) (c .before .before .before .before .before .before .scan-clause .result .end) (c .before .before .before .before .before .before .scan-clause .ensures .0) (c .before .before .before .before .before .if1 .left) (told (c .before .before .before .before .before .before .scan-clause .result .has) (c .before .before .before .before .if2 .taken) (c .before .before .before .before .before .before .scan-clause .ensures .1)) (c .before .before .flag-tops .ensures)
+
+add-start-2 : tie.Need-add-start-2 Inv-loop μ-loop
+add-start-2 c = omega arith
+
+loop-less-2 : tie.Need-loop-less-2 Inv-loop μ-loop
+loop-less-2 c = let from = c .before .before .scan-clause .ensures .0 .from in let less = c .before .if1 .left in omega arith
+
+loop-again-2 : tie.Need-loop-again-2 Inv-loop μ-loop
+loop-again-2 c = share-not (c .before .before .before .before .loop .inv) (c .before .before .scan-clause .result .end) (c .before .before .scan-clause .ensures .0) (c .before .if1 .left) (told-not (c .before .before .scan-clause .result .has) (c .if2 .left) (c .before .before .scan-clause .ensures .1))
+
+same-length-2 : tie.Need-same-length-2 Inv-loop μ-loop
+same-length-2 c = c .before .loop .inv .size
+
+returns-2 : tie.Need-returns-2 Inv-loop μ-loop
+unfolding clauses cut
+returns-2 c = share-all (c .before .loop .inv) (ap clauses (drop-of-length-le (c .before .before .before .before .args .clauses .now) (c .loop-test .left)))
 
 pub flag-entries-spec : {M : Type 1} → statement M
 flag-entries-spec =
@@ -69,16 +65,15 @@ flag-entries-spec =
     Inv-loop
     μ-loop
     loop-holds
-    add-passed
-    new-requires
-    row-of-requires
-    flag-at-requires
-    flag-requires
+    scan-clause-requires
+    same-length
+    returns
+    flag-tops-requires
+    add-start
     loop-less
     loop-again
+    add-start-2
     loop-less-2
     loop-again-2
-    loop-less-3
-    loop-again-3
-    same-length
-    returns)
+    same-length-2
+    returns-2)

@@ -5,10 +5,10 @@ use borrow.Author.Tests.{not-true, not-false}
 use borrow.Author.Needs.{needs}
 use lib.ListN.{getD}
 use Rattle.terms.proofs.Common.{clash}
-use Rattle.connection.specs.Tables.{EntryPoint}
+use Rattle.connection.specs.Tables.{lent, EntryPoint}
 use Rattle.forest.specs.Formula.{tabled}
 use Rattle.forest.specs.Search.{rowsOf}
-use Rattle.forest.proofs.Climbing.{formed-falls, formed-block, searched-entry}
+use Rattle.forest.proofs.Climbing.{formed-falls, formed-block, searched-rows, searched-entry}
 use Rattle.forest.proofs.search.find_entry.Statement.{statement}
 use Rattle.forest.proofs.search.find_entry.Tie as tie
 
@@ -42,15 +42,17 @@ climb-requires c κs =
     (formed-falls (a .n) (a .levels .now) (a .universals .now) (a .classes .now) (a .parents .now) (c .before .before .before .before .before .before .before .before .before .before .before .before .pre), omega arith, omega (arith, c .before .before .before .before .before .before .before .before .before .before .before .shared-slice-known .given (c .row-of .result .0)))
 
 returns-3 : tie.Need-returns-3
+unfolding lent
 returns-3 c =
     let a = c .before .before .before .before .before .before .before .before .before .before .before .before .before .before .args in
+    let formed = c .before .before .before .before .before .before .before .before .before .before .before .before .before .before .pre in
     let ex = sym (c .before .before .before .before .before .before .before .existential-at .ensures) ∙ not-false (c .before .before .before .before .before .before .before .existential-at .result) (c .before .before .before .before .before .before .if1 .left) in
     let floor = c .before .before .before .before .before .before .before .before .before .level-at .ensures in
     let deep = c .before .before .before .before .before .before .before .before .level-at2 .ensures in
     let over = c .before .before .before .if2 .left in
     let (k, sum, found) = c .before .climb .ensures in
     let same : k ≡ c .before .climb .result .rises = omega arith in
-    ((ex, omega arith), subst (λ r. EntryPoint (tabled (a .n) (a .levels .now) (a .universals .now)) (rowsOf (a .n) (a .classes .now) (a .parents .now)) (a .x .0) (a .y .0) (c .before .climb .result .class .0) r) same (searched-entry (a .n) (a .levels .now) (a .universals .now) (a .classes .now) (a .parents .now) (c .before .before .before .before .before .before .before .before .before .before .before .before .before .before .pre) (c .before .before .before .before .before .before .before .before .before .level-at .result .0) (c .before .before .row-of .result .0) floor (c .before .before .row-of .ensures) found))
+    ((ex, omega arith), subst (λ r. EntryPoint (tabled (a .n) (a .levels .now) (a .universals .now)) (rowsOf (a .n) (a .classes .now) (a .parents .now)) (a .x .0) (a .y .0) (c .before .climb .result .class .0) r) same (searched-entry formed (c .before .before .before .before .before .before .before .before .before .level-at .result .0) (c .before .before .row-of .result .0) floor (c .before .before .row-of .ensures) (searched-rows (a .n) (a .levels .now) (a .universals .now) (a .classes .now) (a .parents .now) formed found)))
 
 pub find-entry-spec : {M : Type 1} → statement M
 find-entry-spec =

@@ -1,0 +1,30 @@
+-- `forest::search::retop` meets its contract.
+use mathlib.Core.Path.{subst}
+use Rattle.forest.specs.Formula.{tabled}
+use Rattle.forest.specs.Search.{rowsOf, TopRows}
+use borrow.Author.Needs.{needs}
+use Rattle.forest.proofs.search.retop.Statement.{statement}
+use Rattle.forest.proofs.search.retop.Tie as tie
+
+fill-tops-requires : tie.Need-fill-tops-requires
+fill-tops-requires c κs = search needs
+
+same-length : tie.Need-same-length
+same-length c = search needs
+
+returns : tie.Need-returns
+returns c = search needs
+
+returns-2 : tie.Need-returns-2
+returns-2 c =
+    let a = c .before .before .before .before .before .before .before .before .args in
+    subst (λ floor. TopRows (tabled (a .n) (a .levels .now) (a .universals .now)) (rowsOf (a .n) (a .classes .now) (a .parents .now)) floor (a .tops .now)) (c .if1 .left) (c .before .before .before .before .before .before .before .before .pre .2)
+
+pub retop-spec : {M : Type 1} → statement M
+retop-spec =
+    tie.close
+    (tie.spec
+    fill-tops-requires
+    same-length
+    returns
+    returns-2)
