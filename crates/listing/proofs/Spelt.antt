@@ -6,7 +6,8 @@ use mathlib.Core.List.{List, [], _∷_, _++_}
 use native.Mathlib.Omega.{arith}
 use lib.IntN.{pos}
 use lib.ListN.{length, getD, length-append}
-use Rattle.qdimacs.specs.Writing.{decimal, literalWord, Wrote}
+use Rattle.qdimacs.specs.Writing.{decimal, literalWord}
+use Rattle.qdimacs.specs.Bytes.{Wrote}
 use Rattle.qdimacs.proofs.Stores.{word-most, Upto, upto-none, upto-more, upto-all}
 use Rattle.listing.specs.Lines.{numbers, Small}
 

@@ -2,14 +2,14 @@
 use Prim.Native.Nat.{ℕ, zero, suc, _+_, _-_, _≤_, _<_}
 use mathlib.Core.Path.{_≡_, refl, sym, ap, _∙_, subst}
 use mathlib.Core.Bool.{Bool, true, false}
-use mathlib.Core.List.{List, [], _∷_}
+use mathlib.Core.List.{List, _∷_}
 use mathlib.Core.Logic.{_≢_, _⊎_, inl, inr}
 use native.Mathlib.Decide.{ℕ-discrete}
 use native.Mathlib.Omega.{arith}
 use borrow.Author.Tests.{eq-eqb, ne-eqb, eqb-false}
 use lib.Dec.{eqb}
 use lib.IntN.{ℤ, pos, natAbs}
-use lib.ListN.{length, getD, drop, drop-of-length-le}
+use lib.ListN.{length, drop, drop-of-length-le}
 use lib.Seq.{drop-cons}
 use Rattle.terms.specs.Literals.{variableOf}
 use Rattle.terms.specs.Refusals.{None, NoneOf}
@@ -17,7 +17,8 @@ use Rattle.formula.specs.Tables.{at, literalAt, opens, EndsInside}
 use Rattle.formula.specs.Causes.{PrefixCause, ClauseCause, checkOrder}
 use Rattle.formula.proofs.Scanned.{open-end}
 use Rattle.formula.proofs.Literals.{no-variable}
-use Rattle.qdimacs.specs.Writing.{Blocks, no-block, block, block-end, variable, Clauses, no-clause, clause-end, literal, Holdable, SmallEntries, SmallLiterals, clauseCount}
+use Rattle.qdimacs.specs.Bytes.{SmallEntries, SmallLiterals}
+use Rattle.qdimacs.proofs.Holdable.{Blocks, no-block, block, block-end, variable, Clauses, no-clause, clause-end, literal, Holdable}
 use Rattle.qdimacs.proofs.Stores.{count-most}
 
 -- a test, with what it came out as

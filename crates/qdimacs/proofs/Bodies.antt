@@ -1,18 +1,16 @@
 -- The laws of lines at a stage: what may stand there, what may not, and what is then wrong.
 use Prim.Native.Nat.{ℕ, suc, _+_, _<_, _≤_}
 use mathlib.Core.Path.{_≡_, refl, sym, ap, _∙_, subst}
-use mathlib.Core.Bool.{true, false}
 use mathlib.Core.List.{List, [], _∷_}
-use mathlib.Core.Option.{Option, none, some}
+use mathlib.Core.Option.{none, some}
 use native.Mathlib.Omega.{arith}
 use native.Mathlib.Nat.{add-zero}
 use lib.ListN.{length, drop, length-drop}
-use lib.Seq.{sets}
 use lib.IntN.{ℤ}
 use Rattle.qdimacs.specs.declared.Stage.{Stage}
 use Rattle.qdimacs.specs.declared.Stage.the-variants.{Opening, Body}
 use Rattle.qdimacs.specs.declared.Spelt.the-variants.{Missing}
-use Rattle.qdimacs.specs.Words.{LF, LETTER-A, LETTER-E, pieces, words, allDigits, unpadded, isNumber, numberOf, plainItem, itemOf, entry, entriesOf}
+use Rattle.qdimacs.specs.Words.{LF, LETTER-A, LETTER-E, pieces, allDigits, unpadded, isNumber, numberOf, plainItem, itemOf, entry, entriesOf}
 use Rattle.qdimacs.specs.Grammar.{variables, literals, CommentLine, ProblemLine, QuantifierLine, e-line, a-line, ClauseLine, literals-line, Line, a-comment, the-problem, a-block, a-clause, TooMany, too-many, Fault, outside, unended, many}
 use Rattle.qdimacs.specs.Places.{past, inLine, front, later, lineAt, afterAt, wordsAt, Passed, WholeRow, NoRow, unread, endless-row}
 use Rattle.qdimacs.specs.Steps.{Goes, SpeltIs, NoOpening, no-opening, endless-line, MarkAt, e-mark, a-mark, WholeBlock, Went}
@@ -41,7 +39,7 @@ filled-last (b ∷ bs) h e = go (byte b) e
 
 module _ (stage : Stage) (text : List ℕ) (at : ℕ) where
   -- no LF
-  pub fault-endless : at < length text → afterAt text at ≡ [] → Fault 16 stage (pieces LF (drop at text))
+  fault-endless : at < length text → afterAt text at ≡ [] → Fault 16 stage (pieces LF (drop at text))
   fault-endless h e =
       let left = length-drop at text in
       let f = filled-last (drop at text) (omega arith) e in
@@ -49,7 +47,7 @@ module _ (stage : Stage) (text : List ℕ) (at : ℕ) where
       (unended {stage = stage} {byte = f .first} {bytes = f .rest})
 
   -- a line that may not stand there
-  pub fault-outside : at < length text → ((after : Stage) (p : List ℕ) (c : List ℤ) → Line stage (lineAt text at) after p c → ⊥) → (TooMany stage (lineAt text at) → ⊥) → Fault 16 stage (pieces LF (drop at text))
+  fault-outside : at < length text → ((after : Stage) (p : List ℕ) (c : List ℤ) → Line stage (lineAt text at) after p c → ⊥) → (TooMany stage (lineAt text at) → ⊥) → Fault 16 stage (pieces LF (drop at text))
   fault-outside h no-line no-many = go (afterAt text at) refl
     where
       go : (ls : List (List ℕ)) → afterAt text at ≡ ls → Fault 16 stage (pieces LF (drop at text))
@@ -122,7 +120,7 @@ module _ (text : List ℕ) (at mark i : ℕ) (marked : MarkAt text at mark i) wh
   pub mark-on : at < i
   mark-on = mark-goes (at < i) (λ word g. g .on)
 
-  pub mark-after : afterAt text at ≡ afterAt text i
+  mark-after : afterAt text at ≡ afterAt text i
   mark-after = mark-goes (afterAt text at ≡ afterAt text i) (λ word g. g .after)
 
   mark-past : past inLine text at ≡ past inLine text i
@@ -131,21 +129,21 @@ module _ (text : List ℕ) (at mark i : ℕ) (marked : MarkAt text at mark i) wh
   mark-passed : (next : ℕ) → Passed text i next → Passed text at next
   mark-passed next z = record { after = mark-after ∙ z .after; place = z .place ∙ sym (ap (λ (w : ℕ). w + 1) mark-past); within = z .within }
 
-  pub marked-line : (es : List ℕ) → entriesOf variables (wordsAt text i) ≡ some es → QuantifierLine (lineAt text at) (mark ∷ es)
+  marked-line : (es : List ℕ) → entriesOf variables (wordsAt text i) ≡ some es → QuantifierLine (lineAt text at) (mark ∷ es)
   marked-line es r = go marked
     where
       go : MarkAt text at mark i → QuantifierLine (lineAt text at) (mark ∷ es)
       go (e-mark e g) = subst (λ (m : ℕ). QuantifierLine (lineAt text at) (m ∷ es)) (sym e) (e-line (g .first) r)
       go (a-mark e g) = subst (λ (m : ℕ). QuantifierLine (lineAt text at) (m ∷ es)) (sym e) (a-line (g .first) r)
 
-  pub marked-clause : (cs : List ℤ) → ClauseLine (lineAt text at) cs → ⊥
+  marked-clause : (cs : List ℤ) → ClauseLine (lineAt text at) cs → ⊥
   marked-clause cs (literals-line q) = go marked
     where
       go : MarkAt text at mark i → ⊥
       go (e-mark e g) = e-clause (wordsAt text i) cs (sym (ap (entriesOf literals) (g .first)) ∙ q)
       go (a-mark e g) = a-clause-no (wordsAt text i) cs (sym (ap (entriesOf literals) (g .first)) ∙ q)
 
-  pub marked-none : entriesOf variables (wordsAt text i) ≡ none → (bs : List ℕ) → QuantifierLine (lineAt text at) bs → ⊥
+  marked-none : entriesOf variables (wordsAt text i) ≡ none → (bs : List ℕ) → QuantifierLine (lineAt text at) bs → ⊥
   marked-none r bs line = go line marked
     where
       differ : {word : List ℕ} {more : List (List ℕ)} {es : List ℕ} → Goes word text at i → wordsAt text at ≡ word ∷ more → entriesOf variables more ≡ some es → ⊥

@@ -1,14 +1,14 @@
 -- The laws of decimal digits: they are a number word, of the number that they came from.
 use Prim.Native.Nat.{ℕ, zero, suc, _+_, _-_, _*_, _^_, _/_, _%_, _<_, _≤_}
-use mathlib.Core.Path.{_≡_, refl, sym, ap, _∙_, subst}
-use mathlib.Core.Bool.{Bool, true, false, not, cond, _&&_}
+use mathlib.Core.Path.{_≡_, refl, sym, ap, _∙_}
+use mathlib.Core.Bool.{true, false, not, _&&_}
 use mathlib.Core.List.{List, [], _∷_, _++_}
 use native.Mathlib.Omega.{arith}
 use native.Mathlib.Nat.{pow-succ'}
 use borrow.Author.Tests.{lt-ltb, le-ltb, le-leb, ltb-true, ltb-false, ne-eqb}
-use lib.Dec.{eqb, leb, ltb}
+use lib.Dec.{leb, ltb}
 use lib.ListN.{length, getD, length-append}
-use Rattle.qdimacs.specs.declared.Number.the-variants.{Is, Not}
+use Rattle.qdimacs.specs.declared.Number.the-variants.{Is}
 use Rattle.qdimacs.specs.Words.{ZERO, NINE, allDigits, spelt, unpadded, isNumber, numberOf}
 use Rattle.qdimacs.specs.Writing.{digitsOf, decimal}
 use Rattle.qdimacs.proofs.Numbers.{unpadded-one, unpadded-more}

@@ -1,21 +1,18 @@
 -- The laws of entries: what the next word of a line says of the line as a row of entries.
-use Prim.Native.Nat.{ℕ, suc, _+_, _<_, _≤_}
-use mathlib.Core.Path.{_≡_, refl, sym, ap, _∙_}
-use mathlib.Core.List.{List, [], _∷_}
+use Prim.Native.Nat.{ℕ, _+_, _<_, _≤_}
+use mathlib.Core.Path.{_≡_, sym, ap, _∙_}
+use mathlib.Core.List.{List, _∷_}
 use native.Mathlib.Omega.{arith}
 use native.Mathlib.Numerals.{add-one}
 use borrow.Author.Tests.{eq-eqb, ne-eqb}
 use lib.ListN.{length, getD}
 use lib.Seq.{slice, slice-cons}
-use Rattle.qdimacs.specs.declared.Word.the-variants.{Found, End}
 use Rattle.qdimacs.specs.declared.Item.{Item}
-use Rattle.qdimacs.specs.declared.Item.the-variants.{Closing, Plain, Negated, Other}
-use Rattle.qdimacs.specs.declared.Ended.{Ended}
-use Rattle.qdimacs.specs.declared.Ended.the-variants.{Nowhere, Next}
+use Rattle.qdimacs.specs.declared.Item.the-variants.{Closing}
 use Rattle.qdimacs.specs.declared.Entry.{Entry}
 use Rattle.qdimacs.specs.declared.Entry.the-variants.{Unfit, Close, Take, Negate}
 use Rattle.qdimacs.specs.Words.{MINUS, numberOf, plainItem, negatedItem, itemOf}
-use Rattle.qdimacs.specs.Places.{past, inLine, wordsAt, afterAt, Passed, Taken, Open, words-left, no-feed, CloseIs, Unread, wordless, strange, early, endless, Closes, EntryIs}
+use Rattle.qdimacs.specs.Places.{Passed, Taken, words-left, no-feed, CloseIs, early, endless, EntryIs}
 use Rattle.qdimacs.proofs.Lines.{FoundIs}
 
 -- a word as an item, by its first byte
@@ -28,7 +25,7 @@ module _ (text : List ℕ) (start end : ℕ) (h : start < end) (e : end ≤ leng
   unfolding itemOf
   item-plain m = rw (slice-cons start end text 0 h e, ne-eqb (getD text start 0) MINUS m)
 
-module _ (text : List ℕ) (at start end : ℕ) (found : FoundIs text at start end) where
+module _ {text : List ℕ} {at start end : ℕ} (found : FoundIs text at start end) where
   -- the word found is an item, and the line goes on after it
   pub taken : (item : Item) → itemOf (slice start end text) ≡ item → Taken item text at end
   taken item is =
@@ -43,7 +40,7 @@ module _ (text : List ℕ) (at start end : ℕ) (found : FoundIs text at start e
       }
 
   -- what is known of the line after it is known of the line
-  pub passed-on : (next : ℕ) → Passed text end next → Passed text at next
+  passed-on : (next : ℕ) → Passed text end next → Passed text at next
   passed-on next p = record { after = found .after ∙ p .after; place = p .place ∙ sym (ap (λ (n : ℕ). n + 1) (found .line)); within = p .within }
 
   -- the word found is the closing 0

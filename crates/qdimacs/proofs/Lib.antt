@@ -1,4 +1,6 @@
-pub mod Laws
+-- The laws of QDIMACS text, in reading order.
+-- Bytes, numbers, lines and their words.
+pub mod Leading
 pub mod Numbers
 pub mod Lines
 pub mod Entries
@@ -7,12 +9,16 @@ pub mod Spelling
 pub mod Openings
 pub mod Bodies
 pub mod Scans
+-- A text is read in one way, and so has one answer.
 pub mod Unique
-pub mod Verdicts
+pub mod Readings
+-- The text that is written.
 pub mod Decimal
-pub mod Written
-pub mod Settled
 pub mod Stores
-pub mod Outputs
+pub mod Holdable
 pub mod Accepted
-pub mod Calls
+pub mod Outputs
+-- Nothing is left open (read-settled, write-settled); what is written reads back (written-reads-back).
+pub mod Settled
+pub mod Written
+pub mod RoundTrip

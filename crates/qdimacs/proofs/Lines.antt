@@ -59,9 +59,9 @@ line-length (b ∷ bs) =
     ]
 
 -- Bytes of a line that are passed, k of them: what follows the line is the same, and so is the line's end.
-pub record Same (xs : List ℕ) (k : ℕ) : Type 0 where
-  pub after : later (pieces LF xs) ≡ later (pieces LF (drop k xs))
-  pub line : leading inLine xs ≡ k + leading inLine (drop k xs)
+record Same (xs : List ℕ) (k : ℕ) : Type 0 where
+  after : later (pieces LF xs) ≡ later (pieces LF (drop k xs))
+  line : leading inLine xs ≡ k + leading inLine (drop k xs)
 
 same-none : (xs : List ℕ) → Same xs 0
 same-none xs = record { after = refl; line = sym (zero-add (leading inLine xs)) }
@@ -75,11 +75,11 @@ same-one b bs k l same =
     }
 
 -- Spaces that lead: the words are the same.
-pub record Gap (xs : List ℕ) (k : ℕ) : Type 0 where
-  pub same : Same xs k
-  pub words-same : words (front (pieces LF xs)) ≡ words (front (pieces LF (drop k xs)))
+record Gap (xs : List ℕ) (k : ℕ) : Type 0 where
+  same : Same xs k
+  words-same : words (front (pieces LF xs)) ≡ words (front (pieces LF (drop k xs)))
 
-pub gap : (xs : List ℕ) → Gap xs (leading isSpace xs)
+gap : (xs : List ℕ) → Gap xs (leading isSpace xs)
 unfolding pieces leading words filled
 gap [] = record { same = same-none []; words-same = refl }
 gap (b ∷ bs) =
@@ -94,12 +94,12 @@ gap (b ∷ bs) =
     ]
 
 -- The bytes of a word: they are the first piece between spaces, and the words after it are those of what is left of the line.
-pub record Run (xs : List ℕ) (k : ℕ) : Type 0 where
-  pub same : Same xs k
-  pub first : front (pieces SPACE (front (pieces LF xs))) ≡ take k xs
-  pub rest : filled (later (pieces SPACE (front (pieces LF xs)))) ≡ words (front (pieces LF (drop k xs)))
+record Run (xs : List ℕ) (k : ℕ) : Type 0 where
+  same : Same xs k
+  first : front (pieces SPACE (front (pieces LF xs))) ≡ take k xs
+  rest : filled (later (pieces SPACE (front (pieces LF xs)))) ≡ words (front (pieces LF (drop k xs)))
 
-pub run : (xs : List ℕ) → Run xs (leading inWord xs)
+run : (xs : List ℕ) → Run xs (leading inWord xs)
 unfolding pieces leading words filled front later
 run [] = record { same = same-none []; first = refl; rest = refl }
 run (b ∷ bs) =
@@ -115,7 +115,7 @@ run (b ∷ bs) =
     ]
 
 -- No more bytes pass a test than there are.
-pub leading-most : (test : ℕ → Bool) (xs : List ℕ) → leading test xs ≤ length xs
+leading-most : (test : ℕ → Bool) (xs : List ℕ) → leading test xs ≤ length xs
 unfolding leading
 leading-most test [] = omega arith
 leading-most test (b ∷ bs) = go (test b) (leading-most test bs)
@@ -125,7 +125,7 @@ leading-most test (b ∷ bs) = go (test b) (leading-most test bs)
     go false h = omega arith
 
 -- A word that is not empty is one of the words.
-filled-some : (word : List ℕ) (more : List (List ℕ)) → 0 < length word → filled (word ∷ more) ≡ word ∷ filled more
+pub filled-some : (word : List ℕ) (more : List (List ℕ)) → 0 < length word → filled (word ∷ more) ≡ word ∷ filled more
 unfolding filled
 filled-some [] more h = let no : ⊥ = omega arith in absurd no
 filled-some (b ∷ bs) more h = refl
@@ -202,7 +202,7 @@ module _ (text : List ℕ) (at : ℕ) where
   gap-line : past inLine text at ≡ past inLine text start
   gap-line = line-at text at (leading isSpace (drop at text)) (gap (drop at text) .same)
 
-  pub found-is : start < past inWord text start → FoundIs text at start (past inWord text start)
+  found-is : start < past inWord text start → FoundIs text at start (past inWord text start)
   unfolding words
   found-is h =
       let most = leading-most inWord (drop start text) in
@@ -222,7 +222,7 @@ module _ (text : List ℕ) (at : ℕ) where
         within = omega arith;
       }
 
-  pub end-is : past inWord text start ≤ start → EndIs text at start
+  end-is : past inWord text start ≤ start → EndIs text at start
   end-is h =
       let left = length-drop start text in
       let none-left : leading isSpace (drop start text) ≡ 0 = sym (ap (leading isSpace) (drop-drop (leading isSpace (drop at text)) at text)) ∙ no-gap (drop at text) in

@@ -1,6 +1,6 @@
 -- The laws of a row: the entries of a line, one by one, as they are stored in a table.
-use Prim.Native.Nat.{ℕ, suc, _+_, _<_, _≤_}
-use mathlib.Core.Path.{_≡_, refl, sym, ap, _∙_, subst}
+use Prim.Native.Nat.{ℕ, suc, _+_, _≤_}
+use mathlib.Core.Path.{_≡_, refl, sym, ap, _∙_}
 use mathlib.Core.List.{List, [], _∷_, _++_}
 use mathlib.Core.Option.{Option, none, some}
 use native.Mathlib.Omega.{arith}
@@ -8,13 +8,16 @@ use native.Mathlib.Nat.{add-zero, add-suc, suc-add}
 use native.Mathlib.Numerals.{add-one}
 use lib.ListN.{length, set, length-append}
 use lib.Seq.{sets, length-sets}
+use lib.IntN.{ℤ}
+use mir.Syntax.{w32}
+use mir.Val.{SFits, toZ, ofZ}
+use mir.Facts.{toZ-ofZ}
 use Rattle.qdimacs.specs.declared.Item.{Item}
-use Rattle.qdimacs.specs.declared.Item.the-variants.{Closing, Plain, Negated, Other}
 use Rattle.qdimacs.specs.declared.Row.{Row}
 use Rattle.qdimacs.specs.declared.Row.the-variants.{Broken, Whole}
 use Rattle.qdimacs.specs.Grammar.{variables}
-use Rattle.qdimacs.specs.Words.{itemOf, Kind, prepend, closed, entry, entriesOf}
-use Rattle.qdimacs.specs.Places.{past, inLine, wordsAt, afterAt, Passed, Taken, Unread, wordless, strange, early, endless, Closes, WholeRow, NoRow, unread, endless-row, RowIs}
+use Rattle.qdimacs.specs.Words.{Kind, prepend, closed, entry, entriesOf}
+use Rattle.qdimacs.specs.Places.{past, inLine, wordsAt, afterAt, Taken, Unread, wordless, strange, early, endless, Closes, WholeRow, NoRow, unread, endless-row, RowIs}
 use Rattle.qdimacs.specs.Steps.{BlockIs}
 
 module _ {A : Type 0} where
@@ -58,7 +61,7 @@ module _ {A : Type 0} where
   unfolding after
   partly-none kind text at from before h = record { taken = []; read = refl; same = refl; line = refl; counted = sym (add-zero from); stored = refl; few = h }
 
-  module _ (kind : Kind A) (text : List ℕ) (at from : ℕ) (before : List A) (i row : ℕ) (table : List A) (partly : Partly kind text at from before i row table) where
+  module _ {kind : Kind A} {text : List ℕ} {at from : ℕ} {before : List A} {i row : ℕ} {table : List A} (partly : Partly kind text at from before i row table) where
     abbrev done : List A
     done = partly .taken
 
@@ -72,21 +75,22 @@ module _ {A : Type 0} where
     count : (x : A) → row + 1 ≡ from + length (done ++ (x ∷ []))
     count x = let l = length-append done (x ∷ []) in let k = partly .counted in omega arith
 
-    module _ (item : Item) (next : ℕ) (takes : Taken item text i next) where
+    module _ {item : Item} {next : ℕ} (takes : Taken item text i next) where
       item-read : entriesOf kind (wordsAt text i) ≡ entry kind item (wordsAt text next) (entriesOf kind (wordsAt text next))
       unfolding entriesOf
       item-read = ap (entriesOf kind) (takes .first) ∙ ap (λ (it : Item). entry kind it (wordsAt text next) (entriesOf kind (wordsAt text next))) (takes .is)
 
       -- an entry is taken and stored
-      pub partly-more : (x : A) → ((more : List (List ℕ)) (later : Option (List A)) → entry kind item more later ≡ prepend (some x) later) → Partly kind text at from before next (row + 1) (set table row x)
-      partly-more x is =
+      pub partly-more : (x : A) → ((more : List (List ℕ)) (later : Option (List A)) → entry kind item more later ≡ prepend (some x) later) → (table′ : List A) → table′ ≡ set table row x
+          → Partly kind text at from before next (row + 1) table′
+      partly-more x is table′ put =
           record {
             taken = done ++ (x ∷ []);
             read = partly .read ∙ ap (after done) (item-read ∙ is (wordsAt text next) (entriesOf kind (wordsAt text next))) ∙ after-one done x (entriesOf kind (wordsAt text next));
             same = partly .same ∙ takes .after;
             line = partly .line ∙ takes .line;
             counted = count x;
-            stored = store x;
+            stored = put ∙ store x;
             few = let f = partly .few in let o = takes .on in omega arith;
           }
 
@@ -95,9 +99,9 @@ module _ {A : Type 0} where
       partly-barred is = unread (partly .read ∙ ap (after done) (item-read ∙ is (wordsAt text next) (entriesOf kind (wordsAt text next))) ∙ after-none done)
 
     -- the closing 0
-    pub partly-whole : (next : ℕ) → Closes text i next → WholeRow kind text at from before (set table row (kind .positive 0)) next (row + 1)
+    pub partly-whole : {next : ℕ} → Closes text i next → (table′ : List A) → table′ ≡ set table row (kind .positive 0) → WholeRow kind text at from before table′ next (row + 1)
     unfolding entriesOf entry closed
-    partly-whole next c =
+    partly-whole c table′ put =
         record {
           entries = done ++ (kind .positive 0 ∷ []);
           read =
@@ -105,7 +109,7 @@ module _ {A : Type 0} where
               ∙ after-some done (kind .positive 0 ∷ []);
           passed = record { after = partly .same ∙ c .passed .after; place = c .passed .place ∙ sym (ap (λ (n : ℕ). n + 1) (partly .line)); within = c .passed .within };
           counted = count (kind .positive 0);
-          stored = store (kind .positive 0);
+          stored = put ∙ store (kind .positive 0);
           few = let f = partly .few in let o = c .on in omega arith;
         }
 
@@ -118,6 +122,10 @@ module _ {A : Type 0} where
     partly-broken (early {word} {next} {more} e is) =
         unread (partly .read ∙ ap (after done) (ap (entriesOf kind) e ∙ ap (λ (it : Item). entry kind it (next ∷ more) (entriesOf kind (next ∷ more))) is) ∙ after-none done)
     partly-broken (endless e) = endless-row (partly .same ∙ e)
+
+-- A literal is stored as its bits, and read back from them.
+pub literal-put : (table : List ℤ) (row : ℕ) (z : ℤ) {x : ℤ} → SFits w32 z → z ≡ x → set table row (toZ w32 (ofZ w32 z)) ≡ set table row x
+literal-put table row z fits is = ap (λ (v : ℤ). set table row v) (toZ-ofZ {w = w32} {z = z} fits ∙ is)
 
 -- A mark in front of the variables.
 pub block-row : (mark : ℕ) (text : List ℕ) (at from : ℕ) (before mid after′ : List ℕ) (r : Row) → mid ≡ set before from mark → RowIs variables text at (from + 1) mid after′ r → BlockIs mark text at from before after′ r

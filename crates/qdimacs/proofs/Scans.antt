@@ -1,5 +1,5 @@
 -- The laws of a scan: the lines passed lead to a stage, and what they added stands in the tables.
-use Prim.Native.Nat.{ℕ, suc, _+_, _<_, _≤_}
+use Prim.Native.Nat.{ℕ, _+_, _<_, _≤_}
 use mathlib.Core.Path.{_≡_, refl, sym, ap, _∙_, subst, subst₂}
 use mathlib.Core.List.{List, [], _∷_, _++_, append-assoc, append-nil}
 use native.Mathlib.Omega.{arith}
@@ -8,12 +8,12 @@ use lib.ListN.{length, drop, length-append, drop-of-length-le}
 use lib.Seq.{sets, length-sets}
 use lib.IntN.{ℤ}
 use Rattle.qdimacs.specs.declared.Stage.{Stage}
-use Rattle.qdimacs.specs.declared.Stage.the-variants.{Opening, Body}
+use Rattle.qdimacs.specs.declared.Stage.the-variants.{Opening}
 use Rattle.qdimacs.specs.declared.Reading.{Reading}
 use Rattle.qdimacs.specs.declared.Reading.the-variants.{Read, Refused}
 use Rattle.qdimacs.specs.Words.{LF, pieces}
 use Rattle.qdimacs.specs.Grammar.{Line, a-comment, the-problem, a-block, a-clause, Lines, no-line, one-more, Fault, placeAfter, FaultIn}
-use Rattle.qdimacs.specs.Places.{past, inLine, leading, front, lineAt, afterAt, Passed}
+use Rattle.qdimacs.specs.Places.{lineAt}
 use Rattle.qdimacs.specs.Steps.{Went, Sound, announcedAt, FinishIs, ScanIs}
 use Rattle.qdimacs.proofs.Lines.{front-later, line-length}
 use Rattle.qdimacs.proofs.Rows.{sets-append}
@@ -78,7 +78,11 @@ stored-more : {A : Type 0} (before now now′ P p : List A) (k : ℕ) → now �
 stored-more before now now′ P p k is counted more =
     more ∙ ap (λ (t : List _). sets t k p) is ∙ ap (λ (n : ℕ). sets (sets before 0 P) n p) (counted ∙ sym (zero-add (length P))) ∙ sym (sets-append before 0 P p)
 
-module _ (text : List ℕ) (before : List ℕ × List ℤ) (at : ℕ) (stage : Stage) (entries literals : ℕ) (now : List ℕ × List ℤ) (reached : Reached text before at stage entries literals now) where
+-- a line that is passed has bytes, its LF at least
+pub went-less : {stage stage′ : Stage} {text : List ℕ} {at entries literals next entries′ literals′ : ℕ} {before after : List ℕ × List ℤ} → Went stage text at entries literals before after stage′ next entries′ literals′ → at < next
+went-less w = let from = w .passed .place in omega arith
+
+module _ {text : List ℕ} {before : List ℕ × List ℤ} {at : ℕ} {stage : Stage} {entries literals : ℕ} {now : List ℕ × List ℤ} (reached : Reached text before at stage entries literals now) where
   pub reached-sound : Sound stage
   reached-sound = lines-sound (reached .follow) tt
 
@@ -89,8 +93,8 @@ module _ (text : List ℕ) (before : List ℕ × List ℤ) (at : ℕ) (stage : S
   reached-clauses = ap length (reached .clauses-stored) ∙ length-sets (before .1) 0 (reached .C)
 
   -- a line is passed
-  pub reached-more : (now′ : List ℕ × List ℤ) (stage′ : Stage) (next entries′ literals′ : ℕ) → Went stage text at entries literals now now′ stage′ next entries′ literals′ → Reached text before next stage′ entries′ literals′ now′
-  reached-more now′ stage′ next entries′ literals′ w =
+  pub reached-more : {now′ : List ℕ × List ℤ} {stage′ : Stage} {next entries′ literals′ : ℕ} → Went stage text at entries literals now now′ stage′ next entries′ literals′ → Reached text before next stage′ entries′ literals′ now′
+  reached-more {now′} {stage′} {next} w =
       let line = lineAt text at in
       let from = w .passed .place in
       let size = line-length (drop at text) in
@@ -120,12 +124,9 @@ module _ (text : List ℕ) (before : List ℕ × List ℤ) (at : ℕ) (stage : S
         within = w .passed .within;
       }
 
-  pub went-less : (now′ : List ℕ × List ℤ) (stage′ : Stage) (next entries′ literals′ : ℕ) → Went stage text at entries literals now now′ stage′ next entries′ literals′ → at < next
-  went-less now′ stage′ next entries′ literals′ w = let from = w .passed .place in omega arith
-
   -- a fault at this place
-  pub reached-fault : (number : ℕ) → Fault number stage (pieces LF (drop at text)) → FaultIn text number at
-  reached-fault number fault =
+  pub reached-fault : {number : ℕ} → Fault number stage (pieces LF (drop at text)) → FaultIn text number at
+  reached-fault fault =
       record { lines = reached .lines; left = pieces LF (drop at text); stage = stage; prefix = reached .P; clauses = reached .C; cut = reached .cut; follow = reached .follow; fault = fault; at = reached .place }
 
   -- the text's end
@@ -148,4 +149,4 @@ module _ (text : List ℕ) (before : List ℕ × List ℤ) (at : ℕ) (stage : S
         clauses-stored = reached .clauses-stored;
       }
   reached-end h (Refused number place) f =
-      subst (FaultIn text number) (sym (f .1)) (reached-fault number (subst (λ (xs : List ℕ). Fault number stage (pieces LF xs)) (sym (drop-of-length-le text h)) (f .0)))
+      subst (FaultIn text number) (sym (f .1)) (reached-fault (subst (λ (xs : List ℕ). Fault number stage (pieces LF xs)) (sym (drop-of-length-le text h)) (f .0)))

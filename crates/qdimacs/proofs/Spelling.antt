@@ -1,23 +1,20 @@
 -- The laws of a word that is looked for: by its length and by its bytes.
-use Prim.Native.Nat.{ℕ, suc, _+_, _-_, _<_, _≤_}
-use mathlib.Core.Path.{_≡_, refl, sym, ap, _∙_}
+use Prim.Native.Nat.{ℕ, suc, _+_, _-_, _<_}
+use mathlib.Core.Path.{_≡_, sym, ap, _∙_}
 use mathlib.Core.List.{List, [], _∷_}
 use native.Mathlib.Omega.{arith}
-use native.Mathlib.Numerals.{add-one}
 use lib.ListN.{length, getD, take}
 use lib.Seq.{slice, slice-empty, slice-cons, length-slice, getD-drop, getD-take}
-use Rattle.qdimacs.specs.declared.Number.the-variants.{Is}
 use Rattle.qdimacs.specs.declared.Spelt.the-variants.{Missing}
-use Rattle.qdimacs.specs.Words.{numberOf}
 use Rattle.qdimacs.specs.Places.{wordsAt}
 use Rattle.qdimacs.specs.Steps.{Goes, SpeltIs}
 use Rattle.qdimacs.proofs.Lines.{FoundIs, EndIs}
 
 -- no word is left
-pub spelt-end : (text : List ℕ) (at stop : ℕ) → EndIs text at stop → (word : List ℕ) (more : List (List ℕ)) → wordsAt text at ≡ word ∷ more → ⊥
-spelt-end text at stop e word more q = let none = e .none in let no : _≡_ {A = ℕ} 0 1 = cc in omega arith
+pub spelt-end : {text : List ℕ} {at stop : ℕ} → EndIs text at stop → (word : List ℕ) (more : List (List ℕ)) → wordsAt text at ≡ word ∷ more → ⊥
+spelt-end e word more q = let none = e .none in let no : _≡_ {A = ℕ} 0 1 = cc in omega arith
 
-module _ (text : List ℕ) (at start end : ℕ) (found : FoundIs text at start end) where
+module _ {text : List ℕ} {at start end : ℕ} (found : FoundIs text at start end) where
   -- the word that stands next is the one found
   pub goes : (word : List ℕ) → slice start end text ≡ word → Goes word text at end
   goes word is =

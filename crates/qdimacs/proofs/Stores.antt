@@ -16,7 +16,8 @@ use mir.Syntax.{w32}
 use mir.Val.{toZ, ofZ}
 use mir.Facts.{toZ-ofZ}
 use Rattle.qdimacs.specs.Words.{LF, SPACE, MINUS, LETTER-A, LETTER-E}
-use Rattle.qdimacs.specs.Writing.{Wrote, decimal, markWord, literalWord, spaced, ended, prefixText, clauseText, clauseCount, problemBytes, SmallEntries, entryBytes, literalBytes, nextFirst}
+use Rattle.qdimacs.specs.Writing.{decimal, markWord, literalWord, spaced, ended, prefixText, clauseText, clauseCount, problemBytes}
+use Rattle.qdimacs.specs.Bytes.{Wrote, SmallEntries, entryBytes, literalBytes, nextFirst}
 use Rattle.qdimacs.proofs.Decimal.{digits}
 use Rattle.qdimacs.proofs.Rows.{sets-append}
 

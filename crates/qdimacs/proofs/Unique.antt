@@ -1,17 +1,17 @@
 -- A text is read in one way: each line leads to one stage, a text has one fault or is the text of one n and two tables.
-use Prim.Native.Nat.{ℕ, suc, _+_, _<_, _≤_}
-use mathlib.Core.Path.{_≡_, refl, sym, ap, ap₂, _∙_, subst, subst₃}
+use Prim.Native.Nat.{ℕ}
+use mathlib.Core.Path.{_≡_, refl, sym, ap, ap₂, _∙_, subst}
 use mathlib.Core.List.{List, [], _∷_, _++_}
 use mathlib.Core.Option.{some}
 use native.Mathlib.Omega.{arith}
 use lib.IntN.{ℤ}
 use Rattle.qdimacs.specs.declared.Number.the-variants.{Is}
 use Rattle.qdimacs.specs.declared.Stage.{Stage}
-use Rattle.qdimacs.specs.declared.Stage.the-variants.{Opening, Body}
-use Rattle.qdimacs.specs.Words.{LF, SPACE, LETTER-A, LETTER-C, LETTER-E, LETTER-P, onto, pieces, filled, words, numberOf, entriesOf}
-use Rattle.qdimacs.specs.Grammar.{variables, literals, CommentLine, comment, ProblemLine, p-cnf, QuantifierLine, e-line, a-line, ClauseLine, literals-line, Line, a-comment, the-problem, a-block, a-clause, Lines, no-line, one-more, TextOf, TooMany, too-many, Fault, outside, unended, no-problem, many, few, placeAfter, FaultIn}
+use Rattle.qdimacs.specs.declared.Stage.the-variants.{Body}
+use Rattle.qdimacs.specs.Words.{SPACE, LETTER-A, LETTER-C, LETTER-E, LETTER-P, onto, pieces, filled, words, numberOf, entriesOf}
+use Rattle.qdimacs.specs.Grammar.{variables, CommentLine, comment, ProblemLine, p-cnf, QuantifierLine, e-line, a-line, ClauseLine, literals-line, Line, a-comment, the-problem, a-block, a-clause, Lines, no-line, one-more, TextOf, TooMany, too-many, Fault, outside, unended, no-problem, many, few, placeAfter, FaultIn}
 use Rattle.qdimacs.specs.Places.{front, later}
-use Rattle.qdimacs.proofs.Lines.{front-later, front-onto}
+use Rattle.qdimacs.proofs.Lines.{front-later}
 use Rattle.qdimacs.proofs.Bodies.{exclusive}
 
 -- A line that begins with c is no problem line: its first word does.

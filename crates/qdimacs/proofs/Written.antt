@@ -1,23 +1,24 @@
 -- The round trip, at the grammar: the text written for tables that a text can hold is the text of those tables.
-use Prim.Native.Nat.{ℕ, zero, suc, _+_, _<_, _≤_}
+use Prim.Native.Nat.{ℕ, suc, _+_, _<_, _≤_}
 use mathlib.Core.Path.{_≡_, refl, sym, ap, _∙_, subst, subst₂}
-use mathlib.Core.Logic.{_⊎_, ⊎-elim}
-use mathlib.Core.Bool.{Bool, true, false, cond, _&&_}
+use mathlib.Core.Logic.{⊎-elim}
+use mathlib.Core.Bool.{Bool, true, false, _&&_}
 use mathlib.Core.List.{List, [], _∷_, _++_, append-assoc, append-nil}
-use mathlib.Core.Option.{Option, none, some}
+use mathlib.Core.Option.{Option, some}
 use native.Mathlib.Omega.{arith}
-use borrow.Author.Tests.{le-leb, leb-true, eq-eqb, ne-eqb}
+use borrow.Author.Tests.{leb-true, ne-eqb}
 use lib.Dec.{eqb, leb}
-use lib.ListN.{length, getD}
-use lib.IntN.{ℤ, pos, negsuc, natAbs, negℤ}
-use Rattle.qdimacs.specs.declared.Number.the-variants.{Is}
-use Rattle.qdimacs.specs.declared.Item.{Item}
-use Rattle.qdimacs.specs.declared.Item.the-variants.{Plain, Negated, Closing}
+use lib.ListN.{length}
+use lib.IntN.{ℤ, pos, negsuc, natAbs}
+use Rattle.qdimacs.specs.declared.Item.the-variants.{Plain, Negated}
 use Rattle.qdimacs.specs.declared.Stage.{Stage}
-use Rattle.qdimacs.specs.declared.Stage.the-variants.{Opening, Body}
+use Rattle.qdimacs.specs.declared.Stage.the-variants.{Body}
 use Rattle.qdimacs.specs.Words.{LF, SPACE, MINUS, ZERO, NINE, LETTER-A, LETTER-C, LETTER-E, LETTER-F, LETTER-N, LETTER-P, onto, pieces, filled, words, allDigits, spelt, unpadded, isNumber, numberOf, plainItem, negatedItem, itemOf, Kind, prepend, closed, entry, entriesOf}
 use Rattle.qdimacs.specs.Grammar.{variables, literals, p-cnf, QuantifierLine, e-line, a-line, literals-line, the-problem, a-block, a-clause, Lines, no-line, one-more, TextOf}
-use Rattle.qdimacs.specs.Writing.{decimal, digitsOf, markWord, literalWord, spaced, ended, prefixText, clauseText, clauseCount, problemBytes, textOf, Blocks, no-block, block, block-end, variable, Clauses, no-clause, clause-end, literal, Holdable}
+use Rattle.qdimacs.specs.Writing.{decimal, digitsOf, markWord, literalWord, spaced, ended, prefixText, clauseText, clauseCount, problemBytes, textOf}
+use Rattle.qdimacs.proofs.Holdable.{Blocks, no-block, block, block-end, variable, Clauses, no-clause, clause-end, literal, Holdable}
+use Rattle.qdimacs.proofs.Numbers.{both}
+use Rattle.qdimacs.proofs.Lines.{filled-some}
 use Rattle.qdimacs.proofs.Decimal.{Digits, digits, decimal-number}
 
 -- Bytes among which a mark does not stand.
@@ -40,31 +41,22 @@ unfolding pieces
 pieces-last mark {w} r = ap (pieces mark) (sym (append-nil w)) ∙ pieces-front mark [] [] [] r refl ∙ ap (λ (l : List ℕ). l ∷ []) (append-nil w)
 
 -- A word, and the words after it.
-filled-word : (w : List ℕ) (more : List (List ℕ)) → 1 ≤ length w → filled (w ∷ more) ≡ w ∷ filled more
-unfolding filled
-filled-word [] more h = let no : ⊥ = omega arith in absurd no
-filled-word (b ∷ bs) more h = refl
-
 words-more : {w : List ℕ} (x : List ℕ) → Without SPACE w → 1 ≤ length w → words (w ++ (SPACE ∷ x)) ≡ w ∷ words x
 unfolding words
-words-more {w} x r h = ap filled (pieces-mark SPACE x refl r) ∙ filled-word w (pieces SPACE x) h
+words-more {w} x r h = ap filled (pieces-mark SPACE x refl r) ∙ filled-some w (pieces SPACE x) h
 
 words-last : {w : List ℕ} → Without SPACE w → 1 ≤ length w → words w ≡ w ∷ []
 unfolding words filled
-words-last {w} r h = ap filled (pieces-last SPACE r) ∙ filled-word w [] h
+words-last {w} r h = ap filled (pieces-last SPACE r) ∙ filled-some w [] h
 
 -- Digits hold neither a space nor an LF.
 digits-without : (mark : ℕ) → mark < ZERO → (xs : List ℕ) → allDigits xs ≡ true → Without mark xs
 unfolding allDigits
 digits-without mark h [] e = without-none
 digits-without mark h (x ∷ xs) e =
-    elim (leb ZERO x) as (λ t. leb ZERO x ≡ t → ((t && leb x NINE) && allDigits xs) ≡ true → Without mark (x ∷ xs)) [
-      | true ↦ λ t. elim (leb x NINE) as (λ u. (u && allDigits xs) ≡ true → Without mark (x ∷ xs)) [
-        | true ↦ λ q. let low = leb-true ZERO x t in without-more (ne-eqb x mark (λ z. omega arith)) (digits-without mark h xs q)
-        | false ↦ λ q. let no : _≡_ {A = ℕ} 0 1 = cc in let no : ⊥ = omega arith in absurd no
-      ]
-      | false ↦ λ t q. let no : _≡_ {A = ℕ} 0 1 = cc in let no : ⊥ = omega arith in absurd no
-    ] refl e
+    let (digit, more) = both (leb ZERO x && leb x NINE) (allDigits xs) e in
+    let low = leb-true ZERO x (both (leb ZERO x) (leb x NINE) digit .0) in
+    without-more (ne-eqb x mark (λ z. omega arith)) (digits-without mark h xs more)
 
 module _ (value : ℕ) (h : value < 100000) where
   decimal-digits : Digits value 5
@@ -98,11 +90,6 @@ pieces-spaced : (first : Bool) (x l : List ℕ) (ps : List (List ℕ)) → piece
 unfolding spaced pieces onto
 pieces-spaced true x l ps e = e
 pieces-spaced false x l ps e = rw e
-
-words-spaced : (first : Bool) (x : List ℕ) → words (spaced first x) ≡ words x
-unfolding spaced words pieces filled
-words-spaced true x = refl
-words-spaced false x = refl
 
 -- A variable in its line: its text, and what it adds to the entries.
 variable-text : (v : ℕ) (more : List ℕ) → (v ≡ 0 → ⊥) → prefixText false (v ∷ more) ≡ SPACE ∷ (decimal v ++ prefixText false more)

@@ -1,4 +1,5 @@
--- Where the word reader finds a word: the computed form beside the grammar, for a text and a place in it.
+-- What the functions on words and on lines of entries promise, for a text and a place in it: where the next word stands, by computing, and what
+-- it says of the line in the grammar's words.
 use Prim.Native.Nat.{ℕ, suc, _+_, _<_, _≤_}
 use mathlib.Core.Path.{_≡_}
 use mathlib.Core.Bool.{Bool, not, cond, _&&_}
@@ -45,6 +46,10 @@ wordFrom start end = cond (ltb start end) (Found start end) (End start)
 
 unfoldable pub wordAt : List ℕ → ℕ → Word
 wordAt text at = let start = past isSpace text at in wordFrom start (past inWord text start)
+
+-- Digits as the number that they spell after the number `before`.
+unfoldable pub speltOf : ℕ → List ℕ → Number
+speltOf before word = cond (allDigits word) (Is (spelt before word)) Not
 
 -- The line that stands at a place, up to its LF or the text's end, and what follows its LF, cut at LF: nothing if it has none.
 unfoldable pub front : List (List ℕ) → List ℕ
@@ -134,7 +139,3 @@ pub data NoRow {A : Type 0} (kind : Kind A) (text : List ℕ) (at : ℕ) : Type 
 abbrev pub RowIs : {A : Type 0} → Kind A → List ℕ → ℕ → ℕ → List A → List A → Row → Type 0
 RowIs kind text at from before after Broken = NoRow kind text at
 RowIs kind text at from before after (Whole next count) = WholeRow kind text at from before after next count
-
--- Digits as the number that they spell after the number `before`.
-unfoldable pub speltOf : ℕ → List ℕ → Number
-speltOf before word = cond (allDigits word) (Is (spelt before word)) Not

@@ -14,7 +14,7 @@ use Rattle.qdimacs.specs.Grammar.{TextOf, FaultIn}
 abbrev pub TEXT-MOST : ℕ
 TEXT-MOST = 65536
 
--- 15: the text is longer than that.
+-- 15: the text, read or to be written, is longer than that.
 pub data Overlong (text : List ℕ) : ℕ → ℕ → Type 0 where
   overlong : TEXT-MOST < length text → Overlong text 15 TEXT-MOST
 

@@ -22,7 +22,7 @@ use Rattle.qdimacs.specs.declared.Mark.the-variants.{Unmarked, Marked}
 use Rattle.qdimacs.specs.declared.Row.{Row}
 use Rattle.qdimacs.specs.declared.Row.the-variants.{Broken, Whole}
 use Rattle.qdimacs.specs.declared.Step.{Step}
-use Rattle.qdimacs.specs.declared.Step.the-variants.{Bad, Many, On}
+use Rattle.qdimacs.specs.declared.Step.the-variants.{Wrong, On}
 use Rattle.qdimacs.specs.Words.{LF, LETTER-A, LETTER-E, pieces, numberOf, entriesOf}
 use Rattle.qdimacs.specs.Grammar.{variables, CommentLine, ProblemLine, Line, TextOf, Fault, FaultIn}
 use Rattle.qdimacs.specs.Places.{past, inLine, lineAt, afterAt, wordsAt, Passed, NoRow}
@@ -101,8 +101,7 @@ pub record Went (stage : Stage) (text : List ℕ) (at entries literals : ℕ) (b
 
 -- What a line makes of a stage and two tables, which `before` and `after` hold: a fault, or the next stage.
 abbrev pub StepIs : Stage → List ℕ → ℕ → ℕ → ℕ → List ℕ × List ℤ → List ℕ × List ℤ → Step → Type 0
-StepIs stage text at entries literals before after Bad = Fault 16 stage (pieces LF (drop at text))
-StepIs stage text at entries literals before after Many = Fault 17 stage (pieces LF (drop at text))
+StepIs stage text at entries literals before after (Wrong number) = Fault number stage (pieces LF (drop at text))
 StepIs stage text at entries literals before after (On stage′ next entries′ literals′) = Went stage text at entries literals before after stage′ next entries′ literals′
 
 -- No more clause lines have stood than were announced.

@@ -1,6 +1,6 @@
--- What writing the text of tables that were accepted promises (document 01): the text stands in front in the lent buffer, or the first cause
--- in the order 15, 14. The causes 1 to 11 come before these: they are those of the tables.
-use Prim.Native.Nat.{ℕ, _<_, _≤_}
+-- What writing promises (document 01, "Refusal numbers" and "Calls"): the text of the tables stands in front in the lent buffer, or the first
+-- cause in the order of check, then 15, then 14.
+use Prim.Native.Nat.{ℕ, _<_}
 use mathlib.Core.Path.{_≡_}
 use mathlib.Core.List.{List, [], _∷_, _++_}
 use lib.IntN.{ℤ}
@@ -26,6 +26,7 @@ pub record Stored (text out out′ : List ℕ) (count : ℕ) : Type 0 where
   pub written : take count out′ ≡ text
   pub kept : drop count out′ ≡ drop count out
 
+-- What is promised once the tables are accepted.
 abbrev pub WriteIs : List ℕ → List ℕ → List ℕ → Output → Type 0
 WriteIs text out out′ (Written count) = NoneOf (writeOrder text out) × Stored text out out′ count
 WriteIs text out out′ (Refused number place) = FirstOf (writeOrder text out) number place × (out′ ≡ out)
@@ -34,7 +35,7 @@ WriteIs text out out′ (Refused number place) = FirstOf (writeOrder text out) n
 abbrev pub tablesOrder : ℕ → List ℕ → List ℤ → List ℕ → List Causes
 tablesOrder n prefix clauses out = checkOrder n prefix clauses ++ writeOrder (textOf n prefix clauses) out
 
--- What write promises: the text of n and the two tables stands in front in the lent buffer, or nothing is changed.
+-- What write promises: the text of n and the two tables stands in front, or nothing is changed.
 abbrev pub Writes : ℕ → List ℕ → List ℤ → List ℕ → List ℕ → Output → Type 0
 Writes n prefix clauses out out′ (Written count) = NoneOf (tablesOrder n prefix clauses out) × Stored (textOf n prefix clauses) out out′ count
 Writes n prefix clauses out out′ (Refused number place) = FirstOf (tablesOrder n prefix clauses out) number place × (out′ ≡ out)

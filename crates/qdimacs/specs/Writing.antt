@@ -1,12 +1,8 @@
 -- The text that is written for n and two tables (document 01, "QDIMACS lines"): no comments, single spaces and no stray ones.
-use Prim.Native.Nat.{ℕ, zero, suc, _+_, _<_, _/_, _%_}
-use mathlib.Core.Path.{_≡_}
-use mathlib.Core.Logic.{_⊎_}
+use Prim.Native.Nat.{ℕ, zero, suc, _+_, _/_, _%_}
 use mathlib.Core.Bool.{Bool, true, false, cond}
 use mathlib.Core.List.{List, [], _∷_, _++_}
 use lib.Dec.{eqb, ltb}
-use lib.ListN.{length, getD}
-use lib.Seq.{sets}
 use lib.IntN.{ℤ, pos, negsuc, natAbs}
 use Rattle.qdimacs.specs.Words.{LF, SPACE, MINUS, ZERO, LETTER-A, LETTER-C, LETTER-E, LETTER-F, LETTER-N, LETTER-P}
 
@@ -59,47 +55,3 @@ problemBytes n m = cnfBytes ++ (decimal n ++ (SPACE ∷ (decimal m ++ (LF ∷ []
 
 unfoldable pub textOf : ℕ → List ℕ → List ℤ → List ℕ
 textOf n prefix clauses = problemBytes n (clauseCount clauses) ++ (prefixText true prefix ++ clauseText true clauses)
-
--- Tables that a text can hold: blocks of a mark, nonzero variables and 0; clauses of nonzero literals and 0; numbers of at most five digits.
--- The flag says whether a block or a clause begins here.
-pub data Blocks : Bool → List ℕ → Type 0 where
-  no-block : Blocks true []
-  block : {mark : ℕ} {more : List ℕ} → (mark ≡ 1) ⊎ (mark ≡ 2) → Blocks false more → Blocks true (mark ∷ more)
-  block-end : {more : List ℕ} → Blocks true more → Blocks false (0 ∷ more)
-  variable : {entry : ℕ} {more : List ℕ} → (entry ≡ 0 → ⊥) → entry < 100000 → Blocks false more → Blocks false (entry ∷ more)
-
-pub data Clauses : Bool → List ℤ → Type 0 where
-  no-clause : Clauses true []
-  clause-end : {first : Bool} {more : List ℤ} → Clauses true more → Clauses first (pos 0 ∷ more)
-  literal : {first : Bool} {entry : ℤ} {more : List ℤ} → (natAbs entry ≡ 0 → ⊥) → natAbs entry < 100000 → Clauses false more → Clauses first (entry ∷ more)
-
-pub record Holdable (n : ℕ) (prefix : List ℕ) (clauses : List ℤ) : Type 0 where
-  pub number : n < 100000
-  pub count : clauseCount clauses < 100000
-  pub blocks : Blocks true prefix
-  pub all-clauses : Clauses true clauses
-
--- Bytes that were stored in a buffer from a place on, as far as it has room, and the place after them.
-pub record Wrote (bytes before after : List ℕ) (at next : ℕ) : Type 0 where
-  pub end : next ≡ at + length bytes
-  pub stored : after ≡ sets before at bytes
-
--- The bytes of one entry, at the beginning of a line or after it.
-unfoldable pub entryBytes : Bool → ℕ → List ℕ
-entryBytes true mark = markWord mark
-entryBytes false entry = SPACE ∷ (decimal entry ++ ended (eqb entry 0) [])
-
-unfoldable pub literalBytes : Bool → ℤ → List ℕ
-literalBytes first entry = spaced first (literalWord entry ++ ended (eqb (natAbs entry) 0) [])
-
--- Every entry is below 100,000, in either sign.
-abbrev pub SmallEntries : List ℕ → Type 0
-SmallEntries prefix = (i : ℕ) → i < length prefix → getD prefix i 0 < 100000
-
-abbrev pub SmallLiterals : List ℤ → Type 0
-SmallLiterals clauses = (i : ℕ) → i < length clauses → natAbs (getD clauses i (pos 0)) < 100000
-
--- Whether a line begins after an entry of the prefix table: not after a mark, and else after the closing 0.
-unfoldable pub nextFirst : Bool → ℕ → Bool
-nextFirst true mark = false
-nextFirst false entry = eqb entry 0

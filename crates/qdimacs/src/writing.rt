@@ -1,15 +1,5 @@
-// The text of n and two tables, stored in a lent buffer as far as it has room, with the place after it: its length is known before anything
-// is written where the buffer has no room at all.
+// The writer of accepted tables: the problem line, then the lines of the prefix table and those of the clause table.
 
-ghost use mathlib.Core.Path.{_≡_};
-ghost use mathlib.Core.List.{[], _∷_};
-ghost use Prim.Native.Nat.{_+_, _<_, _≤_};
-ghost use lib.ListN.{length};
-ghost use lib.Dec.{eqb};
-ghost use lib.IntN.{natAbs};
-ghost use Rattle.qdimacs.specs.Writing.{decimal, cnfBytes, problemBytes, literalWord, spaced, nextFirst, entryBytes, literalBytes, prefixText, clauseText, clauseCount, textOf, Wrote, SmallEntries, SmallLiterals};
-ghost use Rattle.qdimacs.specs.Stored.{WriteIs};
-ghost use mathlib.Core.Bool.{true};
 use crate::LETTER_A;
 use crate::LETTER_C;
 use crate::LETTER_E;
@@ -21,31 +11,119 @@ use crate::MINUS;
 use crate::Output;
 use crate::SPACE;
 use crate::TEXT_MOST;
-use crate::ZERO;
+use crate::bytes::put_byte;
+use crate::bytes::put_number;
 use terms::Literal;
+ghost use mathlib.Core.Path.{_≡_};
+ghost use mathlib.Core.List.{[], _∷_};
+ghost use Prim.Native.Nat.{_+_, _<_, _≤_};
+ghost use lib.ListN.{length};
+ghost use lib.Dec.{eqb};
+ghost use lib.IntN.{natAbs};
+ghost use Rattle.qdimacs.specs.Writing.{cnfBytes, problemBytes, literalWord, spaced, prefixText, clauseText, clauseCount, textOf};
+ghost use Rattle.qdimacs.specs.Bytes.{nextFirst, entryBytes, literalBytes, Wrote, SmallEntries, SmallLiterals};
+ghost use Rattle.qdimacs.specs.Stored.{WriteIs};
+ghost use mathlib.Core.Bool.{true};
 
-// Stores a byte if the buffer has room for it.
-pub fn put_byte(out: &mut [u8], at: usize, byte: u8) -> usize
-    requires { ⌜ at < 4294967296 ⌝ }
-    ensures { λ r. ⌜ Wrote (byte ∷ []) (now (out .entry)) (now (out .exit)) at r ⌝ }
+// Writes the text of tables that were accepted into a lent buffer. The length is found first, in a buffer of its own that no one sees, so that
+// nothing is written where the text is too long or does not fit.
+pub fn write_accepted(n: u32, prefix: &[u32], clauses: &[i32], out: &mut [u8]) -> Output
+    requires { ⌜ (n < 100000) × (length (now prefix) ≤ 8192) × (length (now clauses) ≤ 16384) × SmallEntries (now prefix) × SmallLiterals (now clauses) ⌝ }
+    ensures { λ r. ⌜ WriteIs (textOf n (now (prefix .entry)) (now (clauses .entry))) (now (out .entry)) (now (out .exit)) r ⌝ }
 {
-    if at < out.len() {
-        out[at] = byte;
-        return at + 1;
+    let mut unseen = [0u8; 1];
+    let count = put_text(&mut unseen, n, prefix, clauses);
+    if TEXT_MOST < count {
+        return Output::Refused {
+            number: 15,
+            place: TEXT_MOST,
+        };
     }
-    at + 1
+    if out.len() < count {
+        return Output::Refused {
+            number: 14,
+            place: 0,
+        };
+    }
+    let written = put_text(out, n, prefix, clauses);
+    Output::Written { count: written }
 }
 
-// The decimal digits of a number.
-pub fn put_number(out: &mut [u8], at: usize, value: u32) -> usize
-    requires { ⌜ (at < 4294967200) × (value < 100000) ⌝ }
-    ensures { λ r. ⌜ Wrote (decimal value) (now (out .entry)) (now (out .exit)) at r ⌝ }
+// The text of n and two tables.
+fn put_text(out: &mut [u8], n: u32, prefix: &[u32], clauses: &[i32]) -> usize
+    requires { ⌜ (n < 100000) × (length (now prefix) ≤ 8192) × (length (now clauses) ≤ 16384) × SmallEntries (now prefix) × SmallLiterals (now clauses) ⌝ }
+    ensures { λ r. ⌜ Wrote (textOf n (now (prefix .entry)) (now (clauses .entry))) (now (out .entry)) (now (out .exit)) 0 r ⌝ }
 {
-    if value < 10 {
-        return put_byte(out, at, ZERO + (value as u8));
+    let count = count_clauses(clauses);
+    let lines = put_problem(out, n, count);
+    let body = put_prefix(out, lines, prefix);
+    put_clauses(out, body, clauses)
+}
+
+// The problem line.
+fn put_problem(out: &mut [u8], n: u32, count: u32) -> usize
+    requires { ⌜ (n < 100000) × (count < 100000) ⌝ }
+    ensures { λ r. ⌜ Wrote (problemBytes n count) (now (out .entry)) (now (out .exit)) 0 r ⌝ }
+{
+    let start = put_cnf(out);
+    let number = put_number(out, start, n);
+    let space = put_byte(out, number, SPACE);
+    let last = put_number(out, space, count);
+    put_byte(out, last, LF)
+}
+
+// The words `p cnf` and the space after them.
+fn put_cnf(out: &mut [u8]) -> usize
+    ensures { λ r. ⌜ Wrote cnfBytes (now (out .entry)) (now (out .exit)) 0 r ⌝ }
+{
+    let space = put_byte(out, 0, LETTER_P);
+    let c = put_byte(out, space, SPACE);
+    let n = put_byte(out, c, LETTER_C);
+    let f = put_byte(out, n, LETTER_N);
+    let last = put_byte(out, f, LETTER_F);
+    put_byte(out, last, SPACE)
+}
+
+// How many clauses a clause table has.
+fn count_clauses(clauses: &[i32]) -> u32
+    requires { ⌜ (length (now clauses) ≤ 16384) × SmallLiterals (now clauses) ⌝ }
+    ensures { λ r. ⌜ r ≡ clauseCount (now (clauses .entry)) ⌝ }
+{
+    let mut i = 0;
+    let mut count: u32 = 0;
+    while i < clauses.len() {
+        count = count_more(count, clauses[i]);
+        i += 1;
     }
-    let next = put_number(out, at, value / 10);
-    put_byte(out, next, ZERO + ((value % 10) as u8))
+    count
+}
+
+// A count of clauses with one more entry.
+fn count_more(count: u32, literal: i32) -> u32
+    requires { ⌜ count < 16384 ⌝ }
+    ensures { λ r. ⌜ r ≡ count + clauseCount (literal ∷ []) ⌝ }
+{
+    if closes(literal) {
+        return count + 1;
+    }
+    count
+}
+
+// The lines of the prefix table.
+fn put_prefix(out: &mut [u8], at: usize, prefix: &[u32]) -> usize
+    requires { ⌜ (at < 4096) × (length (now prefix) ≤ 8192) × SmallEntries (now prefix) ⌝ }
+    ensures { λ r. ⌜ Wrote (prefixText true (now (prefix .entry))) (now (out .entry)) (now (out .exit)) at r ⌝ }
+{
+    let mut i = 0;
+    let mut next = at;
+    let mut first = true;
+    while i < prefix.len() {
+        let entry = prefix[i];
+        next = put_entry(out, next, first, entry);
+        first = starts(first, entry);
+        i += 1;
+    }
+    next
 }
 
 // One entry of the prefix table: a mark as its letter, or a number after a space, with LF after the closing 0.
@@ -62,6 +140,46 @@ fn put_entry(out: &mut [u8], at: usize, first: bool, entry: u32) -> usize
     let start = put_byte(out, at, SPACE);
     let end = put_number(out, start, entry);
     if entry == 0 {
+        return put_byte(out, end, LF);
+    }
+    end
+}
+
+// Whether a line begins after an entry of the prefix table.
+fn starts(first: bool, entry: u32) -> bool
+    ensures { λ r. ⌜ r ≡ nextFirst first entry ⌝ }
+{
+    if first {
+        return false;
+    }
+    entry == 0
+}
+
+// The lines of the clause table.
+fn put_clauses(out: &mut [u8], at: usize, clauses: &[i32]) -> usize
+    requires { ⌜ (at < 1048576) × (length (now clauses) ≤ 16384) × SmallLiterals (now clauses) ⌝ }
+    ensures { λ r. ⌜ Wrote (clauseText true (now (clauses .entry))) (now (out .entry)) (now (out .exit)) at r ⌝ }
+{
+    let mut i = 0;
+    let mut next = at;
+    let mut first = true;
+    while i < clauses.len() {
+        let literal = clauses[i];
+        next = put_clause_entry(out, next, first, literal);
+        first = closes(literal);
+        i += 1;
+    }
+    next
+}
+
+// One entry of the clause table: a literal after a space unless its clause begins here, with LF after the closing 0.
+fn put_clause_entry(out: &mut [u8], at: usize, first: bool, literal: i32) -> usize
+    requires { ⌜ (at < 4294967000) × (natAbs literal < 100000) ⌝ }
+    ensures { λ r. ⌜ Wrote (literalBytes first literal) (now (out .entry)) (now (out .exit)) at r ⌝ }
+{
+    let start = put_space(out, at, first);
+    let end = put_literal(out, start, literal);
+    if closes(literal) {
         return put_byte(out, end, LF);
     }
     end
@@ -97,145 +215,4 @@ fn closes(literal: i32) -> bool
 {
     let variable = Literal::new(literal).variable().0;
     variable == 0
-}
-
-// One entry of the clause table: a literal after a space unless its clause begins here, with LF after the closing 0.
-fn put_clause_entry(out: &mut [u8], at: usize, first: bool, literal: i32) -> usize
-    requires { ⌜ (at < 4294967000) × (natAbs literal < 100000) ⌝ }
-    ensures { λ r. ⌜ Wrote (literalBytes first literal) (now (out .entry)) (now (out .exit)) at r ⌝ }
-{
-    let start = put_space(out, at, first);
-    let end = put_literal(out, start, literal);
-    if closes(literal) {
-        return put_byte(out, end, LF);
-    }
-    end
-}
-
-// The lines of the prefix table.
-fn put_prefix(out: &mut [u8], at: usize, prefix: &[u32]) -> usize
-    requires { ⌜ (at < 4096) × (length (now prefix) ≤ 8192) × SmallEntries (now prefix) ⌝ }
-    ensures { λ r. ⌜ Wrote (prefixText true (now (prefix .entry))) (now (out .entry)) (now (out .exit)) at r ⌝ }
-{
-    let mut i = 0;
-    let mut next = at;
-    let mut first = true;
-    while i < prefix.len() {
-        let entry = prefix[i];
-        next = put_entry(out, next, first, entry);
-        first = starts(first, entry);
-        i += 1;
-    }
-    next
-}
-
-// Whether a line begins after an entry of the prefix table.
-fn starts(first: bool, entry: u32) -> bool
-    ensures { λ r. ⌜ r ≡ nextFirst first entry ⌝ }
-{
-    if first {
-        return false;
-    }
-    entry == 0
-}
-
-// The lines of the clause table.
-fn put_clauses(out: &mut [u8], at: usize, clauses: &[i32]) -> usize
-    requires { ⌜ (at < 1048576) × (length (now clauses) ≤ 16384) × SmallLiterals (now clauses) ⌝ }
-    ensures { λ r. ⌜ Wrote (clauseText true (now (clauses .entry))) (now (out .entry)) (now (out .exit)) at r ⌝ }
-{
-    let mut i = 0;
-    let mut next = at;
-    let mut first = true;
-    while i < clauses.len() {
-        let literal = clauses[i];
-        next = put_clause_entry(out, next, first, literal);
-        first = closes(literal);
-        i += 1;
-    }
-    next
-}
-
-// A count of clauses with one more entry.
-fn count_more(count: u32, literal: i32) -> u32
-    requires { ⌜ count < 16384 ⌝ }
-    ensures { λ r. ⌜ r ≡ count + clauseCount (literal ∷ []) ⌝ }
-{
-    if closes(literal) {
-        return count + 1;
-    }
-    count
-}
-
-// How many clauses a clause table has.
-fn count_clauses(clauses: &[i32]) -> u32
-    requires { ⌜ (length (now clauses) ≤ 16384) × SmallLiterals (now clauses) ⌝ }
-    ensures { λ r. ⌜ r ≡ clauseCount (now (clauses .entry)) ⌝ }
-{
-    let mut i = 0;
-    let mut count: u32 = 0;
-    while i < clauses.len() {
-        count = count_more(count, clauses[i]);
-        i += 1;
-    }
-    count
-}
-
-// The words `p cnf` and the space after them.
-fn put_cnf(out: &mut [u8]) -> usize
-    ensures { λ r. ⌜ Wrote cnfBytes (now (out .entry)) (now (out .exit)) 0 r ⌝ }
-{
-    let space = put_byte(out, 0, LETTER_P);
-    let c = put_byte(out, space, SPACE);
-    let n = put_byte(out, c, LETTER_C);
-    let f = put_byte(out, n, LETTER_N);
-    let last = put_byte(out, f, LETTER_F);
-    put_byte(out, last, SPACE)
-}
-
-// The problem line.
-fn put_problem(out: &mut [u8], n: u32, count: u32) -> usize
-    requires { ⌜ (n < 100000) × (count < 100000) ⌝ }
-    ensures { λ r. ⌜ Wrote (problemBytes n count) (now (out .entry)) (now (out .exit)) 0 r ⌝ }
-{
-    let start = put_cnf(out);
-    let number = put_number(out, start, n);
-    let space = put_byte(out, number, SPACE);
-    let last = put_number(out, space, count);
-    put_byte(out, last, LF)
-}
-
-// The text of n and two tables.
-pub fn put_text(out: &mut [u8], n: u32, prefix: &[u32], clauses: &[i32]) -> usize
-    requires { ⌜ (n < 100000) × (length (now prefix) ≤ 8192) × (length (now clauses) ≤ 16384) × SmallEntries (now prefix) × SmallLiterals (now clauses) ⌝ }
-    ensures { λ r. ⌜ Wrote (textOf n (now (prefix .entry)) (now (clauses .entry))) (now (out .entry)) (now (out .exit)) 0 r ⌝ }
-{
-    let count = count_clauses(clauses);
-    let lines = put_problem(out, n, count);
-    let body = put_prefix(out, lines, prefix);
-    put_clauses(out, body, clauses)
-}
-
-// Writes the text of tables that were accepted into a lent buffer. The length is found first, in a buffer of its own that no one sees, so that
-// nothing is written where the text is too long or does not fit.
-pub fn write_accepted(n: u32, prefix: &[u32], clauses: &[i32], out: &mut [u8]) -> Output
-    requires { ⌜ (n < 100000) × (length (now prefix) ≤ 8192) × (length (now clauses) ≤ 16384) × SmallEntries (now prefix) × SmallLiterals (now clauses) ⌝ }
-    ensures { λ r. ⌜ WriteIs (textOf n (now (prefix .entry)) (now (clauses .entry))) (now (out .entry)) (now (out .exit)) r ⌝ }
-{
-    let mut unseen = [0u8; 1];
-    let count = put_text(&mut unseen, n, prefix, clauses);
-    if TEXT_MOST < count {
-        return Output::Refused {
-            number: 15,
-            place: TEXT_MOST,
-        };
-    }
-    if out.len() < count {
-        return Output::Refused {
-            number: 14,
-            place: 0,
-        };
-    }
-    let written = put_text(out, n, prefix, clauses);
-    Output::Written { count: written }
 }

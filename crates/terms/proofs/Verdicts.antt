@@ -39,20 +39,20 @@ refused-first order more {k = k} {p = p} q judged = firstOf-more order more k p 
 pub accepted-then : (order more : List Causes) {v : Verdict} (w : Verdict) → v ≡ Accepted → Judged order v → Judged more w → Judged (order ++ more) w
 accepted-then order more w q judged later = none-then order more w (subst (Judged order) q judged) later
 
--- The first of some causes is one number at one place.
-first-unique : {causes : Causes} (k p k′ p′ : ℕ) → First causes k p → First causes k′ p′ → Refused k p ≡ Refused k′ p′
-first-unique {causes} k p k′ p′ f g =
+-- The first of some causes is one number at one place; so is the first in an order.
+first-same : {causes : Causes} (k p k′ p′ : ℕ) → First causes k p → First causes k′ p′ → (k ≡ k′) × (p ≡ p′)
+first-same {causes} k p k′ p′ f g =
     let q : p ≡ p′ = le-antisymm (f .leftmost k′ p′ (g .holds)) (g .leftmost k p (f .holds)) in
     let here : causes k′ p = subst (λ (e : ℕ). causes k′ e) (sym q) (g .holds) in
     let there : causes k p′ = subst (λ (e : ℕ). causes k e) q (f .holds) in
-    ap₂ Refused (le-antisymm (f .lowest k′ here) (g .lowest k there)) q
+    (le-antisymm (f .lowest k′ here) (g .lowest k there), q)
 
-firstOf-unique : (order : List Causes) (k p k′ p′ : ℕ) → FirstOf order k p → FirstOf order k′ p′ → Refused k p ≡ Refused k′ p′
-firstOf-unique [] k p k′ p′ f g = absurd f
-firstOf-unique (causes ∷ later) k p k′ p′ (inl f) (inl g) = first-unique k p k′ p′ f g
-firstOf-unique (causes ∷ later) k p k′ p′ (inl f) (inr g) = absurd (g .0 k p (f .holds))
-firstOf-unique (causes ∷ later) k p k′ p′ (inr f) (inl g) = absurd (f .0 k′ p′ (g .holds))
-firstOf-unique (causes ∷ later) k p k′ p′ (inr f) (inr g) = firstOf-unique later k p k′ p′ (f .1) (g .1)
+pub firstOf-same : (order : List Causes) (k p k′ p′ : ℕ) → FirstOf order k p → FirstOf order k′ p′ → (k ≡ k′) × (p ≡ p′)
+firstOf-same [] k p k′ p′ f g = absurd f
+firstOf-same (causes ∷ later) k p k′ p′ (inl f) (inl g) = first-same k p k′ p′ f g
+firstOf-same (causes ∷ later) k p k′ p′ (inl f) (inr g) = absurd (g .0 k p (f .holds))
+firstOf-same (causes ∷ later) k p k′ p′ (inr f) (inl g) = absurd (f .0 k′ p′ (g .holds))
+firstOf-same (causes ∷ later) k p k′ p′ (inr f) (inr g) = firstOf-same later k p k′ p′ (f .1) (g .1)
 
 -- Where an order has a first cause, its causes are not all absent.
 pub first-or-none : (order : List Causes) (k p : ℕ) → FirstOf order k p → NoneOf order → ⊥
@@ -65,4 +65,4 @@ pub judged-unique : (order : List Causes) (v w : Verdict) → Judged order v →
 judged-unique order Accepted Accepted f g = refl
 judged-unique order Accepted (Refused k p) f g = absurd (first-or-none order k p g f)
 judged-unique order (Refused k p) Accepted f g = absurd (first-or-none order k p f g)
-judged-unique order (Refused k p) (Refused k′ p′) f g = firstOf-unique order k p k′ p′ f g
+judged-unique order (Refused k p) (Refused k′ p′) f g = let same = firstOf-same order k p k′ p′ f g in ap₂ Refused (same .0) (same .1)

@@ -1,45 +1,35 @@
 -- `qdimacs::read` meets its contract: what the first scan finds decides, and the second stores.
-use Prim.Native.Nat.{ℕ}
 use mathlib.Core.Path.{refl, subst}
-use mathlib.Core.List.{List, [], _∷_}
+use mathlib.Core.Logic.{inl}
+use mathlib.Core.List.{[], _∷_}
 use native.Mathlib.Omega.{arith}
 use lib.IntN.{pos}
 use Rattle.qdimacs.specs.declared.Reading.{Reading}
 use Rattle.qdimacs.specs.Steps.{ScanIs}
 use Rattle.qdimacs.specs.Reading.{no-room-prefix, no-room-clauses}
-use Rattle.qdimacs.proofs.Verdicts.{first-overlong, first-fault, first-room, read-all}
+use Rattle.qdimacs.proofs.Readings.{first-overlong, first-fault, first-room, read-all}
 use borrow.Author.Needs.{needs}
 use Rattle.qdimacs.proofs.read.Statement.{statement}
 use Rattle.qdimacs.proofs.read.Tie as tie
-use Rattle.qdimacs.proofs.read.Reads as reads
-use Rattle.qdimacs.proofs.read.Lts as lts
-use Rattle.qdimacs.proofs.scan.Reads as scan-reads
 
--- src/lib.rt:732:9
 returns : tie.Need-returns
-returns c = let a = c .before .before .before .args in (first-overlong (a .text .now) (a .prefix .now) (a .clauses .now) (c .if1 .taken), refl, refl)
+returns c = let a = c .before .before .before .args in (inl (first-overlong (a .text .now) (c .if1 .taken)), refl, refl)
 
--- src/lib.rt:739:22
 slice-aggregate-scan : tie.Need-slice-aggregate-scan
 slice-aggregate-scan c = search needs
 
--- src/lib.rt:739:39
 slice-aggregate-scan-2 : tie.Need-slice-aggregate-scan-2
 slice-aggregate-scan-2 c = search needs
 
--- src/lib.rt:739:11
 scan-requires : tie.Need-scan-requires
 scan-requires c κs = search needs
 
--- src/lib.rt:740:28
 enum-known-number : tie.Need-enum-known-number
 enum-known-number c = search needs
 
--- src/lib.rt:743:21
 enum-known-entries : tie.Need-enum-known-entries
 enum-known-entries c = search needs
 
--- src/lib.rt:747:17
 returns-2 : tie.Need-returns-2
 returns-2 c =
     let a = c .before .before .before .before .before .before .before .before .before .before .before .before .args in
@@ -49,7 +39,6 @@ returns-2 c =
     let e = s .entries-counted in
     (first-room (a .text .now) (a .prefix .now) (a .clauses .now) (c .before .before .before .before .before .before .before .before .before .if1 .left) (s .text-of) (no-room-prefix (s .text-of) (omega (arith, c .if2 .taken))), refl, refl)
 
--- src/lib.rt:753:17
 returns-3 : tie.Need-returns-3
 returns-3 c =
     let a = c .before .before .before .before .before .before .before .before .before .before .before .before .before .args in
@@ -59,11 +48,9 @@ returns-3 c =
     let l = s .literals-counted in
     (first-room (a .text .now) (a .prefix .now) (a .clauses .now) (c .before .before .before .before .before .before .before .before .before .before .if1 .left) (s .text-of) (no-room-clauses (s .text-of) (omega (arith, c .if3 .taken))), refl, refl)
 
--- src/lib.rt:758:13
 scan-requires-2 : tie.Need-scan-requires-2
 scan-requires-2 c κs = search needs
 
--- src/lib.rt:728:1
 returns-4 : tie.Need-returns-4
 returns-4 c =
     let a = c .before .before .before .before .before .before .before .before .before .before .before .args in
@@ -71,15 +58,12 @@ returns-4 c =
     let v = c .before .number .given in
     (first-fault (a .text .now) (a .prefix .now) (a .clauses .now) (c .before .before .before .before .before .before .before .before .if1 .left) (v .0 .0) (v .0 .1 .0) (subst (λ (r : Reading). ScanIs (a .text .now) (0 ∷ [], pos 0 ∷ []) (o .last .1 .0, o .last .1 .1 .0) r) (v .1) (o .ensures)), refl, refl)
 
--- src/lib.rt:728:1
 same-length : tie.Need-same-length
 same-length c = search needs
 
--- src/lib.rt:728:1
 same-length-2 : tie.Need-same-length-2
 same-length-2 c = search needs
 
--- src/lib.rt:728:1
 returns-5 : tie.Need-returns-5
 returns-5 c =
     let a = c .before .before .before .before .before .before .before .before .before .before .before .before .before .before .before .before .before .before .before .args in

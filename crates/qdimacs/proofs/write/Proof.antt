@@ -8,7 +8,7 @@ use Rattle.formula.specs.Causes.{checkOrder}
 use Rattle.qdimacs.specs.Stored.{writeOrder}
 use Rattle.qdimacs.specs.Writing.{textOf}
 use Rattle.qdimacs.proofs.Accepted.{within-limits, small-entries, small-literals}
-use Rattle.qdimacs.proofs.Calls.{writes-accepted}
+use Rattle.qdimacs.proofs.Outputs.{writes-accepted}
 use Rattle.qdimacs.proofs.write.Statement.{statement}
 use Rattle.qdimacs.proofs.write.Tie as tie
 

@@ -11,9 +11,6 @@ use Rattle.qdimacs.specs.Writing.{clauseCount}
 use Rattle.qdimacs.proofs.Stores.{small-bits, count-one, count-more, count-all}
 use Rattle.qdimacs.proofs.writing.count_clauses.Statement.{statement}
 use Rattle.qdimacs.proofs.writing.count_clauses.Tie as tie
-use Rattle.qdimacs.proofs.writing.count_clauses.Reads as reads
-use Rattle.qdimacs.proofs.writing.count_clauses.Lts as lts
-use Rattle.qdimacs.proofs.writing.count_more.Reads as count-more-reads
 
 abbrev Inv-loop : tie.InvT-loop
 Inv-loop clauses i₀ count₀ i count = (i ≤ length clauses) × (count ≤ i) × (count + clauseCount (drop i clauses) ≡ clauseCount clauses)
@@ -21,31 +18,24 @@ Inv-loop clauses i₀ count₀ i count = (i ≤ length clauses) × (count ≤ i)
 abbrev μ-loop : tie.MeasureT-loop
 μ-loop clauses i₀ count₀ i count = length clauses - i
 
--- src/writing.rt:174:5
 loop-holds : tie.Need-loop-holds Inv-loop μ-loop
 loop-holds c = (omega arith, omega arith, zero-add (clauseCount (c .args .clauses .now)))
 
--- src/writing.rt:175:35
 mul-count-more : tie.Need-mul-count-more Inv-loop μ-loop
 mul-count-more c = search needs
 
--- src/writing.rt:175:35
 shared-slice-copy-out-count-more : tie.Need-shared-slice-copy-out-count-more Inv-loop μ-loop
 shared-slice-copy-out-count-more c = search needs
 
--- src/writing.rt:175:9
 count-more-requires : tie.Need-count-more-requires Inv-loop μ-loop
 count-more-requires c κs = search needs
 
--- src/writing.rt:176:9
 add-i : tie.Need-add-i Inv-loop μ-loop
 add-i c = search needs
 
--- src/writing.rt:174:5
 loop-less : tie.Need-loop-less Inv-loop μ-loop
 loop-less c = search needs
 
--- src/writing.rt:174:5
 loop-again : tie.Need-loop-again Inv-loop μ-loop
 loop-again c =
     let a = c .before .before .before .before .args in
@@ -59,7 +49,6 @@ loop-again c =
     let so-far = l .inv .2 in
     (omega arith, omega arith, omega arith)
 
--- src/writing.rt:168:1
 returns : tie.Need-returns Inv-loop μ-loop
 returns c = let l = c .before .loop in omega (arith, l .inv .2, count-all (c .before .before .args .clauses .now) (l .i) (c .loop-test .left))
 

@@ -11,19 +11,13 @@ use Rattle.qdimacs.proofs.Stores.{count-closes, count-goes-on}
 use borrow.Author.Needs.{needs}
 use Rattle.qdimacs.proofs.writing.count_more.Statement.{statement}
 use Rattle.qdimacs.proofs.writing.count_more.Tie as tie
-use Rattle.qdimacs.proofs.writing.count_more.Reads as reads
-use Rattle.qdimacs.proofs.writing.count_more.Lts as lts
-use Rattle.qdimacs.proofs.writing.closes.Reads as closes-reads
 
--- src/writing.rt:161:8
 closes-requires : tie.Need-closes-requires
 closes-requires c κs = search needs
 
--- src/writing.rt:162:16
 add-result : tie.Need-add-result
 add-result c = search needs
 
--- src/writing.rt:162:9
 returns : tie.Need-returns
 returns c =
     let a = c .before .before .args in
@@ -31,7 +25,6 @@ returns c =
     let e = count-closes (toZ w32 (ofZ w32 (a .literal))) (sym (c .before .closes .ensures) ∙ c .if1 .taken) in
     omega arith
 
--- src/writing.rt:157:1
 returns-2 : tie.Need-returns-2
 returns-2 c =
     let a = c .before .before .args in

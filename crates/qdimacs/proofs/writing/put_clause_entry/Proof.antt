@@ -8,45 +8,34 @@ use lib.IntN.{ℤ, natAbs}
 use mir.Syntax.{w32}
 use mir.Val.{toZ, ofZ}
 use mir.Facts.{toZ-ofZ}
-use Rattle.qdimacs.specs.Writing.{Wrote, literalWord, literalBytes}
+use Rattle.qdimacs.specs.Writing.{literalWord}
+use Rattle.qdimacs.specs.Bytes.{Wrote, literalBytes}
 use Rattle.qdimacs.proofs.Stores.{wrote-more, space-most, word-most, clause-last, clause-more}
 use borrow.Author.Needs.{needs}
 use Rattle.qdimacs.proofs.writing.put_clause_entry.Statement.{statement}
 use Rattle.qdimacs.proofs.writing.put_clause_entry.Tie as tie
-use Rattle.qdimacs.proofs.writing.put_clause_entry.Reads as reads
-use Rattle.qdimacs.proofs.writing.put_clause_entry.Lts as lts
-use Rattle.qdimacs.proofs.writing.closes.Reads as closes-reads
-use Rattle.qdimacs.proofs.writing.put_byte.Reads as put-byte-reads
-use Rattle.qdimacs.proofs.writing.put_literal.Reads as put-literal-reads
-use Rattle.qdimacs.proofs.writing.put_space.Reads as put-space-reads
 
--- src/writing.rt:104:9
 put-space-requires : tie.Need-put-space-requires
 put-space-requires c κs = search needs
 
--- src/writing.rt:105:9
 put-literal-requires : tie.Need-put-literal-requires
 put-literal-requires c κs =
     let k = c .before .before .before .before .before .before in
     let same = ap natAbs (toZ-ofZ (k .fits .literal)) in
     omega (arith, space-most (k .args .first), c .before .before .before .put-space .ensures .end, k .pre .0, k .pre .1)
 
--- src/writing.rt:106:8
 closes-requires : tie.Need-closes-requires
 closes-requires c κs = search needs
 
--- src/writing.rt:107:9
 put-byte-requires : tie.Need-put-byte-requires
 put-byte-requires c κs =
     let k = c .before .before .before .before .before .before .before .before .before .before .before .before in
     let same = ap (λ (z : ℤ). length (literalWord z)) (toZ-ofZ (k .fits .literal)) in
     omega (arith, space-most (k .args .first), word-most (k .args .literal) (k .pre .1), c .before .before .before .before .before .before .before .before .before .put-space .ensures .end, c .before .before .before .before .before .put-literal .ensures .end, k .pre .0)
 
--- src/writing.rt:107:9
 same-length : tie.Need-same-length
 same-length c = search needs
 
--- src/writing.rt:107:9
 returns : tie.Need-returns
 returns c =
     let k = c .before .before .before .before .before .before .before .before .before .before .before .before .before .before .before in
@@ -56,11 +45,9 @@ returns c =
     subst (λ (z : ℤ). Wrote (literalBytes (a .first) z) (a .out .now) (o .last .0) (a .at) (o .result)) same
     (subst (λ (xs : List ℕ). Wrote xs (a .out .now) (o .last .0) (a .at) (o .result)) (sym (clause-last (a .first) (toZ w32 (ofZ w32 (a .literal))) (sym (c .before .before .before .before .before .closes .ensures) ∙ c .before .before .before .before .if1 .taken))) (wrote-more (wrote-more (c .before .before .before .before .before .before .before .before .before .before .before .before .put-space .ensures) (c .before .before .before .before .before .before .before .before .put-literal .ensures)) (o .ensures)))
 
--- src/writing.rt:100:1
 same-length-2 : tie.Need-same-length-2
 same-length-2 c = search needs
 
--- src/writing.rt:100:1
 returns-2 : tie.Need-returns-2
 returns-2 c =
     let k = c .before .before .before .before .before .before .before .before .before .before .before in

@@ -7,14 +7,11 @@ use mathlib.Core.Path.{sym, subst, ap, _∙_}
 use mathlib.Core.Bool.{Bool}
 use lib.Dec.{eqb}
 use lib.IntN.{ℤ, pos, natAbs}
-use Rattle.qdimacs.specs.Writing.{Wrote, clauseText, literalBytes}
+use Rattle.qdimacs.specs.Writing.{clauseText}
+use Rattle.qdimacs.specs.Bytes.{Wrote, literalBytes}
 use Rattle.qdimacs.proofs.Stores.{small-bits, Upto, upto-none, upto-more, upto-all, wrote-length, nextClause, clause-split, no-clauses, literal-most}
 use Rattle.qdimacs.proofs.writing.put_clauses.Statement.{statement}
 use Rattle.qdimacs.proofs.writing.put_clauses.Tie as tie
-use Rattle.qdimacs.proofs.writing.put_clauses.Reads as reads
-use Rattle.qdimacs.proofs.writing.put_clauses.Lts as lts
-use Rattle.qdimacs.proofs.writing.closes.Reads as closes-reads
-use Rattle.qdimacs.proofs.writing.put_clause_entry.Reads as put-clause-entry-reads
 
 abbrev Inv-loop : tie.InvT-loop
 Inv-loop out₀ at clauses i₀ next₀ first₀ out i next first = Upto (pos 0) clauseText literalBytes nextClause clause-split clauses out₀ out at i next first
@@ -22,19 +19,15 @@ Inv-loop out₀ at clauses i₀ next₀ first₀ out i next first = Upto (pos 0)
 abbrev μ-loop : tie.MeasureT-loop
 μ-loop out₀ at clauses i₀ next₀ first₀ out i next first = length clauses - i
 
--- src/writing.rt:147:5
 loop-holds : tie.Need-loop-holds Inv-loop μ-loop
 loop-holds c = let a = c .before .args in upto-none (pos 0) clauseText literalBytes nextClause clause-split (a .clauses .now) (a .out .now) (a .at)
 
--- src/writing.rt:148:23
 mul-literal : tie.Need-mul-literal Inv-loop μ-loop
 mul-literal c = search needs
 
--- src/writing.rt:148:23
 shared-slice-copy-out-literal : tie.Need-shared-slice-copy-out-literal Inv-loop μ-loop
 shared-slice-copy-out-literal c = search needs
 
--- src/writing.rt:149:9
 put-clause-entry-requires : tie.Need-put-clause-entry-requires Inv-loop μ-loop
 put-clause-entry-requires c κs =
     let k = c .before .before .before .before .before in
@@ -45,19 +38,15 @@ put-clause-entry-requires c κs =
     let same = ap natAbs (small-bits z small) in
     omega (arith, l .inv .few, k .pre .0, k .pre .1)
 
--- src/writing.rt:150:9
 closes-requires : tie.Need-closes-requires Inv-loop μ-loop
 closes-requires c κs = search needs
 
--- src/writing.rt:151:9
 add-i : tie.Need-add-i Inv-loop μ-loop
 add-i c = search needs
 
--- src/writing.rt:147:5
 loop-less : tie.Need-loop-less Inv-loop μ-loop
 loop-less c = search needs
 
--- src/writing.rt:147:5
 loop-again : tie.Need-loop-again Inv-loop μ-loop
 loop-again c =
     let k = c .before .before .before .before .before .before .before .before .before in
@@ -72,14 +61,12 @@ loop-again c =
     (upto-more (pos 0) clauseText literalBytes nextClause clause-split (a .clauses .now) (a .out .now) (l .out) (o .last .0) (a .at) (l .i) (l .next) (o .result) (l .first) (l .inv) h
     (subst (λ (x : ℤ). Wrote (literalBytes (l .first) x) (l .out) (o .last .0) (l .next) (o .result)) same (o .ensures)) (literal-most (l .first) z small))
 
--- src/writing.rt:140:1
 same-length : tie.Need-same-length Inv-loop μ-loop
 same-length c =
     let a = c .before .before .before .args in
     let l = c .before .loop in
     wrote-length (l .inv .bytes) (a .out .now) (l .out) (a .at) (l .next) (l .inv .wrote)
 
--- src/writing.rt:140:1
 returns : tie.Need-returns Inv-loop μ-loop
 returns c =
     let a = c .before .before .before .args in

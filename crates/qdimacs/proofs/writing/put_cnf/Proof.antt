@@ -3,39 +3,28 @@ use Rattle.qdimacs.proofs.Stores.{wrote-more}
 use borrow.Author.Needs.{needs}
 use Rattle.qdimacs.proofs.writing.put_cnf.Statement.{statement}
 use Rattle.qdimacs.proofs.writing.put_cnf.Tie as tie
-use Rattle.qdimacs.proofs.writing.put_cnf.Reads as reads
-use Rattle.qdimacs.proofs.writing.put_cnf.Lts as lts
-use Rattle.qdimacs.proofs.writing.put_byte.Reads as put-byte-reads
 
--- src/writing.rt:185:9
 put-byte-requires : tie.Need-put-byte-requires
 put-byte-requires c κs = search needs
 
--- src/writing.rt:186:9
 put-byte-requires-2 : tie.Need-put-byte-requires-2
 put-byte-requires-2 c κs = search needs
 
--- src/writing.rt:187:9
 put-byte-requires-3 : tie.Need-put-byte-requires-3
 put-byte-requires-3 c κs = search needs
 
--- src/writing.rt:188:9
 put-byte-requires-4 : tie.Need-put-byte-requires-4
 put-byte-requires-4 c κs = search needs
 
--- src/writing.rt:189:9
 put-byte-requires-5 : tie.Need-put-byte-requires-5
 put-byte-requires-5 c κs = search needs
 
--- src/writing.rt:190:5
 put-byte-requires-6 : tie.Need-put-byte-requires-6
 put-byte-requires-6 c κs = search needs
 
--- src/writing.rt:182:1
 same-length : tie.Need-same-length
 same-length c = search needs
 
--- src/writing.rt:182:1
 returns : tie.Need-returns
 returns c =
     wrote-more (c .before .before .before .before .before .before .before .before .before .before .before .before .before .before .before .before .before .before .before .before .before .before .put-byte .ensures) (wrote-more (c .before .before .before .before .before .before .before .before .before .before .before .before .before .before .before .before .before .before .put-byte2 .ensures) (wrote-more (c .before .before .before .before .before .before .before .before .before .before .before .before .before .before .put-byte3 .ensures)

@@ -3,75 +3,58 @@ use Prim.Native.Nat.{ℕ}
 use mathlib.Core.Path.{sym, subst}
 use mathlib.Core.List.{List}
 use native.Mathlib.Omega.{arith}
-use Rattle.qdimacs.specs.Writing.{Wrote}
+use Rattle.qdimacs.specs.Bytes.{Wrote}
 use Rattle.qdimacs.proofs.Decimal.{digits}
 use Rattle.qdimacs.proofs.Stores.{wrote-more, entry-e, entry-a, entry-last, entry-more}
 use borrow.Author.Needs.{needs}
 use Rattle.qdimacs.proofs.writing.put_entry.Statement.{statement}
 use Rattle.qdimacs.proofs.writing.put_entry.Tie as tie
-use Rattle.qdimacs.proofs.writing.put_entry.Reads as reads
-use Rattle.qdimacs.proofs.writing.put_entry.Lts as lts
-use Rattle.qdimacs.proofs.writing.put_byte.Reads as put-byte-reads
-use Rattle.qdimacs.proofs.writing.put_number.Reads as put-number-reads
 
--- src/writing.rt:54:13
 put-byte-requires : tie.Need-put-byte-requires
 put-byte-requires c κs = search needs
 
--- src/writing.rt:54:13
 same-length : tie.Need-same-length
 same-length c = search needs
 
--- src/writing.rt:54:13
 returns : tie.Need-returns
 returns c =
     let a = c .before .before .before .before .before .before .before .args in
     let o = c .before .before .put-byte in
     subst (λ (xs : List ℕ). Wrote xs (a .out .now) (o .last .0) (a .at) (o .result)) (sym (entry-e (a .first) (a .entry) (c .before .before .before .before .before .if1 .taken) (c .before .before .before .before .if2 .taken))) (o .ensures)
 
--- src/writing.rt:56:9
 put-byte-requires-2 : tie.Need-put-byte-requires-2
 put-byte-requires-2 c κs = search needs
 
--- src/writing.rt:56:9
 same-length-2 : tie.Need-same-length-2
 same-length-2 c = search needs
 
--- src/writing.rt:56:9
 returns-2 : tie.Need-returns-2
 returns-2 c =
     let a = c .before .before .before .before .before .before .before .args in
     let o = c .before .before .put-byte2 in
     subst (λ (xs : List ℕ). Wrote xs (a .out .now) (o .last .0) (a .at) (o .result)) (sym (entry-a (a .first) (a .entry) (c .before .before .before .before .before .if1 .taken) (c .before .before .before .before .if2 .left))) (o .ensures)
 
--- src/writing.rt:58:9
 put-byte-requires-3 : tie.Need-put-byte-requires-3
 put-byte-requires-3 c κs = search needs
 
--- src/writing.rt:59:9
 put-number-requires : tie.Need-put-number-requires
 put-number-requires c κs = search needs
 
--- src/writing.rt:61:9
 put-byte-requires-4 : tie.Need-put-byte-requires-4
 put-byte-requires-4 c κs = let a = c .before .before .before .before .before .before .before .before .before .before .before .before .args in let d = digits (a .entry) 4 (c .before .before .before .before .before .before .before .before .before .before .before .before .pre .1) in omega (arith, c .before .before .before .before .before .before .before .before .before .before .before .before .pre .0, c .before .before .before .before .before .before .before .before .put-byte3 .ensures .end, c .before .before .before .before .put-number .ensures .end, d .most)
 
--- src/writing.rt:61:9
 same-length-3 : tie.Need-same-length-3
 same-length-3 c = search needs
 
--- src/writing.rt:61:9
 returns-3 : tie.Need-returns-3
 returns-3 c =
     let a = c .before .before .before .before .before .before .before .before .before .before .before .before .before .before .before .args in
     let o = c .before .before .put-byte4 in
     subst (λ (xs : List ℕ). Wrote xs (a .out .now) (o .last .0) (a .at) (o .result)) (sym (entry-last (a .first) (a .entry) (c .before .before .before .before .before .before .before .before .before .before .before .before .before .if1 .left) (c .before .before .before .before .if3 .taken))) (wrote-more (wrote-more (c .before .before .before .before .before .before .before .before .before .before .before .put-byte3 .ensures) (c .before .before .before .before .before .before .before .put-number .ensures)) (o .ensures))
 
--- src/writing.rt:48:1
 same-length-4 : tie.Need-same-length-4
 same-length-4 c = search needs
 
--- src/writing.rt:48:1
 returns-4 : tie.Need-returns-4
 returns-4 c =
     let a = c .before .before .before .before .before .before .before .before .before .before .before .args in

@@ -7,43 +7,32 @@ use lib.IntN.{ℤ, pos, natAbs}
 use lib.Signed.{ltZ}
 use mir.Facts.{toZ-ofZ}
 use Rattle.qdimacs.specs.Words.{MINUS}
-use Rattle.qdimacs.specs.Writing.{Wrote, decimal}
+use Rattle.qdimacs.specs.Writing.{decimal}
+use Rattle.qdimacs.specs.Bytes.{Wrote}
 use Rattle.qdimacs.proofs.Stores.{wrote-more, literal-negative, literal-positive}
 use borrow.Author.Needs.{needs}
 use Rattle.qdimacs.proofs.writing.put_literal.Statement.{statement}
 use Rattle.qdimacs.proofs.writing.put_literal.Tie as tie
-use Rattle.qdimacs.proofs.writing.put_literal.Reads as reads
-use Rattle.qdimacs.proofs.writing.put_literal.Lts as lts
-use Rattle.qdimacs.proofs.writing.put_byte.Reads as put-byte-reads
-use Rattle.qdimacs.proofs.writing.put_number.Reads as put-number-reads
-use Rattle.terms.proofs.Literal.new.Reads as new-reads
-use Rattle.terms.proofs.Literal.variable.Reads as variable-reads
 
 -- the variable that was found is the literal's magnitude
 variable-known : (c : tie.After-variable) → c .variable .result .0 ≡ natAbs (c .before .before .before .args .literal)
 variable-known c = c .variable .ensures ∙ ap natAbs (c .before .new .ensures ∙ toZ-ofZ (c .before .before .before .fits .literal))
 
--- src/writing.rt:82:20
 new-requires : tie.Need-new-requires
 new-requires c κs = search needs
 
--- src/writing.rt:82:20
 variable-requires : tie.Need-variable-requires
 variable-requires c κs = search needs
 
--- src/writing.rt:84:13
 put-byte-requires : tie.Need-put-byte-requires
 put-byte-requires c κs = search needs
 
--- src/writing.rt:85:9
 put-number-requires : tie.Need-put-number-requires
 put-number-requires c κs = let k = c .before .before .before .before .before .before in omega (arith, c .before .before .before .put-byte .ensures .end, variable-known k, k .before .before .before .pre .0, k .before .before .before .pre .1)
 
--- src/writing.rt:85:9
 same-length : tie.Need-same-length
 same-length c = search needs
 
--- src/writing.rt:85:9
 returns : tie.Need-returns
 returns c =
     let k = c .before .before .before .before .before .before .before .before .before in
@@ -54,15 +43,12 @@ returns c =
     (sym (literal-negative (a .literal) (sym (ap (λ (z : ℤ). ltZ z (pos 0)) (toZ-ofZ fits)) ∙ c .before .before .before .before .before .before .before .before .if1 .taken) ∙ ap (λ (v : ℕ). MINUS ∷ decimal v) (sym (variable-known k))))
     (wrote-more (c .before .before .before .before .before .before .put-byte .ensures) (o .ensures))
 
--- src/writing.rt:87:5
 put-number-requires-2 : tie.Need-put-number-requires-2
 put-number-requires-2 c κs = let k = c .before .before in omega (arith, variable-known k, k .before .before .before .pre .0, k .before .before .before .pre .1)
 
--- src/writing.rt:78:1
 same-length-2 : tie.Need-same-length-2
 same-length-2 c = search needs
 
--- src/writing.rt:78:1
 returns-2 : tie.Need-returns-2
 returns-2 c =
     let k = c .before .before .before .before .before in

@@ -3,16 +3,13 @@ use borrow.Author.Needs.{needs}
 use Prim.Native.Nat.{_+_, _-_}
 use native.Mathlib.Omega.{arith}
 use lib.ListN.{length, getD}
-use mathlib.Core.Path.{sym, subst, ap, _∙_}
+use mathlib.Core.Path.{sym, subst}
 use mathlib.Core.Bool.{Bool}
-use Rattle.qdimacs.specs.Writing.{prefixText, entryBytes, nextFirst}
+use Rattle.qdimacs.specs.Writing.{prefixText}
+use Rattle.qdimacs.specs.Bytes.{entryBytes, nextFirst}
 use Rattle.qdimacs.proofs.Stores.{Upto, upto-none, upto-more, upto-all, wrote-length, prefix-split, no-prefix, entry-most}
 use Rattle.qdimacs.proofs.writing.put_prefix.Statement.{statement}
 use Rattle.qdimacs.proofs.writing.put_prefix.Tie as tie
-use Rattle.qdimacs.proofs.writing.put_prefix.Reads as reads
-use Rattle.qdimacs.proofs.writing.put_prefix.Lts as lts
-use Rattle.qdimacs.proofs.writing.put_entry.Reads as put-entry-reads
-use Rattle.qdimacs.proofs.writing.starts.Reads as starts-reads
 
 abbrev Inv-loop : tie.InvT-loop
 Inv-loop out₀ at prefix i₀ next₀ first₀ out i next first = Upto 0 prefixText entryBytes nextFirst prefix-split prefix out₀ out at i next first
@@ -20,35 +17,27 @@ Inv-loop out₀ at prefix i₀ next₀ first₀ out i next first = Upto 0 prefix
 abbrev μ-loop : tie.MeasureT-loop
 μ-loop out₀ at prefix i₀ next₀ first₀ out i next first = length prefix - i
 
--- src/writing.rt:111:5
 loop-holds : tie.Need-loop-holds Inv-loop μ-loop
 loop-holds c = let a = c .before .before .args in upto-none 0 prefixText entryBytes nextFirst prefix-split (a .prefix .now) (a .out .now) (a .at)
 
--- src/writing.rt:112:21
 mul-entry : tie.Need-mul-entry Inv-loop μ-loop
 mul-entry c = search needs
 
--- src/writing.rt:112:21
 shared-slice-read-entry : tie.Need-shared-slice-read-entry Inv-loop μ-loop
 shared-slice-read-entry c = search needs
 
--- src/writing.rt:113:9
 put-entry-requires : tie.Need-put-entry-requires Inv-loop μ-loop
 put-entry-requires c κs = let k = c .before .before .before .before .before .before in let l = c .before .before .before .loop in omega (arith, l .inv .few, k .pre .0, k .pre .1, c .before .before .loop-test .taken, k .pre .2 (l .i) (c .before .before .loop-test .taken))
 
--- src/writing.rt:114:9
 starts-requires : tie.Need-starts-requires Inv-loop μ-loop
 starts-requires c κs = search needs
 
--- src/writing.rt:115:9
 add-i : tie.Need-add-i Inv-loop μ-loop
 add-i c = search needs
 
--- src/writing.rt:111:5
 loop-less : tie.Need-loop-less Inv-loop μ-loop
 loop-less c = search needs
 
--- src/writing.rt:111:5
 loop-again : tie.Need-loop-again Inv-loop μ-loop
 loop-again c =
     let k = c .before .before .before .before .before .before .before .before .before .before in
@@ -59,14 +48,12 @@ loop-again c =
     subst (λ (f : Bool). Upto 0 prefixText entryBytes nextFirst prefix-split (a .prefix .now) (a .out .now) (o .last .0) (a .at) (l .i + 1) (o .result) f) (sym (c .starts .ensures))
     (upto-more 0 prefixText entryBytes nextFirst prefix-split (a .prefix .now) (a .out .now) (l .out) (o .last .0) (a .at) (l .i) (l .next) (o .result) (l .first) (l .inv) h (o .ensures) (entry-most (l .first) (getD (a .prefix .now) (l .i) 0) (k .pre .2 (l .i) h)))
 
--- src/writing.rt:104:1
 same-length : tie.Need-same-length Inv-loop μ-loop
 same-length c =
     let a = c .before .before .before .before .args in
     let l = c .before .loop in
     wrote-length (l .inv .bytes) (a .out .now) (l .out) (a .at) (l .next) (l .inv .wrote)
 
--- src/writing.rt:104:1
 returns : tie.Need-returns Inv-loop μ-loop
 returns c =
     let a = c .before .before .before .before .args in

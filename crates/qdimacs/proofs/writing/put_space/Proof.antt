@@ -2,31 +2,25 @@
 use mathlib.Core.Path.{sym, subst}
 use mathlib.Core.Bool.{Bool}
 use mathlib.Core.List.{[]}
-use Rattle.qdimacs.specs.Writing.{Wrote, spaced}
+use Rattle.qdimacs.specs.Writing.{spaced}
+use Rattle.qdimacs.specs.Bytes.{Wrote}
 use Rattle.qdimacs.proofs.Stores.{wrote-none}
 use borrow.Author.Needs.{needs}
 use Rattle.qdimacs.proofs.writing.put_space.Statement.{statement}
 use Rattle.qdimacs.proofs.writing.put_space.Tie as tie
-use Rattle.qdimacs.proofs.writing.put_space.Reads as reads
-use Rattle.qdimacs.proofs.writing.put_space.Lts as lts
-use Rattle.qdimacs.proofs.writing.put_byte.Reads as put-byte-reads
 
--- src/writing.rt:72:9
 returns : tie.Need-returns
 unfolding spaced
 returns c =
     let a = c .before .before .args in
     subst (λ (t : Bool). Wrote (spaced t []) (a .out .now) (a .out .now) (a .at) (a .at)) (sym (c .if1 .taken)) (wrote-none (a .out .now) (a .at))
 
--- src/writing.rt:74:5
 put-byte-requires : tie.Need-put-byte-requires
 put-byte-requires c κs = search needs
 
--- src/writing.rt:67:1
 same-length : tie.Need-same-length
 same-length c = search needs
 
--- src/writing.rt:67:1
 returns-2 : tie.Need-returns-2
 unfolding spaced
 returns-2 c =

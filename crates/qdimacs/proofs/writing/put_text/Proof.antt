@@ -3,23 +3,16 @@ use Prim.Native.Nat.{ℕ}
 use mathlib.Core.Path.{subst}
 use mathlib.Core.Bool.{true}
 use native.Mathlib.Omega.{arith}
-use Rattle.qdimacs.specs.Writing.{Wrote, problemBytes, textOf}
+use Rattle.qdimacs.specs.Writing.{problemBytes, textOf}
+use Rattle.qdimacs.specs.Bytes.{Wrote}
 use Rattle.qdimacs.proofs.Stores.{wrote-more, problem-most, prefix-most, count-most}
 use borrow.Author.Needs.{needs}
 use Rattle.qdimacs.proofs.writing.put_text.Statement.{statement}
 use Rattle.qdimacs.proofs.writing.put_text.Tie as tie
-use Rattle.qdimacs.proofs.writing.put_text.Reads as reads
-use Rattle.qdimacs.proofs.writing.put_text.Lts as lts
-use Rattle.qdimacs.proofs.writing.count_clauses.Reads as count-clauses-reads
-use Rattle.qdimacs.proofs.writing.put_clauses.Reads as put-clauses-reads
-use Rattle.qdimacs.proofs.writing.put_prefix.Reads as put-prefix-reads
-use Rattle.qdimacs.proofs.writing.put_problem.Reads as put-problem-reads
 
--- src/writing.rt:210:9
 count-clauses-requires : tie.Need-count-clauses-requires
 count-clauses-requires c κs = search needs
 
--- src/writing.rt:211:9
 put-problem-requires : tie.Need-put-problem-requires
 put-problem-requires c κs =
     let k = c .before .before .before .before in
@@ -27,7 +20,6 @@ put-problem-requires c κs =
     let most = count-most (k .args .clauses .now) in
     omega (arith, k .pre .0, k .pre .2)
 
--- src/writing.rt:212:9
 put-prefix-requires : tie.Need-put-prefix-requires
 put-prefix-requires c κs =
     let k = c .before .before .before .before .before .before .before .before in
@@ -36,7 +28,6 @@ put-prefix-requires c κs =
     let long = problem-most (k .args .n) (c .before .before .before .before .before .count-clauses .result) (k .pre .0) (omega (arith, k .pre .2)) in
     (omega (arith, c .before .before .before .put-problem .ensures .end), k .pre .1, k .pre .3)
 
--- src/writing.rt:213:5
 put-clauses-requires : tie.Need-put-clauses-requires
 put-clauses-requires c κs =
     let k = c .before .before .before .before .before .before .before .before .before .before .before .before in
@@ -46,11 +37,9 @@ put-clauses-requires c κs =
     let longer = prefix-most true (k .args .prefix .now) (k .pre .3) in
     (omega (arith, c .before .before .before .before .before .before .before .put-problem .ensures .end, c .before .before .before .put-prefix .ensures .end, k .pre .1), k .pre .2, k .pre .4)
 
--- src/writing.rt:206:1
 same-length : tie.Need-same-length
 same-length c = search needs
 
--- src/writing.rt:206:1
 returns : tie.Need-returns
 unfolding textOf
 returns c =

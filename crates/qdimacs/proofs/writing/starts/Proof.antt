@@ -1,16 +1,12 @@
 -- `qdimacs::writing::starts` meets its contract.
-use Rattle.qdimacs.specs.Writing.{nextFirst}
+use Rattle.qdimacs.specs.Bytes.{nextFirst}
 use Rattle.qdimacs.proofs.writing.starts.Statement.{statement}
 use Rattle.qdimacs.proofs.writing.starts.Tie as tie
-use Rattle.qdimacs.proofs.writing.starts.Reads as reads
-use Rattle.qdimacs.proofs.writing.starts.Lts as lts
 
--- src/writing.rt:125:9
 returns : tie.Need-returns
 unfolding nextFirst
 returns c = rw (c .if1 .taken, nextFirst)
 
--- src/writing.rt:121:1
 returns-2 : tie.Need-returns-2
 unfolding nextFirst
 returns-2 c = rw (c .if1 .left, nextFirst)

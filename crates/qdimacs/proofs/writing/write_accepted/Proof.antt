@@ -1,9 +1,11 @@
 -- `qdimacs::writing::write_accepted` meets its contract: the first text tells the length, and the second is stored.
 use mathlib.Core.Path.{refl}
+use mathlib.Core.Logic.{inl}
 use borrow.Author.Needs.{needs}
 use native.Mathlib.Omega.{arith}
 use Rattle.qdimacs.specs.Writing.{textOf}
-use Rattle.qdimacs.proofs.Outputs.{first-long, first-short, stored-whole}
+use Rattle.qdimacs.proofs.Readings.{first-overlong}
+use Rattle.qdimacs.proofs.Outputs.{first-short, stored-whole}
 use Rattle.qdimacs.proofs.writing.write_accepted.Statement.{statement}
 use Rattle.qdimacs.proofs.writing.write_accepted.Tie as tie
 
@@ -17,7 +19,7 @@ returns : tie.Need-returns
 returns c =
     let a = c .before .before .before .before .before .before .args in
     let e = c .before .before .put-text .ensures .end in
-    (first-long (textOf (a .n) (a .prefix .now) (a .clauses .now)) (a .out .now) (omega (arith, c .if1 .taken)), refl)
+    (inl (first-overlong (textOf (a .n) (a .prefix .now) (a .clauses .now)) (omega (arith, c .if1 .taken))), refl)
 
 returns-2 : tie.Need-returns-2
 returns-2 c =

@@ -1,0 +1,59 @@
+-- The round trip: the text that write leaves reads back as the tables that it was written from.
+use Prim.Native.Nat.{ℕ, _<_, _≤_}
+use mathlib.Core.Path.{_≡_, sym, ap, _∙_, subst}
+use mathlib.Core.List.{List}
+use native.Mathlib.Omega.{arith}
+use lib.IntN.{ℤ}
+use lib.ListN.{length, take}
+use lib.Seq.{length-take-le}
+use Rattle.terms.specs.Refusals.{NoneOf}
+use Rattle.terms.proofs.Verdicts.{first-or-none}
+use Rattle.formula.specs.Causes.{checkOrder}
+use Rattle.qdimacs.specs.declared.Output.the-variants.{Written}
+use Rattle.qdimacs.specs.declared.Reading.{Reading}
+use Rattle.qdimacs.specs.declared.Reading.the-variants.{Read, Refused}
+use Rattle.qdimacs.specs.Reading.{TEXT-MOST, overlong, readOrder, ReadIs}
+use Rattle.qdimacs.specs.Stored.{Writes}
+use Rattle.qdimacs.specs.Writing.{textOf}
+use Rattle.qdimacs.proofs.Holdable.{Holdable}
+use Rattle.qdimacs.proofs.Unique.{text-same}
+use Rattle.qdimacs.proofs.Readings.{none}
+use Rattle.qdimacs.proofs.Written.{written}
+use Rattle.qdimacs.proofs.Accepted.{holdable, within-limits}
+
+-- What was read are these tables.
+pub record ReadsBack (n : ℕ) (P : List ℕ) (C : List ℤ) (prefix′ : List ℕ) (clauses′ : List ℤ) (r : Reading) : Type 0 where
+  pub answer : r ≡ Read n (length P) (length C)
+  pub prefix-rows : take (length P) prefix′ ≡ P
+  pub clause-rows : take (length C) clauses′ ≡ C
+
+-- The text of tables that a text can hold, if it is not too long, reads back as them, given room for them.
+module _ (n : ℕ) (P : List ℕ) (C : List ℤ) (prefix prefix′ : List ℕ) (clauses clauses′ : List ℤ) (p : length P ≤ length prefix) (c : length C ≤ length clauses) where
+  text-reads-back : Holdable n P C → length (textOf n P C) ≤ TEXT-MOST → (r : Reading) → ReadIs (textOf n P C) prefix prefix′ clauses clauses′ r → ReadsBack n P C prefix′ clauses′ r
+  text-reads-back h short (Refused number place) a =
+      absurd (first-or-none (readOrder (textOf n P C) prefix clauses) number place (a .0) (none (textOf n P C) prefix clauses short (written n P C h) p c))
+  text-reads-back h short (Read n′ e l) a =
+      let into = a .1 in
+      let same = text-same (into .text-of) (written n P C h) in
+      let pl = into .prefix-length in
+      let cl = into .clauses-length in
+      let pr = into .prefix-room in
+      let cr = into .clauses-room in
+      let number = same .number in
+      let es : e ≡ length P = sym (length-take-le e prefix′ (omega arith)) ∙ ap length (same .prefix) in
+      let ls : l ≡ length C = sym (length-take-le l clauses′ (omega arith)) ∙ ap length (same .clauses) in
+      record {
+        answer = cc;
+        prefix-rows = ap (λ (k : ℕ). take k prefix′) (sym es) ∙ same .prefix;
+        clause-rows = ap (λ (k : ℕ). take k clauses′) (sym ls) ∙ same .clauses;
+      }
+
+  -- So does what write leaves in front in the buffer.
+  pub written-reads-back : (out out′ : List ℕ) (count : ℕ) → Writes n P C out out′ (Written count)
+      → (r : Reading) → ReadIs (take count out′) prefix prefix′ clauses clauses′ r → ReadsBack n P C prefix′ clauses′ r
+  written-reads-back out out′ count w r read =
+      let none = w .0 in
+      let accepted : NoneOf (checkOrder n P C) = (none .0, (none .1 .0, (none .1 .1 .0, (none .1 .1 .1 .0, tt)))) in
+      let (few, _, small) = within-limits n P C accepted in
+      let fits : ¬ (TEXT-MOST < length (textOf n P C)) = λ long. none .1 .1 .1 .1 .0 15 TEXT-MOST (overlong long) in
+      text-reads-back (holdable n P C few small accepted) (omega arith) r (subst (λ (t : List ℕ). ReadIs t prefix prefix′ clauses clauses′ r) (w .1 .written) read)
