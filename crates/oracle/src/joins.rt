@@ -1,0 +1,78 @@
+// Which two variables one clause has, in either sign: one walk along all clauses for each pair.
+
+use crate::tables::PAIRS;
+use crate::tables::first_at;
+use crate::tables::is_variable;
+use crate::tables::second_at;
+use crate::tables::set_pair;
+
+// Whether a literal is one of v, in either sign: the complement of -v is v - 1.
+pub fn is_of(literal: i32, v: u32) -> bool {
+    if v == 0 {
+        return false;
+    }
+    if 65535 < v {
+        return false;
+    }
+    literal == v as i32 || !literal == (v - 1) as i32
+}
+
+// Which of two variables the clause has had so far, and whether some clause has had both.
+struct Sharing {
+    pub first: bool,
+    pub second: bool,
+    pub both: bool,
+}
+
+impl Sharing {
+    fn step(mut self, literal: i32, v: u32, y: u32) -> Sharing {
+        if literal == 0 {
+            self.first = false;
+            self.second = false;
+            return self;
+        }
+        if is_of(literal, v) {
+            self.first = true;
+        }
+        if is_of(literal, y) {
+            self.second = true;
+        }
+        if self.first && self.second {
+            self.both = true;
+        }
+        self
+    }
+}
+
+// Whether one clause has both v and y, in either sign.
+fn shares(clauses: &[i32], v: u32, y: u32) -> bool {
+    let mut state = Sharing {
+        first: false,
+        second: false,
+        both: false,
+    };
+    let mut i = 0;
+    while i < clauses.len() {
+        state = state.step(clauses[i], v, y);
+        i += 1;
+    }
+    state.both
+}
+
+// Flags the pair at a place if one clause has both.
+fn join_at(n: u32, clauses: &[i32], pairs: &mut [bool], at: usize) {
+    let v = first_at(at);
+    let y = second_at(at);
+    if is_variable(n, v) && is_variable(n, y) && shares(clauses, v, y) {
+        set_pair(pairs, v, y);
+    }
+}
+
+// Flags every pair of the variables 1 to n of which one clause has both.
+pub fn fill_joins(n: u32, clauses: &[i32], pairs: &mut [bool]) {
+    let mut at: usize = 0;
+    while at < PAIRS {
+        join_at(n, clauses, pairs, at);
+        at += 1;
+    }
+}

@@ -1,0 +1,56 @@
+-- `samples::spelling::spell_clauses` is safe and ends.
+use Prim.Native.Nat.{_-_}
+use mathlib.Core.Path.{_≡_}
+use lib.ListN.{length}
+use borrow.Author.Needs.{needs}
+use Rattle.samples.proofs.spelling.spell_clauses.Statement.{statement}
+use Rattle.samples.proofs.spelling.spell_clauses.Tie as tie
+
+abbrev Inv-loop : tie.InvT-loop
+Inv-loop text₀ from n clauses pen₀ i₀ text pen i = length text ≡ length text₀
+
+abbrev μ-loop : tie.MeasureT-loop
+μ-loop text₀ from n clauses pen₀ i₀ text pen i = length clauses - i
+
+loop-holds : tie.Need-loop-holds Inv-loop μ-loop
+loop-holds c = search needs
+
+mul-literal : tie.Need-mul-literal Inv-loop μ-loop
+mul-literal c = search needs
+
+shared-slice-copy-out-literal : tie.Need-shared-slice-copy-out-literal Inv-loop μ-loop
+shared-slice-copy-out-literal c = search needs
+
+literal-requires : tie.Need-literal-requires Inv-loop μ-loop
+literal-requires c κs = search needs
+
+add-i : tie.Need-add-i Inv-loop μ-loop
+add-i c = search needs
+
+loop-less : tie.Need-loop-less Inv-loop μ-loop
+loop-less c = search needs
+
+loop-again : tie.Need-loop-again Inv-loop μ-loop
+loop-again c = search needs
+
+same-length : tie.Need-same-length Inv-loop μ-loop
+same-length c = search needs
+
+returns : tie.Need-returns Inv-loop μ-loop
+returns c = search needs
+
+pub spell-clauses-spec : {M : Type 1} → statement M
+spell-clauses-spec =
+    tie.close
+    (tie.spec
+    Inv-loop
+    μ-loop
+    loop-holds
+    mul-literal
+    shared-slice-copy-out-literal
+    literal-requires
+    add-i
+    loop-less
+    loop-again
+    same-length
+    returns)

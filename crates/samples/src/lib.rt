@@ -1,0 +1,7 @@
+// Generated formulas, the shapes that they have, and their text.
+
+pub mod generate;
+pub mod literals;
+pub mod parts;
+pub mod shapes;
+pub mod spelling;

@@ -1,0 +1,141 @@
+// The calls of the library, each behind a function that promises nothing, so that no comparison leans on a promise.
+
+use forest::EntryAnswer;
+use qdimacs::Output;
+use qdimacs::Reading;
+use terms::Filled;
+use terms::Variable;
+use terms::Verdict;
+
+pub fn check(n: u32, prefix: &[u32], clauses: &[i32]) -> Verdict {
+    formula::check(n, prefix, clauses)
+}
+
+pub fn clause_verdict(n: u32, clauses: &[i32], asked: u32) -> Verdict {
+    formula::clause_verdict(n, clauses, asked)
+}
+
+pub fn clause(n: u32, clauses: &[i32], asked: u32) -> &[i32] {
+    formula::clause(n, clauses, asked)
+}
+
+pub fn build(
+    n: u32,
+    prefix: &[u32],
+    clauses: &[i32],
+    classes: &mut [u32],
+    parents: &mut [u32],
+) -> Filled {
+    growth::build(n, prefix, clauses, classes, parents)
+}
+
+pub fn add(
+    n: u32,
+    prefix: &[u32],
+    classes: &mut [u32],
+    parents: &mut [u32],
+    clause: &[i32],
+) -> Filled {
+    growth::add(n, prefix, classes, parents, clause)
+}
+
+pub fn set_of(
+    n: u32,
+    prefix: &[u32],
+    clauses: &[i32],
+    classes: &[u32],
+    parents: &[u32],
+    x: u32,
+    out: &mut [u32],
+) -> Filled {
+    forest::set_of(n, prefix, clauses, classes, parents, Variable::new(x), out)
+}
+
+pub fn entry_points(
+    n: u32,
+    prefix: &[u32],
+    clauses: &[i32],
+    classes: &[u32],
+    parents: &[u32],
+    x: u32,
+    out: &mut [u32],
+) -> Filled {
+    forest::entry_points(n, prefix, clauses, classes, parents, Variable::new(x), out)
+}
+
+pub fn entry_point(
+    n: u32,
+    prefix: &[u32],
+    classes: &[u32],
+    parents: &[u32],
+    x: u32,
+    y: u32,
+) -> EntryAnswer {
+    forest::entry_point(
+        n,
+        prefix,
+        classes,
+        parents,
+        Variable::new(x),
+        Variable::new(y),
+    )
+}
+
+pub fn read(text: &[u8], prefix: &mut [u32], clauses: &mut [i32]) -> Reading {
+    qdimacs::read(text, prefix, clauses)
+}
+
+pub fn write(n: u32, prefix: &[u32], clauses: &[i32], out: &mut [u8]) -> Output {
+    qdimacs::write(n, prefix, clauses, out)
+}
+
+// One of the two calls that list.
+pub enum Call {
+    Sets,
+    Entries,
+}
+
+// Asks the call about x.
+pub fn ask(
+    call: Call,
+    n: u32,
+    prefix: &[u32],
+    clauses: &[i32],
+    classes: &[u32],
+    parents: &[u32],
+    x: u32,
+    out: &mut [u32],
+) -> Filled {
+    match call {
+        Call::Sets => set_of(n, prefix, clauses, classes, parents, x, out),
+        Call::Entries => entry_points(n, prefix, clauses, classes, parents, x, out),
+    }
+}
+
+// Asks the call about x, with the first rows of an output.
+pub fn ask_within(
+    call: Call,
+    n: u32,
+    prefix: &[u32],
+    clauses: &[i32],
+    classes: &[u32],
+    parents: &[u32],
+    x: u32,
+    out: &mut [u32],
+    room: usize,
+) -> Filled {
+    if room <= out.len() {
+        ask(
+            call,
+            n,
+            prefix,
+            clauses,
+            classes,
+            parents,
+            x,
+            &mut out[0..room],
+        )
+    } else {
+        ask(call, n, prefix, clauses, classes, parents, x, out)
+    }
+}

@@ -1,0 +1,90 @@
+// Runs every two-sided rule, holds the library against an independent search, and prints how much came out as it should.
+
+mod damage;
+mod generated;
+mod lists;
+mod points;
+mod shapes;
+
+use generated::Family;
+use samples::shapes::Trait;
+use score::print_score;
+
+// How many formulas are generated.
+const FORMULAS: u32 = 400;
+
+fn main() {
+    run_rules();
+    run_texts();
+    print_shapes();
+    run_searched();
+    run_changed();
+}
+
+// The cases of the calls on tables that are written out.
+fn run_rules() {
+    print_score(b"check", rules::checking::check_cases());
+    print_score(b"clause", rules::numbering::clause_cases());
+    print_score(b"refusals of build", rules::building::build_cases());
+    print_score(b"refusals of add", rules::building::add_cases());
+    print_score(
+        b"refusals of set and entry points",
+        rules::asking::list_cases(),
+    );
+    print_score(
+        b"refusals of entry point for y",
+        rules::asking::entry_cases(),
+    );
+    print_score(b"calls at 4096 variables", rules::limits::limit_cases());
+}
+
+// The cases of read and write that are written out.
+fn run_texts() {
+    print_score(b"read", texts::reading::read_cases());
+    print_score(b"write", texts::writing::write_cases());
+}
+
+// A family of cases on the generated formulas.
+fn run_family(name: &[u8], family: Family) {
+    print_score(name, generated::run(family, FORMULAS));
+}
+
+// The families that hold answers against the search.
+fn run_searched() {
+    run_family(b"build", Family::Build);
+    run_family(b"add", Family::Adds);
+    run_family(b"sets", Family::Sets);
+    run_family(b"entry points", Family::Entries);
+    run_family(b"entry point for y", Family::Points);
+    run_family(
+        b"sets and entry points by rows of other clauses",
+        Family::Crossed,
+    );
+}
+
+// The families that change rows, and the round trip of the text.
+fn run_changed() {
+    run_family(b"forests with a row made wrong", Family::Damaged);
+    run_family(
+        b"forests with a row changed and none wrong",
+        Family::Changed,
+    );
+    run_family(b"text written and read back", Family::Trips);
+}
+
+// Prints how many of the generated formulas have a shape.
+fn print_shape(name: &[u8], kind: Trait) {
+    shapes::print_having(kind, FORMULAS, name);
+}
+
+// How many of the generated formulas have each shape.
+fn print_shapes() {
+    print_shape(b"free variables", Trait::FreeVariable);
+    print_shape(b"no blocks", Trait::NoBlocks);
+    print_shape(b"64 blocks", Trait::SixtyFourBlocks);
+    print_shape(b"a universal innermost block", Trait::UniversalInnermost);
+    print_shape(b"no clauses", Trait::NoClauses);
+    print_shape(b"an empty clause", Trait::EmptyClause);
+    print_shape(b"a repeated literal", Trait::RepeatedLiteral);
+    print_shape(b"complementary literals", Trait::ComplementaryLiterals);
+}
