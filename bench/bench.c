@@ -43,6 +43,7 @@ static uint32_t universals;  /* of each */
 /* What the calls fill. */
 static uint32_t grown_classes[SNOW_MOST_VARIABLES], grown_parents[SNOW_MOST_VARIABLES];
 static uint32_t out[SNOW_MOST_VARIABLES];
+static uint32_t every[SNOW_MOST_VARIABLES * (SNOW_MOST_VARIABLES + 2)];
 static uint8_t written[SNOW_MOST_TEXT];
 static uint32_t read_prefix[SNOW_MOST_PREFIX], read_n, prefix_count;
 static int32_t read_clauses[SNOW_MOST_CLAUSES];
@@ -89,6 +90,16 @@ static uint32_t call_set(const struct subject *s, uint32_t x)
 
     must(snow_set(s->f.n, s->f.prefix, s->f.prefix_len, s->f.clauses, s->f.clauses_len,
                   s->classes, s->f.n, s->parents, s->f.n, x, out, SNOW_MOST_VARIABLES, &count, &place), "set");
+    return count;
+}
+
+/* The sets of all universals in one call, into a table that always suffices. */
+static uint32_t call_sets(const struct subject *s)
+{
+    uint32_t count, place;
+
+    must(snow_sets(s->f.n, s->f.prefix, s->f.prefix_len, s->f.clauses, s->f.clauses_len,
+                   s->classes, s->f.n, s->parents, s->f.n, every, sizeof every / sizeof *every, &count, &place), "sets");
     return count;
 }
 
@@ -163,8 +174,8 @@ static double add_job(unsigned times)
     return spent;
 }
 
-/* The sets of all universals, and how many entries they have. */
-static uint32_t all_sets(const struct subject *s)
+/* The sets of all universals, one call for each, and how many entries they have. */
+static uint32_t each_set(const struct subject *s)
 {
     uint32_t x, entries = 0;
 
@@ -174,12 +185,21 @@ static uint32_t all_sets(const struct subject *s)
     return entries;
 }
 
+static double set_job(unsigned times)
+{
+    double start = now();
+
+    while (times-- > 0)
+        each_set(&subjects[times % VARIANTS]);
+    return now() - start;
+}
+
 static double sets_job(unsigned times)
 {
     double start = now();
 
     while (times-- > 0)
-        all_sets(&subjects[times % VARIANTS]);
+        call_sets(&subjects[times % VARIANTS]);
     return now() - start;
 }
 
@@ -274,16 +294,19 @@ static double listing_seconds(void)
     return seconds(listing_job, 1) - start;
 }
 
-/* Whether both give the same set of every universal. */
+/* Whether both give the same set of every universal, by itself and among all. */
 static int sets_equal(unsigned k)
 {
     const struct subject *s = &subjects[k];
-    uint32_t x, y, at, count;
+    uint32_t x, y, at, count, record = 0, all = call_sets(s);
 
     for (x = 1; x <= s->f.n; x++) {
         if (!s->f.universal[x])
             continue;
         count = call_set(s, x);
+        if (every[record] != x || every[record + 1] != count || memcmp(every + record + 2, out, count * sizeof *out) != 0)
+            return 0;
+        record += 2 + count;
         for (y = 1, at = 0; y <= s->f.n; y++) {
             int ours = at < count && out[at] == y;
 
@@ -292,7 +315,7 @@ static int sets_equal(unsigned k)
                 return 0;
         }
     }
-    return all_sets(s) == depqbf_all_sets(k);
+    return record == all && each_set(s) == depqbf_all_sets(k);
 }
 
 /* Makes the formulas of a family at a size, with their texts and the clauses that are to be added. */
@@ -342,17 +365,17 @@ static void measure(struct row *r)
         keep(r, BUILD, seconds(build_job, VARIANTS));
         keep(r, READ_BUILD, seconds(read_build_job, VARIANTS));
         keep(r, ADD, seconds(add_job, ADDED * VARIANTS));
+        keep(r, SET, seconds(set_job, VARIANTS) / universals);
         keep(r, SETS, seconds(sets_job, VARIANTS));
         keep(r, WRITE, seconds(write_job, VARIANTS));
         keep(r, LISTING, listing_seconds());
         keep(r, DEPQBF_READ, seconds(depqbf_read_job, VARIANTS));
         keep(r, DEPQBF_SETS, seconds(depqbf_sets_job, VARIANTS));
     }
-    r->took[SET] = r->took[SETS] / universals;
     r->equal = 1;
     for (k = 0; k < VARIANTS; k++) {
         r->bytes += subjects[k].text_len;
-        r->entries += all_sets(&subjects[k]);
+        r->entries += each_set(&subjects[k]);
         r->equal &= sets_equal(k);
     }
     r->bytes /= VARIANTS;
@@ -420,7 +443,7 @@ static void print_growth(const struct row *before, const struct row *after, cons
             continue;
         }
         printf("%11.2f", growth);
-        /* all sets are as many calls as there are universals: the growth of one call is that of `set` */
+        /* all sets are a pass over the rows for each universal, of which there are twice as many */
         if (w < DEPQBF_READ && w != SETS && output_growth(w, before, after) <= MOST_GROWTH)
             note(worst->growth, growth, n == family->last, family->name, titles[w], n);
     }

@@ -1,4 +1,4 @@
-/* The nine calls, each wrapped so that every byte that was lent is compared. */
+/* The ten calls, each wrapped so that every byte that was lent is compared. */
 #include "agree.h"
 #include "calls.h"
 #include "lend.h"
@@ -164,6 +164,27 @@ struct verdict call_set(const struct formula *f, const struct forest *w, uint32_
                         uint32_t *out, size_t out_len, uint32_t *count)
 {
     return call_listing(snow_set, f, w, x, out, out_len, count);
+}
+
+struct verdict call_sets(const struct formula *f, const struct forest *w, uint32_t *out, size_t out_len, uint32_t *count)
+{
+    uint32_t *table, *cell, number;
+
+    lend_begin();
+    lend_prefix(f);
+    lend_clauses(f);
+    lend_forest(w);
+    table = lend(out, out_len * sizeof *out);
+    cell = lend_cell();
+    lend_place();
+    number = snow_sets(lent.n, lent.prefix, lent.prefix_len, lent.clauses, lent.clauses_len,
+                       rows.classes, rows.classes_len, rows.parents, rows.parents_len, table, out_len, cell, place);
+    if (number == 0) {
+        take(count, cell, sizeof *count);
+        if (within(*count, out_len))
+            take(out, table, *count * sizeof *out);
+    }
+    return settle(number);
 }
 
 struct verdict call_add(const struct formula *f, struct forest *w, const int32_t *clause, size_t clause_len)

@@ -296,6 +296,26 @@ static void compare_list(const struct formula *f, const struct forest *rows, int
         expect_refused(call(f, rows, x, got, length - 1, &count), 14, 0, what);
 }
 
+/* All sets: the searched ones, one after the other. */
+static void compare_sets(const struct formula *f, const struct forest *rows, int own)
+{
+    static uint32_t list[SMALL * (SMALL + 2)], got[SMALL * (SMALL + 2) + 4];
+    uint32_t x, length = 0, count = 0;
+
+    for (x = 1; x <= f->n; x++) {
+        if (!judge_universal(f, x))
+            continue;
+        list[length] = x;
+        list[length + 1] = expected_list(rows, own, 1, x, list + length + 2);
+        length += 2 + list[length + 1];
+    }
+    memset(got, 0x5A, sizeof got);
+    expect_accepted(call_sets(f, rows, got, draw(2) ? length + draw(4) : f->n * (f->n + 2), &count), "all sets");
+    agree(count == length && memcmp(got, list, length * sizeof *list) == 0, "all sets are the searched ones");
+    if (length > 0)
+        expect_refused(call_sets(f, rows, got, length - 1, &count), 14, 0, "all sets");
+}
+
 /* Every question about every variable, and two numbers past them. */
 static void compare_answers(const struct formula *f, const struct forest *rows, int own)
 {
@@ -308,6 +328,7 @@ static void compare_answers(const struct formula *f, const struct forest *rows, 
             if (judge_universal(f, x) || y == x)
                 compare_entry(f, rows, own, x, y);
     }
+    compare_sets(f, rows, own);
 }
 
 /* Add, on any well-formed forest: the searched forest of the list that the tables stand for, with the clause. */
@@ -386,6 +407,7 @@ static void compare_damaged_forest(const struct formula *f, struct forest *rows)
     expect_verdict(call_entry_point(f, rows, x, y, &entry, &rises), judged, "entry point, bad forest");
     expect_verdict(call_entry_points(f, rows, x, out, SMALL, &count), judged, "entry points, bad forest");
     expect_verdict(call_set(f, rows, x, out, SMALL, &count), judged, "set, bad forest");
+    expect_verdict(call_sets(f, rows, out, SMALL, &count), judged, "all sets, bad forest");
     expect_verdict(call_add(f, rows, NULL, 0), judged, "add, bad forest");
 }
 
@@ -402,6 +424,7 @@ static void compare_refused(const struct formula *f)
     expect_verdict(call_build(f, &rows, &count), all, "build");
     expect_verdict(call_entry_points(f, &rows, 1, out, 4, &count), all, "entry points");
     expect_verdict(call_set(f, &rows, 1, out, 4, &count), all, "set");
+    expect_verdict(call_sets(f, &rows, out, 4, &count), all, "all sets");
     if (prefix.number == 0)
         return;
     expect_verdict(call_entry_point(f, &rows, 1, 2, &entry, &rises), prefix, "entry point");

@@ -47,9 +47,9 @@ static void has_set(const struct formula *f, const struct forest *w, uint32_t x,
 /* P3 and P4, and the entry points that the listing prints. */
 static void sets(void)
 {
-    static const uint32_t set_3[] = { 4, 7, 8 }, set_6[] = { 9 };
+    static const uint32_t set_3[] = { 4, 7, 8 }, set_6[] = { 9 }, all[] = { 3, 3, 4, 7, 8, 6, 1, 9 };
     struct forest w = forest_a();
-    uint32_t out[9], count = 0;
+    uint32_t out[9], every[99], count = 0, length;
 
     has_set(&formula_a, &w, 3, set_3, 3, "P3 set of 3");
     has_set(&formula_a, &w, 6, set_6, 1, "P4 set of 6");
@@ -57,6 +57,13 @@ static void sets(void)
     agree(count == 1 && out[0] == 4, "entry points of 3");
     expect_accepted(call_entry_points(&formula_a, &w, 6, out, 1, &count), "entry points of 6");
     agree(count == 1 && out[0] == 9, "entry points of 6");
+    memset(every, 0x5A, sizeof every);
+    /* a table of just that length, and one that is long enough for any formula with as many variables */
+    for (length = 8; length <= 99; length += 91) {
+        expect_accepted(call_sets(&formula_a, &w, every, length, &count), "all sets");
+        agree(count == 8, "all sets");
+        expect_rows(every, all, 8, "all sets");
+    }
 }
 
 /* A with one clause more, in a table of its own. */
@@ -187,6 +194,9 @@ static void empty(void)
         expect_refused(call_entry_point(&nothing, &w, 1, 1, &entry, &rises), 13, 0, "entry point");
         expect_refused(call_entry_points(&nothing, &w, 1, NULL, 0, &count), 13, 0, "entry points");
         expect_refused(call_set(&nothing, &w, 1, NULL, 0, &count), 13, 0, "set");
+        count = 99;
+        expect_accepted(call_sets(&nothing, &w, NULL, 0, &count), "all sets");
+        agree(count == 0, "there are none");
         expect_accepted(call_write(&nothing, out, sizeof out, &count), "write");
         agree(count == sizeof text - 1 && memcmp(out, text, count) == 0, "the text");
         expect_accepted(call_read((const uint8_t *)text, sizeof text - 1, &n, NULL, 0, &prefix_count, NULL, 0, &clauses_count), "read");
@@ -202,7 +212,7 @@ static void empty_sets(void)
     static const uint32_t prefix[] = { 1, 1, 0, 2, 2, 0 };
     static const int32_t table[] = { 1, 2, 0 };
     static const struct formula f = { 2, prefix, LEN(prefix), table, LEN(table) };
-    uint32_t classes[2] = { 1, 0 }, parents[2] = { 0, 0 }, count;
+    uint32_t classes[2] = { 1, 0 }, parents[2] = { 0, 0 }, out[2] = { 7, 7 }, count;
     struct forest w = { classes, 2, parents, 2 };
     unsigned round;
 
@@ -213,7 +223,8 @@ static void empty_sets(void)
         agree(count == 0, "it is empty");
         expect_accepted(call_entry_points(&f, &w, 2, NULL, 0, &count), "entry points");
         agree(count == 0, "there are none");
-        call_check(&f);
+        expect_accepted(call_sets(&f, &w, out, 2, &count), "all sets");
+        agree(count == 2 && out[0] == 2 && out[1] == 0, "its record");
     }
 }
 

@@ -11,6 +11,7 @@ static uint32_t prefix[SNOW_MOST_PREFIX + 1];
 static int32_t clauses[SNOW_MOST_CLAUSES + 1];
 static uint32_t class_rows[SNOW_MOST_VARIABLES + 2], parent_rows[SNOW_MOST_VARIABLES + 2];
 static uint32_t out[SNOW_MOST_VARIABLES + 2];
+static uint32_t every[SNOW_MOST_VARIABLES * (SNOW_MOST_VARIABLES + 2)];
 static uint8_t text[SNOW_MOST_TEXT + 2];
 
 /* `blocks` blocks of `each` variables, in order of their numbers, the first existential; gives the length. */
@@ -62,6 +63,7 @@ static void every_call(const struct formula *f, uint32_t number, uint32_t place)
     expect_refused(call_build(f, &w, &count), number, place, "build");
     expect_refused(call_entry_points(f, &w, 1, out, 1, &count), number, place, "entry points");
     expect_refused(call_set(f, &w, 1, out, 1, &count), number, place, "set");
+    expect_refused(call_sets(f, &w, out, 1, &count), number, place, "all sets");
     expect_refused(call_write(f, text, 64, &count), number, place, "write");
 }
 
@@ -109,6 +111,41 @@ static void joined_set(const struct formula *f, uint32_t x)
     agree(count == listed && wrong == 0, "the set is all that is deeper");
 }
 
+/* All sets, each as above, in a table of just the room they need and in one that always suffices; one entry less is too little. */
+static void joined_sets(const struct formula *f)
+{
+    static const size_t spare[] = { 0, SNOW_MOST_VARIABLES * (SNOW_MOST_VARIABLES + 2) };
+    uint32_t count, place = 7, x, v, k, wrong, needed = 0;
+    size_t at;
+
+    for (x = 1; x <= SNOW_MOST_VARIABLES; x++)
+        for (v = x; joined_class(x) == 0 && v <= SNOW_MOST_VARIABLES + 2; v++)
+            needed += v > SNOW_MOST_VARIABLES || joined_class(v) != 0;
+    for (k = 0; k < LEN(spare); k++) {
+        memset(every, 0x5A, sizeof every);
+        count = 7;
+        agree(snow_sets(f->n, f->prefix, f->prefix_len, f->clauses, f->clauses_len, class_rows, SNOW_MOST_VARIABLES, parent_rows,
+                        SNOW_MOST_VARIABLES, every, spare[k] == 0 ? needed : spare[k], &count, &place) == 0, "all sets");
+        agree(count == needed && place == 7, "the count of all sets");
+        for (x = 1, at = 0, wrong = 0; x <= SNOW_MOST_VARIABLES; x++) {
+            size_t first = at;
+
+            if (joined_class(x) != 0)
+                continue;
+            wrong += every[at] != x;
+            for (v = x, at += 2; v <= SNOW_MOST_VARIABLES; v++)
+                if (joined_class(v) != 0)
+                    wrong += every[at++] != v;
+            wrong += every[first + 1] != at - first - 2;
+        }
+        agree(at == needed && wrong == 0 && every[at] == 0x5A5A5A5A, "each set is all that is deeper");
+    }
+    memset(every, 0x5A, sizeof every);
+    agree(snow_sets(f->n, f->prefix, f->prefix_len, f->clauses, f->clauses_len, class_rows, SNOW_MOST_VARIABLES, parent_rows,
+                    SNOW_MOST_VARIABLES, every, needed - 1, &count, &place) == 14, "too little room for all sets");
+    agree(count == needed && place == 0 && every[0] == 0x5A5A5A5A && every[needed - 2] == 0x5A5A5A5A, "nothing is written then");
+}
+
 /* n 4,096, 64 blocks, a clause table of 16,384 entries. */
 static void largest(void)
 {
@@ -124,6 +161,7 @@ static void largest(void)
     joined_set(&f, SIDE + 1);
     joined_set(&f, 31 * SIDE + 7);
     joined_set(&f, SNOW_MOST_VARIABLES);
+    joined_sets(&f);
     expect_accepted(call_entry_point(&f, &w, SIDE + 1, 62 * SIDE + 1, &entry, &rises), "entry point");
     agree(entry == 2 * SIDE + 1 && rises == 30, "thirty rises");
     expect_accepted(call_entry_points(&f, &w, SIDE + 1, out, 1, &count), "entry points");

@@ -34,12 +34,14 @@ static void formula_calls(const struct formula *f, uint32_t number, uint32_t pla
     expect_refused(call_build(f, &w, &count), number, place, "build");
     expect_refused(call_entry_points(f, &w, 3, out, 9, &count), number, place, "entry points");
     expect_refused(call_set(f, &w, 3, out, 9, &count), number, place, "set");
+    expect_refused(call_sets(f, &w, out, 9, &count), number, place, "all sets");
     expect_refused(call_write(f, text, sizeof text, &count), number, place, "write");
     expect_refused(call_write(f, text, 0, &count), number, place, "write, before 14");
     w.parents_len = 0;
     expect_refused(call_build(f, &w, &count), number, place, "build, before 14");
     expect_refused(call_entry_points(f, &w, 1, out, 0, &count), number, place, "entry points, before 12");
     expect_refused(call_set(f, &w, 1, out, 0, &count), number, place, "set, before 12");
+    expect_refused(call_sets(f, &w, out, 0, &count), number, place, "all sets, before 12");
 }
 
 /* Every call that meets the fault refuses so; a call that does not take the faulty table passes over it. */
@@ -207,6 +209,8 @@ static void refused_rows(struct forest *w, uint32_t place)
     expect_refused(call_entry_points(&formula_a, w, 4, out, 0, &count), 12, place, "entry points, before 13");
     expect_refused(call_set(&formula_a, w, 3, out, 9, &count), 12, place, "set");
     expect_refused(call_set(&formula_a, w, 4, out, 0, &count), 12, place, "set, before 13");
+    expect_refused(call_sets(&formula_a, w, out, 9, &count), 12, place, "all sets");
+    expect_refused(call_sets(&formula_a, w, out, 0, &count), 12, place, "all sets, before 14");
     expect_refused(call_add(&formula_a, w, clause, 2), 12, place, "add");
 }
 
@@ -288,6 +292,8 @@ static void outputs(void)
     w = forest_a();
     for (k = 0; k < 3; k++)
         expect_refused(call_set(&formula_a, &w, 3, out, k, &count), 14, 0, "set");
+    for (k = 0; k < 8; k++)
+        expect_refused(call_sets(&formula_a, &w, out, k, &count), 14, 0, "all sets");
     expect_refused(call_entry_points(&formula_a, &w, 3, out, 0, &count), 14, 0, "entry points");
     expect_refused(call_write(&formula_a, bytes, 80, &count), 14, 0, "write");
     expect_refused(call_write(&formula_a, bytes, 0, &count), 14, 0, "write to nothing");

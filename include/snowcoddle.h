@@ -213,13 +213,32 @@ uint32_t snow_set(uint32_t n, const uint32_t *prefix, size_t prefix_len,
                   uint32_t *count, uint32_t *place);
 
 /*
+ * Sets of all universals: for each universal, ascending, its number, the
+ * count of its set, and its set ascending, one after the other. *count says
+ * how many entries all that is. What was lent is looked through once, so that
+ * this is much faster than snow_set for one universal after the other.
+ *
+ * Of A: 3 3 4 7 8 6 1 9.
+ *
+ * Refuses 1 to 12, and 14 where out has fewer than *count entries; n * (n + 2)
+ * of them always suffice, and with as many the sets are not counted before
+ * they are written, which saves about half of the time.
+ */
+uint32_t snow_sets(uint32_t n, const uint32_t *prefix, size_t prefix_len,
+                   const int32_t *clauses, size_t clauses_len,
+                   const uint32_t *classes, size_t classes_len,
+                   const uint32_t *parents, size_t parents_len,
+                   uint32_t *out, size_t out_len,
+                   uint32_t *count, uint32_t *place);
+
+/*
  * Add a clause: rewrites the n rows of the lent forest to those of the
  * forest with the clause. The clause is given by its literals, with no
  * closing 0. With the forest of a formula this gives what snow_build gives
  * of the formula with the clause behind its last one.
  *
- * snow_entry_points and snow_set take the clause table too: append the clause
- * there as well, with its 0.
+ * snow_entry_points, snow_set and snow_sets take the clause table too: append
+ * the clause there as well, with its 0.
  *
  * Of A: adding 7 -9 gives classes 1 2 0 4 4 0 7 8 7, parents
  * 0 0 0 1 0 0 4 4 0.

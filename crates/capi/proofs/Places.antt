@@ -11,6 +11,7 @@ use Rattle.formula.specs.Meaning.{clauses}
 use Rattle.formula.specs.Causes.{VariableCount, PrefixLong, ClausesLong, PrefixCause, ClauseCause, prefixOrder, checkOrder, clauseOrder}
 use Rattle.forest.specs.Causes.{ForestCause, short, bad-row, NotUniversal, NotDeeper, entryOrder, listOrder}
 use Rattle.forest.specs.Listed.{TooLong}
+use Rattle.forest.specs.Sets.{SetsTooLong, setsOrder}
 use Rattle.growth.specs.Grown.{AddedCause, TooShort, buildOrder, addOrder, clauseFirst}
 
 -- the places of an order's causes fit 32 bits, if each is the first one
@@ -106,6 +107,12 @@ module _ (n : ℕ) (es : List ℕ) where
       small-then (checkOrder n es ls) (ForestCause n es classes parents ∷ At0 13 (NotUniversal n es x) ∷ At0 14 (TooLong P before) ∷ []) (small-check ls)
       (λ none. small-then (ForestCause n es classes parents ∷ []) (At0 13 (NotUniversal n es x) ∷ At0 14 (TooLong P before) ∷ []) (small-forest classes parents (few n (none .0, tt)))
       (λ _. small-then (At0 13 (NotUniversal n es x) ∷ []) (At0 14 (TooLong P before) ∷ []) (small-at0 13 (NotUniversal n es x)) (λ _. small-at0 14 (TooLong P before))))
+
+  pub small-sets : (ls : List ℤ) (classes parents before : List ℕ) → Small (setsOrder n es ls classes parents before)
+  small-sets ls classes parents before =
+      small-then (checkOrder n es ls) (ForestCause n es classes parents ∷ At0 14 (SetsTooLong n es ls classes parents before) ∷ []) (small-check ls)
+      (λ none. small-then (ForestCause n es classes parents ∷ []) (At0 14 (SetsTooLong n es ls classes parents before) ∷ []) (small-forest classes parents (few n (none .0, tt)))
+      (λ _. small-at0 14 (SetsTooLong n es ls classes parents before)))
 
 pub small-clause : (n : ℕ) (ls : List ℤ) (asked : ℕ) → Small (clauseOrder n ls asked)
 small-clause n ls asked =

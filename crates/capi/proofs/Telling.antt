@@ -1,4 +1,4 @@
--- How the library's answers are told: from a verdict, from an answer with a count, and from a listing.
+-- How the library's answers are told: from a verdict, from an answer with a count, and from a table that was filled.
 use Prim.Native.Nat.{ℕ}
 use mathlib.Core.Path.{_≡_, refl, subst}
 use mathlib.Core.List.{List}
@@ -8,8 +8,10 @@ use Rattle.terms.specs.declared.Verdict.the-variants.{Accepted, Refused}
 use Rattle.terms.specs.Refusals.{Causes, FirstOf, Judged}
 use Rattle.forest.specs.declared.EntryAnswer.{EntryAnswer}
 use Rattle.forest.specs.Answers.{Answered}
-use Rattle.forest.specs.Listed.{Listing}
-use Rattle.capi.specs.Told.{Told, accepted, refused, Written}
+use Rattle.forest.specs.Listed.{Listed, Listing}
+use Rattle.forest.specs.Sets.{Filling}
+use Rattle.forest.proofs.Demands.{listing-filling}
+use Rattle.capi.specs.Told.{Told, accepted, refused, Front, Written}
 
 module _ (order : List Causes) {given kept : Type 0} {verdict : Verdict} (place : ℕ) where
   -- a verdict that accepts, with what the call has given
@@ -24,16 +26,27 @@ module _ (order : List Causes) {given kept : Type 0} {verdict : Verdict} (place 
 pub named : (order : List Causes) {verdict : Verdict} {number at : ℕ} → verdict ≡ Refused number at → Judged order verdict → FirstOf order number at
 named order q judged = subst (Judged order) q judged
 
--- A listing: with a count, the list is written; refused, the table and the count are kept.
+-- A table filled with a list: with a count, the list is written; refused, the table and the count are kept.
+module _ (order : List Causes) (L : List ℕ → Type 0) (out out′ : List ℕ) (answer : Filled) (filling : Filling order L out out′ answer) where
+  pub tell-filled : {kept : Type 0} {written : ℕ} (place : ℕ) → answer ≡ Filled.Count written → Told order (Front L out out′ written) kept 0 place place
+  tell-filled place q = let l = subst (Filling order L out out′) q filling in accepted (l .0) (l .1) refl refl
+
+  pub named-unfilled : {number at : ℕ} → answer ≡ Filled.Refused number at → FirstOf order number at
+  named-unfilled q = subst (Filling order L out out′) q filling .0
+
+  pub tell-unfilled : {given : Type 0} {number at : ℕ} (count place : ℕ) → answer ≡ Filled.Refused number at → Told order given ((count ≡ count) × (out′ ≡ out)) number place at
+  tell-unfilled count place q = let l = subst (Filling order L out out′) q filling in refused (l .0) (refl, l .1)
+
+-- The same for a listing.
 module _ (order : List Causes) (P : ℕ → Type 0) (out out′ : List ℕ) (answer : Filled) (listing : Listing order P out out′ answer) where
   pub tell-listed : {kept : Type 0} {written : ℕ} (place : ℕ) → answer ≡ Filled.Count written → Told order (Written P out out′ written) kept 0 place place
-  tell-listed place q = let l = subst (Listing order P out out′) q listing in accepted (l .0) (l .1) refl refl
+  tell-listed place q = tell-filled order (Listed P) out out′ answer (listing-filling order P out out′ answer listing) place q
 
   pub named-unlisted : {number at : ℕ} → answer ≡ Filled.Refused number at → FirstOf order number at
-  named-unlisted q = subst (Listing order P out out′) q listing .0
+  named-unlisted q = named-unfilled order (Listed P) out out′ answer (listing-filling order P out out′ answer listing) q
 
   pub tell-unlisted : {given : Type 0} {number at : ℕ} (count place : ℕ) → answer ≡ Filled.Refused number at → Told order given ((count ≡ count) × (out′ ≡ out)) number place at
-  tell-unlisted count place q = let l = subst (Listing order P out out′) q listing in refused (l .0) (refl, l .1)
+  tell-unlisted count place q = tell-unfilled order (Listed P) out out′ answer (listing-filling order P out out′ answer listing) count place q
 
 -- What is answered for some numbers is answered for equal ones.
 pub listed-for : (order : ℕ → List Causes) (P : ℕ → ℕ → Type 0) (out out′ : List ℕ) (answer : Filled) {x x′ : ℕ} → x ≡ x′ → Listing (order x) (P x) out out′ answer → Listing (order x′) (P x′) out out′ answer

@@ -20,6 +20,10 @@ pub data Told (order : List Causes) (given kept : Type 0) (returned place place�
 abbrev pub Clause : List ℤ → ℕ → ℕ → ℕ → Type 0
 Clause ls asked start len = (start ≡ beginOf (clauses ls) asked) × (len ≡ length (getD (clauses ls) asked []))
 
--- the ascending list of the numbers of which P holds stands in front, with its length as the count, and nothing past it is changed
+-- a list of which L holds stands in front, with its length as the count, and nothing past it is changed
+abbrev pub Front : (List ℕ → Type 0) → List ℕ → List ℕ → ℕ → Type 0
+Front L out out′ count = (list : List ℕ) × L list × (count ≡ length list) × (out′ ≡ sets out 0 list)
+
+-- the same for the ascending list of the numbers of which P holds
 abbrev pub Written : (ℕ → Type 0) → List ℕ → List ℕ → ℕ → Type 0
-Written P out out′ count = (list : List ℕ) × Listed P list × (count ≡ length list) × (out′ ≡ sets out 0 list)
+Written P = Front (Listed P)

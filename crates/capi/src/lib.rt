@@ -12,12 +12,13 @@ ghost use mathlib.Core.Path.{_≡_};
 ghost use Rattle.formula.specs.Causes.{checkOrder, clauseOrder};
 ghost use Rattle.forest.specs.Causes.{entryOrder, listOrder};
 ghost use Rattle.forest.specs.Answers.{Entry, Entries, Members};
+ghost use Rattle.forest.specs.Sets.{AllSets, setsOrder};
 ghost use Rattle.forest.specs.Formula.{variables, Shares};
 ghost use Rattle.growth.specs.Grown.{buildOrder, addOrder, Extended, Grown};
 ghost use Rattle.qdimacs.specs.Reading.{ReadInto, readOrder};
 ghost use Rattle.qdimacs.specs.Stored.{Stored, tablesOrder};
 ghost use Rattle.qdimacs.specs.Writing.{textOf};
-ghost use Rattle.capi.specs.Told.{Told, Clause, Written};
+ghost use Rattle.capi.specs.Told.{Told, Clause, Front, Written};
 
 // Check: whether a formula keeps every rule.
 #[no_mangle]
@@ -164,6 +165,32 @@ pub extern "C" fn snow_set(
     ensures { λ r. ⌜ Told (listOrder n (now (prefix .entry)) (now (clauses .entry)) (now (classes .entry)) (now (parents .entry)) x (Members n (now (prefix .entry)) (now (clauses .entry)) (now (classes .entry)) (now (parents .entry)) x) (now (out .entry))) (Written (Members n (now (prefix .entry)) (now (clauses .entry)) (now (classes .entry)) (now (parents .entry)) x) (now (out .entry)) (now (out .exit)) (now (count .exit))) ((now (count .exit) ≡ now (count .entry)) × (now (out .exit) ≡ now (out .entry))) r (now (place .entry)) (now (place .exit)) ⌝ }
 {
     match forest::set_of(n, prefix, clauses, classes, parents, Variable::new(x), out) {
+        Filled::Count(written) => {
+            *count = written;
+            0
+        }
+        Filled::Refused(number, at) => {
+            *place = at as u32;
+            number
+        }
+    }
+}
+
+// The sets of all universals: for each universal ascending its number, the count of its set and its set; with the count of all entries.
+#[no_mangle]
+pub extern "C" fn snow_sets(
+    n: u32,
+    prefix: &[u32],
+    clauses: &[i32],
+    classes: &[u32],
+    parents: &[u32],
+    out: &mut [u32],
+    count: &mut u32,
+    place: &mut u32,
+) -> u32
+    ensures { λ r. ⌜ Told (setsOrder n (now (prefix .entry)) (now (clauses .entry)) (now (classes .entry)) (now (parents .entry)) (now (out .entry))) (Front (AllSets n (now (prefix .entry)) (now (clauses .entry)) (now (classes .entry)) (now (parents .entry))) (now (out .entry)) (now (out .exit)) (now (count .exit))) ((now (count .exit) ≡ now (count .entry)) × (now (out .exit) ≡ now (out .entry))) r (now (place .entry)) (now (place .exit)) ⌝ }
+{
+    match forest::sets(n, prefix, clauses, classes, parents, out) {
         Filled::Count(written) => {
             *count = written;
             0

@@ -15,7 +15,7 @@ use Rattle.terms.proofs.Common.{clash}
 use Rattle.formula.specs.Meaning.{level, isUniversal, isExistential}
 use Rattle.formula.specs.Levels.{SoundPrefix, Levelled}
 use Rattle.connection.specs.Reach.{Variables, Lawful}
-use Rattle.connection.specs.Tables.{Table, row, lent, ClassName, Row, WellFormed, Above, EntryPoint, EntryPointOf}
+use Rattle.connection.specs.Tables.{Table, row, lent, ClassName, Row, WellFormed, Above, EntryPoint, EntryPointOf, Member}
 use Rattle.connection.proofs.Climb.{above-class}
 use Rattle.forest.specs.Formula.{variables, universal, tabled, existentialIn, universalIn}
 use Rattle.forest.specs.Causes.{RowsCause, short, bad-row, ForestCause}
@@ -62,6 +62,9 @@ module _ {X Y : Variables} (s : Same X Y) where
     of-same o =
         let d = deeper-same (o .existential, o .deeper) in
         record { for = o .for; shares = o .shares; existential = d .0; deeper = d .1; rises = o .rises; entry = entry-same (o .existential) (o .entry) }
+
+    pub member-same : {S : ℕ → ℕ → Type 0} {y : ℕ} → Member X W S x y → Member Y W S x y
+    member-same {y = y} m = record { existential = sym (s .ex y) ∙ m .existential; entry = m .entry; entered = of-same (m .entered); rises = m .rises; below = m .below }
 
 pub entry-row-same : {X Y : Variables} → Same X Y → {W : Table} → WellFormed X W → {x : ℕ} → X .lev x ≡ Y .lev x → {y e : ℕ} → EntryRow X W x y e → EntryRow Y W x y e
 entry-row-same s formed own {y} r =

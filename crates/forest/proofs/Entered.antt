@@ -4,14 +4,16 @@ use mathlib.Core.Path.{_≡_, refl, sym, ap, _∙_, subst}
 use mathlib.Core.Bool.{Bool, true, false, not}
 use mathlib.Core.List.{List, [], _∷_}
 use mathlib.Core.Logic.{_≢_, inl, inr, ⊎-elim, _↔_, by-cases}
-use native.Mathlib.Decide.{decLt}
+use native.Mathlib.Decide.{decLt, decLe}
 use native.Mathlib.Omega.{arith}
+use lib.IntN.{ℤ}
 use lib.ListN.{length, getD, replicate, length-replicate, getD-replicate, List·getD-eq-default}
-use Rattle.terms.specs.Refusals.{Judged}
+use Rattle.terms.specs.Refusals.{NoneOf, Judged}
 use Rattle.terms.specs.declared.Verdict.the-variants.{Accepted}
 use Rattle.terms.proofs.Common.{clash}
 use Rattle.formula.specs.Meaning.{level, isExistential}
 use Rattle.formula.specs.Levels.{SoundPrefix, Levelled}
+use Rattle.formula.specs.Causes.{checkOrder, ends-inside}
 use Rattle.connection.specs.Reach.{Variables, Lawful}
 use Rattle.connection.specs.Tables.{Table, row, lent, WellFormed, EntryPoint, EntryPointOf, Member, Climbed}
 use Rattle.connection.proofs.Climb.{above-class, entry-one, entry-climb, entry-rises}
@@ -20,6 +22,7 @@ use Rattle.forest.specs.Formula.{variables, universal, tabled, existenti
 use Rattle.forest.specs.Causes.{RowsCause, NotUniversal, NotDeeper}
 use Rattle.forest.specs.Answers.{Entry}
 use Rattle.forest.specs.Search.{rowsOf, Deeper, EntryRows, TopRows, Flagged, Via, Blank, Enters}
+use Rattle.forest.specs.Threads.{Closed}
 use Rattle.forest.proofs.Readings.{flag-within}
 use Rattle.forest.proofs.Climbing.{tops-entries}
 use Rattle.forest.proofs.Flags.{flag-as}
@@ -105,7 +108,7 @@ module _ (n : ℕ) (levels : List ℕ) (universals : List Bool) (classes parents
   rows-formed accepted = none-formed (tabled-lawful n levels universals) (accepted .0)
 
 module _ {n : ℕ} {es levels : List ℕ} {universals : List Bool} (sound : SoundPrefix n es) (table : Levelled es levels universals) (classes parents : List ℕ) (x : ℕ) where
-  own-level : universalIn n universals x ≡ true → getD levels x 0 ≡ level es x
+  pub own-level : universalIn n universals x ≡ true → getD levels x 0 ≡ level es x
   own-level u = level-agrees sound table x (universal-within n es x (sym (universal-agrees sound table x) ∙ u) .1)
 
   -- The tops over the level of x, and the flags of those of variables that share a clause with x.
@@ -146,3 +149,7 @@ module _ {n : ℕ} {es levels : List ℕ} {universals : List Bool} (sound : Soun
       go true e (yes l) = absurd (shallow (deeper-same (same-back s) (formed-same s formed) (sym (own-level u)) (e, l)))
       go true e (no l) = inr (omega arith)
       go false e d = inl e
+
+-- The clauses of a formula that is accepted: not too many, and the last one closed.
+pub sound-clauses : {n : ℕ} {es : List ℕ} {ls : List ℤ} → NoneOf (checkOrder n es ls) → (length ls ≤ 16384) × Closed ls
+sound-clauses {ls = ls} none = (by-cases (decLe (length ls) 16384) (λ l. l) (λ l. absurd (none .1 .0 2 0 (refl, refl, inr (omega arith)))), λ ends. none .1 .1 .1 .0 11 (length ls) (ends-inside refl refl ends))

@@ -64,6 +64,18 @@ has-more ls start i v low = (⊎-elim (λ h. record { place = h .place; from = h
         by-cases (ℕ-discrete (h .place) i) (λ q. inr (sym (h .is) ∙ ap (λ e. variableOf (literalAt ls e)) q))
         (λ other. inl (record { place = h .place; from = h .from; before = let l = h .before in omega arith; is = h .is }))
 
+-- the same with the variable as it was read, and at the front
+pub has-next : (ls : List ℤ) (start i v : ℕ) → start ≤ i → v ≡ variableOf (literalAt ls i) → (w : ℕ) → (Has ls start i w ⊎ (w ≡ v)) ↔ Has ls start (i + 1) w
+has-next ls start i v low is w = (⊎-elim (λ h. has-more ls start i w low .0 (inl h)) (λ q. has-more ls start i w low .0 (inr (q ∙ is))), λ h. ⊎-elim inl (λ q. inr (q ∙ sym is)) (has-more ls start i w low .1 h))
+
+pub has-front : (ls : List ℤ) (i end v : ℕ) → 0 < i → i ≤ end → v ≡ variableOf (literalAt ls (i - 1)) → (w : ℕ) → (Has ls i end w ⊎ (w ≡ v)) ↔ Has ls (i - 1) end w
+has-front ls i end v some high is w = (⊎-elim (λ h. record { place = h .place; from = let f = h .from in omega arith; before = h .before; is = h .is }) (λ q. record { place = i - 1; from = omega arith; before = omega arith; is = sym (q ∙ is) }), back)
+  where
+    back : Has ls (i - 1) end w → Has ls i end w ⊎ (w ≡ v)
+    back h =
+        by-cases (ℕ-discrete (h .place) (i - 1)) (λ q. inr (sym (h .is) ∙ ap (λ e. variableOf (literalAt ls e)) q ∙ sym is))
+        (λ other. inl (record { place = h .place; from = let f = h .from in omega arith; before = h .before; is = h .is }))
+
 -- The variables of the entries from start up to z, as a list.
 mem-map : {A : Type 0} (f : A → ℕ) (d : A) (v : ℕ) (l : List A) → List·Memᴰ v (map f l) ↔ ((i : ℕ) × (i < length l) × (f (getD l i d) ≡ v))
 mem-map f d v [] = (λ m. absurd (List·Memᴰ·not-nil m), λ h. absurd (let l = h .1 in omega arith))
@@ -111,7 +123,7 @@ joined-cons {c} {cs} {a} {b} = (λ j. go j (List·Memᴰ·cases-cons (j .listed)
 
 module _ (ls : List ℤ) (x start z : ℕ) (next : NextZero ls start z) (closed : z < length ls) where
   -- The clauses from `start` on are the one up to the next 0, and those after it.
-  rest-split : (v : ℕ) → Rest ls x start v ↔ ((Has ls start z x × Has ls start z v) ⊎ Rest ls x (z + 1) v)
+  pub rest-split : (v : ℕ) → Rest ls x start v ↔ ((Has ls start z x × Has ls start z v) ⊎ Rest ls x (z + 1) v)
   unfolding joined
   rest-split v =
       let from = next .from in
@@ -122,31 +134,31 @@ module _ (ls : List ℤ) (x start z : ℕ) (next : NextZero ls start z) (closed 
       )
 
 -- The tops of those variables of which P holds: nothing more where P holds of nothing more, and those of two together.
-via-as : {n : ℕ} {tops : List ℕ} {P Q : ℕ → Type 0} {e : ℕ} → ((v : ℕ) → P v → Q v) → Via n tops P e → Via n tops Q e
+pub via-as : {n : ℕ} {tops : List ℕ} {P Q : ℕ → Type 0} {e : ℕ} → ((v : ℕ) → P v → Q v) → Via n tops P e → Via n tops Q e
 via-as more t = record { for = t .for; holds = more (t .for) (t .holds); is = t .is; some = t .some }
 
-via-or : {n : ℕ} {tops : List ℕ} {P Q : ℕ → Type 0} {e : ℕ} → Via n tops (λ v. P v ⊎ Q v) e → Via n tops P e ⊎ Via n tops Q e
+pub via-or : {n : ℕ} {tops : List ℕ} {P Q : ℕ → Type 0} {e : ℕ} → Via n tops (λ v. P v ⊎ Q v) e → Via n tops P e ⊎ Via n tops Q e
 via-or {n} {tops} {P} {Q} {e} t = go (t .holds)
   where
     go : P (t .for) ⊎ Q (t .for) → Via n tops P e ⊎ Via n tops Q e
     go (inl p) = inl (record { for = t .for; holds = p; is = t .is; some = t .some })
     go (inr q) = inr (record { for = t .for; holds = q; is = t .is; some = t .some })
 
--- One entry more of a clause: its top is flagged, if it has one.
-module _ (n : ℕ) (tops : List ℕ) (ls : List ℤ) (start i v top : ℕ) (low : start ≤ i) (is : v ≡ variableOf (literalAt ls i)) (above : top ≡ row n tops v) where
-  tops-before : (e : ℕ) → Via n tops (Has ls start i) e → Via n tops (Has ls start (i + 1)) e
-  tops-before e = via-as (λ w h. has-more ls start i w low .0 (inl h))
+-- One entry more of a clause, at either end: its top is flagged, if it has one.
+module _ (n : ℕ) (tops : List ℕ) {P Q : ℕ → Type 0} (v top : ℕ) (more : (w : ℕ) → (P w ⊎ (w ≡ v)) ↔ Q w) (above : top ≡ row n tops v) where
+  tops-before : (e : ℕ) → Via n tops P e → Via n tops Q e
+  tops-before e = via-as (λ w h. more w .0 (inl h))
 
-  tops-more : (e : ℕ) → Via n tops (Has ls start (i + 1)) e → Via n tops (Has ls start i) e ⊎ (e ≡ top)
-  tops-more e t = ⊎-elim inl (λ o. inr (sym (o .is) ∙ ap (row n tops) (o .holds ∙ sym is) ∙ sym above)) (via-or (via-as (λ w h. has-more ls start i w low .1 h) t))
+  tops-more : (e : ℕ) → Via n tops Q e → Via n tops P e ⊎ (e ≡ top)
+  tops-more e t = ⊎-elim inl (λ o. inr (sym (o .is) ∙ ap (row n tops) (o .holds) ∙ sym above)) (via-or (via-as (λ w h. more w .1 h) t))
 
-  pub tops-none : {old new : List Bool} → top ≡ 0 → Flagged (Via n tops (Has ls start i)) old new → Flagged (Via n tops (Has ls start (i + 1))) old new
+  pub tops-none : {old new : List Bool} → top ≡ 0 → Flagged (Via n tops P) old new → Flagged (Via n tops Q) old new
   tops-none z f = flag-as f (λ e. (tops-before e, λ t. ⊎-elim (λ b. b) (λ q. absurd (t .some (q ∙ z))) (tops-more e t)))
 
-  pub tops-one : {old mid new : List Bool} → top ≢ 0 → Flagged (Via n tops (Has ls start i)) old mid → Flagged (λ w. w ≡ top) mid new → Flagged (Via n tops (Has ls start (i + 1))) old new
+  pub tops-one : {old mid new : List Bool} → top ≢ 0 → Flagged (Via n tops P) old mid → Flagged (λ w. w ≡ top) mid new → Flagged (Via n tops Q) old new
   tops-one some f g =
       flag-as (flag-then f g)
-      (λ e. (⊎-elim (tops-before e) (λ q. record { for = v; holds = has-more ls start i v low .0 (inr is); is = sym above ∙ sym q; some = λ z. some (sym q ∙ z) }), tops-more e))
+      (λ e. (⊎-elim (tops-before e) (λ q. record { for = v; holds = more v .0 (inr refl); is = sym above ∙ sym q; some = λ z. some (sym q ∙ z) }), tops-more e))
 
 -- What is flagged, and what is to come, are the flags at first and the tops of all that share a clause with x.
 pub record Sharing (n : ℕ) (tops : List ℕ) (ls : List ℤ) (x : ℕ) (old new : List Bool) (start : ℕ) : Type 0 where

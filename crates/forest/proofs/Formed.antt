@@ -56,6 +56,11 @@ module _ (n : ℕ) (levels : List ℕ) (universals : List Bool) (classes parents
   unfolding lent
   class-block v k b o is block own r = block ∙ ap (λ c. getD levels c 0) is ∙ r .block ∙ sym own
 
+  -- A class row that is its own name.
+  pub class-own : (v k : ℕ) → k ≡ row n classes v → k ≡ v → existentialIn n universals v ≡ true → ClassRow X W v
+  unfolding lent
+  class-own v k is same ex = class-right v k (getD levels k 0) (getD levels v 0) is (omega arith) (subst Named (sym same) (ex, sym is ∙ same)) refl refl (ap (λ c. getD levels c 0) same)
+
   -- A parent row, from what the parent p says; and what a right one says of p.
   pub parent-right : (v p b o : ℕ) → p ≡ row n parents v → Named v → Named p → b ≡ getD levels p 0 → o ≡ getD levels v 0 → b < o → ParentRow X W v
   unfolding lent

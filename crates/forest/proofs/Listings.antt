@@ -12,7 +12,8 @@ use Rattle.terms.specs.declared.Verdict.{Verdict}
 use Rattle.terms.specs.declared.Verdict.the-variants.{Accepted, Refused}
 use Rattle.terms.specs.declared.Filled.{Filled}
 use Rattle.terms.proofs.Verdicts.{at0-first, at0-none, accepted-then}
-use Rattle.connection.specs.Tables.{lent, WellFormed}
+use Rattle.connection.specs.Reach.{Variables, Lawful}
+use Rattle.connection.specs.Tables.{Table, lent, WellFormed, EntryPointOf, Member}
 use Rattle.forest.specs.declared.EntryAnswer.{EntryAnswer}
 use Rattle.forest.specs.Formula.{variables, Shares}
 use Rattle.forest.specs.Causes.{readOrder}
@@ -20,7 +21,7 @@ use Rattle.forest.specs.Answers.{Answered}
 use Rattle.forest.specs.Listed.{Listed, TooLong, Listing}
 use Rattle.forest.specs.declared.listing.Asked.{Asked}
 use Rattle.forest.specs.declared.listing.Asked.the-variants.{Points, Set}
-use Rattle.forest.specs.Search.{pick, picked, Wanted, Picks, Enters, Blank}
+use Rattle.forest.specs.Search.{pick, picked, Wanted, Picks, EntryRows, Flagged, Enters, Blank}
 use Rattle.forest.proofs.Picked.{picked-listed, listed-one}
 use Rattle.forest.proofs.Agreeing.{lawful, none-formed}
 use Rattle.formula.proofs.Sound.{sound-check}
@@ -40,6 +41,12 @@ picks-listing order {P} f n before after none listed (Filled.Refused number plac
     let first : FirstOf (order ++ (At0 14 (TooLong P before) ∷ [])) 14 0 = accepted-then order (At0 14 (TooLong P before) ∷ []) {v = Accepted} (Refused 14 0) refl none (inl (at0-first 14 (picked f n, listed, picks .2))) in
     (subst₂ (FirstOf (order ++ (At0 14 (TooLong P before) ∷ []))) (sym (picks .0)) (sym (picks .1)) first, picks .3)
 
+-- The set is what is picked by the tops, where the entry points are flagged.
+pub members-picked : {X : Variables} {W : Table} → Lawful X → WellFormed X W → X .count ≤ 4096 → {S : ℕ → ℕ → Type 0} {x : ℕ} {old entered : List Bool} (tops : List ℕ) → Blank old → EntryRows X W x tops → Flagged (EntryPointOf X W S x) old entered → Listed (Member X W S x) (picked (pick Set (X .count) entered tops) (X .count))
+unfolding pick
+members-picked {X} law formed few {entered = entered} tops blank rows f =
+    picked-listed (pick Set (X .count) entered tops) (X .count) (λ y m. law .within y (m .existential)) (λ y _ _. members-of law formed tops rows entered (λ e l. flags-are blank f e (omega arith)) y)
+
 module _ {n : ℕ} {es : List ℕ} {ls : List ℤ} {classes parents : List ℕ} (x : ℕ) (none : NoneOf (readOrder n es ls classes parents x)) where
   -- Where nothing is refused before the output, the tables are well formed and n is within its limit.
   formed : WellFormed (variables n es) (lent (variables n es) classes parents)
@@ -53,6 +60,4 @@ module _ {n : ℕ} {es : List ℕ} {ls : List ℤ} {classes parents : List ℕ} 
     pub asked-listed : (asked : Asked) → Listed (Wanted asked n es ls classes parents x) (picked (pick asked n entered tops) n)
     unfolding pick lent
     asked-listed Points = picked-listed (pick Points n entered tops) n (λ e o. of-within (lawful n es) formed o) (λ e _ l. flags-are blank (enters .1) e (let f = few in omega arith))
-    asked-listed Set =
-        picked-listed (pick Set n entered tops) n (λ y m. lawful n es .within y (m .existential))
-        (λ y _ _. members-of (lawful n es) formed tops (enters .0) entered (λ e l. flags-are blank (enters .1) e (let f = few in omega arith)) y)
+    asked-listed Set = members-picked (lawful n es) formed few tops blank (enters .0) (enters .1)

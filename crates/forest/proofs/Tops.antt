@@ -118,15 +118,19 @@ module _ {n : ℕ} (levels : List ℕ) (universals : List Bool) {W : Table} {flo
     pub topped-all : n ≤ passed → TopRows (tabled n levels universals) W floor tops
     topped-all done y = by-cases (decLe y n) (λ l. topped-below (passed + 1) refl y (omega arith)) (λ l. top-over tops y (omega arith))
 
--- Over a level that nothing is deeper than there are no tops, and all rows are 0.
+-- In a new table all rows are 0.
+pub new-zero : (k v : ℕ) → getD (replicate {A = ℕ} k 0) v 0 ≡ 0
+new-zero k v = by-cases (decLt v k) (λ l. getD-replicate {A = ℕ} k v 0 0 l) (λ l. List·getD-eq-default (replicate {A = ℕ} k 0) 0 {n = v} (let q = length-replicate {A = ℕ} k 0 in omega arith))
+
 row-zero : (n k y : ℕ) → row n (replicate {A = ℕ} k 0) y ≡ 0
 unfolding row
 row-zero n k zero = refl
-row-zero n k (suc v) = by (ltb v n) (by-cases (decLt v k) (λ l. getD-replicate {A = ℕ} k v 0 0 l) (λ l. List·getD-eq-default (replicate {A = ℕ} k 0) 0 {n = v} (let q = length-replicate {A = ℕ} k 0 in omega arith)))
+row-zero n k (suc v) = by (ltb v n)
   where
-    by : (b : Bool) → getD (replicate {A = ℕ} k 0) v 0 ≡ 0 → cond b (getD (replicate {A = ℕ} k 0) v 0) 0 ≡ 0
-    by true z = z
-    by false z = refl
+    by : (b : Bool) → cond b (getD (replicate {A = ℕ} k 0) v 0) 0 ≡ 0
+    by true = new-zero k v
+    by false = refl
 
+-- Over a level that nothing is deeper than there are no tops.
 pub tops-over : {X : Variables} {W : Table} (floor k : ℕ) → ((v : ℕ) → X .lev v ≤ floor) → TopRows X W floor (replicate {A = ℕ} k 0)
 tops-over {X} {W} floor k low y = subst (TopRow X W floor y) (sym (row-zero (X .count) k y)) (top-shallow (low y))

@@ -42,7 +42,7 @@ fn has_room(n: u32, asked: Asked, flags: &[bool], tops: &[u32], room: usize) -> 
 }
 
 // How many of the numbers from 1 to n are picked.
-fn count_picked(n: u32, asked: Asked, flags: &[bool], tops: &[u32]) -> u32
+pub fn count_picked(n: u32, asked: Asked, flags: &[bool], tops: &[u32]) -> u32
     ensures { λ r. ⌜ r ≡ length (picked (pick asked n (now (flags .entry)) (now (tops .entry))) n) ⌝ }
 {
     let mut count: u32 = 0;

@@ -3,11 +3,12 @@
 use crate::rows::row_of;
 use formula::clauses::variable_at;
 use terms::Variable;
-ghost use Prim.Native.Nat.{ℕ, _≤_};
+ghost use Prim.Native.Nat.{ℕ};
 ghost use mathlib.Core.Path.{_≡_};
 ghost use Rattle.formula.specs.Lookup.{NextZero};
 ghost use Rattle.forest.specs.Formula.{Shares};
 ghost use Rattle.forest.specs.Search.{Tells, Has, Flagged, Via};
+ghost use Rattle.forest.specs.Threads.{LastZero};
 
 // What one scan finds of a clause: the entry of its 0, the end of the table where there is none, and whether it has x.
 pub struct Scan {
@@ -27,7 +28,7 @@ pub fn flag_entries(n: u32, clauses: &[i32], x: Variable, tops: &[u32], flags: &
             return;
         }
         if scan.has {
-            flag_tops(n, clauses, start, end, tops, flags);
+            flag_after(n, clauses, start, tops, flags);
             start = end + 1;
         } else {
             start = end + 1;
@@ -56,26 +57,42 @@ fn scan_clause(clauses: &[i32], start: usize, x: Variable) -> Scan
     Scan { end: i, has }
 }
 
-// Flags the tops of the variables of the entries from start up to end.
-pub fn flag_tops(
-    n: u32,
-    clauses: &[i32],
-    start: usize,
-    end: usize,
-    tops: &[u32],
-    flags: &mut [bool],
-)
-    requires { ⌜ start ≤ end ⌝ }
-    ensures { λ r. ⌜ Flagged (Via n (now (tops .entry)) (Has (now (clauses .entry)) start end)) (now (flags .entry)) (now (flags .exit)) ⌝ }
+// Flags the tops of the variables of the entries from `start` up to the next 0.
+pub fn flag_after(n: u32, clauses: &[i32], start: usize, tops: &[u32], flags: &mut [bool])
+    ensures { λ r. ⌜ ((z : ℕ) × NextZero (now (clauses .entry)) start z × Flagged (Via n (now (tops .entry)) (Has (now (clauses .entry)) start z)) (now (flags .entry)) (now (flags .exit))) ⌝ }
 {
     let mut i = start;
-    while i < end {
-        let top = row_of(n, tops, variable_at(clauses, i));
+    while i < clauses.len() {
+        let variable = variable_at(clauses, i);
+        if variable.0 == 0 {
+            return;
+        }
+        let top = row_of(n, tops, variable);
         if top.0 == 0 {
             i += 1;
         } else {
             flag(flags, top);
             i += 1;
+        }
+    }
+}
+
+// Flags the tops of the variables of the entries before `end`, back to the last 0.
+pub fn flag_before(n: u32, clauses: &[i32], end: usize, tops: &[u32], flags: &mut [bool])
+    ensures { λ r. ⌜ ((s : ℕ) × LastZero (now (clauses .entry)) end s × Flagged (Via n (now (tops .entry)) (Has (now (clauses .entry)) s end)) (now (flags .entry)) (now (flags .exit))) ⌝ }
+{
+    let mut i = end;
+    while 0 < i {
+        let variable = variable_at(clauses, i - 1);
+        if variable.0 == 0 {
+            return;
+        }
+        let top = row_of(n, tops, variable);
+        if top.0 == 0 {
+            i -= 1;
+        } else {
+            flag(flags, top);
+            i -= 1;
         }
     }
 }

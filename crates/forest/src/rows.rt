@@ -54,7 +54,8 @@ fn first_bad(n: u32, levels: &[u32], universals: &[bool], classes: &[u32], paren
     0
 }
 
-// Whether the rows of v are right: 0 and 0 for a universal; for an existential a right class row, and a parent that is 0 or right.
+// Whether the rows of v are right: 0 and 0 for a universal; for an existential that names its class a parent that is 0 or right; for any other a
+// right class row, and no parent.
 fn row_is_right(
     n: u32,
     levels: &[u32],
@@ -67,22 +68,25 @@ fn row_is_right(
 {
     let class = row_of(n, classes, v);
     let parent = row_of(n, parents, v);
-    if existential_at(n, universals, v) {
-        if !class_is_right(n, levels, universals, classes, v) {
+    if !existential_at(n, universals, v) {
+        if class.0 != 0 {
             return false;
         }
-        if parent.0 == 0 {
-            return true;
+        if parent.0 != 0 {
+            return false;
         }
-        return parent_is_right(n, levels, universals, classes, parents, v);
+        return true;
     }
-    if class.0 != 0 {
-        return false;
+    if class.0 != v.0 {
+        if parent.0 != 0 {
+            return false;
+        }
+        return class_is_right(n, levels, universals, classes, v);
     }
-    if parent.0 != 0 {
-        return false;
+    if parent.0 == 0 {
+        return true;
     }
-    true
+    parent_is_right(n, levels, universals, classes, parents, v)
 }
 
 // Whether the class row of v is right: at most v, a class name, and of v's block.
@@ -104,7 +108,7 @@ fn class_is_right(n: u32, levels: &[u32], universals: &[bool], classes: &[u32], 
     true
 }
 
-// Whether the parent row of v is right: v and its parent are class names, and the parent's block is less.
+// Whether the parent row of the class name v is right: the parent is a class name too, and its block is less.
 fn parent_is_right(
     n: u32,
     levels: &[u32],
@@ -113,12 +117,10 @@ fn parent_is_right(
     parents: &[u32],
     v: Variable,
 ) -> bool
+    requires { ⌜ (existentialIn n (now universals) (v .0) ≡ true) × (row n (now classes) (v .0) ≡ v .0) ⌝ }
     ensures { λ r. ⌜ Tells r (ParentRow (tabled n (now (levels .entry)) (now (universals .entry))) (rowsOf n (now (classes .entry)) (now (parents .entry))) (v .0)) ⌝ }
 {
     let parent = row_of(n, parents, v);
-    if !names_class(n, universals, classes, v) {
-        return false;
-    }
     if !names_class(n, universals, classes, parent) {
         return false;
     }

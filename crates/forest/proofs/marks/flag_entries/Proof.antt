@@ -1,11 +1,13 @@
 -- `forest::marks::flag_entries` meets its contract.
 use Prim.Native.Nat.{_-_}
-use mathlib.Core.Path.{ap}
+use mathlib.Core.Path.{ap, subst}
 use native.Mathlib.Omega.{arith}
 use lib.ListN.{length, drop-of-length-le}
 use Rattle.formula.specs.Meaning.{clauses}
 use Rattle.formula.specs.Tables.{cut}
 use Rattle.formula.proofs.Lookups.{clauses-unclosed}
+use Rattle.forest.specs.Search.{Has, Via, Flagged}
+use Rattle.forest.proofs.Chains.{next-one}
 use Rattle.forest.proofs.Readings.{told, told-not}
 use Rattle.forest.proofs.Flags.{Sharing, share-none, share-has, share-not, share-all}
 use borrow.Author.Needs.{needs}
@@ -30,8 +32,8 @@ same-length c = c .before .before .before .loop .inv .size
 returns : tie.Need-returns Inv-loop μ-loop
 returns c = share-all (c .before .before .before .loop .inv) (clauses-unclosed (c .before .before .before .before .before .before .args .clauses .now) (c .before .before .before .loop .start) (c .before .scan-clause .result .end) (c .before .scan-clause .ensures .0) (c .if1 .taken))
 
-flag-tops-requires : tie.Need-flag-tops-requires Inv-loop μ-loop
-flag-tops-requires c κs = c .before .before .before .scan-clause .ensures .0 .from
+flag-after-requires : tie.Need-flag-after-requires Inv-loop μ-loop
+flag-after-requires c κs = search needs
 
 add-start : tie.Need-add-start Inv-loop μ-loop
 add-start c = omega arith
@@ -40,7 +42,11 @@ loop-less : tie.Need-loop-less Inv-loop μ-loop
 loop-less c = let from = c .before .before .before .before .before .before .scan-clause .ensures .0 .from in let less = c .before .before .before .before .before .if1 .left in omega arith
 
 loop-again : tie.Need-loop-again Inv-loop μ-loop
-loop-again c = share-has (c .before .before .before .before .before .before .before .before .loop .inv) (c .before .before .before .before .before .before .scan-clause .result .end) (c .before .before .before .before .before .before .scan-clause .ensures .0) (c .before .before .before .before .before .if1 .left) (told (c .before .before .before .before .before .before .scan-clause .result .has) (c .before .before .before .before .if2 .taken) (c .before .before .before .before .before .before .scan-clause .ensures .1)) (c .before .before .flag-tops .ensures)
+loop-again c =
+    let a = c .before .before .before .before .before .before .before .before .before .before .before .args in
+    let (z, next, f) = c .before .before .flag-after .ensures in
+    let flagged = subst (λ z. Flagged (Via (a .n) (a .tops .now) (Has (a .clauses .now) (c .before .before .before .before .before .before .before .before .loop .start) z)) (c .before .before .before .before .before .before .before .before .loop .flags) (c .before .before .flag-after .last .1 .1 .1 .1 .0)) (next-one next (c .before .before .before .before .before .before .scan-clause .ensures .0)) f in
+    share-has (c .before .before .before .before .before .before .before .before .loop .inv) (c .before .before .before .before .before .before .scan-clause .result .end) (c .before .before .before .before .before .before .scan-clause .ensures .0) (c .before .before .before .before .before .if1 .left) (told (c .before .before .before .before .before .before .scan-clause .result .has) (c .before .before .before .before .if2 .taken) (c .before .before .before .before .before .before .scan-clause .ensures .1)) flagged
 
 add-start-2 : tie.Need-add-start-2 Inv-loop μ-loop
 add-start-2 c = omega arith
@@ -68,7 +74,7 @@ flag-entries-spec =
     scan-clause-requires
     same-length
     returns
-    flag-tops-requires
+    flag-after-requires
     add-start
     loop-less
     loop-again

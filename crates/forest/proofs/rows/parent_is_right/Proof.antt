@@ -1,9 +1,9 @@
 -- `forest::rows::parent_is_right` meets its contract.
 use native.Mathlib.Omega.{arith}
 use borrow.Author.Tests.{not-true, not-false}
-use borrow.Author.Needs.{needs}
 use Rattle.forest.proofs.Readings.{told, told-not}
-use Rattle.forest.proofs.Formed.{class-named, parent-right, parent-name, parent-block}
+use Rattle.forest.proofs.Formed.{parent-right, parent-name, parent-block}
+use borrow.Author.Needs.{needs}
 use Rattle.forest.proofs.rows.parent_is_right.Statement.{statement}
 use Rattle.forest.proofs.rows.parent_is_right.Tie as tie
 
@@ -16,15 +16,7 @@ names-class-requires c κs = search needs
 returns : tie.Need-returns
 returns c =
     let a = c .before .before .before .before .before .before .before .args in
-    λ r. told-not (c .before .names-class .result) (not-true (c .before .names-class .result) (c .if1 .taken)) (c .before .names-class .ensures) (class-named (a .n) (a .levels .now) (a .universals .now) (a .classes .now) (a .parents .now) (r .child))
-
-names-class-requires-2 : tie.Need-names-class-requires-2
-names-class-requires-2 c κs = search needs
-
-returns-2 : tie.Need-returns-2
-returns-2 c =
-    let a = c .before .before .before .before .before .before .before .before .before .args in
-    λ r. told-not (c .before .names-class2 .result) (not-true (c .before .names-class2 .result) (c .if2 .taken)) (c .before .names-class2 .ensures) (parent-name (a .n) (a .levels .now) (a .universals .now) (a .classes .now) (a .parents .now) (a .v .0) (c .before .before .before .before .row-of .result .0) (c .before .before .before .before .row-of .ensures) r)
+    λ r. told-not (c .before .names-class .result) (not-true (c .before .names-class .result) (c .if1 .taken)) (c .before .names-class .ensures) (parent-name (a .n) (a .levels .now) (a .universals .now) (a .classes .now) (a .parents .now) (a .v .0) (c .before .before .row-of .result .0) (c .before .before .row-of .ensures) r)
 
 level-at-requires : tie.Need-level-at-requires
 level-at-requires c κs = search needs
@@ -32,17 +24,15 @@ level-at-requires c κs = search needs
 level-at-requires-2 : tie.Need-level-at-requires-2
 level-at-requires-2 c κs = search needs
 
+returns-2 : tie.Need-returns-2
+returns-2 c =
+    let a = c .before .before .before .before .before .before .before .before .before .before .before .before .args in
+    λ r. let less = parent-block (a .n) (a .levels .now) (a .universals .now) (a .classes .now) (a .parents .now) (a .v .0) (c .before .before .before .before .before .before .before .row-of .result .0) (c .before .before .before .before .level-at .result .0) (c .before .before .before .level-at2 .result .0) (c .before .before .before .before .before .before .before .row-of .ensures) (c .before .before .before .before .level-at .ensures) (c .before .before .before .level-at2 .ensures) r in let over = c .if2 .taken in omega arith
+
 returns-3 : tie.Need-returns-3
 returns-3 c =
-    let a = c .before .before .before .before .before .before .before .before .before .before .before .before .before .before .args in
-    λ r. let less = parent-block (a .n) (a .levels .now) (a .universals .now) (a .classes .now) (a .parents .now) (a .v .0) (c .before .before .before .before .before .before .before .before .before .row-of .result .0) (c .before .before .before .before .level-at .result .0) (c .before .before .before .level-at2 .result .0) (c .before .before .before .before .before .before .before .before .before .row-of .ensures) (c .before .before .before .before .level-at .ensures) (c .before .before .before .level-at2 .ensures) r in let over = c .if3 .taken in omega arith
-
-returns-4 : tie.Need-returns-4
-returns-4 c =
-    let a = c .before .before .before .before .before .before .before .before .before .before .before .before .before .before .args in
-    parent-right (a .n) (a .levels .now) (a .universals .now) (a .classes .now) (a .parents .now) (a .v .0) (c .before .before .before .before .before .before .before .before .before .row-of .result .0) (c .before .before .before .before .level-at .result .0) (c .before .before .before .level-at2 .result .0) (c .before .before .before .before .before .before .before .before .before .row-of .ensures)
-    (told (c .before .before .before .before .before .before .before .before .names-class .result) (not-false (c .before .before .before .before .before .before .before .before .names-class .result) (c .before .before .before .before .before .before .before .if1 .left)) (c .before .before .before .before .before .before .before .before .names-class .ensures))
-    (told (c .before .before .before .before .before .before .names-class2 .result) (not-false (c .before .before .before .before .before .before .names-class2 .result) (c .before .before .before .before .before .if2 .left)) (c .before .before .before .before .before .before .names-class2 .ensures)) (c .before .before .before .before .level-at .ensures) (c .before .before .before .level-at2 .ensures) (c .if3 .left)
+    let a = c .before .before .before .before .before .before .before .before .before .before .before .before .args in
+    parent-right (a .n) (a .levels .now) (a .universals .now) (a .classes .now) (a .parents .now) (a .v .0) (c .before .before .before .before .before .before .before .row-of .result .0) (c .before .before .before .before .level-at .result .0) (c .before .before .before .level-at2 .result .0) (c .before .before .before .before .before .before .before .row-of .ensures) (c .before .before .before .before .before .before .before .before .before .before .before .before .pre) (told (c .before .before .before .before .before .before .names-class .result) (not-false (c .before .before .before .before .before .before .names-class .result) (c .before .before .before .before .before .if1 .left)) (c .before .before .before .before .before .before .names-class .ensures)) (c .before .before .before .before .level-at .ensures) (c .before .before .before .level-at2 .ensures) (c .if2 .left)
 
 pub parent-is-right-spec : {M : Type 1} → statement M
 parent-is-right-spec =
@@ -51,9 +41,7 @@ parent-is-right-spec =
     row-of-requires
     names-class-requires
     returns
-    names-class-requires-2
-    returns-2
     level-at-requires
     level-at-requires-2
-    returns-3
-    returns-4)
+    returns-2
+    returns-3)
