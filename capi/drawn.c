@@ -195,6 +195,28 @@ static void compare_clauses(const struct formula *f)
     }
 }
 
+static int is_digit(uint8_t byte)
+{
+    return byte >= '0' && byte <= '9';
+}
+
+/* Whether a digit of a text is the first of its number. */
+static int begins_number(const uint8_t *text, size_t at)
+{
+    return is_digit(text[at]) && (at == 0 || !is_digit(text[at - 1]));
+}
+
+/* Whether no number of a text has a 0 in front of another digit. */
+static int unpadded(const uint8_t *text, size_t length)
+{
+    size_t i;
+
+    for (i = 0; i + 1 < length; i++)
+        if (begins_number(text, i) && text[i] == '0' && is_digit(text[i + 1]))
+            return 0;
+    return 1;
+}
+
 /* Write, and read back. */
 static void compare_text(const struct formula *f)
 {
@@ -211,6 +233,7 @@ static void compare_text(const struct formula *f)
     agree(judge_text(text, count, &r).number == 0 && r.n == f->n && r.prefix_count == f->prefix_len
           && r.clauses_count == f->clauses_len && memcmp(r.prefix, f->prefix, f->prefix_len * sizeof *prefix) == 0
           && memcmp(r.clauses, f->clauses, f->clauses_len * sizeof *clauses) == 0, "the text says the formula");
+    agree(unpadded(text, count), "no number is padded");
     expect_accepted(call_read(text, count, &n, prefix, ROOM, &prefix_count, clauses, ROOM, &clauses_count), "read");
     agree(n == f->n && prefix_count == f->prefix_len && clauses_count == f->clauses_len
           && memcmp(prefix, f->prefix, f->prefix_len * sizeof *prefix) == 0
@@ -459,13 +482,27 @@ static void compare(const struct formula *f)
     }
 }
 
-/* Damages a text: a byte changed, removed, put in or a tail cut off. */
+/* Pads the first number at or after a byte of a text with one to five zeros; gives the length. */
+static size_t pad_text(uint8_t *text, size_t length, size_t room, size_t at)
+{
+    size_t zeros = 1 + draw(5);
+
+    while (at < length && !begins_number(text, at))
+        at++;
+    if (at == length || room - length < zeros)
+        return length;
+    memmove(text + at + zeros, text + at, length - at);
+    memset(text + at, '0', zeros);
+    return length + zeros;
+}
+
+/* Damages a text: a byte changed, removed or put in, a number padded, or a tail cut off. */
 static size_t damage_text(uint8_t *text, size_t length, size_t room)
 {
     static const char bytes[] = "\n\n  00-19ceapn\t\r";
     size_t at = draw((uint32_t)length);
 
-    switch (draw(4)) {
+    switch (draw(5)) {
     case 0:
         text[at] = (uint8_t)bytes[draw(sizeof bytes - 1)];
         return length;
@@ -478,6 +515,8 @@ static size_t damage_text(uint8_t *text, size_t length, size_t room)
         memmove(text + at + 1, text + at, length - at);
         text[at] = (uint8_t)bytes[draw(sizeof bytes - 1)];
         return length + 1;
+    case 3:
+        return pad_text(text, length, room, at);
     default:
         return draw(3) == 0 ? at : length;
     }

@@ -37,13 +37,13 @@ static int is_word(struct part word, const char *text)
     return word.length == strlen(text) && memcmp(word.at, text, word.length) == 0;
 }
 
-/* The number that a word is; -1 if it is none. */
+/* The number that a word of one to five digits is; -1 if it is none. */
 static long number(struct part word)
 {
     long value = 0;
     size_t i;
 
-    if (word.length < 1 || word.length > 5 || (word.length > 1 && word.at[0] == '0'))
+    if (word.length < 1 || word.length > 5)
         return -1;
     for (i = 0; i < word.length; i++) {
         if (word.at[i] < '0' || word.at[i] > '9')

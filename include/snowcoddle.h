@@ -260,10 +260,10 @@ uint32_t snow_add(uint32_t n, const uint32_t *prefix, size_t prefix_len,
  * Every line ends in LF. Lines that begin with c stand only before the
  * problem line `p cnf n m`. Then come quantifier lines (a or e, variables or
  * none, 0), then m clause lines. Words are separated by one or more spaces;
- * spaces may lead or trail. A number has one to five digits and no leading
- * zero except 0 itself; only a nonzero literal may carry `-`. In quantifier
- * and clause lines the last number, and no other, is 0. Outside comments,
- * blank lines, tabs and CR are refused.
+ * spaces may lead or trail. A number has one to five digits, leading zeros
+ * among them: 0004 is 4, and 000 is 0. Only a nonzero literal may carry `-`.
+ * In quantifier and clause lines the last number, and no other, is 0. Outside
+ * comments, blank lines, tabs and CR are refused.
  *
  * Refuses 15, 16 (at the text's length where there is no problem line), 17,
  * and 14 where a table is too short; 8,192 and 16,384 entries take all that
@@ -275,9 +275,9 @@ uint32_t snow_read(const uint8_t *text, size_t text_len, uint32_t *n,
                    uint32_t *place);
 
 /*
- * Write QDIMACS text: no comments, single spaces and no stray ones. *count
- * says how many bytes; there is no terminating 0 byte. snow_read gives the
- * same n, prefix and clauses back.
+ * Write QDIMACS text: no comments, single spaces and no stray ones, no leading
+ * zeros. *count says how many bytes; there is no terminating 0 byte. snow_read
+ * gives the same n, prefix and clauses back.
  *
  * Refuses 1 to 11, 15 where the text would be longer than 65,536 bytes, and
  * 14 where text has fewer than *count; 65,536 bytes always suffice.

@@ -10,7 +10,7 @@ use lib.IntN.{ℤ}
 use Rattle.qdimacs.specs.declared.Stage.{Stage}
 use Rattle.qdimacs.specs.declared.Stage.the-variants.{Opening, Body}
 use Rattle.qdimacs.specs.declared.Spelt.the-variants.{Missing}
-use Rattle.qdimacs.specs.Words.{LF, LETTER-A, LETTER-E, pieces, allDigits, unpadded, isNumber, numberOf, plainItem, itemOf, entry, entriesOf}
+use Rattle.qdimacs.specs.Words.{LF, LETTER-A, LETTER-E, pieces, allDigits, isNumber, numberOf, plainItem, itemOf, entry, entriesOf}
 use Rattle.qdimacs.specs.Grammar.{variables, literals, CommentLine, ProblemLine, QuantifierLine, e-line, a-line, ClauseLine, literals-line, Line, a-comment, the-problem, a-block, a-clause, TooMany, too-many, Fault, outside, unended, many}
 use Rattle.qdimacs.specs.Places.{past, inLine, front, later, lineAt, afterAt, wordsAt, Passed, WholeRow, NoRow, unread, endless-row}
 use Rattle.qdimacs.specs.Steps.{Goes, SpeltIs, NoOpening, no-opening, endless-line, MarkAt, e-mark, a-mark, WholeBlock, Went}
@@ -97,11 +97,11 @@ module _ (text : List ℕ) (at entries literals′ : ℕ) (before : List ℕ × 
 
 -- The words `e` and `a` are no literals, so a line is not both a quantifier line and a clause line.
 e-clause : (more : List (List ℕ)) (es : List ℤ) → entriesOf literals ((LETTER-E ∷ []) ∷ more) ≡ some es → ⊥
-unfolding entriesOf entry itemOf plainItem numberOf isNumber allDigits unpadded
+unfolding entriesOf entry itemOf plainItem numberOf isNumber allDigits
 e-clause more es q = let no : _≡_ {A = ℕ} 0 1 = cc in omega arith
 
 a-clause-no : (more : List (List ℕ)) (es : List ℤ) → entriesOf literals ((LETTER-A ∷ []) ∷ more) ≡ some es → ⊥
-unfolding entriesOf entry itemOf plainItem numberOf isNumber allDigits unpadded
+unfolding entriesOf entry itemOf plainItem numberOf isNumber allDigits
 a-clause-no more es q = let no : _≡_ {A = ℕ} 0 1 = cc in omega arith
 
 pub exclusive : {line bs : List ℕ} {cs : List ℤ} → QuantifierLine line bs → ClauseLine line cs → ⊥

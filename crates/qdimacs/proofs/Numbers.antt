@@ -1,7 +1,7 @@
 -- Numbers: digits one by one, and how large five of them can be.
 use Prim.Native.Nat.{ℕ, suc, _+_, _-_, _*_, _^_, _<_, _≤_}
 use mathlib.Core.Path.{_≡_, refl, subst}
-use mathlib.Core.Bool.{Bool, true, false, not, cond, _&&_}
+use mathlib.Core.Bool.{Bool, true, false, cond, _&&_}
 use mathlib.Core.List.{List, [], _∷_}
 use native.Mathlib.Omega.{arith}
 use native.Mathlib.Nat.{pow-succ', pow-le-pow-right, add-zero}
@@ -14,7 +14,7 @@ use Rattle.qdimacs.specs.declared.Number.{Number}
 use Rattle.qdimacs.specs.declared.Number.the-variants.{Is, Not}
 use Rattle.qdimacs.specs.declared.Item.{Item}
 use Rattle.qdimacs.specs.declared.Item.the-variants.{Closing, Plain, Negated, Other}
-use Rattle.qdimacs.specs.Words.{MINUS, ZERO, NINE, allDigits, spelt, unpadded, isNumber, numberOf, plainItem, negatedItem, itemOf}
+use Rattle.qdimacs.specs.Words.{MINUS, ZERO, NINE, allDigits, spelt, isNumber, numberOf, plainItem, negatedItem, itemOf}
 use Rattle.qdimacs.specs.Places.{speltOf}
 
 module _ (value i end : ℕ) (text : List ℕ) (h : i < end) (e : end ≤ length text) where
@@ -41,19 +41,7 @@ power-next value digit k h d = let p = pow-succ' 10 k in omega arith
 pub power-most : {k : ℕ} → k ≤ 5 → 10 ^ k ≤ 100000
 power-most h = pow-le-pow-right (lit< tt) h
 
--- a word as a number, by its length and its first byte
-pub unpadded-one : (word : List ℕ) → length word ≤ 1 → unpadded word ≡ true
-unfolding unpadded
-unpadded-one [] h = refl
-unpadded-one (byte ∷ []) h = refl
-unpadded-one (byte ∷ next ∷ more) h = let no : ⊥ = omega arith in absurd no
-
-pub unpadded-more : (word : List ℕ) → 1 < length word → unpadded word ≡ not (eqb (getD word 0 0) ZERO)
-unfolding unpadded
-unpadded-more [] h = let no : ⊥ = omega arith in absurd no
-unpadded-more (byte ∷ []) h = let no : ⊥ = omega arith in absurd no
-unpadded-more (byte ∷ next ∷ more) h = refl
-
+-- a word as a number, by its length
 module _ (word : List ℕ) where
   pub number-short : length word < 1 → numberOf word ≡ Not
   unfolding numberOf isNumber
@@ -63,14 +51,9 @@ module _ (word : List ℕ) where
   unfolding numberOf isNumber
   number-long h = rw (le-leb 1 (length word) (omega arith), lt-leb (length word) 5 h)
 
-  module _ (some : 1 ≤ length word) (most : length word ≤ 5) where
-    pub number-padded : unpadded word ≡ false → numberOf word ≡ Not
-    unfolding numberOf isNumber
-    number-padded e = rw (le-leb 1 (length word) some, le-leb (length word) 5 most, e)
-
-    pub number-spelt : unpadded word ≡ true → numberOf word ≡ speltOf 0 word
-    unfolding numberOf isNumber speltOf
-    number-spelt e = rw (le-leb 1 (length word) some, le-leb (length word) 5 most, e)
+  pub number-spelt : 1 ≤ length word → length word ≤ 5 → numberOf word ≡ speltOf 0 word
+  unfolding numberOf isNumber speltOf
+  number-spelt some most = rw (le-leb 1 (length word) some, le-leb (length word) 5 most)
 
 -- a number word is below 100,000, and so is the number of an item
 pub both : (a b : Bool) → (a && b) ≡ true → (a ≡ true) × (b ≡ true)
@@ -102,9 +85,8 @@ number-most word = go (isNumber word) refl
   where
     go : (t : Bool) → isNumber word ≡ t → numberSize (cond t (Is (spelt 0 word)) Not) < 100000
     go true t-is =
-        let sized = leb 1 (length word) && leb (length word) 5 in
-        let parts = both (sized && unpadded word) (allDigits word) t-is in
-        let most = leb-true (length word) 5 (both (leb 1 (length word)) (leb (length word) 5) (both sized (unpadded word) (parts .0) .0) .1) in
+        let parts = both (leb 1 (length word) && leb (length word) 5) (allDigits word) t-is in
+        let most = leb-true (length word) 5 (both (leb 1 (length word)) (leb (length word) 5) (parts .0) .1) in
         let power = power-most {k = 0 + length word} (omega arith) in
         let bound = spelt-most 0 0 word (lit< tt) (parts .1) in
         omega arith

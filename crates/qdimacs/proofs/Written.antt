@@ -13,7 +13,7 @@ use lib.IntN.{ℤ, pos, negsuc, natAbs}
 use Rattle.qdimacs.specs.declared.Item.the-variants.{Plain, Negated}
 use Rattle.qdimacs.specs.declared.Stage.{Stage}
 use Rattle.qdimacs.specs.declared.Stage.the-variants.{Body}
-use Rattle.qdimacs.specs.Words.{LF, SPACE, MINUS, ZERO, NINE, LETTER-A, LETTER-C, LETTER-E, LETTER-F, LETTER-N, LETTER-P, onto, pieces, filled, words, allDigits, spelt, unpadded, isNumber, numberOf, plainItem, negatedItem, itemOf, Kind, prepend, closed, entry, entriesOf}
+use Rattle.qdimacs.specs.Words.{LF, SPACE, MINUS, ZERO, NINE, LETTER-A, LETTER-C, LETTER-E, LETTER-F, LETTER-N, LETTER-P, onto, pieces, filled, words, allDigits, spelt, isNumber, numberOf, plainItem, negatedItem, itemOf, Kind, prepend, closed, entry, entriesOf}
 use Rattle.qdimacs.specs.Grammar.{variables, literals, p-cnf, QuantifierLine, e-line, a-line, literals-line, the-problem, a-block, a-clause, Lines, no-line, one-more, TextOf}
 use Rattle.qdimacs.specs.Writing.{decimal, digitsOf, markWord, literalWord, spaced, ended, prefixText, clauseText, clauseCount, problemBytes, textOf}
 use Rattle.qdimacs.proofs.Holdable.{Blocks, no-block, block, block-end, variable, Clauses, no-clause, clause-end, literal, Holdable}
@@ -82,7 +82,7 @@ negated-word value h positive = ap negatedItem (decimal-number value h) ∙ rw (
 
 -- The closing 0 alone.
 zero-row : {A : Type 0} (kind : Kind A) → entriesOf kind (words (ZERO ∷ [])) ≡ some (kind .positive 0 ∷ [])
-unfolding entriesOf entry closed itemOf plainItem numberOf isNumber unpadded allDigits spelt words filled pieces onto
+unfolding entriesOf entry closed itemOf plainItem numberOf isNumber allDigits spelt words filled pieces onto
 zero-row kind = refl
 
 -- A line in two parts, and a space or none in front.

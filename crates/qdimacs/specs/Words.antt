@@ -1,6 +1,6 @@
 -- Lines, words and numbers of a QDIMACS text (document 01, "QDIMACS lines"). A text, a line and a word are lists of bytes.
 use Prim.Native.Nat.{ℕ, _+_, _-_, _*_}
-use mathlib.Core.Bool.{Bool, true, not, cond, _&&_}
+use mathlib.Core.Bool.{Bool, true, cond, _&&_}
 use mathlib.Core.List.{List, [], _∷_}
 use mathlib.Core.Option.{Option, none, some}
 use lib.Dec.{eqb, leb}
@@ -74,15 +74,9 @@ unfoldable pub spelt : ℕ → List ℕ → ℕ
 spelt before [] = before
 spelt before (digit ∷ digits) = spelt (before * 10 + (digit - ZERO)) digits
 
--- No leading zero except 0 itself.
-unfoldable pub unpadded : List ℕ → Bool
-unpadded [] = true
-unpadded (byte ∷ []) = true
-unpadded (byte ∷ next ∷ more) = not (eqb byte ZERO)
-
--- What a number word is, and which number it is: one to five digits and no leading zero except 0 itself.
+-- What a number word is, and which number it is: one to five digits, leading zeros among them (document 02, request 1).
 unfoldable pub isNumber : List ℕ → Bool
-isNumber word = ((leb 1 (length word) && leb (length word) 5) && unpadded word) && allDigits word
+isNumber word = (leb 1 (length word) && leb (length word) 5) && allDigits word
 
 unfoldable pub numberOf : List ℕ → Number
 numberOf word = cond (isNumber word) (Is (spelt 0 word)) Not

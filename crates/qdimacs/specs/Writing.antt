@@ -6,7 +6,7 @@ use lib.Dec.{eqb, ltb}
 use lib.IntN.{ℤ, pos, negsuc, natAbs}
 use Rattle.qdimacs.specs.Words.{LF, SPACE, MINUS, ZERO, LETTER-A, LETTER-C, LETTER-E, LETTER-F, LETTER-N, LETTER-P}
 
--- The decimal digits of a number: those of its tenth, and one more; no more than the number given first.
+-- The decimal digits of a number, unpadded: those of its tenth, and one more; no more than the number given first.
 unfoldable pub digitsOf : ℕ → ℕ → List ℕ
 digitsOf zero value = []
 digitsOf (suc most) value = elim (ltb value 10) [ true ↦ (ZERO + value) ∷ [] | false ↦ digitsOf most (value / 10) ++ ((ZERO + value % 10) ∷ []) ]

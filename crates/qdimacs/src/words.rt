@@ -97,11 +97,6 @@ pub fn number_in(text: &[u8], start: usize, end: usize) -> Number
     if 5 < size {
         return Number::Not;
     }
-    if 1 < size {
-        if text[start] == ZERO {
-            return Number::Not;
-        }
-    }
     digits_in(text, start, end)
 }
 

@@ -96,13 +96,14 @@ fn refused_case(score: Score, text: &[u8], number: u32, place: usize) -> Score {
 pub fn read_cases() -> Score {
     let first = line_cases(Score::new());
     let second = number_cases(first);
-    let third = sign_cases(second);
-    let fourth = opening_cases(third);
-    let fifth = problem_cases(fourth);
-    let sixth = word_cases(fifth);
-    let seventh = close_cases(sixth);
-    let eighth = order_cases(seventh);
-    read_room_cases(eighth)
+    let third = padded_cases(second);
+    let fourth = sign_cases(third);
+    let fifth = opening_cases(fourth);
+    let sixth = problem_cases(fifth);
+    let seventh = word_cases(sixth);
+    let eighth = close_cases(seventh);
+    let ninth = order_cases(eighth);
+    read_room_cases(ninth)
 }
 
 // The cases that turn on the room that the tables have, and on the length of the text.
@@ -141,7 +142,7 @@ fn line_cases(score: Score) -> Score {
     )
 }
 
-// Numbers have one to five digits and no leading 0.
+// Numbers have one to five digits.
 fn number_cases(score: Score) -> Score {
     let entries = [0u32; 1];
     let table = [0i32; 1];
@@ -155,22 +156,64 @@ fn number_cases(score: Score) -> Score {
     t = read_case(t, b"p cnf 10 0\na 10 0\n", 10, &[2, 10, 0], &table[0..0]);
     t = refused_case(t, b"p cnf 100000 0\n", 16, 0);
     t = refused_case(t, b"p cnf 1 100000\n", 16, 0);
-    t = refused_case(t, b"p cnf 1 1\n100000 0\n", 16, 10);
-    t = refused_case(t, b"p cnf 01 0\n", 16, 0);
-    t = refused_case(t, b"p cnf 00 0\n", 16, 0);
-    refused_case(t, b"p cnf 1 00\n", 16, 0)
+    refused_case(t, b"p cnf 1 1\n100000 0\n", 16, 10)
+}
+
+// Leading zeros count as digits and change no number: a number of zeros is 0, and closes a line.
+fn padded_cases(score: Score) -> Score {
+    let entries = [0u32; 1];
+    let table = [0i32; 1];
+    let mut t = read_case(
+        score,
+        b"p cnf 5 1\ne 0004 0005 0\n-0004 00005 000\n",
+        5,
+        &[1, 4, 5, 0],
+        &[-4, 5, 0],
+    );
+    t = read_case(
+        t,
+        b"p cnf 0009 00005\n0\n00\n000\n0000\n00000\n",
+        9,
+        &entries[0..0],
+        &[0, 0, 0, 0, 0],
+    );
+    t = read_case(t, b"p cnf 000 00\na 00\n", 0, &[2, 0], &table[0..0]);
+    t = read_case(
+        t,
+        b"p cnf 01 01\n-00001 00100 09090 00\n",
+        1,
+        &entries[0..0],
+        &[-1, 100, 9090, 0],
+    );
+    sixth_digit_cases(t)
+}
+
+// A sixth digit is refused also where it is a leading zero.
+fn sixth_digit_cases(score: Score) -> Score {
+    let mut t = refused_case(score, b"p cnf 000009 5\n", 16, 0);
+    t = refused_case(t, b"p cnf 9 000005\n", 16, 0);
+    t = refused_case(t, b"p cnf 000000 0\n", 16, 0);
+    t = refused_case(t, b"p cnf 1 0\ne 000001 0\n", 16, 10);
+    t = refused_case(t, b"p cnf 1 0\ne 1 000000\n", 16, 10);
+    t = refused_case(t, b"p cnf 1 1\n000001 0\n", 16, 10);
+    t = refused_case(t, b"p cnf 1 1\n-000001 0\n", 16, 10);
+    refused_case(t, b"p cnf 1 1\n000000\n", 16, 10)
 }
 
 // Only a literal that is not 0 has a sign, and a number has nothing else.
 fn sign_cases(score: Score) -> Score {
     let mut t = refused_case(score, b"p cnf -1 0\n", 16, 0);
     t = refused_case(t, b"p cnf 1 1\n-0\n", 16, 10);
-    t = refused_case(t, b"p cnf 1 1\n-01 0\n", 16, 10);
+    t = refused_case(t, b"p cnf 1 1\n-000\n", 16, 10);
+    t = refused_case(t, b"p cnf 1 1\n1 -000 0\n", 16, 10);
+    t = refused_case(t, b"p cnf 1 1\n0-1 0\n", 16, 10);
+    t = refused_case(t, b"p cnf -01 0\n", 16, 0);
     t = refused_case(t, b"p cnf 1 1\n--1 0\n", 16, 10);
     t = refused_case(t, b"p cnf 1 1\n+1 0\n", 16, 10);
     t = refused_case(t, b"p cnf 1 1\n- 1 0\n", 16, 10);
     t = refused_case(t, b"p cnf 1 1\n1a 0\n", 16, 10);
-    refused_case(t, b"p cnf 1 0\ne -1 0\n", 16, 10)
+    t = refused_case(t, b"p cnf 1 0\ne -1 0\n", 16, 10);
+    refused_case(t, b"p cnf 1 0\ne -01 0\n", 16, 10)
 }
 
 // The lines up to the problem line; where there is none, the place is the length of the text.
@@ -214,9 +257,11 @@ fn close_cases(score: Score) -> Score {
     let mut t = refused_case(score, b"p cnf 1 0\ne 1\n", 16, 10);
     t = refused_case(t, b"p cnf 1 0\ne 1 0", 16, 10);
     t = refused_case(t, b"p cnf 1 0\ne 0 1 0\n", 16, 10);
+    t = refused_case(t, b"p cnf 1 0\ne 00 1 0\n", 16, 10);
     t = refused_case(t, b"p cnf 1 0\ne\n", 16, 10);
     t = refused_case(t, b"p cnf 1 1\n1\n", 16, 10);
     t = refused_case(t, b"p cnf 1 1\n1 0 1 0\n", 16, 10);
+    t = refused_case(t, b"p cnf 1 1\n1 000 0\n", 16, 10);
     t = refused_case(t, b"p cnf 1 1\n1 0", 16, 10);
     refused_case(t, b"p cnf 1 0\n1 0", 16, 10)
 }
