@@ -21,10 +21,24 @@ static uint32_t variable(int32_t literal)
     return (uint32_t)(literal < 0 ? -literal : literal);
 }
 
+/* A clause with both signs of one variable is always true. */
+static int always_true(const int32_t *clause, size_t clause_len)
+{
+    size_t i, k;
+
+    for (i = 0; i < clause_len; i++)
+        for (k = 0; k < clause_len; k++)
+            if (clause[i] == -clause[k])
+                return 1;
+    return 0;
+}
+
 void search_join(struct world *w, const int32_t *clause, size_t clause_len)
 {
     size_t i, k;
 
+    if (always_true(clause, clause_len))
+        return;
     for (i = 0; i < clause_len; i++)
         for (k = 0; k < clause_len; k++)
             w->together[variable(clause[i])][variable(clause[k])] = 1;

@@ -23,7 +23,7 @@ struct world {
 /* A formula's variables and no clause. */
 void search_variables(struct world *w, const struct formula *f);
 
-/* One more clause, by its variables in either sign. */
+/* One more clause, by its variables in either sign; one that is always true joins nothing. */
 void search_join(struct world *w, const int32_t *clause, size_t clause_len);
 
 /* All clauses of a table. */

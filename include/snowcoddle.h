@@ -25,7 +25,9 @@
  *
  * clauses   Literals, v or -v, each clause closed by 0; at most 16,384
  *           entries with the zeros. Clauses are numbered from 0. A clause may
- *           be empty and may repeat a literal.
+ *           be empty and may repeat a literal. A clause with both signs of
+ *           one variable is always true: it connects nothing, but keeps its
+ *           number.
  *
  * Formula A, for the examples below: n is 9,
  *           prefix   1 1 2 0  2 3 0  1 4 5 0  2 6 0  1 7 8 9 0

@@ -16,7 +16,7 @@ use Rattle.terms.specs.declared.Filled.the-variants.{Count}
 use Rattle.terms.proofs.Common.{clash}
 use Rattle.terms.proofs.Verdicts.{at0-none}
 use Rattle.formula.specs.Causes.{checkOrder}
-use Rattle.formula.specs.Meaning.{level, isExistential}
+use Rattle.formula.specs.Meaning.{level, isExistential, connected}
 use Rattle.formula.specs.Tables.{literalAt}
 use Rattle.connection.specs.Reach.{Variables, Joined, Depends}
 use Rattle.connection.specs.Tables.{Table, row, lent, joins, WellFormed, Climbed, climb, EntryPoint}
@@ -140,7 +140,7 @@ module _ (n : ℕ) (es : List ℕ) where
             judged = (first .0, (first .1 .0, (first .1 .1 .0, (first .1 .1 .1 .0, (fine, tt)))));
             leaves = (
               refl,
-              grown rows ups classes parents (f .long) long long′ (added-forest (map variableOf clause) forest
+              grown rows ups classes parents (f .long) long long′ (added-forest (connected clause) forest
                   (subst (λ (cs : List (List ℕ)). Forest X (Joined cs) (lent X (rows ++ drop n classes) (ups ++ drop n parents))) (joined-last {ls = ls} {clause = clause} accepted first) (rows-forest f (drop n classes) (drop n parents)))),
             );
           }

@@ -7,7 +7,7 @@ use lib.Dec.{lit≤}
 use lib.ListN.{length}
 use Rattle.terms.specs.Refusals.{NoneOf}
 use Rattle.formula.specs.Causes.{checkOrder}
-use Rattle.formula.specs.Meaning.{blocks, clauses, freeLevel, level, isUniversal, isExistential}
+use Rattle.formula.specs.Meaning.{blocks, clauses, freeLevel, level, isUniversal, isExistential, opposite, denied, alwaysTrue, connected}
 use Rattle.formula.specs.Tables.{cut}
 use Rattle.formula.proofs.Accepts.{goodMark, prefixPasses, clausesPass, accepts}
 use Rattle.connection.specs.Reach.{Variables}
@@ -57,7 +57,7 @@ pub record Forests : Type 0 where
   pub with-none : ForestRows A (joined (withLast clausesA [])) classesA parentsA
 
 pub forests : Forests
-unfolding blocks clauses freeLevel level isUniversal isExistential cut row lent has fill classes-up marks goes-before under fuse-class fuse-parent table-of rows-by fuse-marks fuse fuse-all singles forest-of joined
+unfolding blocks clauses opposite denied alwaysTrue connected freeLevel level isUniversal isExistential cut row lent has fill classes-up marks goes-before under fuse-class fuse-parent table-of rows-by fuse-marks fuse fuse-all singles forest-of joined
 forests = record {
   own = record { computed = refl; long = (refl, refl) };
   with79 = record { computed = refl; long = (refl, refl) };
@@ -76,7 +76,7 @@ pub record Sets : Type 0 where
   pub of-6-with58 : set-of A (joined (withLast clausesA clause58)) 6 ≡ 9 ∷ []
 
 pub sets-A : Sets
-unfolding blocks clauses freeLevel level isUniversal isExistential cut has meets keep put-back find see spread reached is-from sift set-of joined
+unfolding blocks clauses opposite denied alwaysTrue connected freeLevel level isUniversal isExistential cut has meets keep put-back find see spread reached is-from sift set-of joined
 sets-A = record { of-3 = refl; of-6 = refl; of-3-with79 = refl; of-6-with79 = refl; of-3-with58 = refl; of-6-with58 = refl }
 
 -- The entry point of a universal x for a deeper existential y, whatever stands past row 9: where the climb ends.

@@ -8,13 +8,14 @@ use native.Mathlib.Decide.{ℕ-discrete, decLt}
 use native.Mathlib.Numerals.{add-one}
 use native.Mathlib.Omega.{arith}
 use lib.IntN.{ℤ, pos}
-use lib.ListN.{length, getD, set, List·getD-eq-default}
+use lib.ListN.{length, getD, set, take, drop, List·getD-eq-default}
 use lib.Seq.{getD-set-same, getD-set-other}
 use Rattle.terms.specs.Literals.{variableOf}
 use Rattle.terms.proofs.Common.{clash}
 use Rattle.formula.specs.Tables.{literalAt}
+use Rattle.formula.specs.Meaning.{alwaysTrue}
 use Rattle.formula.specs.Lookup.{NextZero}
-use Rattle.forest.specs.Threads.{Begins, first, after, Inside, LastZero, On, here, later, Noted, Threaded}
+use Rattle.forest.specs.Threads.{Begins, first, after, Inside, Connecting, Skipping, LastZero, On, here, later, Noted, Threaded}
 
 -- Past the end and at the next 0 there is no literal.
 pub literal-past : (ls : List ℤ) (e : ℕ) → length ls ≤ e → variableOf (literalAt ls e) ≡ 0
@@ -89,29 +90,39 @@ pub threaded-none : (ls : List ℤ) (universals : List Bool) (heads next : List 
 threaded-none ls universals heads next none = record { sound = λ x p o. absurd (on-some o (none x)); complete = λ x s p u l. absurd (omega arith) }
 
 noted-more : {ls : List ℤ} {next : List ℕ} {i x p : ℕ} → Noted ls next i x p → Noted ls next (i + 1) x p
-noted-more n = record { before = let l = n .before in omega arith; falls = n .falls; start = n .start; inside = n .inside; is = n .is }
+noted-more n = record { before = let l = n .before in omega arith; falls = n .falls; start = n .start; inside = n .inside; connecting = n .connecting; is = n .is }
 
 module _ {ls : List ℤ} {universals : List Bool} {heads next : List ℕ} {i : ℕ} (t : Threaded ls universals heads next i) where
   -- nothing to be tied at entry i
-  pass-entry : ((x s : ℕ) → getD universals x false ≡ true → Inside ls s i → variableOf (literalAt ls i) ≡ x → (q : ℕ) × On next q (getD heads x 0) × Inside ls s q) → Threaded ls universals heads next (i + 1)
+  pass-entry : ((x s : ℕ) → getD universals x false ≡ true → Inside ls s i → Connecting ls s → variableOf (literalAt ls i) ≡ x → (q : ℕ) × On next q (getD heads x 0) × Inside ls s q) → Threaded ls universals heads next (i + 1)
   pass-entry done =
       record {
         sound = λ x p o. noted-more (t .sound x p o);
-        complete = λ x s p u l inside is. by-cases (ℕ-discrete p i) (λ q. done x s u (subst (Inside ls s) q inside) (ap (λ e. variableOf (literalAt ls e)) (sym q) ∙ is)) (λ other. t .complete x s p u (omega arith) inside is);
+        complete = λ x s p u l inside plain is. by-cases (ℕ-discrete p i) (λ q. done x s u (subst (Inside ls s) q inside) plain (ap (λ e. variableOf (literalAt ls e)) (sym q) ∙ is)) (λ other. t .complete x s p u (omega arith) inside plain is);
       }
 
   pub threaded-zero : variableOf (literalAt ls i) ≡ 0 → Threaded ls universals heads next (i + 1)
-  threaded-zero z = pass-entry (λ x s u inside is. absurd (inside .literals i (inside .from) (omega arith) z))
+  threaded-zero z = pass-entry (λ x s u inside plain is. absurd (inside .literals i (inside .from) (omega arith) z))
+
+  -- an entry of a clause that is always true
+  pub threaded-skip : {start : ℕ} {skip : Bool} {seen : List ℕ} → Inside ls start i → Skipping ls start skip seen → skip ≡ true → Threaded ls universals heads next (i + 1)
+  threaded-skip {start} inside′ skips yes′ =
+      pass-entry (λ x s u inside plain is. absurd (clash (sym (skips .told) ∙ yes′) (same (inside-one inside inside′) plain)))
+    where
+      same : {s : ℕ} → s ≡ start → Connecting ls s → alwaysTrue (take (skips .end - start) (drop start ls)) ≡ false
+      same q plain =
+          let (z, next, connects) = subst (Connecting ls) q plain in
+          subst (λ e. alwaysTrue (take (e - start) (drop start ls)) ≡ false) (next-one next (skips .next)) connects
 
   module _ (v : ℕ) (own : v ≡ variableOf (literalAt ls i)) where
     pub threaded-other : getD universals v false ≡ false → Threaded ls universals heads next (i + 1)
-    threaded-other none = pass-entry (λ x s u inside is. absurd (clash (ap (λ w. getD universals w false) (own ∙ is) ∙ u) none))
+    threaded-other none = pass-entry (λ x s u inside plain is. absurd (clash (ap (λ w. getD universals w false) (own ∙ is) ∙ u) none))
 
     pub threaded-tied : (start last : ℕ) → Inside ls start i → last ≡ getD heads v 0 → start < last → Threaded ls universals heads next (i + 1)
     threaded-tied start last inside′ is-last l = pass-entry tied
       where
-        tied : (x s : ℕ) → getD universals x false ≡ true → Inside ls s i → variableOf (literalAt ls i) ≡ x → (q : ℕ) × On next q (getD heads x 0) × Inside ls s q
-        tied x s u inside is =
+        tied : (x s : ℕ) → getD universals x false ≡ true → Inside ls s i → Connecting ls s → variableOf (literalAt ls i) ≡ x → (q : ℕ) × On next q (getD heads x 0) × Inside ls s q
+        tied x s u inside plain is =
             let q = last - 1 in
             let same : s ≡ start = inside-one inside inside′ in
             let on : On next q (getD heads x 0) = on-here q (let e : last ≡ suc (last - 1) = omega arith in ap (λ w. getD heads w 0) (sym (own ∙ is)) ∙ sym is-last ∙ e) in
@@ -119,7 +130,7 @@ module _ {ls : List ℤ} {universals : List Bool} {heads next : List ℕ} {i : �
             (q, on, inside-between q inside (omega arith) (omega arith))
 
     -- the new entry in front of the chain of its variable
-    module _ (start last : ℕ) (inside′ : Inside ls start i) (is-last : last ≡ getD heads v 0) (room : v < length heads) (room′ : i < length next) where
+    module _ (start last : ℕ) (inside′ : Inside ls start i) (connecting′ : Connecting ls start) (is-last : last ≡ getD heads v 0) (room : v < length heads) (room′ : i < length next) where
       abbrev heads′ : List ℕ
       heads′ = set heads v (i + 1)
 
@@ -145,6 +156,7 @@ module _ {ls : List ℤ} {universals : List Bool} {heads next : List ℕ} {i : �
             falls = subst (λ k. k ≤ p) (sym (getD-set-other next i p last 0 (λ q. let l = n .before in omega arith))) (n .falls);
             start = n .start;
             inside = n .inside;
+            connecting = n .connecting;
             is = n .is;
           }
 
@@ -159,6 +171,7 @@ module _ {ls : List ℤ} {universals : List Bool} {heads next : List ℕ} {i : �
             falls = subst (λ e. getD next′ e 0 ≤ e) (sym q) (subst (λ k. k ≤ i) (sym (link-own ∙ sym is-last)) last-most);
             start = start;
             inside = subst (Inside ls start) (sym q) inside′;
+            connecting = connecting′;
             is = ap (λ e. variableOf (literalAt ls e)) q ∙ sym own;
           }
       sound-own p (inr o) = noted-still (t .sound v p (on-unset last link-own (before-all v) o))
@@ -171,12 +184,12 @@ module _ {ls : List ℤ} {universals : List Bool} {heads next : List ℕ} {i : �
               by-cases (ℕ-discrete x v) (λ q. subst (λ w. Noted ls next′ (i + 1) w p) (sym q) (sound-own p (on-cases i (ap (λ w. getD heads′ w 0) q ∙ head-own) o)))
               (λ other. noted-still (t .sound x p (on-unset last (head-other x other) (before-all x) o)))
 
-          complete′ : (x s p : ℕ) → getD universals x false ≡ true → p < i + 1 → Inside ls s p → variableOf (literalAt ls p) ≡ x → (q : ℕ) × On next′ q (getD heads′ x 0) × Inside ls s q
-          complete′ x s p u l inside is =
+          complete′ : (x s p : ℕ) → getD universals x false ≡ true → p < i + 1 → Inside ls s p → Connecting ls s → variableOf (literalAt ls p) ≡ x → (q : ℕ) × On next′ q (getD heads′ x 0) × Inside ls s q
+          complete′ x s p u l inside plain is =
               by-cases (ℕ-discrete p i)
               (λ q. (i, on-here i (ap (λ w. getD heads′ w 0) (sym is ∙ ap (λ e. variableOf (literalAt ls e)) q ∙ sym own) ∙ head-own), subst (Inside ls s) q inside))
               (λ other.
-              let (q, on, in′) = t .complete x s p u (omega arith) inside is in
+              let (q, on, in′) = t .complete x s p u (omega arith) inside plain is in
               let old : On next′ q (getD heads x 0) = on-set last (before-all x) on in
               by-cases (ℕ-discrete x v) (λ e. (q, on-later i (ap (λ w. getD heads′ w 0) e ∙ head-own) (subst (On next′ q) (ap (λ w. getD heads w 0) e ∙ sym link-own) old), in′))
               (λ e. (q, subst (On next′ q) (sym (head-other x e)) old, in′)))
@@ -192,10 +205,13 @@ pub passing-none : (ls : List ℤ) → Passing ls 0 0
 passing-none ls = record { begins = first refl; from = omega arith; within = omega arith; literals = λ e l. absurd (omega arith) }
 
 module _ {ls : List ℤ} {start i : ℕ} (p : Passing ls start i) (l : i < length ls) where
+  pub passing-next : variableOf (literalAt ls i) ≡ 0 → NextZero ls start i
+  passing-next z = record { from = p .from; within = λ _. p .within; literals = λ e f g. p .literals e g f; closes = λ _. z }
+
   pub passing-zero : variableOf (literalAt ls i) ≡ 0 → Passing ls (i + 1) (i + 1)
   passing-zero z =
       record {
-        begins = after start i (p .begins) (record { from = p .from; within = λ _. p .within; literals = λ e f g. p .literals e g f; closes = λ _. z }) l refl;
+        begins = after start i (p .begins) (passing-next z) l refl;
         from = omega arith;
         within = omega arith;
         literals = λ e g f. absurd (omega arith);

@@ -4,7 +4,7 @@ use mathlib.Core.Path.{_≡_, refl, sym, ap, _∙_, subst}
 use mathlib.Core.Bool.{Bool, true, false, not}
 use mathlib.Core.List.{List, [], _∷_}
 use mathlib.Core.Logic.{_≢_, inl, inr, ⊎-elim, _↔_, by-cases}
-use native.Mathlib.Decide.{decLt, decLe}
+use native.Mathlib.Decide.{decLt}
 use native.Mathlib.Omega.{arith}
 use lib.IntN.{ℤ}
 use lib.ListN.{length, getD, replicate, length-replicate, getD-replicate, List·getD-eq-default}
@@ -18,7 +18,7 @@ use Rattle.connection.specs.Reach.{Variables, Lawful}
 use Rattle.connection.specs.Tables.{Table, row, lent, WellFormed, EntryPoint, EntryPointOf, Member, Climbed}
 use Rattle.connection.proofs.Climb.{above-class, entry-one, entry-climb, entry-rises}
 use Rattle.connection.proofs.Sets.{member-deeper, member-climb}
-use Rattle.forest.specs.Formula.{variables, universal, tabled, existentialIn, universalIn}
+use Rattle.forest.specs.Formula.{variables, tabled, existentialIn, universalIn}
 use Rattle.forest.specs.Causes.{RowsCause, NotUniversal, NotDeeper}
 use Rattle.forest.specs.Answers.{Entry}
 use Rattle.forest.specs.Search.{rowsOf, Deeper, EntryRows, TopRows, Flagged, Via, Blank, Enters}
@@ -150,6 +150,6 @@ module _ {n : ℕ} {es levels : List ℕ} {universals : List Bool} (sound : Soun
       go true e (no l) = inr (omega arith)
       go false e d = inl e
 
--- The clauses of a formula that is accepted: not too many, and the last one closed.
-pub sound-clauses : {n : ℕ} {es : List ℕ} {ls : List ℤ} → NoneOf (checkOrder n es ls) → (length ls ≤ 16384) × Closed ls
-sound-clauses {ls = ls} none = (by-cases (decLe (length ls) 16384) (λ l. l) (λ l. absurd (none .1 .0 2 0 (refl, refl, inr (omega arith)))), λ ends. none .1 .1 .1 .0 11 (length ls) (ends-inside refl refl ends))
+-- The last clause of a formula that is accepted is closed.
+pub sound-closed : {n : ℕ} {es : List ℕ} {ls : List ℤ} → NoneOf (checkOrder n es ls) → Closed ls
+sound-closed {ls = ls} none ends = none .1 .1 .1 .0 11 (length ls) (ends-inside refl refl ends)

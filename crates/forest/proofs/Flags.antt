@@ -1,7 +1,7 @@
 -- Tables of flags: one flag more, and the tops of the variables of clauses that are passed one after the other.
 use Prim.Native.Nat.{ℕ, zero, suc, _+_, _-_, _≤_, _<_}
 use mathlib.Core.Path.{_≡_, refl, sym, ap, _∙_, subst}
-use mathlib.Core.Bool.{Bool, true, false}
+use mathlib.Core.Bool.{Bool, true, false, not-eq-not}
 use mathlib.Core.List.{List, [], _∷_, map, List·Memᴰ, List·Memᴰ·head, List·Memᴰ·tail, List·Memᴰ·not-nil, List·Memᴰ·cases-cons}
 use mathlib.Core.Logic.{_≢_, _⊎_, inl, inr, ⊎-elim, _↔_, by-cases}
 use native.Mathlib.Decide.{ℕ-discrete, decLe}
@@ -11,13 +11,15 @@ use lib.ListN.{length, getD, set, take, drop, length-set, length-drop}
 use lib.Seq.{getD-set-same, getD-set-other, getD-take, getD-drop, length-take-le}
 use Rattle.terms.specs.Literals.{variableOf}
 use Rattle.formula.specs.Tables.{literalAt}
-use Rattle.formula.specs.Meaning.{clauses}
+use Rattle.formula.specs.Meaning.{clauses, alwaysTrue, connected}
 use Rattle.formula.specs.Lookup.{NextZero}
 use Rattle.formula.proofs.Lookups.{clauses-closed}
+use Rattle.formula.proofs.Signs.{connected-none, connected-all}
 use Rattle.connection.specs.Reach.{Joined}
+use Rattle.connection.proofs.Choice.{choice}
 use Rattle.connection.specs.Tables.{row}
 use Rattle.forest.specs.Formula.{joined, Shares}
-use Rattle.forest.specs.Search.{Has, Flagged, Via}
+use Rattle.forest.specs.Search.{Has, Connects, Flagged, Via}
 use Rattle.forest.proofs.Readings.{row-none, row-over}
 
 -- One flag.
@@ -121,17 +123,32 @@ joined-cons {c} {cs} {a} {b} = (λ j. go j (List·Memᴰ·cases-cons (j .listed)
     go j (inl q) = inl (subst (λ d. List·Memᴰ a d) q (j .left), subst (λ d. List·Memᴰ b d) q (j .right))
     go j (inr m) = inr (record { clause = j .clause; listed = m; left = j .left; right = j .right })
 
+module _ (ls : List ℤ) (start z : ℕ) (from : start ≤ z) (to : z ≤ length ls) where
+  -- A clause that is not always true connects the variables it has, and any other none.
+  pub connects-all : alwaysTrue (take (z - start) (drop start ls)) ≡ false → (v : ℕ) → Connects ls start z v ↔ Has ls start z v
+  connects-all q v = subst (λ vs. List·Memᴰ v vs ↔ Has ls start z v) (sym (connected-all (take (z - start) (drop start ls)) q)) (clause-has ls start z v from to)
+
+  connects-none : alwaysTrue (take (z - start) (drop start ls)) ≡ true → (v : ℕ) → Connects ls start z v → ⊥
+  connects-none q v m = List·Memᴰ·not-nil (subst (λ vs. List·Memᴰ v vs) (connected-none (take (z - start) (drop start ls)) q) m)
+
+  -- What it connects it has; and what it has it connects, if it connects anything.
+  pub connects-has : (v : ℕ) → Connects ls start z v → Has ls start z v
+  connects-has v m = choice {A = Bool} (λ _. Has ls start z v) (alwaysTrue (take (z - start) (drop start ls))) {x = true} {y = true} (λ t. absurd (connects-none t v m)) (λ f. connects-all f v .0 m)
+
+  -- and then it is not always true
+  pub connects-open : (v : ℕ) → Connects ls start z v → alwaysTrue (take (z - start) (drop start ls)) ≡ false
+  connects-open v m = not-eq-not {b = false} .0 (λ t. connects-none t v m)
+
+  connects-other : (v w : ℕ) → Has ls start z w → Connects ls start z v → Connects ls start z w
+  connects-other v w h m = choice {A = Bool} (λ _. Connects ls start z w) (alwaysTrue (take (z - start) (drop start ls))) {x = true} {y = true} (λ t. absurd (connects-none t v m)) (λ f. connects-all f w .1 h)
+
 module _ (ls : List ℤ) (x start z : ℕ) (next : NextZero ls start z) (closed : z < length ls) where
   -- The clauses from `start` on are the one up to the next 0, and those after it.
-  pub rest-split : (v : ℕ) → Rest ls x start v ↔ ((Has ls start z x × Has ls start z v) ⊎ Rest ls x (z + 1) v)
+  pub rest-split : (v : ℕ) → Rest ls x start v ↔ ((Connects ls start z x × Connects ls start z v) ⊎ Rest ls x (z + 1) v)
   unfolding joined
   rest-split v =
-      let from = next .from in
-      let has : (w : ℕ) → List·Memᴰ w (map variableOf (take (z - start) (drop start ls))) ↔ Has ls start z w = λ w. clause-has ls start z w from (omega arith) in
-      let cut : joined (drop start ls) ≡ map variableOf (take (z - start) (drop start ls)) ∷ joined (drop (z + 1) ls) = ap (map (map variableOf)) (clauses-closed ls start z next closed) in (
-        λ j. ⊎-elim (λ m. inl (has x .0 (m .0), has v .0 (m .1))) (λ r. inr r) (joined-cons .0 (subst (λ cs. Joined cs x v) cut j)),
-        λ s. subst (λ cs. Joined cs x v) (sym cut) (joined-cons .1 (⊎-elim (λ m. inl (has x .1 (m .0), has v .1 (m .1))) (λ r. inr r) s)),
-      )
+      let cut : joined (drop start ls) ≡ connected (take (z - start) (drop start ls)) ∷ joined (drop (z + 1) ls) = ap (map connected) (clauses-closed ls start z next closed) in
+      (λ j. joined-cons .0 (subst (λ cs. Joined cs x v) cut j), λ s. subst (λ cs. Joined cs x v) (sym cut) (joined-cons .1 s))
 
 -- The tops of those variables of which P holds: nothing more where P holds of nothing more, and those of two together.
 pub via-as : {n : ℕ} {tops : List ℕ} {P Q : ℕ → Type 0} {e : ℕ} → ((v : ℕ) → P v → Q v) → Via n tops P e → Via n tops Q e
@@ -143,6 +160,14 @@ via-or {n} {tops} {P} {Q} {e} t = go (t .holds)
     go : P (t .for) ⊎ Q (t .for) → Via n tops P e ⊎ Via n tops Q e
     go (inl p) = inl (record { for = t .for; holds = p; is = t .is; some = t .some })
     go (inr q) = inr (record { for = t .for; holds = q; is = t .is; some = t .some })
+
+-- The tops of what a clause connects: those of what it has, and none where it is always true.
+module _ (n : ℕ) (tops : List ℕ) (ls : List ℤ) (start z : ℕ) (from : start ≤ z) (to : z ≤ length ls) where
+  pub flag-connected : {old new : List Bool} → alwaysTrue (take (z - start) (drop start ls)) ≡ false → Flagged (Via n tops (Has ls start z)) old new → Flagged (Via n tops (Connects ls start z)) old new
+  flag-connected q f = flag-as f (λ e. (via-as (λ v. connects-all ls start z from to q v .1), via-as (λ v. connects-all ls start z from to q v .0)))
+
+  pub flag-unconnected : (old : List Bool) → alwaysTrue (take (z - start) (drop start ls)) ≡ true → Flagged (Via n tops (Connects ls start z)) old old
+  flag-unconnected old q = flag-nothing old (λ e l t. connects-none ls start z from to q (t .for) (t .holds))
 
 -- One entry more of a clause, at either end: its top is flagged, if it has one.
 module _ (n : ℕ) (tops : List ℕ) {P Q : ℕ → Type 0} (v top : ℕ) (more : (w : ℕ) → (P w ⊎ (w ≡ v)) ↔ Q w) (above : top ≡ row n tops v) where
@@ -169,16 +194,17 @@ pub share-none : (n : ℕ) (tops : List ℕ) (ls : List ℤ) (x : ℕ) (old : Li
 share-none n tops ls x old = record { size = refl; flags = λ v l. (λ s. s, λ s. s) }
 
 module _ {n : ℕ} {tops : List ℕ} {ls : List ℤ} {x : ℕ} {old new : List Bool} {start : ℕ} (s : Sharing n tops ls x old new start) where
-  -- A clause that has x: the tops of its variables are flagged.
-  pub share-has : {next : List Bool} (z : ℕ) → NextZero ls start z → z < length ls → Has ls start z x → Flagged (Via n tops (Has ls start z)) new next → Sharing n tops ls x old next (z + 1)
+  -- A clause that has x: the tops of the variables that it connects are flagged.
+  pub share-has : {next : List Bool} (z : ℕ) → NextZero ls start z → z < length ls → Has ls start z x → Flagged (Via n tops (Connects ls start z)) new next → Sharing n tops ls x old next (z + 1)
   share-has z closes less here f =
       record {
         size = f .size ∙ s .size;
         flags = λ e l.
             let m = s .flags e l in
             let k = f .flags e (let q = s .size in omega arith) in
-            let split : (v : ℕ) → Rest ls x start v ↔ ((Has ls start z x × Has ls start z v) ⊎ Rest ls x (z + 1) v) = rest-split ls x start z closes less in (
-              ⊎-elim (λ t. ⊎-elim (λ o. m .0 (inl o)) (λ h. m .0 (inr (via-as (λ v h′. split v .1 (inl (here, h′))) h))) (k .0 t)) (λ r. m .0 (inr (via-as (λ v r′. split v .1 (inr r′)) r))),
+            let split : (v : ℕ) → Rest ls x start v ↔ ((Connects ls start z x × Connects ls start z v) ⊎ Rest ls x (z + 1) v) = rest-split ls x start z closes less in
+            let with-x : (v : ℕ) → Connects ls start z v → Connects ls start z x = λ v h. connects-other ls start z (closes .from) (omega arith) v x here h in (
+              ⊎-elim (λ t. ⊎-elim (λ o. m .0 (inl o)) (λ h. m .0 (inr (via-as (λ v h′. split v .1 (inl (with-x v h′, h′))) h))) (k .0 t)) (λ r. m .0 (inr (via-as (λ v r′. split v .1 (inr r′)) r))),
               λ t. ⊎-elim (λ o. inl (k .1 (inl o))) (λ r. ⊎-elim (λ h. inl (k .1 (inr (via-as (λ v b. b .1) h)))) inr (via-or (via-as (λ v r′. split v .0 r′) r))) (m .1 t),
             );
       }
@@ -190,13 +216,14 @@ module _ {n : ℕ} {tops : List ℕ} {ls : List ℤ} {x : ℕ} {old new : List B
         size = s .size;
         flags = λ e l.
             let m = s .flags e l in
-            let split : (v : ℕ) → Rest ls x start v ↔ ((Has ls start z x × Has ls start z v) ⊎ Rest ls x (z + 1) v) = rest-split ls x start z closes less in (
+            let split : (v : ℕ) → Rest ls x start v ↔ ((Connects ls start z x × Connects ls start z v) ⊎ Rest ls x (z + 1) v) = rest-split ls x start z closes less in
+            let without-x : Connects ls start z x → ⊥ = λ h. none (connects-has ls start z (closes .from) (omega arith) x h) in (
               ⊎-elim (λ o. m .0 (inl o)) (λ r. m .0 (inr (via-as (λ v r′. split v .1 (inr r′)) r))),
-              λ t. ⊎-elim inl (λ r. inr (via-as (λ v r′. ⊎-elim (λ h. absurd (none (h .0))) (λ later. later) (split v .0 r′)) r)) (m .1 t),
+              λ t. ⊎-elim inl (λ r. inr (via-as (λ v r′. ⊎-elim (λ h. absurd (without-x (h .0))) (λ later. later) (split v .0 r′)) r)) (m .1 t),
             );
       }
 
   -- No clause is left.
   pub share-all : clauses (drop start ls) ≡ [] → Flagged (Via n tops (Shares ls x)) old new
   unfolding joined
-  share-all none = record { size = s .size; flags = λ e l. (λ t. s .flags e l .0 (inl t), λ t. ⊎-elim (λ o. o) (λ r. absurd (List·Memᴰ·not-nil (subst (λ cs. List·Memᴰ (r .holds .clause) (map (map variableOf) cs)) none (r .holds .listed)))) (s .flags e l .1 t)) }
+  share-all none = record { size = s .size; flags = λ e l. (λ t. s .flags e l .0 (inl t), λ t. ⊎-elim (λ o. o) (λ r. absurd (List·Memᴰ·not-nil (subst (λ cs. List·Memᴰ (r .holds .clause) (map connected cs)) none (r .holds .listed)))) (s .flags e l .1 t)) }

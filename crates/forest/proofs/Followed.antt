@@ -6,21 +6,21 @@ use mathlib.Core.List.{List, [], map, List·Memᴰ, List·Memᴰ·not-nil}
 use mathlib.Core.Logic.{_≢_, _⊎_, inl, inr, ⊎-elim, _↔_, by-cases}
 use native.Mathlib.Decide.{ℕ-discrete, decLt}
 use native.Mathlib.Omega.{arith}
-use lib.IntN.{ℤ, pos}
+use lib.IntN.{ℤ}
 use lib.ListN.{length, getD, drop, drop-of-length-le}
 use Rattle.terms.specs.Literals.{variableOf}
 use Rattle.formula.specs.Tables.{literalAt, cut}
-use Rattle.formula.specs.Meaning.{clauses}
+use Rattle.formula.specs.Meaning.{clauses, connected}
 use Rattle.formula.specs.Lookup.{NextZero}
 use Rattle.formula.proofs.Lookups.{clauses-unclosed}
 use Rattle.forest.specs.Formula.{joined, Shares}
-use Rattle.forest.specs.Search.{Has, Flagged, Via}
-use Rattle.forest.specs.Threads.{Begins, first, after, Inside, Beside, Together, LastZero, On, Noted, Threaded, Closed}
+use Rattle.forest.specs.Search.{Has, Connects, Flagged, Via}
+use Rattle.forest.specs.Threads.{Begins, first, after, Inside, Connecting, Beside, Together, LastZero, On, Noted, Threaded, Closed}
 use Rattle.forest.proofs.Chains.{literal-past, next-none, last-one, inside-between, on-some, on-here, on-later, on-cases}
-use Rattle.forest.proofs.Flags.{flag-as, flag-then, via-as, via-or, Rest, rest-split}
+use Rattle.forest.proofs.Flags.{flag-as, flag-then, via-as, via-or, connects-all, connects-has, connects-open, Rest, rest-split}
 
 -- What stands beside an entry: the entries from it up to the next 0, and those before it back to the last.
-module _ {ls : List ℤ} {t p z s : ℕ} (inside : Inside ls t p) (next : NextZero ls p z) (last : LastZero ls p s) where
+module _ {ls : List ℤ} {t p z s : ℕ} (inside : Inside ls t p) (connecting : Connecting ls t) (next : NextZero ls p z) (last : LastZero ls p s) where
   same : t ≡ s
   same = last-one inside last
 
@@ -40,6 +40,7 @@ module _ {ls : List ℤ} {t p z s : ℕ} (inside : Inside ls t p) (next : NextZe
         place = h .place;
         own = inside;
         other = record { begins = inside .begins; from = omega arith; literals = λ e f g. by-cases (decLt e p) (λ l. inside .literals e f (omega arith)) (λ l. next .literals e (omega arith) (let b = h .before in omega arith)) };
+        connecting = connecting;
         is = h .is;
       }
 
@@ -48,7 +49,7 @@ module _ {ls : List ℤ} {t p z s : ℕ} (inside : Inside ls t p) (next : NextZe
       let q = same in
       let from = h .from in
       let l = h .before in
-      record { start = t; place = h .place; own = inside; other = inside-between (h .place) inside (omega arith) (omega arith); is = h .is }
+      record { start = t; place = h .place; own = inside; other = inside-between (h .place) inside (omega arith) (omega arith); connecting = connecting; is = h .is }
 
 -- What is to come along the chain from k.
 pub record Along (ls : List ℤ) (next : List ℕ) (k v : ℕ) : Type 0 where
@@ -87,9 +88,10 @@ module _ {n : ℕ} {tops : List ℕ} {ls : List ℤ} {next : List ℕ} {x head :
           flags = λ e l.
               let m = f .flags e l in
               let k = flag-then right left .flags e (let q = f .size in omega arith) in
-              let inside = follow-noted .inside in (
-                ⊎-elim (λ t. ⊎-elim (λ o. m .0 (inl o)) (⊎-elim (λ h. m .0 (inr (via-as (λ v g. along-here entry is (inl (beside-after inside nz lz v g))) h))) (λ h. m .0 (inr (via-as (λ v g. along-here entry is (inl (beside-before inside nz lz v g))) h)))) (k .0 t)) (λ a. m .0 (inr (via-as (λ v b. along-here entry is (inr b)) a))),
-                λ t. ⊎-elim (λ o. inl (k .1 (inl o))) (λ a. ⊎-elim (λ b. inl (k .1 (inr (via-or (via-as (λ v g. beside-split inside nz lz v g) b))))) inr (via-or (via-as (λ v b. along-cases entry is b) a))) (m .1 t),
+              let inside = follow-noted .inside in
+              let plain = follow-noted .connecting in (
+                ⊎-elim (λ t. ⊎-elim (λ o. m .0 (inl o)) (⊎-elim (λ h. m .0 (inr (via-as (λ v g. along-here entry is (inl (beside-after inside plain nz lz v g))) h))) (λ h. m .0 (inr (via-as (λ v g. along-here entry is (inl (beside-before inside plain nz lz v g))) h)))) (k .0 t)) (λ a. m .0 (inr (via-as (λ v b. along-here entry is (inr b)) a))),
+                λ t. ⊎-elim (λ o. inl (k .1 (inl o))) (λ a. ⊎-elim (λ b. inl (k .1 (inr (via-or (via-as (λ v g. beside-split inside plain nz lz v g) b))))) inr (via-or (via-as (λ v b. along-cases entry is b) a))) (m .1 t),
               );
         }
 
@@ -109,8 +111,8 @@ module _ {n : ℕ} {tops : List ℕ} {ls : List ℤ} {next : List ℕ} {x head :
           let b = t .beside in
           let some = b .own .literals (t .place) (b .own .from) (omega arith) in
           let less : t .place < length ls = by-cases (decLt (t .place) (length ls)) (λ l. l) (λ l. absurd (some (literal-past ls (t .place) (omega arith)))) in
-          let (q, on, inside) = threaded .complete y (b .start) (t .place) u less (b .own) (t .is) in
-          record { entry = q; on = subst (On next q) (sym is) on; beside = record { start = b .start; place = b .place; own = inside; other = b .other; is = b .is } }
+          let (q, on, inside) = threaded .complete y (b .start) (t .place) u less (b .own) (b .connecting) (t .is) in
+          record { entry = q; on = subst (On next q) (sym is) on; beside = record { start = b .start; place = b .place; own = inside; other = b .other; connecting = b .connecting; is = b .is } }
 
 -- The next 0, found entry by entry.
 next-from : (ls : List ℤ) (k start : ℕ) → start + k ≡ length ls → (z : ℕ) × NextZero ls start z
@@ -141,7 +143,7 @@ module _ (ls : List ℤ) (x v : ℕ) where
 
   empty-rest : (start : ℕ) → clauses (drop start ls) ≡ [] → Rest ls x start v → ⊥
   unfolding joined
-  empty-rest start none r = List·Memᴰ·not-nil (subst (λ cs. List·Memᴰ (r .clause) (map (map variableOf) cs)) none (r .listed))
+  empty-rest start none r = List·Memᴰ·not-nil (subst (λ cs. List·Memᴰ (r .clause) (map connected cs)) none (r .listed))
 
   no-rest : (start : ℕ) → length ls ≤ start → Rest ls x start v → ⊥
   unfolding clauses cut
@@ -154,10 +156,17 @@ module _ (ls : List ℤ) (x v : ℕ) where
       by-cases (decLt start (length ls)) (λ l. by (next-from ls (length ls - start) start (omega arith)) (λ z low b r′. rest-together fuel (z + 1) (omega arith) b r′))
       (λ l. absurd (no-rest start (omega arith) r))
     where
+      both : (z : ℕ) → NextZero ls start z → z < length ls → Connects ls start z x → Connects ls start z v → Together ls x v
+      both z next c own other =
+          let has = connects-has ls start z (next .from) (omega arith) x own in
+          let has′ = connects-has ls start z (next .from) (omega arith) v other in
+          let plain = connects-open ls start z (next .from) (omega arith) x own in
+          record { place = has .place; is = has .is; beside = record { start = start; place = has′ .place; own = has-inside begins next has; other = has-inside begins next has′; connecting = (z, next, plain); is = has′ .is } }
+
       by : (z : ℕ) × NextZero ls start z → ((z : ℕ) → start ≤ z → Begins ls (z + 1) → Rest ls x (z + 1) v → Together ls x v) → Together ls x v
       by (z, next) onward =
           by-cases (decLt z (length ls))
-          (λ c. ⊎-elim (λ h. record { place = h .0 .place; is = h .0 .is; beside = record { start = start; place = h .1 .place; own = has-inside begins next (h .0); other = has-inside begins next (h .1); is = h .1 .is } }) (λ r′. onward z (next .from) (after start z begins next c refl) r′) (rest-split ls x start z next c v .0 r))
+          (λ c. ⊎-elim (λ h. both z next c (h .0) (h .1)) (λ r′. onward z (next .from) (after start z begins next c refl) r′) (rest-split ls x start z next c v .0 r))
           (λ c. absurd (empty-rest start (clauses-unclosed ls start z next (omega arith)) r))
 
   -- And back to the first.
@@ -174,5 +183,7 @@ module _ (ls : List ℤ) (x v : ℕ) where
           let some = b .own .literals (t .place) (b .own .from) (omega arith) in
           let low = b .own .from in
           let less : t .place < length ls = by-cases (decLt (t .place) (length ls)) (λ l. l) (λ l. absurd (some (literal-past ls (t .place) (omega arith)))) in
-          let (z, next) = next-from ls (length ls - b .start) (b .start) (omega arith) in
-          rest-first (b .own .begins) (rest-split ls x (b .start) z next (closed-next closed (omega arith) next) v .1 (inl (inside-has next (b .own) (t .is), inside-has next (b .other) (b .is))))
+          let (z, next, plain) = b .connecting in
+          let closes = closed-next closed (omega arith) next in
+          let all : (w : ℕ) → Connects ls (b .start) z w ↔ Has ls (b .start) z w = connects-all ls (b .start) z (next .from) (omega arith) plain in
+          rest-first (b .own .begins) (rest-split ls x (b .start) z next closes v .1 (inl (all x .1 (inside-has next (b .own) (t .is)), all v .1 (inside-has next (b .other) (b .is)))))

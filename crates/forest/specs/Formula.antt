@@ -5,8 +5,7 @@ use mathlib.Core.List.{List, map}
 use lib.Dec.{leb}
 use lib.IntN.{ℤ}
 use lib.ListN.{getD}
-use Rattle.terms.specs.Literals.{variableOf}
-use Rattle.formula.specs.Meaning.{level, isUniversal, isExistential, clauses}
+use Rattle.formula.specs.Meaning.{level, isUniversal, isExistential, clauses, connected}
 use Rattle.connection.specs.Reach.{Variables, Joined}
 
 -- the variables of a formula: how many, the level of each, and which are existential
@@ -17,11 +16,11 @@ variables n es = record { count = n; lev = level es; ex = isExistential n es }
 unfoldable pub universal : ℕ → List ℕ → ℕ → Bool
 universal n es x = leb 1 x && leb x n && isUniversal es x
 
--- the lists of variables that connect: those of every clause, in either sign
+-- the lists of variables that connect: those of every clause, in either sign, and none of a clause that is always true
 unfoldable pub joined : List ℤ → List (List ℕ)
-joined ls = map (map variableOf) (clauses ls)
+joined ls = map connected (clauses ls)
 
--- two variables share a clause
+-- two variables share a clause that connects
 abbrev pub Shares : List ℤ → ℕ → ℕ → Type 0
 Shares ls = Joined (joined ls)
 

@@ -1,17 +1,18 @@
 -- What the inner functions find in lent rows, by the level table. What a reader must believe of the calls is in Causes, Answers and Listed.
-use Prim.Native.Nat.{ℕ, zero, suc, _+_, _≤_, _<_}
+use Prim.Native.Nat.{ℕ, zero, suc, _+_, _-_, _≤_, _<_}
 use mathlib.Core.Path.{_≡_}
 use mathlib.Core.Bool.{Bool, true, false, cond}
-use mathlib.Core.List.{List, [], _∷_, _++_}
+use mathlib.Core.List.{List, [], _∷_, _++_, List·Memᴰ}
 use mathlib.Core.Logic.{_⊎_, _≢_, _↔_}
 use lib.IntN.{ℤ}
-use lib.ListN.{length, getD}
+use lib.ListN.{length, getD, take, drop}
 use lib.Seq.{sets}
 use Rattle.terms.specs.Literals.{variableOf}
 use Rattle.terms.specs.declared.Verdict.{Verdict}
 use Rattle.terms.specs.declared.Verdict.the-variants.{Accepted}
 use Rattle.terms.specs.declared.Filled.{Filled}
 use Rattle.terms.specs.declared.Filled.the-variants.{Count, Refused}
+use Rattle.formula.specs.Meaning.{connected}
 use Rattle.formula.specs.Tables.{literalAt}
 use Rattle.connection.specs.Reach.{Variables}
 use Rattle.connection.specs.Tables.{Table, row, lent, Above, EntryPoint, EntryPointOf}
@@ -95,6 +96,10 @@ pub record Has (ls : List ℤ) (start end v : ℕ) : Type 0 where
   pub from : start ≤ place
   pub before : place < end
   pub is : variableOf (literalAt ls place) ≡ v
+
+-- the clause from start up to end connects v
+abbrev pub Connects : List ℤ → ℕ → ℕ → ℕ → Type 0
+Connects ls start end v = List·Memᴰ v (connected (take (end - start) (drop start ls)))
 
 -- a table of flags is another with those numbers added of which P holds
 pub record Flagged (P : ℕ → Type 0) (old new : List Bool) : Type 0 where

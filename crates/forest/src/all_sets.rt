@@ -12,11 +12,12 @@ use crate::threads::thread;
 use terms::Filled;
 use terms::Level;
 use terms::Variable;
-ghost use Prim.Native.Nat.{ℕ, _+_, _≤_, _<_};
+ghost use Prim.Native.Nat.{_+_, _≤_, _<_};
 ghost use mathlib.Core.Path.{_≡_};
 ghost use mathlib.Core.Bool.{Bool, true, false};
 ghost use mathlib.Core.List.{List};
 ghost use lib.ListN.{length, getD};
+ghost use Rattle.formula.specs.Lookup.{SoundClauses};
 ghost use Rattle.connection.specs.Tables.{WellFormed};
 ghost use Rattle.forest.specs.declared.listing.Asked.the-variants.{Set};
 ghost use Rattle.forest.specs.Formula.{tabled};
@@ -34,7 +35,7 @@ pub fn list_sets(
     parents: &[u32],
     out: &mut [u32],
 ) -> Filled
-    requires { ⌜ (n ≤ 4096) × (length (now universals) ≡ 4097) × (length (now clauses) ≤ 16384) × Closed (now clauses) × WellFormed (tabled n (now levels) (now universals)) (rowsOf n (now classes) (now parents)) ⌝ }
+    requires { ⌜ (n ≤ 4096) × (length (now universals) ≡ 4097) × SoundClauses (now clauses) × Closed (now clauses) × WellFormed (tabled n (now levels) (now universals)) (rowsOf n (now classes) (now parents)) ⌝ }
     ensures { λ r. ⌜ Fills (TabledSets n (now (levels .entry)) (now (universals .entry)) (now (clauses .entry)) (now (classes .entry)) (now (parents .entry)) n) (now (out .entry)) (now (out .exit)) r ⌝ }
 {
     let mut first = [0u32; 4097];

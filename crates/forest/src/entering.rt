@@ -13,6 +13,7 @@ ghost use mathlib.Core.List.{[], _∷_};
 ghost use lib.ListN.{length};
 ghost use Rattle.terms.specs.Refusals.{At0, Judged};
 ghost use Rattle.formula.specs.Levels.{SoundPrefix};
+ghost use Rattle.formula.specs.Lookup.{SoundClauses};
 ghost use Rattle.connection.specs.Tables.{lent};
 ghost use Rattle.forest.specs.Formula.{variables, Shares};
 ghost use Rattle.forest.specs.Causes.{ForestCause, NotUniversal, readOrder};
@@ -50,7 +51,7 @@ fn sound_enter(
     tops: &mut [u32],
     entered: &mut [bool],
 ) -> Verdict
-    requires { ⌜ SoundPrefix n (now prefix) × (length (now tops) ≡ 4096) × Blank (now entered) ⌝ }
+    requires { ⌜ SoundPrefix n (now prefix) × (length (now tops) ≡ 4096) × Blank (now entered) × SoundClauses (now clauses) ⌝ }
     ensures { λ r. ⌜ Judged (ForestCause n (now (prefix .entry)) (now (classes .entry)) (now (parents .entry)) ∷ At0 13 (NotUniversal n (now (prefix .entry)) (x .0)) ∷ []) r ⌝ }
     ensures { λ r. ⌜ Enters (variables n (now (prefix .entry))) (lent (variables n (now (prefix .entry))) (now (classes .entry)) (now (parents .entry))) (Shares (now (clauses .entry))) (x .0) (now (tops .exit)) (now (entered .entry)) (now (entered .exit)) r ⌝ }
 {

@@ -21,12 +21,11 @@ use search::find_entry;
 use terms::Filled;
 use terms::Variable;
 use terms::Verdict;
-ghost use Prim.Native.Nat.{_≤_};
 ghost use mathlib.Core.List.{[], _∷_};
 ghost use mathlib.Core.Logic.{_⊎_};
-ghost use lib.ListN.{length};
-ghost use Rattle.terms.specs.Refusals.{At0, Judged};
+ghost use Rattle.terms.specs.Refusals.{At0};
 ghost use Rattle.formula.specs.Levels.{SoundPrefix};
+ghost use Rattle.formula.specs.Lookup.{SoundClauses};
 ghost use Rattle.forest.specs.Causes.{ForestCause, NotUniversal, NotDeeper, listOrder};
 ghost use Rattle.forest.specs.Answers.{Answered, Entry, EntryAnswered, EntriesListed, SetListed};
 ghost use Rattle.forest.specs.Listed.{Listing};
@@ -145,7 +144,7 @@ fn sound_sets(
     parents: &[u32],
     out: &mut [u32],
 ) -> Filled
-    requires { ⌜ SoundPrefix n (now prefix) × (length (now clauses) ≤ 16384) × Closed (now clauses) ⌝ }
+    requires { ⌜ SoundPrefix n (now prefix) × SoundClauses (now clauses) × Closed (now clauses) ⌝ }
     ensures { λ r. ⌜ Filling (ForestCause n (now (prefix .entry)) (now (classes .entry)) (now (parents .entry)) ∷ At0 14 (SetsTooLong n (now (prefix .entry)) (now (clauses .entry)) (now (classes .entry)) (now (parents .entry)) (now (out .entry))) ∷ []) (AllSets n (now (prefix .entry)) (now (clauses .entry)) (now (classes .entry)) (now (parents .entry))) (now (out .entry)) (now (out .exit)) r ⌝ }
 {
     let mut levels = [0u32; 4097];

@@ -2,12 +2,14 @@
 
 use crate::rows::row_of;
 use formula::clauses::variable_at;
+use formula::truth::always_true;
 use terms::Variable;
-ghost use Prim.Native.Nat.{ℕ};
+ghost use Prim.Native.Nat.{ℕ, _+_, _<_};
 ghost use mathlib.Core.Path.{_≡_};
-ghost use Rattle.formula.specs.Lookup.{NextZero};
+ghost use lib.ListN.{length};
+ghost use Rattle.formula.specs.Lookup.{NextZero, SoundClauses, Stamps};
 ghost use Rattle.forest.specs.Formula.{Shares};
-ghost use Rattle.forest.specs.Search.{Tells, Has, Flagged, Via};
+ghost use Rattle.forest.specs.Search.{Tells, Has, Connects, Flagged, Via};
 ghost use Rattle.forest.specs.Threads.{LastZero};
 
 // What one scan finds of a clause: the entry of its 0, the end of the table where there is none, and whether it has x.
@@ -18,8 +20,10 @@ pub struct Scan {
 
 // Flags the tops of the variables that share a clause with x.
 pub fn flag_entries(n: u32, clauses: &[i32], x: Variable, tops: &[u32], flags: &mut [bool])
+    requires { ⌜ SoundClauses (now clauses) ⌝ }
     ensures { λ r. ⌜ Flagged (Via n (now (tops .entry)) (Shares (now (clauses .entry)) (x .0))) (now (flags .entry)) (now (flags .exit)) ⌝ }
 {
+    let mut seen = [0u16; 8194];
     let mut start = 0;
     while start < clauses.len() {
         let scan = scan_clause(clauses, start, x);
@@ -28,7 +32,7 @@ pub fn flag_entries(n: u32, clauses: &[i32], x: Variable, tops: &[u32], flags: &
             return;
         }
         if scan.has {
-            flag_after(n, clauses, start, tops, flags);
+            flag_clause(n, clauses, start, end, tops, flags, &mut seen);
             start = end + 1;
         } else {
             start = end + 1;
@@ -55,6 +59,27 @@ fn scan_clause(clauses: &[i32], start: usize, x: Variable) -> Scan
         }
     }
     Scan { end: i, has }
+}
+
+// Flags the tops of the variables that the clause from start up to end connects: none where it is always true, which `seen` is for telling.
+fn flag_clause(
+    n: u32,
+    clauses: &[i32],
+    start: usize,
+    end: usize,
+    tops: &[u32],
+    flags: &mut [bool],
+    seen: &mut [u16],
+)
+    requires { ⌜ SoundClauses (now clauses) × NextZero (now clauses) start end × (end < length (now clauses)) × Stamps (now seen) (start + 1) ⌝ }
+    ensures { λ r. ⌜ Flagged (Via n (now (tops .entry)) (Connects (now (clauses .entry)) start end)) (now (flags .entry)) (now (flags .exit)) ⌝ }
+    ensures { λ r. ⌜ Stamps (now (seen .exit)) (end + 1 + 1) ⌝ }
+{
+    let stamp = (end + 1) as u16;
+    if always_true(&clauses[start..end], seen, stamp) {
+        return;
+    }
+    flag_after(n, clauses, start, tops, flags);
 }
 
 // Flags the tops of the variables of the entries from `start` up to the next 0.

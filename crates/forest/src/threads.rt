@@ -4,21 +4,26 @@
 use crate::marks::flag_after;
 use crate::marks::flag_before;
 use crate::rows::flag_at;
+use formula::clauses::next_zero;
 use formula::clauses::variable_at;
+use formula::truth::always_true;
 use terms::Variable;
 ghost use Prim.Native.Nat.{ℕ, _+_, _≤_, _<_};
 ghost use mathlib.Core.Path.{_≡_};
 ghost use mathlib.Core.Bool.{Bool, true, false};
 ghost use mathlib.Core.List.{List};
 ghost use lib.ListN.{length, getD};
+ghost use Rattle.formula.specs.Lookup.{SoundClauses, Stamps};
 ghost use Rattle.forest.specs.Search.{Flagged, Via};
-ghost use Rattle.forest.specs.Threads.{Inside, Together, Threaded};
+ghost use Rattle.forest.specs.Threads.{Inside, Connecting, Skipping, Together, Threaded};
 
-// Ties every universal to its clauses, in one pass.
+// Ties every universal to its clauses, in one pass; those that are always true are left out.
 pub fn thread(clauses: &[i32], universals: &[bool], first: &mut [u32], next: &mut [u32])
-    requires { ⌜ (length (now clauses) ≤ 16384) × (length (now universals) ≤ length (now first)) × (length (now clauses) ≤ length (now next)) × ((x : ℕ) → getD (now first) x 0 ≡ 0) ⌝ }
+    requires { ⌜ SoundClauses (now clauses) × (length (now universals) ≤ length (now first)) × (length (now clauses) ≤ length (now next)) × ((x : ℕ) → getD (now first) x 0 ≡ 0) ⌝ }
     ensures { λ r. ⌜ Threaded (now (clauses .entry)) (now (universals .entry)) (now (first .exit)) (now (next .exit)) (length (now (clauses .entry))) ⌝ }
 {
+    let mut seen = [0u16; 8194];
+    let mut skip = is_true(clauses, 0, &mut seen);
     let mut start: usize = 0;
     let mut i: usize = 0;
     while i < clauses.len() {
@@ -26,11 +31,24 @@ pub fn thread(clauses: &[i32], universals: &[bool], first: &mut [u32], next: &mu
         if variable.0 == 0 {
             i += 1;
             start = i;
+            skip = is_true(clauses, start, &mut seen);
+        } else if skip {
+            i += 1;
         } else {
             note(clauses, universals, start, i, first, next);
             i += 1;
         }
     }
+}
+
+// Whether the clause from `start` on is always true.
+fn is_true(clauses: &[i32], start: usize, seen: &mut [u16]) -> bool
+    requires { ⌜ SoundClauses (now clauses) × (start ≤ length (now clauses)) × Stamps (now seen) (start + 1) ⌝ }
+    ensures { λ r. ⌜ Skipping (now (clauses .entry)) start r (now (seen .exit)) ⌝ }
+{
+    let end = next_zero(clauses, start);
+    let stamp = (end + 1) as u16;
+    always_true(&clauses[start..end], seen, stamp)
 }
 
 // Puts entry i, of the clause that begins with `start`, in front of the chain of its variable, if that is universal and has no entry of this
@@ -43,7 +61,7 @@ fn note(
     first: &mut [u32],
     next: &mut [u32],
 )
-    requires { ⌜ (i < 16384) × (length (now universals) ≤ length (now first)) × (i < length (now next)) × Inside (now clauses) start i × Threaded (now clauses) (now universals) (now first) (now next) i ⌝ }
+    requires { ⌜ (i < 16384) × (length (now universals) ≤ length (now first)) × (i < length (now next)) × Inside (now clauses) start i × Connecting (now clauses) start × Threaded (now clauses) (now universals) (now first) (now next) i ⌝ }
     ensures { λ r. ⌜ Threaded (now (clauses .entry)) (now (universals .entry)) (now (first .exit)) (now (next .exit)) (i + 1) ⌝ }
 {
     let variable = variable_at(clauses, i);

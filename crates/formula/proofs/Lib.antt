@@ -5,6 +5,8 @@ pub mod Literals
 -- The lists that a table holds, and the clause with a given number.
 pub mod Cuts
 pub mod Lookups
+-- Clauses that are always true.
+pub mod Signs
 -- An accepted prefix, and its level table.
 pub mod Sound
 pub mod Levelling

@@ -8,12 +8,12 @@ use native.Mathlib.Omega.{arith}
 use native.Mathlib.Nat.{add-zero}
 use borrow.Author.Tests.{eq-eqb, ne-eqb}
 use lib.IntN.{ℤ, pos}
-use lib.ListN.{length, getD, take, drop, length-drop}
-use lib.Seq.{getD-drop, drop-drop, length-take-le}
+use lib.ListN.{length, getD, take, drop, length-take, length-drop}
+use lib.Seq.{getD-take, getD-drop, drop-drop, length-take-le}
 use Rattle.terms.specs.Literals.{variableOf}
 use Rattle.formula.specs.Tables.{literalAt, cut}
 use Rattle.formula.specs.Meaning.{clauses, isZero}
-use Rattle.formula.specs.Lookup.{NextZero, Stands, beginOf}
+use Rattle.formula.specs.Lookup.{NextZero, Stands, beginOf, InRows}
 use Rattle.formula.specs.declared.clauses.Found.the-variants.{At, Nowhere}
 use Rattle.formula.proofs.Cuts.{cut-closed, cut-unclosed}
 
@@ -90,3 +90,10 @@ module _ {ls : List ℤ} {asked start left : ℕ} (p : Passed ls asked start lef
   pub stands-nowhere : clauses (drop start ls) ≡ [] → Stands ls asked Nowhere
   unfolding Stands
   stands-nowhere none = let counted = p .count in let left-none : length (clauses (drop start ls)) ≡ 0 = ap length none in omega arith
+
+-- A clause's variables have rows, as the table's do.
+pub part-rows : (ls : List ℤ) (start z : ℕ) → z ≤ length ls → InRows ls → InRows (take (z - start) (drop start ls))
+part-rows ls start z l all e h =
+    let short : e < z - start = omega (arith, length-take (z - start) (drop start ls), h) in
+    let at : literalAt (take (z - start) (drop start ls)) e ≡ literalAt ls (start + e) = getD-take (z - start) (drop start ls) e (pos 0) short ∙ getD-drop start ls e (pos 0) in
+    rw (ap variableOf at) (all (start + e) (omega arith))

@@ -5,6 +5,7 @@ use mathlib.Core.List.{List, [], _∷_}
 use mathlib.Core.Logic.{_≢_}
 use lib.ListN.{length, getD, take, drop}
 use lib.IntN.{ℤ}
+use Rattle.terms.specs.Limits.{mostVariables, clauseEntries}
 use Rattle.terms.specs.Literals.{variableOf}
 use Rattle.terms.specs.Refusals.{FirstOf, NoneOf}
 use Rattle.formula.specs.declared.clauses.Found.{Found}
@@ -37,3 +38,17 @@ Stands ls asked (At start end) =
     (start ≤ end) × (end ≤ length ls) × (asked < length (clauses ls)) × (take (end - start) (drop start ls) ≡ getD (clauses ls) asked [])
     × (start ≡ beginOf (clauses ls) asked)
 Stands ls asked Nowhere = length (clauses ls) ≤ asked
+
+-- Every variable has a row in a table for all numbers up to the limit.
+abbrev pub InRows : List ℤ → Type 0
+InRows ls = (e : ℕ) → e < length ls → variableOf (literalAt ls e) ≤ mostVariables
+
+-- A clause table that check accepts, as inner functions need it.
+pub record SoundClauses (ls : List ℤ) : Type 0 where
+  pub short : length ls ≤ clauseEntries
+  pub rows : InRows ls
+
+-- A table with a row for each literal, and in every row a stamp below a limit.
+pub record Stamps (seen : List ℕ) (limit : ℕ) : Type 0 where
+  pub size : length seen ≡ 8194
+  pub below : (row : ℕ) → getD seen row 0 < limit

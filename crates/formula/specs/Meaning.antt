@@ -1,10 +1,10 @@
 -- What a formula means: its blocks, the level and the quantifier of each variable, and its clauses (document 01, "The formula as lent").
 use Prim.Native.Nat.{ℕ, suc}
-use mathlib.Core.Bool.{Bool, true, false, cond, not, _&&_}
-use mathlib.Core.List.{List, [], _∷_}
+use mathlib.Core.Bool.{Bool, true, false, cond, not, _&&_, _||_}
+use mathlib.Core.List.{List, [], _∷_, map}
 use lib.ListN.{getD}
 use lib.Dec.{eqb, leb}
-use lib.IntN.{ℤ}
+use lib.IntN.{ℤ, pos, negsuc}
 use Rattle.terms.specs.Literals.{variableOf}
 use Rattle.formula.specs.Tables.{cut}
 
@@ -19,6 +19,27 @@ blocks es = cut isZero es
 -- the clauses of a clause table, numbered from 0: each its literals
 unfoldable pub clauses : List ℤ → List (List ℤ)
 clauses ls = cut (λ literal. isZero (variableOf literal)) ls
+
+-- two literals of one variable with different signs
+unfoldable pub opposite : ℤ → ℤ → Bool
+opposite (pos v) (pos w) = false
+opposite (pos v) (negsuc w) = eqb v (suc w)
+opposite (negsuc v) (pos w) = eqb (suc v) w
+opposite (negsuc v) (negsuc w) = false
+
+-- some literal of a list is opposite to this one
+unfoldable pub denied : ℤ → List ℤ → Bool
+denied literal [] = false
+denied literal (other ∷ more) = opposite literal other || denied literal more
+
+-- a clause that is always true: it has both signs of one variable
+unfoldable pub alwaysTrue : List ℤ → Bool
+alwaysTrue [] = false
+alwaysTrue (literal ∷ more) = denied literal more || alwaysTrue more
+
+-- the variables that a clause connects: its own, in either sign, and none where it is always true
+unfoldable pub connected : List ℤ → List ℕ
+connected clause = cond (alwaysTrue clause) [] (map variableOf clause)
 
 abbrev pub markOf : List ℕ → ℕ
 markOf block = getD block 0 0

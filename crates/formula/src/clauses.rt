@@ -12,15 +12,22 @@ ghost use Rattle.formula.specs.Tables.{literalAt};
 ghost use Rattle.formula.specs.Causes.{ClauseCause};
 ghost use Rattle.formula.specs.Lookup.{NextZero, Stands};
 
+// The literal at entry i; 0 past the end.
+pub fn literal_at(clauses: &[i32], i: usize) -> Literal
+    ensures { λ r. ⌜ r .0 ≡ literalAt (now (clauses .entry)) i ⌝ }
+{
+    if i < clauses.len() {
+        Literal::new(clauses[i])
+    } else {
+        Literal::new(0)
+    }
+}
+
 // The variable of the literal at entry i; 0 for the 0 that closes a clause, and past the end.
 pub fn variable_at(clauses: &[i32], i: usize) -> Variable
     ensures { λ r. ⌜ r .0 ≡ variableOf (literalAt (now (clauses .entry)) i) ⌝ }
 {
-    if i < clauses.len() {
-        Literal::new(clauses[i]).variable()
-    } else {
-        Variable::new(0)
-    }
+    literal_at(clauses, i).variable()
 }
 
 // The first cause of a refusal in the clause table of a formula with n variables.

@@ -3,6 +3,7 @@
 pub mod clauses;
 pub mod levels;
 pub mod prefix;
+pub mod truth;
 
 use clauses::Found;
 use terms::Literal;

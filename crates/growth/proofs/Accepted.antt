@@ -17,20 +17,13 @@ use Rattle.terms.proofs.Verdicts.{first-at, at0-first, at0-none, refused-first,
 use Rattle.formula.specs.Causes.{ClauseCause, checkOrder}
 use Rattle.formula.specs.Levels.{SoundPrefix}
 use Rattle.formula.specs.Tables.{literalAt}
-use Rattle.formula.proofs.Sound.{sound-prefix, sound-check}
+use Rattle.formula.proofs.Sound.{sound-prefix}
 use Rattle.connection.specs.Tables.{WellFormed, lent}
 use Rattle.forest.specs.Causes.{ForestCause, RowsCause}
 use Rattle.forest.specs.Formula.{variables}
 use Rattle.forest.proofs.Agreeing.{lawful, none-formed}
 use Rattle.growth.specs.Grown.{TooShort, buildOrder, AddedCause, outside, clauseFirst}
-use Rattle.growth.specs.Loose.{InRows}
-
--- The clauses of an accepted formula have variables up to n.
-module _ {n : ℕ} {es : List ℕ} {ls : List ℤ} (accepted : NoneOf (checkOrder n es ls)) where
-  pub check-rows : InRows ls
-  check-rows e l = by-cases (decLt n (variableOf (literalAt ls e)))
-      (λ over. absurd (accepted .1 .1 .1 .0 10 e (ClauseCause.outside refl l (λ z. let q = ap variableOf z in omega arith) over)))
-      (λ low. omega (arith, sound-check {ls = ls} accepted .few))
+use Rattle.formula.specs.Lookup.{InRows}
 
 -- The order of build: a refusal of check stands, and after it stands 14.
 module _ (n : ℕ) (es : List ℕ) (ls : List ℤ) (classes parents : List ℕ) {v : Verdict} (judged : Judged (checkOrder n es ls) v) where

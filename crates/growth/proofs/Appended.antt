@@ -15,7 +15,7 @@ use Rattle.terms.specs.Literals.{variableOf}
 use Rattle.terms.specs.Refusals.{None, NoneOf}
 use Rattle.terms.proofs.Common.{clash}
 use Rattle.formula.specs.Causes.{ClauseCause, checkOrder}
-use Rattle.formula.specs.Meaning.{clauses, isZero}
+use Rattle.formula.specs.Meaning.{clauses, isZero, connected}
 use Rattle.formula.specs.Tables.{literalAt, cut, push, EndsInside}
 use Rattle.forest.specs.Formula.{joined}
 use Rattle.growth.specs.Grown.{AddedCause, clauseFirst, withLast}
@@ -67,10 +67,10 @@ module _ {n : ℕ} {es : List ℕ} {ls clause : List ℤ} (accepted : NoneOf (ch
   some-variable e l z = first .1 .1 .1 .0 10 e (AddedCause.outside refl l (inl z))
 
   -- The joins of the longer table are those of the table and the clause.
-  pub joined-last : joined (withLast ls clause) ≡ joined ls ++ (map variableOf clause ∷ [])
+  pub joined-last : joined (withLast ls clause) ≡ joined ls ++ (connected clause ∷ [])
   unfolding joined clauses nought
-  joined-last = ap (map (map variableOf)) (cut-append ls (clause ++ (pos 0 ∷ [])) closed ∙ ap (λ cs. cut nought ls ++ cs) (cut-one clause some-variable))
-      ∙ map-append (map variableOf) (clauses ls) (clause ∷ [])
+  joined-last = ap (map connected) (cut-append ls (clause ++ (pos 0 ∷ [])) closed ∙ ap (λ cs. cut nought ls ++ cs) (cut-one clause some-variable))
+      ∙ map-append connected (clauses ls) (clause ∷ [])
 
   -- An entry of the longer table is one of the table, one of the clause, or the closing 0.
   entry-last : (e : ℕ) → e < length (withLast ls clause)

@@ -2,11 +2,12 @@
 use Prim.Native.Nat.{ℕ, _≤_}
 use mathlib.Core.Path.{_≡_, refl, sym, _∙_, ap, subst}
 use mathlib.Core.Bool.{true}
-use mathlib.Core.List.{List, [], _∷_, _++_, map}
+use mathlib.Core.List.{List, [], _∷_, _++_, map, List·Memᴰ·not-nil}
 use mathlib.Core.Logic.{inl, inr, ⊎-elim, _↔_, Iff·trans, Iff·symm}
 use native.Mathlib.Omega.{arith}
 use lib.IntN.{ℤ}
 use lib.ListN.{length}
+use Rattle.formula.specs.Meaning.{connected, alwaysTrue}
 use Rattle.terms.specs.Answers.{verdictOf}
 use Rattle.terms.specs.Limits.{clauseEntries}
 use Rattle.terms.specs.Literals.{variableOf}
@@ -22,17 +23,19 @@ use Rattle.forest.specs.Formula.{variables, universal, Shares}
 use Rattle.forest.specs.Answers.{Entries, Members}
 use Rattle.forest.proofs.Agreeing.{lawful}
 use Rattle.forest.proofs.Demands.{universal-alone}
-use Rattle.connection.specs.Reach.{Variables, Joined, Depends}
+use Rattle.connection.specs.Reach.{Variables, Joined, Depends, From, Reach}
 use Rattle.connection.specs.Tables.{Table, lent, joins, EntryPointOf}
 use Rattle.connection.specs.Forest.{Forest}
-use Rattle.connection.specs.Growth.{LeavesAlone}
-use Rattle.connection.proofs.Reach.{Symmetric, joined-sym}
+use Rattle.connection.specs.Growth.{LeavesAlone, Added, before}
+use Rattle.connection.proofs.Reach.{Symmetric, joined-sym, reach-along, joined-added}
 use Rattle.connection.proofs.Rows.{lent-one}
 use Rattle.connection.proofs.Joins.{represents-itself}
-use Rattle.connection.proofs.Forest.{represents-forest}
+use Rattle.connection.proofs.Forest.{represents-forest, represents-reach}
 use Rattle.connection.proofs.Growth.{forest-is, forest-grows, forest-fused}
 use Rattle.connection.proofs.Sets.{set-members}
 use Rattle.connection.proofs.Alone.{set-stays, entries-stay}
+use Rattle.formula.proofs.Signs.{connected-none}
+use Rattle.growth.proofs.Accepted.{well-formed}
 use Rattle.growth.specs.Grown.{TooShort, buildOrder, clauseFirst, addOrder, Past, Grown, Leaves, Builds, Adds, withLast}
 use Rattle.growth.proofs.Appended.{joined-last, last-accepted}
 
@@ -92,7 +95,7 @@ module _ (n : ℕ) (es : List ℕ) where
 
     -- What add leaves is the forest of the longer list.
     pub added-forest : Forest X (Shares (withLast ls clause)) (lent X cs′ ps′)
-    added-forest = subst (λ (ds : List (List ℕ)). Forest X (Joined ds) (lent X cs′ ps′)) (sym (joined-last accepted first)) (extends (map variableOf clause) (built .leaves .1 .forest) (added .leaves .1 .forest))
+    added-forest = subst (λ (ds : List (List ℕ)). Forest X (Joined ds) (lent X cs′ ps′)) (sym (joined-last accepted first)) (extends (connected clause) (built .leaves .1 .forest) (added .leaves .1 .forest))
 
     -- Demand 3, first sentence: adding a clause to the built forest gives row by row what build gives with the clause put last, if the longer list is within the limits.
     pub adding-builds : {cs″ ps″ : List ℕ} (answer : Filled) → length (withLast ls clause) ≤ clauseEntries → Builds n es (withLast ls clause) classes parents cs″ ps″ answer
@@ -111,11 +114,11 @@ module _ (n : ℕ) (es : List ℕ) where
         )
 
     -- Demand 3, second sentence: where the clause has neither x nor any variable of its set, what x depends on stays ...
-    pub adding-depends : {x y : ℕ} → LeavesAlone X (Shares ls) (map variableOf clause) x → Depends X (Shares ls) x y ↔ Depends X (Shares (withLast ls clause)) x y
+    pub adding-depends : {x y : ℕ} → LeavesAlone X (Shares ls) (connected clause) x → Depends X (Shares ls) x y ↔ Depends X (Shares (withLast ls clause)) x y
     adding-depends {x} {y} alone =
         subst (λ (ds : List (List ℕ)). Depends X (Shares ls) x y ↔ Depends X (Joined ds) x y) (sym (joined-last accepted first)) (set-stays alone)
 
-    module _ {x : ℕ} (u : universal n es x ≡ true) (alone : LeavesAlone X (Shares ls) (map variableOf clause) x) where
+    module _ {x : ℕ} (u : universal n es x ≡ true) (alone : LeavesAlone X (Shares ls) (connected clause) x) where
       -- ... so does its set, by the tables and clauses before and after ...
       pub adding-set : {y : ℕ} → Members n es ls cs ps x y ↔ Members n es (withLast ls clause) cs′ ps′ x y
       adding-set =
@@ -126,7 +129,7 @@ module _ (n : ℕ) (es : List ℕ) where
       pub adding-entries : {e : ℕ} → Entries n es ls cs ps x e ↔ Entries n es (withLast ls clause) cs′ ps′ x e
       adding-entries {e} =
           subst (λ (ds : List (List ℕ)). EntryPointOf X (lent X cs ps) (Shares ls) x e ↔ EntryPointOf X (lent X cs′ ps′) (Joined ds) x e) (sym (joined-last accepted first))
-          (entries-stay (lawful n es) (built .leaves .1 .forest) (extends (map variableOf clause) (built .leaves .1 .forest) (added .leaves .1 .forest)) (universal-alone n es x u) alone)
+          (entries-stay (lawful n es) (built .leaves .1 .forest) (extends (connected clause) (built .leaves .1 .forest) (added .leaves .1 .forest)) (universal-alone n es x u) alone)
 
   -- The built forest is taken by add: a clause with no cause of its own is not refused.
   pub built-accepted : {ls clause : List ℤ} {classes parents cs ps cs′ ps′ : List ℕ} {k : ℕ} (answer : Filled)
@@ -145,3 +148,29 @@ module _ (n : ℕ) (es : List ℕ) where
             (λ l. inl (rw (built .leaves .1 .past .0 .size) at l)) (λ l. inr (rw (built .leaves .1 .past .1 .size) at l)) short,
       )
       no-forest-cause number place (RowsCause.bad-row q l h wrong) = wrong (forest-is (lawful n es) .0 (built .leaves .1 .forest) .formed .right place)
+
+  -- A clause that is always true changes no row, of any tables that are taken.
+  pub adding-true : {clause : List ℤ} {classes parents cs ps : List ℕ} {k : ℕ} → Adds n es classes parents clause cs ps (Count k) → alwaysTrue clause ≡ true → (cs ≡ classes) × (ps ≡ parents)
+  adding-true {clause} {classes} {parents} added always =
+      leaves-one joined-sym (added .leaves .1) (record { past = (stays classes, stays parents); forest = same })
+    where
+      W : Table
+      W = lent X classes parents
+
+      stays : (rows : List ℕ) → Past n rows rows
+      stays rows = record { size = refl; stays = λ u l. refl }
+
+      none : (a b : ℕ) → Joined (joins X W ++ ([] ∷ [])) a b → Joined (joins X W) a b
+      none a b j = go (joined-added a b .0 j)
+        where
+          go : Added (Joined (joins X W)) [] a b → Joined (joins X W) a b
+          go (before j) = j
+          go (Added.added l m) = absurd (List·Memᴰ·not-nil l)
+
+      reach : (i v y : ℕ) → From X i v → From X i y → Reach (Joined (joins X W)) (From X i) v y ↔ Reach (Joined (joins X W ++ ([] ∷ []))) (From X i) v y
+      reach i v y fv fy = (reach-along (λ a b j. joined-added a b .1 (before j)), reach-along none)
+
+      same : Forest X (Joined (joins X W ++ (connected clause ∷ []))) W
+      same =
+          subst (λ (vs : List ℕ). Forest X (Joined (joins X W ++ (vs ∷ []))) W) (sym (connected-none clause always))
+          (represents-forest (represents-reach reach (represents-itself (lawful n es) (well-formed n es classes parents (added .judged .1 .1 .1 .1 .0)))))

@@ -5,6 +5,7 @@ use mathlib.Core.List.{List, map}
 use native.Mathlib.Omega.{arith}
 use lib.IntN.{ℤ}
 use lib.ListN.{length, getD}
+use Rattle.formula.specs.Meaning.{connected}
 use Rattle.terms.specs.Literals.{variableOf}
 use Rattle.forest.specs.Formula.{variables}
 use Rattle.forest.proofs.Agreeing.{lawful}
@@ -64,5 +65,5 @@ module _ {n : ℕ} {es depths : List ℕ} (d : Depths n es depths) where
         }) (equal-sym (equal-linked d)))
 
     -- ... and with a clause put in, for those and the clause.
-    pub extended : {C′ P′ : List ℕ} (ls : List ℤ) → Grew depths C P (map variableOf ls) C′ P′ → Equal X (Extended n es classes parents ls) (Linked D (table C′ P′))
+    pub extended : {C′ P′ : List ℕ} (ls : List ℤ) → Grew depths C P (connected ls) C′ P′ → Equal X (Extended n es classes parents ls) (Linked D (table C′ P′))
     extended ls g = equal-trans equal-snoc (equal-trans (equal-added stands) (equal-formula d (g .equal)))

@@ -16,7 +16,7 @@ use Rattle.terms.specs.Literals.{variableOf}
 use Rattle.terms.proofs.Common.{below-suc}
 use Rattle.formula.specs.Levels.{SoundPrefix, Levelled}
 use Rattle.formula.specs.Lookup.{NextZero}
-use Rattle.formula.specs.Meaning.{blocks, clauses, isZero, names, saidOf, freeLevel, firstMark, level, isUniversal, isExistential}
+use Rattle.formula.specs.Meaning.{blocks, clauses, isZero, names, saidOf, freeLevel, firstMark, level, isUniversal, isExistential, connected}
 use Rattle.formula.specs.Tables.{literalAt, cut, push}
 use Rattle.formula.proofs.Lookups.{clauses-closed, clauses-unclosed}
 use Rattle.forest.specs.Formula.{joined}
@@ -25,7 +25,8 @@ use Rattle.connection.specs.Tables.{row}
 use Rattle.connection.proofs.Reach.{joined-sym}
 use Rattle.connection.proofs.Rows.{row-out}
 use Rattle.connection.proofs.Represent.{Link, to-class, to-parent}
-use Rattle.growth.specs.Loose.{Loose, Kept, table, ranked, Grew, InRows}
+use Rattle.formula.specs.Lookup.{InRows}
+use Rattle.growth.specs.Loose.{Loose, Kept, table, ranked, Grew}
 use Rattle.growth.specs.Grown.{Past}
 use Rattle.growth.specs.Rows.{depthOf, Depths, Holds, Settled, Written}
 use Rattle.growth.proofs.Inside.{inside-links, equal-trans, equal-snoc, equal-added}
@@ -191,7 +192,7 @@ pub record PutSome (depths : List ℕ) (ls : List ℤ) (C P : List ℕ) (start :
   pub within : start ≤ length ls
   pub done : List (List ℤ)
   pub split : clauses ls ≡ done ++ clauses (drop start ls)
-  pub holds : Holds depths C P (map (map variableOf) done)
+  pub holds : Holds depths C P (map connected done)
 
 pub put-none : {depths C P : List ℕ} (ls : List ℤ) → Holds depths C P [] → PutSome depths ls C P 0
 put-none ls h = record { within = omega arith; done = []; split = refl; holds = h }
@@ -201,14 +202,14 @@ holds-more : {depths C P C′ P′ : List ℕ} {cs : List (List ℕ)} {clause : 
 holds-more h g = record { growing = g .growing; equal = equal-trans equal-snoc (equal-trans (equal-added (h .equal)) (g .equal)) }
 
 module _ {depths : List ℕ} {ls : List ℤ} {C P : List ℕ} {start : ℕ} (s : PutSome depths ls C P start) where
-  pub put-clause : {C′ P′ : List ℕ} (z : ℕ) → NextZero ls start z → z < length ls → Grew depths C P (map variableOf (take (z - start) (drop start ls))) C′ P′ → PutSome depths ls C′ P′ (z + 1)
+  pub put-clause : {C′ P′ : List ℕ} (z : ℕ) → NextZero ls start z → z < length ls → Grew depths C P (connected (take (z - start) (drop start ls))) C′ P′ → PutSome depths ls C′ P′ (z + 1)
   put-clause {C′} {P′} z next l g =
       let clause = take (z - start) (drop start ls) in
       record {
         within = omega arith;
         done = s .done ++ (clause ∷ []);
         split = s .split ∙ ap (λ cs. s .done ++ cs) (clauses-closed ls start z next l) ∙ sym (append-assoc (s .done) (clause ∷ []) (clauses (drop (z + 1) ls)));
-        holds = rw (map-append (map variableOf) (s .done) (clause ∷ [])) (holds-more (s .holds) g);
+        holds = rw (map-append connected (s .done) (clause ∷ [])) (holds-more (s .holds) g);
       }
 
   pub put-end : clauses (drop start ls) ≡ [] → Holds depths C P (joined ls)
@@ -222,13 +223,6 @@ module _ {depths : List ℕ} {ls : List ℤ} {C P : List ℕ} {start : ℕ} (s :
 
   pub put-open : (z : ℕ) → NextZero ls start z → length ls ≤ z → Holds depths C P (joined ls)
   put-open z next l = put-end (clauses-unclosed ls start z next l)
-
-  -- A clause's variables have rows, as the table's do.
-  pub part-rows : InRows ls → (z : ℕ) → z ≤ length ls → InRows (take (z - start) (drop start ls))
-  part-rows all z l e h =
-      let short : e < z - start = omega (arith, length-take (z - start) (drop start ls), h) in
-      let at : literalAt (take (z - start) (drop start ls)) e ≡ literalAt ls (start + e) = getD-take (z - start) (drop start ls) e (pos 0) short ∙ getD-drop start ls e (pos 0) in
-      rw (ap variableOf at) (all (start + e) (omega arith))
 
 -- The class rows before v name their classes.
 pub record Settling (C₀ C : List ℕ) (v : ℕ) : Type 0 where

@@ -64,6 +64,10 @@ module _ {depths : List ℕ} {ls : List ℤ} {found depth i : ℕ} (s : Sought d
   pub sought : length ls ≤ i → Deepest depths ls found
   sought done = record { most = λ e l. s .most e (omega (arith, s .within)); listed = s .listed }
 
+-- A clause that connects nothing changes nothing.
+pub grew-none : {depths C P : List ℕ} → Growing depths C P → Grew depths C P [] C P
+grew-none g = record { growing = g; equal = record { there = inside-clause inside-refl (λ k a b fa fb l m. absurd (List·Memᴰ·not-nil l)); back = inside-before } }
+
 -- The first i existentials of the clause are joined to the deepest, d.
 pub record Joining (depths C₀ P₀ : List ℕ) (ls : List ℤ) (d : ℕ) (C P : List ℕ) (i : ℕ) : Type 0 where
   pub within : i ≤ length ls

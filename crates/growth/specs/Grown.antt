@@ -11,6 +11,7 @@ use Rattle.terms.specs.Refusals.{Causes, At0, Judged}
 use Rattle.terms.specs.declared.Filled.{Filled}
 use Rattle.terms.specs.declared.Filled.the-variants.{Count, Refused}
 use Rattle.formula.specs.Causes.{prefixOrder, checkOrder}
+use Rattle.formula.specs.Meaning.{connected}
 use Rattle.formula.specs.Tables.{literalAt}
 use Rattle.forest.specs.Causes.{ForestCause}
 use Rattle.forest.specs.Formula.{variables, Shares}
@@ -37,9 +38,9 @@ clauseFirst n es ls = prefixOrder n es (length ls) ++ (AddedCause n ls ∷ [])
 abbrev pub addOrder : ℕ → List ℕ → List ℕ → List ℕ → List ℤ → List Causes
 addOrder n es classes parents ls = clauseFirst n es ls ++ (ForestCause n es classes parents ∷ [])
 
--- the joins that the lent tables stand for, with a clause added
+-- the joins that the lent tables stand for, with a clause added; one that is always true adds none
 abbrev pub Extended : ℕ → List ℕ → List ℕ → List ℕ → List ℤ → ℕ → ℕ → Type 0
-Extended n es classes parents ls = Joined (joins (variables n es) (lent (variables n es) classes parents) ++ (map variableOf ls ∷ []))
+Extended n es classes parents ls = Joined (joins (variables n es) (lent (variables n es) classes parents) ++ (connected ls ∷ []))
 
 -- The lent rows of variables past n stay, and so does the number of rows.
 pub record Past (n : ℕ) (rows rows′ : List ℕ) : Type 0 where

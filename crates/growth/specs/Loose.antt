@@ -108,10 +108,6 @@ pub record Grew (depths classes parents : List ℕ) (clause : List ℕ) (classes
   pub growing : Growing depths classes′ parents′
   pub equal : Equal (ranked depths) (Added (Linked (ranked depths) (table classes parents)) clause) (Linked (ranked depths) (table classes′ parents′))
 
--- A clause of variables that have rows.
-abbrev pub InRows : List ℤ → Type 0
-InRows ls = (e : ℕ) → e < length ls → variableOf (literalAt ls e) ≤ 4096
-
 -- r is the deepest existential of a clause; of depth 0 if it has none.
 pub record Deepest (depths : List ℕ) (ls : List ℤ) (r : ℕ) : Type 0 where
   pub most : (e : ℕ) → e < length ls → getD depths (variableOf (literalAt ls e)) 0 ≤ getD depths r 0

@@ -3,12 +3,16 @@
 
 use crate::chains::merge;
 use formula::clauses::variable_at;
+use formula::truth::always_true;
 use terms::Variable;
+ghost use Prim.Native.Nat.{_+_};
 ghost use mathlib.Core.Path.{_≡_};
 ghost use mathlib.Core.List.{map};
 ghost use lib.ListN.{length, getD};
 ghost use Rattle.terms.specs.Literals.{variableOf};
-ghost use Rattle.growth.specs.Loose.{Growing, Grew, InRows, Deepest};
+ghost use Rattle.formula.specs.Lookup.{InRows, Stamps};
+ghost use Rattle.formula.specs.Meaning.{connected};
+ghost use Rattle.growth.specs.Loose.{Growing, Grew, Deepest};
 
 // The deepest existential of a clause; a variable of depth 0 where it has none.
 fn deepest(depths: &[u32], clause: &[i32]) -> Variable
@@ -57,11 +61,39 @@ fn join_all(
     }
 }
 
-// Puts a clause into the rows.
-pub fn put(depths: &[u32], classes: &mut [u32], parents: &mut [u32], clause: &[i32])
+// Joins the existentials of a clause.
+fn join(depths: &[u32], classes: &mut [u32], parents: &mut [u32], clause: &[i32])
     requires { ⌜ Growing (now depths) (now classes) (now parents) × InRows (now clause) ⌝ }
     ensures { λ r. ⌜ Grew (now (depths .entry)) (now (classes .entry)) (now (parents .entry)) (map variableOf (now (clause .entry))) (now (classes .exit)) (now (parents .exit)) ⌝ }
 {
     let deep = deepest(depths, clause);
     join_all(depths, classes, parents, clause, deep);
+}
+
+// Puts a clause into the rows; one that is always true connects nothing. `seen` and the stamp are for telling that.
+pub fn put(
+    depths: &[u32],
+    classes: &mut [u32],
+    parents: &mut [u32],
+    clause: &[i32],
+    seen: &mut [u16],
+    stamp: u16,
+)
+    requires { ⌜ Growing (now depths) (now classes) (now parents) × InRows (now clause) × Stamps (now seen) stamp ⌝ }
+    ensures { λ r. ⌜ Grew (now (depths .entry)) (now (classes .entry)) (now (parents .entry)) (connected (now (clause .entry))) (now (classes .exit)) (now (parents .exit)) ⌝ }
+    ensures { λ r. ⌜ Stamps (now (seen .exit)) (stamp + 1) ⌝ }
+{
+    if always_true(clause, seen, stamp) {
+        return;
+    }
+    join(depths, classes, parents, clause);
+}
+
+// Puts a single clause into the rows.
+pub fn put_one(depths: &[u32], classes: &mut [u32], parents: &mut [u32], clause: &[i32])
+    requires { ⌜ Growing (now depths) (now classes) (now parents) × InRows (now clause) ⌝ }
+    ensures { λ r. ⌜ Grew (now (depths .entry)) (now (classes .entry)) (now (parents .entry)) (connected (now (clause .entry))) (now (classes .exit)) (now (parents .exit)) ⌝ }
+{
+    let mut seen = [0u16; 8194];
+    put(depths, classes, parents, clause, &mut seen, 1);
 }

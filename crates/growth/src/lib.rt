@@ -7,7 +7,7 @@ mod depths;
 mod rows;
 
 use added::added_verdict;
-use clause::put;
+use clause::put_one;
 use depths::fill_depths;
 use forest::rows::check_rows;
 use formula::levels::fill_levels;
@@ -28,7 +28,7 @@ ghost use Rattle.connection.specs.Tables.{WellFormed, lent};
 ghost use Rattle.forest.specs.Causes.{ForestCause};
 ghost use Rattle.forest.specs.Formula.{variables, Shares};
 ghost use Rattle.growth.specs.Grown.{Extended, Grown, Leaves, Builds, Adds};
-ghost use Rattle.growth.specs.Loose.{InRows};
+ghost use Rattle.formula.specs.Lookup.{InRows, SoundClauses};
 
 // Fills the lent rows of 1 to n with the forest of a formula, and gives n as the count.
 pub fn build(
@@ -58,7 +58,7 @@ pub fn build(
 
 // The forest of an accepted formula: loose rows of no clause, every clause put in, and the exact rows written out.
 fn grow(n: u32, prefix: &[u32], clauses: &[i32], classes: &mut [u32], parents: &mut [u32])
-    requires { ⌜ SoundPrefix n (now prefix) × InRows (now clauses) × (n ≤ length (now classes)) × (n ≤ length (now parents)) ⌝ }
+    requires { ⌜ SoundPrefix n (now prefix) × SoundClauses (now clauses) × (n ≤ length (now classes)) × (n ≤ length (now parents)) ⌝ }
     ensures { λ r. ⌜ Grown (variables n (now (prefix .entry))) (Shares (now (clauses .entry))) (now (classes .entry)) (now (parents .entry)) (now (classes .exit)) (now (parents .exit)) ⌝ }
 {
     let mut depths = [0u32; 4097];
@@ -123,7 +123,7 @@ fn extend(n: u32, prefix: &[u32], classes: &mut [u32], parents: &mut [u32], clau
     fill_depths(n, prefix, &mut depths);
     load(n, classes, &mut loose);
     load(n, parents, &mut ups);
-    put(&depths, &mut loose, &mut ups, clause);
+    put_one(&depths, &mut loose, &mut ups, clause);
     settle(&mut loose);
     write_out(n, &loose, &ups, classes, parents);
 }

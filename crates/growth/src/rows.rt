@@ -10,7 +10,7 @@ ghost use mathlib.Core.List.{[]};
 ghost use lib.ListN.{length, getD};
 ghost use Rattle.connection.specs.Tables.{row};
 ghost use Rattle.forest.specs.Formula.{joined};
-ghost use Rattle.growth.specs.Loose.{InRows};
+ghost use Rattle.formula.specs.Lookup.{SoundClauses};
 ghost use Rattle.growth.specs.Rows.{Holds, Settled, Written};
 
 // Each existential in a class of its own, with no parents.
@@ -49,16 +49,25 @@ pub fn load(n: u32, rows: &[u32], table: &mut [u32])
 
 // Puts in every clause of a table, one after the other.
 pub fn put_all(depths: &[u32], classes: &mut [u32], parents: &mut [u32], clauses: &[i32])
-    requires { ⌜ Holds (now depths) (now classes) (now parents) [] × InRows (now clauses) ⌝ }
+    requires { ⌜ Holds (now depths) (now classes) (now parents) [] × SoundClauses (now clauses) ⌝ }
     ensures { λ r. ⌜ Holds (now (depths .entry)) (now (classes .exit)) (now (parents .exit)) (joined (now (clauses .entry))) ⌝ }
 {
+    let mut seen = [0u16; 8194];
     let mut start = 0;
     while start < clauses.len() {
         let end = next_zero(clauses, start);
         if clauses.len() <= end {
             return;
         }
-        put(depths, classes, parents, &clauses[start..end]);
+        let stamp = (end + 1) as u16;
+        put(
+            depths,
+            classes,
+            parents,
+            &clauses[start..end],
+            &mut seen,
+            stamp,
+        );
         start = end + 1;
     }
 }

@@ -20,6 +20,7 @@ ghost use Prim.Native.Nat.{_≤_, _<_};
 ghost use mathlib.Core.Path.{_≡_};
 ghost use lib.ListN.{length};
 ghost use Rattle.formula.specs.Levels.{SoundPrefix};
+ghost use Rattle.formula.specs.Lookup.{SoundClauses};
 ghost use Rattle.formula.specs.Meaning.{blocks};
 ghost use Rattle.formula.specs.Meaning.{clauses as Meaning·clauses};
 ghost use Rattle.connection.specs.Tables.{WellFormed, lent};
@@ -70,7 +71,7 @@ fn list_formula(n: u32, prefix: &[u32], clauses: &[i32]) {
 
 // The first line, and then the universals in ascending order. The levels are looked up once for all of them.
 fn list_forest(n: u32, prefix: &[u32], clauses: &[i32], classes: &[u32], parents: &[u32])
-    requires { ⌜ SoundPrefix n (now prefix) × (length (now clauses) ≤ 16384) × WellFormed (variables n (now prefix)) (lent (variables n (now prefix)) (now classes) (now parents)) ⌝ }
+    requires { ⌜ SoundPrefix n (now prefix) × SoundClauses (now clauses) × WellFormed (variables n (now prefix)) (lent (variables n (now prefix)) (now classes) (now parents)) ⌝ }
 {
     let mut levels = [0u32; 4097];
     let mut universals = [false; 4097];
@@ -134,7 +135,7 @@ fn list_universals(
     classes: &[u32],
     parents: &[u32],
 )
-    requires { ⌜ (n ≤ 4096) × WellFormed (tabled n (now levels) (now universals)) (rowsOf n (now classes) (now parents)) ⌝ }
+    requires { ⌜ (n ≤ 4096) × WellFormed (tabled n (now levels) (now universals)) (rowsOf n (now classes) (now parents)) × SoundClauses (now clauses) ⌝ }
 {
     let mut tops = [0u32; 4096];
     let mut floor = Level::new(4294967295);
@@ -162,7 +163,7 @@ fn list_universals(
 
 // The line of one universal: its entry points are flagged once, and they and its set are listed.
 fn list_universal(n: u32, clauses: &[i32], x: Variable, level: Level, tops: &[u32])
-    requires { ⌜ n ≤ 4096 ⌝ }
+    requires { ⌜ (n ≤ 4096) × SoundClauses (now clauses) ⌝ }
 {
     let mut entered = [false; 4097];
     flag_entries(n, clauses, x, tops, &mut entered);

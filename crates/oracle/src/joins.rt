@@ -5,6 +5,7 @@ use crate::tables::first_at;
 use crate::tables::is_variable;
 use crate::tables::second_at;
 use crate::tables::set_pair;
+use crate::truth::keep_clauses;
 
 // Whether a literal is one of v, in either sign: the complement of -v is v - 1.
 pub fn is_of(literal: i32, v: u32) -> bool {
@@ -68,8 +69,15 @@ fn join_at(n: u32, clauses: &[i32], pairs: &mut [bool], at: usize) {
     }
 }
 
-// Flags every pair of the variables 1 to n of which one clause has both.
+// Flags every pair of the variables 1 to n of which one clause has both, a clause that is always true left out.
 pub fn fill_joins(n: u32, clauses: &[i32], pairs: &mut [bool]) {
+    let mut kept = [0i32; 1024];
+    keep_clauses(n, clauses, &mut kept);
+    join_all(n, &kept, pairs);
+}
+
+// Flags every pair of the variables 1 to n of which one clause has both.
+fn join_all(n: u32, clauses: &[i32], pairs: &mut [bool]) {
     let mut at: usize = 0;
     while at < PAIRS {
         join_at(n, clauses, pairs, at);

@@ -6,6 +6,7 @@ pub mod levels;
 pub mod reach;
 pub mod sets;
 pub mod tables;
+pub mod truth;
 
 use classes::fill_classes;
 use classes::fill_parents;

@@ -1,5 +1,5 @@
 -- The magnitude of a signed 32-bit number, as the machine finds it.
-use Prim.Native.Nat.{suc, _+_, _-_, _<_}
+use Prim.Native.Nat.{ℕ, suc, _+_, _-_, _<_}
 use mathlib.Core.Path.{_≡_, sym, ap, _∙_, subst}
 use mathlib.Core.Bool.{true, false}
 use native.Mathlib.Omega.{arith}
@@ -12,6 +12,7 @@ use lib.Dec.{T}
 use mir.Syntax.{w32}
 use mir.Val.{SFits, Fits, toZ, ofZ}
 use mir.Facts.{toZ-pos, toZ-neg, toZ-ofZ}
+use Rattle.terms.specs.Literals.{variableOf, rowOf, otherRow}
 
 -- x, read back from a complement, is not negative, fits with one added, and is then the magnitude of z
 pub record Complement (z x : ℤ) : Type 0 where
@@ -36,3 +37,21 @@ whole (pos n) f e =
     let fits : Fits w32 n = record { fits = omega arith } in
     subst (λ (x : ℤ). T (nonNeg x) × Fits w32 (natAbs x)) (sym (toZ-pos w32 h)) (tt, fits)
 whole (negsuc n) f e = absurd (subst T (sym (ap (λ (x : ℤ). ltZ x (pos 0)) (toZ-neg w32 n (f .sfits))) ∙ e) tt)
+
+-- twice the magnitude, and one more for a negation, is the row of a literal; the other way round, that of the other sign
+module _ {z x : ℤ} (same : x ≡ z) (half : ℕ) (is : half ≡ variableOf x) where
+  pub row-negative : ltZ x (pos 0) ≡ true → (half + half + 1 ≡ rowOf z) × (half + half ≡ otherRow z)
+  unfolding rowOf otherRow
+  row-negative e = of z (is ∙ ap variableOf same) (sym (ap (λ (y : ℤ). ltZ y (pos 0)) same) ∙ e)
+    where
+      of : (z : ℤ) → half ≡ variableOf z → ltZ z (pos 0) ≡ true → (half + half + 1 ≡ rowOf z) × (half + half ≡ otherRow z)
+      of (pos n) q t = absurd (not-suc-le-zero (ltb-true n 0 t))
+      of (negsuc n) q t = (omega arith, omega arith)
+
+  pub row-positive : ltZ x (pos 0) ≡ false → (half + half ≡ rowOf z) × (half + half + 1 ≡ otherRow z)
+  unfolding rowOf otherRow
+  row-positive e = of z (is ∙ ap variableOf same) (sym (ap (λ (y : ℤ). ltZ y (pos 0)) same) ∙ e)
+    where
+      of : (z : ℤ) → half ≡ variableOf z → ltZ z (pos 0) ≡ false → (half + half ≡ rowOf z) × (half + half + 1 ≡ otherRow z)
+      of (pos n) q t = (omega arith, omega arith)
+      of (negsuc n) q t = absurd (subst T t tt)

@@ -1,7 +1,7 @@
 // The words of the library: variables, levels and literals, kept apart at compile time, with the limits of each, and the verdict of a call.
 
 ghost use mathlib.Core.Path.{_≡_};
-ghost use Rattle.terms.specs.Literals.{variableOf};
+ghost use Rattle.terms.specs.Literals.{variableOf, rowOf, otherRow};
 
 // A variable by its number, from 1 on; 0 stands for none.
 pub struct Variable(pub u32);
@@ -51,6 +51,30 @@ impl Literal {
         ensures { λ r. ⌜ r .0 ≡ variableOf (self .0) ⌝ }
     {
         Variable(magnitude(self.0))
+    }
+
+    // The row of the literal in a table with two rows for each variable: 2v for v, and the next for its negation.
+    pub fn row(self) -> usize
+        ensures { λ r. ⌜ r ≡ rowOf (self .0) ⌝ }
+    {
+        let half = magnitude(self.0) as usize;
+        if self.0 < 0 {
+            half + half + 1
+        } else {
+            half + half
+        }
+    }
+
+    // The row of the literal with the other sign.
+    pub fn other_row(self) -> usize
+        ensures { λ r. ⌜ r ≡ otherRow (self .0) ⌝ }
+    {
+        let half = magnitude(self.0) as usize;
+        if self.0 < 0 {
+            half + half
+        } else {
+            half + half + 1
+        }
     }
 }
 

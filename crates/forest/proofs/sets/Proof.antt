@@ -6,8 +6,8 @@ use Rattle.terms.proofs.Verdicts.{refused-first}
 use Rattle.formula.specs.Causes.{checkOrder}
 use Rattle.forest.specs.Causes.{ForestCause}
 use Rattle.forest.specs.Sets.{AllSets, SetsTooLong}
-use Rattle.formula.proofs.Sound.{sound-check}
-use Rattle.forest.proofs.Entered.{sound-clauses}
+use Rattle.formula.proofs.Sound.{sound-check, sound-clauses}
+use Rattle.forest.proofs.Entered.{sound-closed}
 use Rattle.forest.proofs.AllSets.{filling-then}
 use borrow.Author.Needs.{needs}
 use Rattle.forest.proofs.sets.Statement.{statement}
@@ -26,8 +26,7 @@ sound-sets-requires : tie.Need-sound-sets-requires
 sound-sets-requires c κs =
     let a = c .before .before .before .before .before .before .before .before .args in
     let none = subst (Judged (checkOrder (a .n) (a .prefix .now) (a .clauses .now))) (c .before .enum-told .given .1) (c .before .before .before .check .ensures) in
-    let clauses = sound-clauses none in
-    (sound-check none, clauses .0, clauses .1)
+    (sound-check none, sound-clauses none, sound-closed none)
 
 returns : tie.Need-returns
 returns c =

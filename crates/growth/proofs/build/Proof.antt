@@ -3,8 +3,8 @@ use mathlib.Core.Path.{refl, subst}
 use mathlib.Core.Logic.{inl, inr}
 use Rattle.terms.specs.Refusals.{Judged}
 use Rattle.formula.specs.Causes.{checkOrder}
-use Rattle.formula.proofs.Sound.{sound-check}
-use Rattle.growth.proofs.Accepted.{check-rows, build-refused, build-short, build-accepted}
+use Rattle.formula.proofs.Sound.{sound-check, sound-clauses}
+use Rattle.growth.proofs.Accepted.{build-refused, build-short, build-accepted}
 use borrow.Author.Needs.{needs}
 use Rattle.growth.proofs.build.Statement.{statement}
 use Rattle.growth.proofs.build.Tie as tie
@@ -32,7 +32,7 @@ grow-requires : tie.Need-grow-requires
 grow-requires c κs =
     let a = c .before .before .before .before .before .before .before .before .before .before .args in
     let accepted = subst (Judged (checkOrder (a .n) (a .prefix .now) (a .clauses .now))) (c .before .before .before .before .enum-told .given .1) (c .before .before .before .before .before .before .check .ensures) in
-    (sound-check accepted, check-rows accepted, c .before .before .before .if1 .left, c .before .before .if2 .left)
+    (sound-check accepted, sound-clauses accepted, c .before .before .before .if1 .left, c .before .before .if2 .left)
 
 returns-3 : tie.Need-returns-3
 returns-3 c =

@@ -33,7 +33,7 @@ list-universals-requires : tie.Need-list-universals-requires
 unfolding lent
 list-universals-requires c κs =
     let pre = c .before .before .before .before .before .before .before .before .before .before .before .before .before .pre in
-    (pre .0 .few, formed-same (same-back (tables-agree (pre .0) (c .before .before .before .before .before .before .before .fill-levels .ensures))) (pre .2))
+    (pre .0 .few, formed-same (same-back (tables-agree (pre .0) (c .before .before .before .before .before .before .before .fill-levels .ensures))) (pre .2), pre .1)
 
 returns : tie.Need-returns
 returns c = search needs

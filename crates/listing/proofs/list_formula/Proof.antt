@@ -1,14 +1,11 @@
 -- `listing::list_formula` meets its contract.
-use Prim.Native.Nat.{_<_}
-use mathlib.Core.Path.{refl, subst}
-use mathlib.Core.Logic.{inr}
-use native.Mathlib.Omega.{arith}
-use lib.ListN.{length, replicate}
+use mathlib.Core.Path.{subst}
+use lib.ListN.{replicate}
 use Rattle.terms.specs.Refusals.{NoneOf}
 use Rattle.formula.specs.Causes.{checkOrder}
 use Rattle.connection.proofs.Growth.{forest-is}
 use Rattle.forest.proofs.Agreeing.{lawful}
-use Rattle.formula.proofs.Sound.{sound-check}
+use Rattle.formula.proofs.Sound.{sound-check, sound-clauses}
 use Rattle.growth.specs.Grown.{Builds}
 use borrow.Author.Needs.{needs}
 use Rattle.listing.proofs.list_formula.Statement.{statement}
@@ -44,8 +41,7 @@ list-forest-requires c κs =
     let b = subst (Builds (a .n) (a .prefix .now) (a .clauses .now) (replicate 4096 0) (replicate 4096 0) (c .before .before .before .before .before .before .build .last .1 .1 .1 .0) (c .before .before .before .before .before .before .build .last .1 .1 .1 .1 .0)) (c .before .before .enum-told .given .1) (c .before .before .before .before .before .before .build .ensures) in
     let all = b .judged in
     let none : NoneOf (checkOrder (a .n) (a .prefix .now) (a .clauses .now)) = (all .0, (all .1 .0, (all .1 .1 .0, (all .1 .1 .1 .0, tt)))) in
-    let long : ¬ (16384 < length (a .clauses .now)) = λ over. all .1 .0 2 0 (refl, refl, inr over) in
-    (sound-check none, omega arith, forest-is (lawful (a .n) (a .prefix .now)) .0 (b .leaves .1 .forest) .formed)
+    (sound-check none, sound-clauses none, forest-is (lawful (a .n) (a .prefix .now)) .0 (b .leaves .1 .forest) .formed)
 
 returns : tie.Need-returns
 returns c = search needs

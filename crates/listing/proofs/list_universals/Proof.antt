@@ -50,7 +50,7 @@ slice-aggregate-list-universal : tie.Need-slice-aggregate-list-universal Inv-loo
 slice-aggregate-list-universal c = search needs
 
 list-universal-requires : tie.Need-list-universal-requires Inv-loop μ-loop
-list-universal-requires c κs = c .before .before .before .before .before .before .before .before .before .before .before .before .before .before .before .pre .0
+list-universal-requires c κs = (c .before .before .before .before .before .before .before .before .before .before .before .before .before .before .before .pre .0, c .before .before .before .before .before .before .before .before .before .before .before .before .before .before .before .pre .2)
 
 loop-less : tie.Need-loop-less Inv-loop μ-loop
 loop-less c = omega arith

@@ -6,7 +6,7 @@ use Rattle.terms.specs.Refusals.{At0, Judged}
 use Rattle.terms.proofs.Verdicts.{refused-first, accepted-then}
 use Rattle.formula.specs.Causes.{checkOrder}
 use Rattle.forest.specs.Causes.{ForestCause, NotUniversal}
-use Rattle.formula.proofs.Sound.{sound-check}
+use Rattle.formula.proofs.Sound.{sound-check, sound-clauses}
 use Rattle.forest.proofs.entering.enter.Statement.{statement}
 use Rattle.forest.proofs.entering.enter.Tie as tie
 
@@ -22,7 +22,8 @@ enum-told c = search needs
 sound-enter-requires : tie.Need-sound-enter-requires
 sound-enter-requires c κs =
     let a = c .before .before .before .before .before .before .before .before .before .before .args in
-    (sound-check (subst (Judged (checkOrder (a .n) (a .prefix .now) (a .clauses .now))) (c .before .before .enum-told .given .1) (c .before .before .before .before .check .ensures)), c .before .before .before .before .before .before .before .before .before .before .pre .0, c .before .before .before .before .before .before .before .before .before .before .pre .1)
+    let none = subst (Judged (checkOrder (a .n) (a .prefix .now) (a .clauses .now))) (c .before .before .enum-told .given .1) (c .before .before .before .before .check .ensures) in
+    (sound-check none, c .before .before .before .before .before .before .before .before .before .before .pre .0, c .before .before .before .before .before .before .before .before .before .before .pre .1, sound-clauses none)
 
 returns : tie.Need-returns
 returns c =

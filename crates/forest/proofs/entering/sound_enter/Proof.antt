@@ -66,7 +66,7 @@ fill-tops-requires c κs =
     (rows-formed (a .n) levels universals (a .classes .now) (a .parents .now) (subst (Judged (RowsCause (tabled (a .n) levels universals) (a .classes .now) (a .parents .now) ∷ [])) (c .before .before .before .before .before .before .before .before .enum-told .given .1) (c .before .before .before .before .before .before .before .before .before .before .check-rows .ensures)), omega arith)
 
 flag-entries-requires : tie.Need-flag-entries-requires
-flag-entries-requires c κs = search needs
+flag-entries-requires c κs = c .before .before .before .before .before .before .before .before .before .before .before .before .before .before .before .before .before .before .before .before .before .before .before .before .before .before .before .before .pre .3
 
 returns : tie.Need-returns
 returns c =

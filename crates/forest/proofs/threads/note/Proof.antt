@@ -16,7 +16,7 @@ flag-at-requires : tie.Need-flag-at-requires
 flag-at-requires c κs = search needs
 
 returns : tie.Need-returns
-returns c = threaded-other (c .before .before .before .before .before .before .pre .4) (c .before .before .variable-at .result .0) (c .before .before .variable-at .ensures) (sym (c .before .flag-at .ensures) ∙ not-true (c .before .flag-at .result) (c .if1 .taken))
+returns c = threaded-other (c .before .before .before .before .before .before .pre .5) (c .before .before .variable-at .result .0) (c .before .before .variable-at .ensures) (sym (c .before .flag-at .ensures) ∙ not-true (c .before .flag-at .result) (c .if1 .taken))
 
 cast-at : tie.Need-cast-at
 cast-at c = search needs
@@ -36,7 +36,7 @@ cast-if2 c = omega (arith, c .slice-known3 .given (c .before .before .before .be
 returns-2 : tie.Need-returns-2
 returns-2 c =
     let a = c .before .before .before .before .before .before .before .before .before .args in
-    threaded-tied (c .before .before .before .before .before .before .before .before .before .pre .4) (c .before .before .before .before .before .variable-at .result .0) (c .before .before .before .before .before .variable-at .ensures) (a .start) (getD (a .first .now) (c .before .before .before .before .before .variable-at .result .0) 0) (c .before .before .before .before .before .before .before .before .before .pre .3) refl (c .if2 .taken)
+    threaded-tied (c .before .before .before .before .before .before .before .before .before .pre .5) (c .before .before .before .before .before .variable-at .result .0) (c .before .before .before .before .before .variable-at .ensures) (a .start) (getD (a .first .now) (c .before .before .before .before .before .variable-at .result .0) 0) (c .before .before .before .before .before .before .before .before .before .pre .3) refl (c .if2 .taken)
 
 mul-next : tie.Need-mul-next
 mul-next c = search needs
@@ -70,7 +70,7 @@ returns-3 c =
     let a = c .before .before .before .before .before .before .before .before .before .args in
     let long = flag-long (a .universals .now) (c .before .before .before .before .before .variable-at .result .0) (sym (c .before .before .before .before .flag-at .ensures) ∙ not-false (c .before .before .before .before .flag-at .result) (c .before .before .before .if1 .left)) in
     let room : c .before .before .before .before .before .variable-at .result .0 < length (a .first .now) = let r = c .before .before .before .before .before .before .before .before .before .pre .1 in omega arith in
-    threaded-now (c .before .before .before .before .before .before .before .before .before .pre .4) (c .before .before .before .before .before .variable-at .result .0) (c .before .before .before .before .before .variable-at .ensures) (a .start) (getD (a .first .now) (c .before .before .before .before .before .variable-at .result .0) 0) (c .before .before .before .before .before .before .before .before .before .pre .3) refl room (c .before .before .before .before .before .before .before .before .before .pre .2)
+    threaded-now (c .before .before .before .before .before .before .before .before .before .pre .5) (c .before .before .before .before .before .variable-at .result .0) (c .before .before .before .before .before .variable-at .ensures) (a .start) (getD (a .first .now) (c .before .before .before .before .before .variable-at .result .0) 0) (c .before .before .before .before .before .before .before .before .before .pre .3) (c .before .before .before .before .before .before .before .before .before .pre .4) refl room (c .before .before .before .before .before .before .before .before .before .pre .2)
 
 pub note-spec : {M : Type 1} → statement M
 note-spec =

@@ -1,10 +1,10 @@
--- `oracle::joins::fill_joins` is safe and ends.
+-- `oracle::joins::join_all` is safe and ends.
 use Prim.Native.Nat.{_-_}
 use mathlib.Core.Path.{_≡_}
 use lib.ListN.{length}
 use borrow.Author.Needs.{needs}
-use Rattle.oracle.proofs.joins.fill_joins.Statement.{statement}
-use Rattle.oracle.proofs.joins.fill_joins.Tie as tie
+use Rattle.oracle.proofs.joins.join_all.Statement.{statement}
+use Rattle.oracle.proofs.joins.join_all.Tie as tie
 
 abbrev Inv-loop : tie.InvT-loop
 Inv-loop n clauses pairs₀ at₀ pairs at = length pairs ≡ length pairs₀
@@ -33,8 +33,8 @@ same-length c = search needs
 returns : tie.Need-returns Inv-loop μ-loop
 returns c = search needs
 
-pub fill-joins-spec : {M : Type 1} → statement M
-fill-joins-spec =
+pub join-all-spec : {M : Type 1} → statement M
+join-all-spec =
     tie.close
     (tie.spec
     Inv-loop

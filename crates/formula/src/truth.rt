@@ -1,0 +1,25 @@
+// Clauses that are always true: those with both signs of one variable.
+
+use crate::clauses::literal_at;
+ghost use Prim.Native.Nat.{_+_};
+ghost use mathlib.Core.Path.{_≡_};
+ghost use Rattle.formula.specs.Meaning.{alwaysTrue};
+ghost use Rattle.formula.specs.Lookup.{InRows, Stamps};
+
+// Whether a clause has both signs of one variable. The row of each literal passed gets the stamp, and every row held a lesser one before: so
+// one table serves clause after clause, with a greater stamp each time.
+pub fn always_true(clause: &[i32], seen: &mut [u16], stamp: u16) -> bool
+    requires { ⌜ InRows (now clause) × Stamps (now seen) stamp ⌝ }
+    ensures { λ r. ⌜ (r ≡ alwaysTrue (now (clause .entry))) × Stamps (now (seen .exit)) (stamp + 1) ⌝ }
+{
+    let mut i = 0;
+    while i < clause.len() {
+        let literal = literal_at(clause, i);
+        if seen[literal.other_row()] == stamp {
+            return true;
+        }
+        seen[literal.row()] = stamp;
+        i += 1;
+    }
+    false
+}

@@ -1,0 +1,40 @@
+-- `terms::Literal::other_row` meets its contract.
+use borrow.Author.Needs.{needs}
+use mir.Syntax.{w32}
+use mir.Facts.{toZ-ofZ}
+use Rattle.terms.proofs.Signed.{row-negative, row-positive}
+use Rattle.terms.proofs.Literal.other_row.Statement.{statement}
+use Rattle.terms.proofs.Literal.other_row.Tie as tie
+
+-- src/lib.rt:68:20
+magnitude-requires : tie.Need-magnitude-requires
+magnitude-requires c κs = search needs
+
+-- src/lib.rt:68:20
+cast-half : tie.Need-cast-half
+cast-half c = search needs
+
+-- src/lib.rt:69:25
+add-result : tie.Need-add-result
+add-result c = search needs
+
+-- src/lib.rt:69:46
+add-result-2 : tie.Need-add-result-2
+add-result-2 c = search needs
+
+-- src/lib.rt:69:46
+add-result-3 : tie.Need-add-result-3
+add-result-3 c = search needs
+
+-- src/lib.rt:65:5
+returns : tie.Need-returns
+returns c = row-negative (toZ-ofZ {w = w32} {z = c .before .before .before .before .before .args .self .0} (record { sfits = c .before .before .before .before .struct-told .given .0 .1 })) (c .before .before .before .magnitude .result) (c .before .before .before .magnitude .ensures) (c .if1 .taken) .1
+
+-- src/lib.rt:65:5
+returns-2 : tie.Need-returns-2
+returns-2 c = row-positive (toZ-ofZ {w = w32} {z = c .before .before .before .before .before .args .self .0} (record { sfits = c .before .before .before .before .struct-told .given .0 .1 })) (c .before .before .before .magnitude .result) (c .before .before .before .magnitude .ensures) (c .if1 .left) .1
+
+pub other-row-spec : {M : Type 1} → statement M
+other-row-spec =
+    tie.close
+    (tie.spec magnitude-requires cast-half add-result add-result-2 add-result-3 returns returns-2)
