@@ -22,7 +22,7 @@ use Rattle.forest.specs.Formula.{tabled, universal, universalIn, Shares}
 use Rattle.forest.specs.Causes.{ForestCause}
 use Rattle.forest.specs.Answers.{Members}
 use Rattle.forest.specs.Listed.{Listed}
-use Rattle.forest.specs.Search.{rowsOf, TopRows, Flagged, Via, pick, picked}
+use Rattle.forest.specs.Search.{rowsOf, TopRows, Topless, Flagged, Via, pick, picked, NoneUpto}
 use Rattle.forest.specs.Sets.{AllSets, SetsTooLong, Filling}
 use Rattle.forest.specs.Threads.{Closed, Together}
 use Rattle.forest.specs.Passed.{TabledSets, PutSet, RoomFor, RoomUpto, PutAll, Fills}
@@ -30,7 +30,7 @@ use Rattle.forest.proofs.Climbing.{tops-entries}
 use Rattle.forest.proofs.Flags.{flag-as, via-as}
 use Rattle.forest.proofs.Followed.{together-shares}
 use Rattle.forest.proofs.Agreeing.{same-back, formed-same, member-same, tables-agree, universal-agrees}
-use Rattle.forest.proofs.Entered.{fresh, entries-of, tabled-lawful, own-level}
+use Rattle.forest.proofs.Entered.{fresh, flags-are, entries-of, tabled-lawful, own-level}
 use Rattle.forest.proofs.Listings.{members-picked}
 use Rattle.forest.proofs.Records.{records-one, records-most, records-set, records-other, records-as, put-more}
 
@@ -38,6 +38,15 @@ use Rattle.forest.proofs.Records.{records-one, records-most, records-se
 pub put-length : (writing : Bool) (before list : List ℕ) → length (cond writing (sets before 0 list) before) ≡ length before
 put-length true before list = length-sets before 0 list
 put-length false before list = refl
+
+-- where no variable has a top, none is picked by it
+pub topless-none : {n : ℕ} {tops : List ℕ} {P : ℕ → Type 0} (flags : List Bool) (from : ℕ) → Flagged (Via n tops P) (replicate 4097 false) flags → Topless n tops from → NoneUpto (pick Set n flags tops) from
+unfolding pick
+topless-none flags from f none v low high = ap (λ e. getD flags e false) (none v low high) ∙ go (getD flags 0 false) refl
+  where
+    go : (b : Bool) → getD flags 0 false ≡ b → b ≡ false
+    go true t = absurd (flags-are fresh f 0 (omega arith) .0 t .some refl)
+    go false t = refl
 
 module _ (n : ℕ) (levels : List ℕ) (universals : List Bool) (ls : List ℤ) (classes parents : List ℕ) where
   abbrev X : Variables

@@ -10,7 +10,7 @@ use native.Mathlib.Omega.{arith}
 use lib.ListN.{length, set, length-append}
 use lib.Seq.{sets}
 use Rattle.forest.specs.Listed.{Ascending, Listed}
-use Rattle.forest.specs.Search.{picked}
+use Rattle.forest.specs.Search.{picked, NoneUpto}
 
 -- One number more: it is added if it is picked.
 pub picked-more : (f : ℕ → Bool) (m : ℕ) → f (m + 1) ≡ true → picked f (m + 1) ≡ picked f m ++ ((m + 1) ∷ [])
@@ -23,6 +23,12 @@ picked-same f m = rw (add-one m) (λ q. ap (λ b. picked f m ++ cond b (suc m �
 
 pub length-more : (f : ℕ → Bool) (m : ℕ) → f (m + 1) ≡ true → length (picked f (m + 1)) ≡ length (picked f m) + 1
 length-more f m q = ap length (picked-more f m q) ∙ length-append (picked f m) ((m + 1) ∷ [])
+
+-- Where none is picked the list is empty.
+pub picked-none : (f : ℕ → Bool) (m : ℕ) → NoneUpto f m → picked f m ≡ []
+unfolding picked
+picked-none f zero none = refl
+picked-none f (suc m) none = ap (λ b. picked f m ++ cond b (suc m ∷ []) []) (none (suc m) (omega arith) (omega arith)) ∙ append-nil (picked f m) ∙ picked-none f m (λ v a b. none v a (omega arith))
 
 -- No more are picked than there are numbers, and none is lost on the way.
 pub picked-most : (f : ℕ → Bool) (m : ℕ) → length (picked f m) ≤ m
@@ -109,9 +115,8 @@ pub record Counted (n : ℕ) (f : ℕ → Bool) (first count passed : ℕ) : Typ
   pub most : passed ≤ n
   pub counted : count ≡ first + length (picked f passed)
 
-pub count-none : (n : ℕ) (f : ℕ → Bool) (first : ℕ) → Counted n f first first 0
-unfolding picked
-count-none n f first = record { most = omega arith; counted = omega arith }
+pub count-none : (n : ℕ) (f : ℕ → Bool) (first from : ℕ) → from ≤ n → NoneUpto f from → Counted n f first first from
+count-none n f first from low none = record { most = low; counted = let q = ap length (picked-none f from none) in omega arith }
 
 module _ {n : ℕ} {f : ℕ → Bool} {first count passed : ℕ} (c : Counted n f first count passed) (more : passed < n) (v : ℕ) (b : Bool) (is : v ≡ passed + 1) (told : b ≡ f v) where
   flag : f (passed + 1) ≡ b

@@ -68,6 +68,10 @@ pub record TopRow (X : Variables) (W : Table) (floor y top : ℕ) : Type 0 where
 abbrev pub TopRows : Variables → Table → ℕ → List ℕ → Type 0
 TopRows X W floor tops = (y : ℕ) → TopRow X W floor y (row (X .count) tops y)
 
+-- up to a number no variable has a top
+abbrev pub Topless : ℕ → List ℕ → ℕ → Type 0
+Topless n tops from = (v : ℕ) → 1 ≤ v → v ≤ from → row n tops v ≡ 0
+
 -- the rows of the variables below v are
 abbrev pub TopsBelow : Variables → Table → ℕ → List ℕ → ℕ → Type 0
 TopsBelow X W floor tops v = (y : ℕ) → y < v → TopRow X W floor y (row (X .count) tops y)
@@ -122,6 +126,10 @@ pick Set n flags tops v = getD flags (row n tops v) false
 unfoldable pub picked : (ℕ → Bool) → ℕ → List ℕ
 picked f zero = []
 picked f (suc m) = picked f m ++ cond (f (suc m)) (suc m ∷ []) []
+
+-- none is picked up to a number
+abbrev pub NoneUpto : (ℕ → Bool) → ℕ → Type 0
+NoneUpto f from = (v : ℕ) → 1 ≤ v → v ≤ from → f v ≡ false
 
 -- what is asked for, by the lent tables
 abbrev pub Wanted : Asked → ℕ → List ℕ → List ℤ → List ℕ → List ℕ → ℕ → ℕ → Type 0

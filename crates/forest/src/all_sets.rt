@@ -21,7 +21,7 @@ ghost use Rattle.formula.specs.Lookup.{SoundClauses};
 ghost use Rattle.connection.specs.Tables.{WellFormed};
 ghost use Rattle.forest.specs.declared.listing.Asked.the-variants.{Set};
 ghost use Rattle.forest.specs.Formula.{tabled};
-ghost use Rattle.forest.specs.Search.{rowsOf, pick, picked};
+ghost use Rattle.forest.specs.Search.{rowsOf, pick, picked, NoneUpto, Topless};
 ghost use Rattle.forest.specs.Threads.{Closed, Threaded};
 ghost use Rattle.forest.specs.Passed.{TabledSets, Put, PutSet, RoomFor, RoomUpto, TellsRoom, PutAll, Fills};
 
@@ -155,6 +155,7 @@ fn pass_sets(
 {
     let mut tops = [0u32; 4096];
     let mut floor = Level::new(4294967295);
+    let mut from: u32 = 0;
     let mut end: usize = 0;
     let mut passed = 0;
     while passed < n {
@@ -162,7 +163,7 @@ fn pass_sets(
         let x = Variable::new(passed);
         if universal_at(n, universals, x) {
             let level = level_at(levels, x);
-            retop(
+            from = retop(
                 n,
                 levels,
                 universals,
@@ -170,10 +171,11 @@ fn pass_sets(
                 parents,
                 floor,
                 level,
+                from,
                 &mut tops,
             );
             floor = level;
-            end = put_set(n, clauses, first, next, x, &tops, end, writing, out);
+            end = put_set(n, clauses, first, next, x, &tops, from, end, writing, out);
         }
     }
     end
@@ -187,21 +189,23 @@ fn put_set(
     next: &[u32],
     x: Variable,
     tops: &[u32],
+    from: u32,
     at: usize,
     writing: bool,
     out: &mut [u32],
 ) -> usize
     requires { ⌜ (n ≤ 4096) × (at < 4294967296) × (x .0 < length (now first)) × (length (now clauses) ≤ length (now next)) × ((universals : List Bool) × Threaded (now clauses) universals (now first) (now next) (length (now clauses)) × (getD universals (x .0) false ≡ true)) ⌝ }
+    requires { ⌜ (from ≤ n) × Topless n (now tops) from ⌝ }
     requires { ⌜ RoomFor n (now tops) (now clauses) (x .0) at writing (now out) ⌝ }
     ensures { λ r. ⌜ PutSet n (now (tops .entry)) (now (clauses .entry)) (x .0) at writing (now (out .entry)) (now (out .exit)) r ⌝ }
 {
     let mut entered = [false; 4097];
     flag_along(n, clauses, first, next, x, tops, &mut entered);
     if !writing {
-        let count = count_picked(n, Asked::Set, &entered, tops);
+        let count = count_picked(n, Asked::Set, &entered, tops, from);
         return at + 2 + count as usize;
     }
-    write_record(n, &entered, tops, x, at, out)
+    write_record(n, &entered, tops, x, from, at, out)
 }
 
 // Writes a record: the number of x, the count of its set, and the set, which is what its flags pick.
@@ -210,14 +214,16 @@ fn write_record(
     entered: &[bool],
     tops: &[u32],
     x: Variable,
+    from: u32,
     at: usize,
     out: &mut [u32],
 ) -> usize
+    requires { ⌜ (from ≤ n) × NoneUpto (pick Set n (now entered) (now tops)) from ⌝ }
     requires { ⌜ (at < 4294967296) × (at + 2 + length (picked (pick Set n (now entered) (now tops)) n) ≤ length (now out)) ⌝ }
     ensures { λ r. ⌜ Put n (now (tops .entry)) (now (entered .entry)) (x .0) at true (now (out .entry)) (now (out .exit)) r ⌝ }
 {
     let start = at + 2;
-    let end = write_picked(n, Asked::Set, entered, tops, start, out);
+    let end = write_picked(n, Asked::Set, entered, tops, from, start, out);
     out[at] = x.0;
     out[at + 1] = (end - start) as u32;
     end

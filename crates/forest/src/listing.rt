@@ -8,7 +8,7 @@ ghost use Prim.Native.Nat.{_+_, _≤_};
 ghost use mathlib.Core.Path.{_≡_};
 ghost use lib.ListN.{length};
 ghost use lib.Seq.{sets};
-ghost use Rattle.forest.specs.Search.{Tells, pick, picked, Picks};
+ghost use Rattle.forest.specs.Search.{Tells, pick, picked, NoneUpto, Picks};
 
 // What is listed: the flagged entry points themselves, or the set, which is the variables with a flagged top.
 pub enum Asked {
@@ -23,7 +23,7 @@ pub fn list_picked(n: u32, asked: Asked, flags: &[bool], tops: &[u32], out: &mut
     if !has_room(n, asked, flags, tops, out.len()) {
         return Filled::Refused(14, 0);
     }
-    let end = write_picked(n, asked, flags, tops, 0, out);
+    let end = write_picked(n, asked, flags, tops, 0, 0, out);
     Filled::Count(end as u32)
 }
 
@@ -34,19 +34,20 @@ fn has_room(n: u32, asked: Asked, flags: &[bool], tops: &[u32], room: usize) -> 
     if n as usize <= room {
         return true;
     }
-    let count = count_picked(n, asked, flags, tops);
+    let count = count_picked(n, asked, flags, tops, 0);
     if room < count as usize {
         return false;
     }
     true
 }
 
-// How many of the numbers from 1 to n are picked.
-pub fn count_picked(n: u32, asked: Asked, flags: &[bool], tops: &[u32]) -> u32
+// How many of the numbers from 1 to n are picked, where none is up to `from`.
+pub fn count_picked(n: u32, asked: Asked, flags: &[bool], tops: &[u32], from: u32) -> u32
+    requires { ⌜ (from ≤ n) × NoneUpto (pick asked n (now flags) (now tops)) from ⌝ }
     ensures { λ r. ⌜ r ≡ length (picked (pick asked n (now (flags .entry)) (now (tops .entry))) n) ⌝ }
 {
     let mut count: u32 = 0;
-    let mut passed: u32 = 0;
+    let mut passed: u32 = from;
     while passed < n {
         passed += 1;
         if picks(n, asked, flags, tops, Variable::new(passed)) {
@@ -56,21 +57,23 @@ pub fn count_picked(n: u32, asked: Asked, flags: &[bool], tops: &[u32]) -> u32
     count
 }
 
-// Writes the picked numbers from 1 to n, ascending, from the entry `at` on; gives the entry behind them.
+// Writes the picked numbers from 1 to n, where none is up to `from`, ascending, from the entry `at` on; gives the entry behind them.
 pub fn write_picked(
     n: u32,
     asked: Asked,
     flags: &[bool],
     tops: &[u32],
+    from: u32,
     at: usize,
     out: &mut [u32],
 ) -> usize
+    requires { ⌜ (from ≤ n) × NoneUpto (pick asked n (now flags) (now tops)) from ⌝ }
     requires { ⌜ at + length (picked (pick asked n (now flags) (now tops)) n) ≤ length (now out) ⌝ }
     ensures { λ r. ⌜ r ≡ at + length (picked (pick asked n (now (flags .entry)) (now (tops .entry))) n) ⌝ }
     ensures { λ r. ⌜ now (out .exit) ≡ sets (now (out .entry)) at (picked (pick asked n (now (flags .entry)) (now (tops .entry))) n) ⌝ }
 {
     let mut end = at;
-    let mut passed: u32 = 0;
+    let mut passed: u32 = from;
     while passed < n {
         passed += 1;
         if picks(n, asked, flags, tops, Variable::new(passed)) {

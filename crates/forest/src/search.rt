@@ -10,7 +10,7 @@ ghost use mathlib.Core.Path.{_≡_};
 ghost use lib.ListN.{length, getD};
 ghost use Rattle.connection.specs.Tables.{WellFormed};
 ghost use Rattle.forest.specs.Formula.{tabled};
-ghost use Rattle.forest.specs.Search.{rowsOf, Falling, Climbs, Finds, TopRow, TopRows, TopsBelow};
+ghost use Rattle.forest.specs.Search.{rowsOf, Falling, Climbs, Finds, TopRow, TopRows, Topless, TopsBelow};
 
 // Where a climb ends, and how many classes it passed, the first not counted.
 pub struct End {
@@ -125,7 +125,8 @@ fn top_of(
     if above.0 == 0 { v } else { above }
 }
 
-// Refills the rows, which are tops over one floor, if another floor is wanted.
+// Refills the rows, which are tops over one floor, if another floor is wanted; gives a number up to which no variable has a top, as `from` was
+// for the rows before.
 pub fn retop(
     n: u32,
     levels: &[u32],
@@ -134,12 +135,32 @@ pub fn retop(
     parents: &[u32],
     was: Level,
     floor: Level,
+    from: u32,
     tops: &mut [u32],
-)
-    requires { ⌜ WellFormed (tabled n (now levels) (now universals)) (rowsOf n (now classes) (now parents)) × (n ≤ length (now tops)) × TopRows (tabled n (now levels) (now universals)) (rowsOf n (now classes) (now parents)) (was .0) (now tops) ⌝ }
+) -> u32
+    requires { ⌜ WellFormed (tabled n (now levels) (now universals)) (rowsOf n (now classes) (now parents)) × (n ≤ length (now tops)) × TopRows (tabled n (now levels) (now universals)) (rowsOf n (now classes) (now parents)) (was .0) (now tops) × (from ≤ n) × Topless n (now tops) from ⌝ }
     ensures { λ r. ⌜ TopRows (tabled n (now (levels .entry)) (now (universals .entry))) (rowsOf n (now (classes .entry)) (now (parents .entry))) (floor .0) (now (tops .exit)) ⌝ }
+    ensures { λ r. ⌜ (r ≤ n) × Topless n (now (tops .exit)) r ⌝ }
 {
-    if was.0 != floor.0 {
-        fill_tops(n, levels, universals, classes, parents, floor, tops);
+    if was.0 == floor.0 {
+        return from;
     }
+    fill_tops(n, levels, universals, classes, parents, floor, tops);
+    topless(n, tops)
+}
+
+// The last number up to which no variable has a top.
+fn topless(n: u32, tops: &[u32]) -> u32
+    ensures { λ r. ⌜ (r ≤ n) × Topless n (now (tops .entry)) r ⌝ }
+{
+    let mut passed: u32 = 0;
+    while passed < n {
+        let v = passed + 1;
+        let top = row_of(n, tops, Variable::new(v));
+        if top.0 != 0 {
+            return passed;
+        }
+        passed = v;
+    }
+    passed
 }

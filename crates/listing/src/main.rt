@@ -153,6 +153,7 @@ fn list_universals(
                 parents,
                 floor,
                 level,
+                0,
                 &mut tops,
             );
             floor = level;

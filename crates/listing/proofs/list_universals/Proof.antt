@@ -44,7 +44,7 @@ retop-requires : tie.Need-retop-requires Inv-loop μ-loop
 retop-requires c κs =
     let few = c .before .before .before .before .before .before .before .before .before .before .before .before .pre .0 in
     let long = c .before .before .before .before .before .before .loop .inv .1 in
-    (c .before .before .before .before .before .before .before .before .before .before .before .before .pre .1, omega arith, c .before .before .before .before .before .before .loop .inv .2)
+    (c .before .before .before .before .before .before .before .before .before .before .before .before .pre .1, omega arith, c .before .before .before .before .before .before .loop .inv .2, omega arith, λ v low high. absurd (omega arith))
 
 slice-aggregate-list-universal : tie.Need-slice-aggregate-list-universal Inv-loop μ-loop
 slice-aggregate-list-universal c = search needs
@@ -56,7 +56,7 @@ loop-less : tie.Need-loop-less Inv-loop μ-loop
 loop-less c = omega arith
 
 loop-again : tie.Need-loop-again Inv-loop μ-loop
-loop-again c = (omega arith, c .before .before .before .retop .kept .1 .1 .1 .1 .1 .1 .1 .0 ∙ c .before .before .before .before .before .before .before .before .before .before .loop .inv .1, c .before .before .before .retop .ensures)
+loop-again c = (omega arith, c .before .before .before .retop .kept .1 .1 .1 .1 .1 .1 .1 .1 .0 ∙ c .before .before .before .before .before .before .before .before .before .before .loop .inv .1, c .before .before .before .retop .ensures .0)
 
 loop-less-2 : tie.Need-loop-less-2 Inv-loop μ-loop
 loop-less-2 c = omega arith

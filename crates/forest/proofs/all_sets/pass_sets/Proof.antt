@@ -7,7 +7,7 @@ use native.Mathlib.Omega.{arith}
 use lib.ListN.{length, getD, length-replicate}
 use lib.Seq.{sets}
 use Rattle.forest.specs.Formula.{tabled, universalIn}
-use Rattle.forest.specs.Search.{rowsOf, TopRows}
+use Rattle.forest.specs.Search.{rowsOf, TopRows, Topless}
 use Rattle.forest.specs.Passed.{TabledSets, PutAll}
 use Rattle.forest.proofs.Readings.{flag-within}
 use Rattle.forest.proofs.Tops.{tops-over}
@@ -17,11 +17,11 @@ use Rattle.forest.proofs.all_sets.pass_sets.Statement.{statement}
 use Rattle.forest.proofs.all_sets.pass_sets.Tie as tie
 
 abbrev Inv-loop : tie.InvT-loop
-Inv-loop n levels universals clauses classes parents first next writing out₀ tops₀ floor₀ end₀ passed₀ out tops floor end passed =
-    (passed ≤ n) × (length tops ≡ 4096) × TopRows (tabled n levels universals) (rowsOf n classes parents) (floor .0) tops × PutAll (TabledSets n levels universals clauses classes parents passed) writing out₀ out end
+Inv-loop n levels universals clauses classes parents first next writing out₀ tops₀ floor₀ from₀ end₀ passed₀ out tops floor from end passed =
+    (passed ≤ n) × (length tops ≡ 4096) × TopRows (tabled n levels universals) (rowsOf n classes parents) (floor .0) tops × PutAll (TabledSets n levels universals clauses classes parents passed) writing out₀ out end × (from ≤ n) × Topless n tops from
 
 abbrev μ-loop : tie.MeasureT-loop
-μ-loop n levels universals clauses classes parents first next writing out₀ tops₀ floor₀ end₀ passed₀ out tops floor end passed = n - passed
+μ-loop n levels universals clauses classes parents first next writing out₀ tops₀ floor₀ from₀ end₀ passed₀ out tops floor from end passed = n - passed
 
 new-requires : tie.Need-new-requires Inv-loop μ-loop
 new-requires c κs = search needs
@@ -30,7 +30,7 @@ loop-holds : tie.Need-loop-holds Inv-loop μ-loop
 loop-holds c =
     let a = c .before .before .before .before .before .before .before .before .args in
     let over : (v : ℕ) → getD (a .levels .now) v 0 ≤ c .new .result .0 = λ v. let is = c .new .ensures in omega (arith, c .before .before .before .before .before .before .before .shared-slice-known .given v) in
-    (omega arith, length-replicate {A = ℕ} 4096 0, tops-over {X = tabled (a .n) (a .levels .now) (a .universals .now)} {W = rowsOf (a .n) (a .classes .now) (a .parents .now)} (c .new .result .0) 4096 over, put-none (a .n) (a .levels .now) (a .universals .now) (a .clauses .now) (a .classes .now) (a .parents .now) (a .writing) (a .out .now))
+    (omega arith, length-replicate {A = ℕ} 4096 0, tops-over {X = tabled (a .n) (a .levels .now) (a .universals .now)} {W = rowsOf (a .n) (a .classes .now) (a .parents .now)} (c .new .result .0) 4096 over, put-none (a .n) (a .levels .now) (a .universals .now) (a .clauses .now) (a .classes .now) (a .parents .now) (a .writing) (a .out .now), omega arith, λ v low high. absurd (omega arith))
 
 add-passed : tie.Need-add-passed Inv-loop μ-loop
 add-passed c = omega arith
@@ -51,7 +51,7 @@ retop-requires : tie.Need-retop-requires Inv-loop μ-loop
 retop-requires c κs =
     let few = c .before .before .before .before .before .before .before .before .before .before .before .before .before .before .before .pre .0 .0 in
     let long = c .before .before .before .before .before .before .loop .inv .1 in
-    (c .before .before .before .before .before .before .before .before .before .before .before .before .before .before .before .pre .0 .4, omega arith, c .before .before .before .before .before .before .loop .inv .2)
+    (c .before .before .before .before .before .before .before .before .before .before .before .before .before .before .before .pre .0 .4, omega arith, c .before .before .before .before .before .before .loop .inv .2, c .before .before .before .before .before .before .loop .inv .4, c .before .before .before .before .before .before .loop .inv .5)
 
 slice-aggregate-put-set : tie.Need-slice-aggregate-put-set Inv-loop μ-loop
 slice-aggregate-put-set c = search needs
@@ -71,7 +71,7 @@ put-set-requires c κs =
     let flag = flag-within (a .n) x (getD (a .universals .now) x false) u .2 in
     let small = sets-small (a .n) (a .levels .now) (a .universals .now) (a .clauses .now) (a .classes .now) (a .parents .now) few (c .before .before .before .before .before .before .before .before .before .before .loop .passed) (inv .3 .0) (inv .0) (inv .3 .1) in
     let size = inv .3 .2 in
-    ((few, omega arith, omega arith, pre .1, (a .universals .now, pre .5, flag)), put-room (a .n) (a .levels .now) (a .universals .now) (a .clauses .now) (a .classes .now) (a .parents .now) few (pre .3) (pre .4) (c .before .before .before .before .before .before .before .before .before .before .loop .passed) x (c .before .before .before .before .before .level-at .result .0) (c .before .before .before .retop .last .1 .1 .1 .1 .1 .1 .1 .0) (a .writing) (a .out .now) is (inv .3) u (c .before .before .before .before .before .level-at .ensures) (c .before .before .before .retop .ensures) less (c .before .before .before .before .before .before .before .before .before .before .before .before .before .before .before .before .before .before .before .pre .1))
+    ((few, omega arith, omega arith, pre .1, (a .universals .now, pre .5, flag)), (c .before .before .before .retop .ensures .1, put-room (a .n) (a .levels .now) (a .universals .now) (a .clauses .now) (a .classes .now) (a .parents .now) few (pre .3) (pre .4) (c .before .before .before .before .before .before .before .before .before .before .loop .passed) x (c .before .before .before .before .before .level-at .result .0) (c .before .before .before .retop .last .1 .1 .1 .1 .1 .1 .1 .1 .0) (a .writing) (a .out .now) is (inv .3) u (c .before .before .before .before .before .level-at .ensures) (c .before .before .before .retop .ensures .0) less (c .before .before .before .before .before .before .before .before .before .before .before .before .before .before .before .before .before .before .before .pre .1)))
 
 loop-less : tie.Need-loop-less Inv-loop μ-loop
 loop-less c = omega arith
@@ -82,7 +82,7 @@ loop-again c =
     let pre = c .before .before .before .before .before .before .before .before .before .before .before .before .before .before .before .before .before .before .before .before .before .before .pre .0 in
     let inv = c .before .before .before .before .before .before .before .before .before .before .before .before .before .loop .inv in
     let u = sym (c .before .before .before .before .before .before .before .before .before .before .universal-at .ensures) ∙ c .before .before .before .before .before .before .before .before .before .if1 .taken in
-    (omega arith, c .before .before .before .before .before .before .retop .kept .1 .1 .1 .1 .1 .1 .1 .0 ∙ inv .1, c .before .before .before .before .before .before .retop .ensures, put-next (a .n) (a .levels .now) (a .universals .now) (a .clauses .now) (a .classes .now) (a .parents .now) (pre .0) (pre .3) (pre .4) (c .before .before .before .before .before .before .before .before .before .before .before .before .before .loop .passed) (c .before .before .before .before .before .before .before .before .before .before .before .new2 .result .0) (c .before .before .before .before .before .before .before .before .level-at .result .0) (c .before .before .before .before .before .before .retop .last .1 .1 .1 .1 .1 .1 .1 .0) (a .writing) (a .out .now) (c .before .before .before .before .before .before .before .before .before .before .before .new2 .ensures) (inv .3) u (c .before .before .before .before .before .before .before .before .level-at .ensures) (c .before .before .before .before .before .before .retop .ensures) (c .before .before .put-set .ensures))
+    (omega arith, c .before .before .before .before .before .before .retop .kept .1 .1 .1 .1 .1 .1 .1 .1 .0 ∙ inv .1, c .before .before .before .before .before .before .retop .ensures .0, put-next (a .n) (a .levels .now) (a .universals .now) (a .clauses .now) (a .classes .now) (a .parents .now) (pre .0) (pre .3) (pre .4) (c .before .before .before .before .before .before .before .before .before .before .before .before .before .loop .passed) (c .before .before .before .before .before .before .before .before .before .before .before .new2 .result .0) (c .before .before .before .before .before .before .before .before .level-at .result .0) (c .before .before .before .before .before .before .retop .last .1 .1 .1 .1 .1 .1 .1 .1 .0) (a .writing) (a .out .now) (c .before .before .before .before .before .before .before .before .before .before .before .new2 .ensures) (inv .3) u (c .before .before .before .before .before .before .before .before .level-at .ensures) (c .before .before .before .before .before .before .retop .ensures .0) (c .before .before .put-set .ensures), c .before .before .before .before .before .before .retop .ensures .1 .0, c .before .before .before .before .before .before .retop .ensures .1 .1)
 
 loop-less-2 : tie.Need-loop-less-2 Inv-loop μ-loop
 loop-less-2 c = omega arith
@@ -91,7 +91,7 @@ loop-again-2 : tie.Need-loop-again-2 Inv-loop μ-loop
 loop-again-2 c =
     let a = c .before .before .before .before .before .before .before .before .before .before .before .before .before .args in
     let inv = c .before .before .before .before .loop .inv in
-    (omega arith, inv .1, inv .2, put-other (a .n) (a .levels .now) (a .universals .now) (a .clauses .now) (a .classes .now) (a .parents .now) (c .before .before .before .before .loop .passed) (c .before .before .new2 .result .0) (a .writing) (a .out .now) (c .before .before .new2 .ensures) (inv .3) (sym (c .before .universal-at .ensures) ∙ c .if1 .left))
+    (omega arith, inv .1, inv .2, put-other (a .n) (a .levels .now) (a .universals .now) (a .clauses .now) (a .classes .now) (a .parents .now) (c .before .before .before .before .loop .passed) (c .before .before .new2 .result .0) (a .writing) (a .out .now) (c .before .before .new2 .ensures) (inv .3) (sym (c .before .universal-at .ensures) ∙ c .if1 .left), inv .4, inv .5)
 
 same-length : tie.Need-same-length Inv-loop μ-loop
 same-length c = ap length (c .before .loop .inv .3 .3) ∙ put-length (c .before .before .before .before .before .before .before .before .before .before .args .writing) (c .before .before .before .before .before .before .before .before .before .before .args .out .now) (c .before .loop .inv .3 .0)

@@ -10,6 +10,7 @@ use lib.Seq.{sets}
 use Rattle.forest.specs.declared.listing.Asked.the-variants.{Set}
 use Rattle.forest.specs.Search.{pick, picked}
 use Rattle.forest.proofs.Picked.{picked-most}
+use Rattle.forest.proofs.AllSets.{topless-none}
 use borrow.Author.Needs.{needs}
 use Rattle.forest.proofs.all_sets.put_set.Statement.{statement}
 use Rattle.forest.proofs.all_sets.put_set.Tie as tie
@@ -24,7 +25,7 @@ slice-aggregate-count-picked : tie.Need-slice-aggregate-count-picked
 slice-aggregate-count-picked c = search needs
 
 count-picked-requires : tie.Need-count-picked-requires
-count-picked-requires c κs = search needs
+count-picked-requires c κs = (c .before .before .before .before .before .before .before .before .before .pre .1 .0 .0, topless-none (c .before .before .before .flag-along .last .1 .1 .1 .1 .1 .1 .0) (c .before .before .before .before .before .before .before .before .before .args .from) (c .before .before .before .flag-along .ensures) (c .before .before .before .before .before .before .before .before .before .pre .1 .0 .1))
 
 add-result : tie.Need-add-result
 add-result c = let small = c .before .before .before .before .before .before .before .before .before .before .pre .0 .1 in omega arith
@@ -54,7 +55,7 @@ slice-aggregate-write-record : tie.Need-slice-aggregate-write-record
 slice-aggregate-write-record c = search needs
 
 write-record-requires : tie.Need-write-record-requires
-write-record-requires c κs = (c .before .before .before .before .before .before .before .before .before .before .pre .0 .1, c .before .before .before .before .before .before .before .before .before .before .pre .1 (not-false (c .before .before .before .before .before .before .before .before .before .before .args .writing) (c .before .before .if1 .left)) (c .before .before .before .before .flag-along .last .1 .1 .1 .1 .1 .1 .0) (c .before .before .before .before .flag-along .ensures))
+write-record-requires c κs = ((c .before .before .before .before .before .before .before .before .before .before .pre .1 .0 .0, topless-none (c .before .before .before .before .flag-along .last .1 .1 .1 .1 .1 .1 .0) (c .before .before .before .before .before .before .before .before .before .before .args .from) (c .before .before .before .before .flag-along .ensures) (c .before .before .before .before .before .before .before .before .before .before .pre .1 .0 .1)), (c .before .before .before .before .before .before .before .before .before .before .pre .0 .1, c .before .before .before .before .before .before .before .before .before .before .pre .1 .1 (not-false (c .before .before .before .before .before .before .before .before .before .before .args .writing) (c .before .before .if1 .left)) (c .before .before .before .before .flag-along .last .1 .1 .1 .1 .1 .1 .0) (c .before .before .before .before .flag-along .ensures)))
 
 same-length : tie.Need-same-length
 same-length c = search needs

@@ -12,18 +12,18 @@ use Rattle.forest.proofs.all_sets.write_record.Statement.{statement}
 use Rattle.forest.proofs.all_sets.write_record.Tie as tie
 
 add-start : tie.Need-add-start
-add-start c = let small = c .before .before .before .pre .0 in omega arith
+add-start c = let small = c .before .before .before .pre .1 .0 in omega arith
 
 write-picked-requires : tie.Need-write-picked-requires
-write-picked-requires c κs = c .before .before .before .before .pre .1
+write-picked-requires c κs = (c .before .before .before .before .pre .0, c .before .before .before .before .pre .1 .1)
 
 mul-out : tie.Need-mul-out
-mul-out c = let room = c .before .before .before .before .before .before .before .pre .1 in omega arith
+mul-out c = let room = c .before .before .before .before .before .before .before .pre .1 .1 in omega arith
 
 slice-write-out : tie.Need-slice-write-out
 slice-write-out c =
     let a = c .before .before .before .before .before .before .before .args in
-    let room = c .before .before .before .before .before .before .before .pre .1 in
+    let room = c .before .before .before .before .before .before .before .pre .1 .1 in
     let size = ap length (c .before .before .write-picked .ensures .1) ∙ length-sets (a .out .now) (a .at + 2) (picked (pick Set (a .n) (a .entered .now) (a .tops .now)) (a .n)) in
     omega arith
 
@@ -38,15 +38,15 @@ cast-out c =
     omega arith
 
 add-out : tie.Need-add-out
-add-out c = let small = c .before .before .before .before .before .before .before .pre .0 in omega arith
+add-out c = let small = c .before .before .before .before .before .before .before .pre .1 .0 in omega arith
 
 mul-out-2 : tie.Need-mul-out-2
-mul-out-2 c = let room = c .before .before .before .before .before .before .before .pre .1 in omega arith
+mul-out-2 c = let room = c .before .before .before .before .before .before .before .pre .1 .1 in omega arith
 
 slice-write-out-2 : tie.Need-slice-write-out-2
 slice-write-out-2 c =
     let a = c .before .before .before .before .before .before .before .args in
-    let room = c .before .before .before .before .before .before .before .pre .1 in
+    let room = c .before .before .before .before .before .before .before .pre .1 .1 in
     let size = ap length (c .before .before .write-picked .ensures .1) ∙ length-sets (a .out .now) (a .at + 2) (picked (pick Set (a .n) (a .entered .now) (a .tops .now)) (a .n)) in
     simp length-set (omega arith)
 

@@ -10,15 +10,15 @@ use Rattle.forest.proofs.listing.count_picked.Statement.{statement}
 use Rattle.forest.proofs.listing.count_picked.Tie as tie
 
 abbrev Inv-loop : tie.InvT-loop
-Inv-loop n asked flags tops count₀ passed₀ count passed = Counted n (pick asked n flags tops) 0 count passed
+Inv-loop n asked flags tops from count₀ passed₀ count passed = Counted n (pick asked n flags tops) 0 count passed
 
 abbrev μ-loop : tie.MeasureT-loop
-μ-loop n asked flags tops count₀ passed₀ count passed = n - passed
+μ-loop n asked flags tops from count₀ passed₀ count passed = n - passed
 
 loop-holds : tie.Need-loop-holds Inv-loop μ-loop
 loop-holds c =
     let a = c .before .before .args in
-    count-none (a .n) (pick (a .asked) (a .n) (a .flags .now) (a .tops .now)) 0
+    count-none (a .n) (pick (a .asked) (a .n) (a .flags .now) (a .tops .now)) 0 (a .from) (c .before .before .pre .0) (c .before .before .pre .1)
 
 add-passed : tie.Need-add-passed Inv-loop μ-loop
 add-passed c = omega arith

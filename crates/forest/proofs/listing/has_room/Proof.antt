@@ -14,7 +14,7 @@ returns c =
     omega arith
 
 count-picked-requires : tie.Need-count-picked-requires
-count-picked-requires c κs = search needs
+count-picked-requires c κs = (omega arith, λ v low high. absurd (omega arith))
 
 cast-if2 : tie.Need-cast-if2
 cast-if2 c = search needs

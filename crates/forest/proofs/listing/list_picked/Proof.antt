@@ -25,7 +25,7 @@ write-picked-requires : tie.Need-write-picked-requires
 write-picked-requires c κs =
     let a = c .before .before .before .before .before .before .args in
     let room = told {P = length (picked (pick (a .asked) (a .n) (a .flags .now) (a .tops .now)) (a .n)) ≤ length (a .out .now)} (c .before .before .has-room .result) (not-false (c .before .before .has-room .result) (c .before .if1 .left)) (c .before .before .has-room .ensures) in
-    omega arith
+    ((omega arith, λ v low high. absurd (omega arith)), omega arith)
 
 cast-t12 : tie.Need-cast-t12
 cast-t12 c =

@@ -1,26 +1,26 @@
 -- `forest::listing::write_picked` meets its contract.
 use Prim.Native.Nat.{_-_}
-use mathlib.Core.Path.{_≡_, refl, ap, _∙_}
+use mathlib.Core.Path.{_≡_, sym, ap, _∙_}
 use native.Mathlib.Omega.{arith}
 use borrow.Author.Needs.{needs}
 use lib.ListN.{length}
 use lib.Seq.{sets, length-sets}
 use Rattle.forest.specs.Search.{pick, picked}
-use Rattle.forest.proofs.Picked.{Counted, count-none, count-more, count-same, count-room, count-all, write-more, write-same}
+use Rattle.forest.proofs.Picked.{Counted, picked-none, count-none, count-more, count-same, count-room, count-all, write-more, write-same}
 use Rattle.forest.proofs.listing.write_picked.Statement.{statement}
 use Rattle.forest.proofs.listing.write_picked.Tie as tie
 
 abbrev Inv-loop : tie.InvT-loop
-Inv-loop n asked flags tops at out₀ end₀ passed₀ out end passed = Counted n (pick asked n flags tops) at end passed × (out ≡ sets out₀ at (picked (pick asked n flags tops) passed))
+Inv-loop n asked flags tops from at out₀ end₀ passed₀ out end passed = Counted n (pick asked n flags tops) at end passed × (out ≡ sets out₀ at (picked (pick asked n flags tops) passed))
 
 abbrev μ-loop : tie.MeasureT-loop
-μ-loop n asked flags tops at out₀ end₀ passed₀ out end passed = n - passed
+μ-loop n asked flags tops from at out₀ end₀ passed₀ out end passed = n - passed
 
 loop-holds : tie.Need-loop-holds Inv-loop μ-loop
-unfolding picked
 loop-holds c =
     let a = c .before .before .before .args in
-    (count-none (a .n) (pick (a .asked) (a .n) (a .flags .now) (a .tops .now)) (a .at), refl)
+    let f = pick (a .asked) (a .n) (a .flags .now) (a .tops .now) in
+    (count-none (a .n) f (a .at) (a .from) (c .before .before .before .pre .0 .0) (c .before .before .before .pre .0 .1), sym (ap (sets (a .out .now) (a .at)) (picked-none f (a .from) (c .before .before .before .pre .0 .1))))
 
 add-passed : tie.Need-add-passed Inv-loop μ-loop
 add-passed c = omega arith
@@ -33,19 +33,19 @@ picks-requires c κs = search needs
 
 mul-out : tie.Need-mul-out Inv-loop μ-loop
 mul-out c =
-    let room = count-room (c .before .before .before .before .loop .inv .0) (c .before .before .before .loop-test .taken) (c .before .before .new .result .0) (c .before .picks .result) (c .before .before .new .ensures) (c .before .picks .ensures) (length (c .before .before .before .before .before .before .before .before .args .out .now)) (c .if1 .taken) (c .before .before .before .before .before .before .before .before .pre) in
+    let room = count-room (c .before .before .before .before .loop .inv .0) (c .before .before .before .loop-test .taken) (c .before .before .new .result .0) (c .before .picks .result) (c .before .before .new .ensures) (c .before .picks .ensures) (length (c .before .before .before .before .before .before .before .before .args .out .now)) (c .if1 .taken) (c .before .before .before .before .before .before .before .before .pre .1) in
     omega arith
 
 slice-write-out : tie.Need-slice-write-out Inv-loop μ-loop
 slice-write-out c =
     let a = c .before .before .before .before .before .before .before .before .args in
-    let room = count-room (c .before .before .before .before .loop .inv .0) (c .before .before .before .loop-test .taken) (c .before .before .new .result .0) (c .before .picks .result) (c .before .before .new .ensures) (c .before .picks .ensures) (length (a .out .now)) (c .if1 .taken) (c .before .before .before .before .before .before .before .before .pre) in
+    let room = count-room (c .before .before .before .before .loop .inv .0) (c .before .before .before .loop-test .taken) (c .before .before .new .result .0) (c .before .picks .result) (c .before .before .new .ensures) (c .before .picks .ensures) (length (a .out .now)) (c .if1 .taken) (c .before .before .before .before .before .before .before .before .pre .1) in
     let size = ap length (c .before .before .before .before .loop .inv .1) ∙ length-sets (a .out .now) (a .at) (picked (pick (a .asked) (a .n) (a .flags .now) (a .tops .now)) (c .before .before .before .before .loop .passed)) in
     omega arith
 
 add-end : tie.Need-add-end Inv-loop μ-loop
 add-end c =
-    let room = count-room (c .before .before .before .before .loop .inv .0) (c .before .before .before .loop-test .taken) (c .before .before .new .result .0) (c .before .picks .result) (c .before .before .new .ensures) (c .before .picks .ensures) (length (c .before .before .before .before .before .before .before .before .args .out .now)) (c .if1 .taken) (c .before .before .before .before .before .before .before .before .pre) in
+    let room = count-room (c .before .before .before .before .loop .inv .0) (c .before .before .before .loop-test .taken) (c .before .before .new .result .0) (c .before .picks .result) (c .before .before .new .ensures) (c .before .picks .ensures) (length (c .before .before .before .before .before .before .before .before .args .out .now)) (c .if1 .taken) (c .before .before .before .before .before .before .before .before .pre .1) in
     omega arith
 
 loop-less : tie.Need-loop-less Inv-loop μ-loop
