@@ -11,7 +11,7 @@ use Rattle.formula.specs.Meaning.{clauses}
 use Rattle.formula.specs.Causes.{VariableCount, PrefixLong, ClausesLong, PrefixCause, ClauseCause, prefixOrder, checkOrder, clauseOrder}
 use Rattle.forest.specs.Causes.{ForestCause, short, bad-row, NotUniversal, NotDeeper, entryOrder, listOrder}
 use Rattle.forest.specs.Listed.{TooLong}
-use Rattle.forest.specs.Sets.{SetsTooLong, setsOrder}
+use Rattle.sets.specs.Sets.{SetsTooLong, setsOrder}
 use Rattle.growth.specs.Grown.{AddedCause, TooShort, buildOrder, addOrder, clauseFirst}
 
 -- the places of an order's causes fit 32 bits, if each is the first one

@@ -8,10 +8,8 @@ use Rattle.terms.specs.declared.Verdict.the-variants.{Accepted, Refused}
 use Rattle.terms.specs.Refusals.{Causes, FirstOf, Judged}
 use Rattle.forest.specs.declared.EntryAnswer.{EntryAnswer}
 use Rattle.forest.specs.Answers.{Answered}
-use Rattle.forest.specs.Listed.{Listed, Listing}
-use Rattle.forest.specs.Sets.{Filling}
-use Rattle.forest.proofs.Demands.{listing-filling}
-use Rattle.capi.specs.Told.{Told, accepted, refused, Front, Written}
+use Rattle.forest.specs.Listed.{Listing, Filling}
+use Rattle.capi.specs.Told.{Told, accepted, refused, Front}
 
 module _ (order : List Causes) {given kept : Type 0} {verdict : Verdict} (place : ℕ) where
   -- a verdict that accepts, with what the call has given
@@ -36,17 +34,6 @@ module _ (order : List Causes) (L : List ℕ → Type 0) (out out′ : List ℕ)
 
   pub tell-unfilled : {given : Type 0} {number at : ℕ} (count place : ℕ) → answer ≡ Filled.Refused number at → Told order given ((count ≡ count) × (out′ ≡ out)) number place at
   tell-unfilled count place q = let l = subst (Filling order L out out′) q filling in refused (l .0) (refl, l .1)
-
--- The same for a listing.
-module _ (order : List Causes) (P : ℕ → Type 0) (out out′ : List ℕ) (answer : Filled) (listing : Listing order P out out′ answer) where
-  pub tell-listed : {kept : Type 0} {written : ℕ} (place : ℕ) → answer ≡ Filled.Count written → Told order (Written P out out′ written) kept 0 place place
-  tell-listed place q = tell-filled order (Listed P) out out′ answer (listing-filling order P out out′ answer listing) place q
-
-  pub named-unlisted : {number at : ℕ} → answer ≡ Filled.Refused number at → FirstOf order number at
-  named-unlisted q = named-unfilled order (Listed P) out out′ answer (listing-filling order P out out′ answer listing) q
-
-  pub tell-unlisted : {given : Type 0} {number at : ℕ} (count place : ℕ) → answer ≡ Filled.Refused number at → Told order given ((count ≡ count) × (out′ ≡ out)) number place at
-  tell-unlisted count place q = tell-unfilled order (Listed P) out out′ answer (listing-filling order P out out′ answer listing) count place q
 
 -- What is answered for some numbers is answered for equal ones.
 pub listed-for : (order : ℕ → List Causes) (P : ℕ → ℕ → Type 0) (out out′ : List ℕ) (answer : Filled) {x x′ : ℕ} → x ≡ x′ → Listing (order x) (P x) out out′ answer → Listing (order x′) (P x′) out out′ answer

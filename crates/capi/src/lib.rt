@@ -12,8 +12,8 @@ ghost use mathlib.Core.Path.{_≡_};
 ghost use Rattle.formula.specs.Causes.{checkOrder, clauseOrder};
 ghost use Rattle.forest.specs.Causes.{entryOrder, listOrder};
 ghost use Rattle.forest.specs.Answers.{Entry, Entries, Members};
-ghost use Rattle.forest.specs.Sets.{AllSets, setsOrder};
 ghost use Rattle.forest.specs.Formula.{variables, Shares};
+ghost use Rattle.sets.specs.Sets.{AllSets, setsOrder};
 ghost use Rattle.growth.specs.Grown.{buildOrder, addOrder, Extended, Grown};
 ghost use Rattle.qdimacs.specs.Reading.{ReadInto, readOrder};
 ghost use Rattle.qdimacs.specs.Stored.{Stored, tablesOrder};
@@ -190,7 +190,7 @@ pub extern "C" fn snow_sets(
 ) -> u32
     ensures { λ r. ⌜ Told (setsOrder n (now (prefix .entry)) (now (clauses .entry)) (now (classes .entry)) (now (parents .entry)) (now (out .entry))) (Front (AllSets n (now (prefix .entry)) (now (clauses .entry)) (now (classes .entry)) (now (parents .entry))) (now (out .entry)) (now (out .exit)) (now (count .exit))) ((now (count .exit) ≡ now (count .entry)) × (now (out .exit) ≡ now (out .entry))) r (now (place .entry)) (now (place .exit)) ⌝ }
 {
-    match forest::sets(n, prefix, clauses, classes, parents, out) {
+    match sets::sets(n, prefix, clauses, classes, parents, out) {
         Filled::Count(written) => {
             *count = written;
             0

@@ -2,7 +2,7 @@
 use Prim.Native.Nat.{ℕ, suc, _+_, _≤_}
 use mathlib.Core.Path.{_≡_, refl, sym, ap, ap₂, _∙_}
 use mathlib.Core.Bool.{Bool, true, false, cond, not}
-use mathlib.Core.List.{List, [], _∷_, _++_}
+use mathlib.Core.List.{List, [], _∷_}
 use mathlib.Core.Logic.{_≢_, inl, inr, ⊎-elim, _↔_}
 use native.Mathlib.Omega.{arith}
 use borrow.Author.Tests.{eqb-true, not-true}
@@ -29,11 +29,9 @@ use Rattle.forest.specs.declared.EntryAnswer.the-variants.{At}
 use Rattle.forest.specs.Formula.{variables, universal, Shares}
 use Rattle.forest.specs.Causes.{short, bad-row, ForestCause, entryOrder, listOrder}
 use Rattle.forest.specs.Answers.{Members, EntryAnswered, SetListed}
-use Rattle.forest.specs.Listed.{Listed, Listing}
-use Rattle.forest.specs.Sets.{AllSets, setsOrder, Filling, SetsListed}
+use Rattle.forest.specs.Listed.{Listed, Filling, Listing}
 use Rattle.forest.proofs.Readings.{flag-in, flag-within}
 use Rattle.forest.proofs.Picked.{listed-one}
-use Rattle.forest.proofs.Records.{records-one, records-part}
 use Rattle.forest.proofs.Agreeing.{lawful, none-formed, universal-within}
 
 -- What the blocks say of a variable, level and quantifier at once: nothing, or what the block at m says.
@@ -105,7 +103,7 @@ not-false-true false h = absurd (h refl)
 
 module _ (n : ℕ) (es : List ℕ) (ls : List ℤ) (classes parents : List ℕ) (x : ℕ) where
   -- x is universal where a call that lists is not refused.
-  not-refused : (P : ℕ → Type 0) (before : List ℕ) → NoneOf (listOrder n es ls classes parents x P before) → universal n es x ≡ true
+  pub not-refused : (P : ℕ → Type 0) (before : List ℕ) → NoneOf (listOrder n es ls classes parents x P before) → universal n es x ≡ true
   not-refused P before none = not-false-true (universal n es x) (λ q. none .1 .1 .1 .1 .1 .0 13 0 (refl, refl, q))
 
   module _ (forest : Forest (variables n es) (Shares ls) (lent (variables n es) classes parents)) where
@@ -140,28 +138,9 @@ filling-settled order L one before after after′ (Filled.Refused number place) 
     let (k, p) = same-refusal (judged-unique order (Refused number place) (Refused number′ place′) first first′) in
     (ap₂ Filled.Refused k p, a ∙ sym b)
 
--- So for a call that lists numbers, and for the call for all sets.
-pub listing-filling : (order : List Causes) (P : ℕ → Type 0) (before after : List ℕ) (r : Filled) → Listing order P before after r → Filling order (Listed P) before after r
-listing-filling order P before after (Filled.Count k) l = l
-listing-filling order P before after (Filled.Refused number place) l = l
-
+-- So for a call that lists numbers.
 pub listing-settled : (order : List Causes) (P : ℕ → Type 0) (before after after′ : List ℕ) (r r′ : Filled) → Listing order P before after r → Listing order P before after′ r′ → (r ≡ r′) × (after ≡ after′)
-listing-settled order P before after after′ r r′ l l′ = filling-settled order (Listed P) listed-one before after after′ r r′ (listing-filling order P before after r l) (listing-filling order P before after′ r′ l′)
-
-module _ (n : ℕ) (es : List ℕ) (ls : List ℤ) (classes parents : List ℕ) where
-  pub sets-settled : (before after after′ : List ℕ) (r r′ : Filled) → SetsListed n es ls classes parents before after r → SetsListed n es ls classes parents before after′ r′ → (r ≡ r′) × (after ≡ after′)
-  sets-settled before after after′ r r′ = filling-settled (setsOrder n es ls classes parents before) (AllSets n es ls classes parents) (records-one (universal n es) (Members n es ls classes parents) n) before after after′ r r′
-
-  -- The list of all sets holds, for each universal x, its number and what the set call for x gives and writes.
-  pub set-in-sets : (list : List ℕ) → AllSets n es ls classes parents list → (x : ℕ) (before after : List ℕ) (count : ℕ) → SetListed n es ls classes parents x before after (Count count)
-      → (members : List ℕ) × (after ≡ sets before 0 members) × (front : List ℕ) × (back : List ℕ) × (list ≡ front ++ ((x ∷ count ∷ members) ++ back))
-  set-in-sets list all x before after count (none, written) =
-      let u = not-refused n es ls classes parents x (Members n es ls classes parents x) before none in
-      let (low, high, _) = universal-within n es x u in
-      let (members, listed, front, back, is) = records-part (universal n es) (Members n es ls classes parents) n list all x low high u in
-      let same : written .0 ≡ members = listed-one (written .0) members (written .1) listed in
-      let size : length members ≡ count = ap length (sym same) ∙ sym (written .2) in
-      (members, written .3 ∙ ap (sets before 0) same, front, back, is ∙ ap (λ (k : ℕ). front ++ ((x ∷ k ∷ members) ++ back)) size)
+listing-settled order P before after after′ r r′ l l′ = filling-settled order (Listed P) listed-one before after after′ r r′ l l′
 
 -- What was lent settles the answer of the entry point call.
 module _ (n : ℕ) (es classes parents : List ℕ) (x y : ℕ) where

@@ -6,14 +6,12 @@ use mathlib.Core.List.{List, [], _∷_}
 use mathlib.Core.Logic.{_≢_, inl, inr, ⊎-elim, _↔_, by-cases}
 use native.Mathlib.Decide.{decLt}
 use native.Mathlib.Omega.{arith}
-use lib.IntN.{ℤ}
-use lib.ListN.{length, getD, replicate, length-replicate, getD-replicate, List·getD-eq-default}
-use Rattle.terms.specs.Refusals.{NoneOf, Judged}
+use lib.ListN.{getD, replicate, length-replicate, getD-replicate, List·getD-eq-default}
+use Rattle.terms.specs.Refusals.{Judged}
 use Rattle.terms.specs.declared.Verdict.the-variants.{Accepted}
 use Rattle.terms.proofs.Common.{clash}
 use Rattle.formula.specs.Meaning.{level, isExistential}
 use Rattle.formula.specs.Levels.{SoundPrefix, Levelled}
-use Rattle.formula.specs.Causes.{checkOrder, ends-inside}
 use Rattle.connection.specs.Reach.{Variables, Lawful}
 use Rattle.connection.specs.Tables.{Table, row, lent, WellFormed, EntryPoint, EntryPointOf, Member, Climbed}
 use Rattle.connection.proofs.Climb.{above-class, entry-one, entry-climb, entry-rises}
@@ -22,7 +20,6 @@ use Rattle.forest.specs.Formula.{variables, tabled, existentialIn, unive
 use Rattle.forest.specs.Causes.{RowsCause, NotUniversal, NotDeeper}
 use Rattle.forest.specs.Answers.{Entry}
 use Rattle.forest.specs.Search.{rowsOf, Deeper, EntryRows, TopRows, Flagged, Via, Blank, Enters}
-use Rattle.forest.specs.Threads.{Closed}
 use Rattle.forest.proofs.Readings.{flag-within}
 use Rattle.forest.proofs.Climbing.{tops-entries}
 use Rattle.forest.proofs.Flags.{flag-as}
@@ -149,7 +146,3 @@ module _ {n : ℕ} {es levels : List ℕ} {universals : List Bool} (sound : Soun
       go true e (yes l) = absurd (shallow (deeper-same (same-back s) (formed-same s formed) (sym (own-level u)) (e, l)))
       go true e (no l) = inr (omega arith)
       go false e d = inl e
-
--- The last clause of a formula that is accepted is closed.
-pub sound-closed : {n : ℕ} {es : List ℕ} {ls : List ℤ} → NoneOf (checkOrder n es ls) → Closed ls
-sound-closed {ls = ls} none ends = none .1 .1 .1 .0 11 (length ls) (ends-inside refl refl ends)

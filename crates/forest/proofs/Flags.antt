@@ -4,10 +4,10 @@ use mathlib.Core.Path.{_≡_, refl, sym, ap, _∙_, subst}
 use mathlib.Core.Bool.{Bool, true, false, not-eq-not}
 use mathlib.Core.List.{List, [], _∷_, map, List·Memᴰ, List·Memᴰ·head, List·Memᴰ·tail, List·Memᴰ·not-nil, List·Memᴰ·cases-cons}
 use mathlib.Core.Logic.{_≢_, _⊎_, inl, inr, ⊎-elim, _↔_, by-cases}
-use native.Mathlib.Decide.{ℕ-discrete, decLe}
+use native.Mathlib.Decide.{ℕ-discrete, decLt}
 use native.Mathlib.Omega.{arith}
 use lib.IntN.{ℤ, pos}
-use lib.ListN.{length, getD, set, take, drop, length-set, length-drop}
+use lib.ListN.{length, getD, set, take, drop, length-set, length-drop, List·getD-eq-default}
 use lib.Seq.{getD-set-same, getD-set-other, getD-take, getD-drop, length-take-le}
 use Rattle.terms.specs.Literals.{variableOf}
 use Rattle.formula.specs.Tables.{literalAt}
@@ -20,7 +20,6 @@ use Rattle.connection.proofs.Choice.{choice}
 use Rattle.connection.specs.Tables.{row}
 use Rattle.forest.specs.Formula.{joined, Shares}
 use Rattle.forest.specs.Search.{Has, Connects, Flagged, Via}
-use Rattle.forest.proofs.Readings.{row-none, row-over}
 
 -- One flag.
 pub flag-set : (old : List Bool) (v : ℕ) → v < length old → Flagged (λ w. w ≡ v) old (set old v true)
@@ -50,9 +49,18 @@ flag-then f g =
           (λ t. ⊎-elim (λ o. ⊎-elim (λ o′. inl o′) (λ p. inr (inl p)) (m .0 o)) (λ q. inr (inr q)) (n .0 t), ⊎-elim (λ o. n .1 (inl (m .1 (inl o)))) (⊎-elim (λ p. n .1 (inl (m .1 (inr p)))) (λ q. n .1 (inr q))));
     }
 
--- a row that is not 0 is of a variable from 1 to n
-pub row-within : (n : ℕ) (rows : List ℕ) (v : ℕ) → row n rows v ≢ 0 → (1 ≤ v) × (v ≤ n)
-row-within n rows v some = (by-cases (ℕ-discrete v 0) (λ z. absurd (some (row-none n rows v z))) (λ n. omega arith), by-cases (decLe v n) (λ l. l) (λ l. absurd (some (row-over n rows v (omega arith)))))
+-- Past the end and at the next 0 there is no literal.
+pub literal-past : (ls : List ℤ) (e : ℕ) → length ls ≤ e → variableOf (literalAt ls e) ≡ 0
+literal-past ls e l = ap variableOf (List·getD-eq-default ls (pos 0) {n = e} l)
+
+pub next-none : {ls : List ℤ} {s z : ℕ} → NextZero ls s z → variableOf (literalAt ls z) ≡ 0
+next-none {ls} {s} {z} next = by-cases (decLt z (length ls)) (λ l. next .closes l) (λ l. literal-past ls z (omega arith))
+
+-- There is one next 0.
+pub next-one : {ls : List ℤ} {s z y : ℕ} → NextZero ls s z → NextZero ls s y → z ≡ y
+next-one {ls} {s} {z} {y} a b =
+    by-cases (decLt z y) (λ l. absurd (b .literals z (a .from) l (next-none a)))
+    (λ l. by-cases (decLt y z) (λ g. absurd (a .literals y (b .from) g (next-none b))) (λ g. omega arith))
 
 -- The entries of a clause, passed one after the other.
 pub has-none : (ls : List ℤ) (start v : ℕ) → Has ls start start v → ⊥

@@ -4,11 +4,7 @@ pub mod Climbing
 pub mod Tops
 pub mod Picked
 pub mod Flags
-pub mod Chains
-pub mod Followed
 pub mod Agreeing
 pub mod Entered
 pub mod Listings
-pub mod Records
-pub mod AllSets
 pub mod Demands

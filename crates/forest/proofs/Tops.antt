@@ -16,7 +16,7 @@ use Rattle.connection.specs.Reach.{Variables, Lawful}
 use Rattle.connection.specs.Tables.{Table, row, WellFormed, Above, start, rise}
 use Rattle.connection.proofs.Climb.{above-class}
 use Rattle.forest.specs.Formula.{tabled, existentialIn}
-use Rattle.forest.specs.Search.{Searched, Under, TopRow, TopRows, TopsBelow}
+use Rattle.forest.specs.Search.{Searched, TopRow, TopRows, TopsBelow}
 use Rattle.forest.proofs.Readings.{row-over, flag-none, flag-over}
 
 module _ {X : Variables} {W : Table} {floor v : ℕ} where

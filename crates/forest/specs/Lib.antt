@@ -3,6 +3,3 @@ pub mod Listed
 pub mod Causes
 pub mod Answers
 pub mod Search
-pub mod Sets
-pub mod Threads
-pub mod Passed

@@ -23,8 +23,12 @@ pub record Listed (P : ℕ → Type 0) (list : List ℕ) : Type 0 where
 abbrev pub TooLong : (ℕ → Type 0) → List ℕ → Type 0
 TooLong P before = (list : List ℕ) × Listed P list × (length before < length list)
 
--- What a call answers that lists the numbers of which P holds, and what it leaves in the lent table:
--- accepted, it gives the count and the list stands in front, with nothing past it changed; refused, nothing is changed at all.
+-- What a call answers that writes the list of which L holds, and what it leaves in the lent table: accepted, it gives the count of all entries
+-- and the list stands in front, with nothing past it changed; refused, nothing is changed at all.
+abbrev pub Filling : List Causes → (List ℕ → Type 0) → List ℕ → List ℕ → Filled → Type 0
+Filling order L before after (Count count) = NoneOf order × ((list : List ℕ) × L list × (count ≡ length list) × (after ≡ sets before 0 list))
+Filling order L before after (Refused number place) = FirstOf order number place × (after ≡ before)
+
+-- so for a call that lists the numbers of which P holds
 abbrev pub Listing : List Causes → (ℕ → Type 0) → List ℕ → List ℕ → Filled → Type 0
-Listing order P before after (Count count) = NoneOf order × ((list : List ℕ) × Listed P list × (count ≡ length list) × (after ≡ sets before 0 list))
-Listing order P before after (Refused number place) = FirstOf order number place × (after ≡ before)
+Listing order P = Filling order (Listed P)

@@ -101,6 +101,12 @@ pub record Has (ls : List ℤ) (start end v : ℕ) : Type 0 where
   pub before : place < end
   pub is : variableOf (literalAt ls place) ≡ v
 
+-- s is the last entry up to p with none but literals from it up to p, p not counted
+pub record LastZero (ls : List ℤ) (p s : ℕ) : Type 0 where
+  pub most : s ≤ p
+  pub literals : (e : ℕ) → s ≤ e → e < p → variableOf (literalAt ls e) ≢ 0
+  pub opens : (s ≡ 0) ⊎ (variableOf (literalAt ls (s - 1)) ≡ 0)
+
 -- the clause from start up to end connects v
 abbrev pub Connects : List ℤ → ℕ → ℕ → ℕ → Type 0
 Connects ls start end v = List·Memᴰ v (connected (take (end - start) (drop start ls)))

@@ -1,14 +1,11 @@
 // Lent forest tables: the entry point of x for y, the entry points of x, and the set of x.
 
-pub mod all_sets;
 pub mod entering;
 pub mod listing;
 pub mod marks;
 pub mod rows;
 pub mod search;
-pub mod threads;
 
-use all_sets::list_sets;
 use entering::enter;
 use formula::levels::fill_levels;
 use formula::prefix::prefix_verdict;
@@ -25,13 +22,10 @@ ghost use mathlib.Core.List.{[], _∷_};
 ghost use mathlib.Core.Logic.{_⊎_};
 ghost use Rattle.terms.specs.Refusals.{At0};
 ghost use Rattle.formula.specs.Levels.{SoundPrefix};
-ghost use Rattle.formula.specs.Lookup.{SoundClauses};
 ghost use Rattle.forest.specs.Causes.{ForestCause, NotUniversal, NotDeeper, listOrder};
 ghost use Rattle.forest.specs.Answers.{Answered, Entry, EntryAnswered, EntriesListed, SetListed};
 ghost use Rattle.forest.specs.Listed.{Listing};
 ghost use Rattle.forest.specs.Search.{Wanted};
-ghost use Rattle.forest.specs.Sets.{Filling, AllSets, SetsTooLong, SetsListed};
-ghost use Rattle.forest.specs.Threads.{Closed};
 
 // What the entry point call says: the class and the number of rises, or the number of the refusal and its place.
 pub enum EntryAnswer {
@@ -114,45 +108,6 @@ fn list_asked(
     ) {
         Verdict::Refused(number, place) => Filled::Refused(number, place),
         Verdict::Accepted => list_picked(n, asked, &entered, &tops, out),
-    }
-}
-
-// The sets of all universals, written into `out`: for each universal ascending its number, the count of its set and its set ascending; with the
-// count of all entries.
-pub fn sets(
-    n: u32,
-    prefix: &[u32],
-    clauses: &[i32],
-    classes: &[u32],
-    parents: &[u32],
-    out: &mut [u32],
-) -> Filled
-    ensures { λ r. ⌜ SetsListed n (now (prefix .entry)) (now (clauses .entry)) (now (classes .entry)) (now (parents .entry)) (now (out .entry)) (now (out .exit)) r ⌝ }
-{
-    match formula::check(n, prefix, clauses) {
-        Verdict::Refused(number, place) => Filled::Refused(number, place),
-        Verdict::Accepted => sound_sets(n, prefix, clauses, classes, parents, out),
-    }
-}
-
-// The same, once the formula is accepted.
-fn sound_sets(
-    n: u32,
-    prefix: &[u32],
-    clauses: &[i32],
-    classes: &[u32],
-    parents: &[u32],
-    out: &mut [u32],
-) -> Filled
-    requires { ⌜ SoundPrefix n (now prefix) × SoundClauses (now clauses) × Closed (now clauses) ⌝ }
-    ensures { λ r. ⌜ Filling (ForestCause n (now (prefix .entry)) (now (classes .entry)) (now (parents .entry)) ∷ At0 14 (SetsTooLong n (now (prefix .entry)) (now (clauses .entry)) (now (classes .entry)) (now (parents .entry)) (now (out .entry))) ∷ []) (AllSets n (now (prefix .entry)) (now (clauses .entry)) (now (classes .entry)) (now (parents .entry))) (now (out .entry)) (now (out .exit)) r ⌝ }
-{
-    let mut levels = [0u32; 4097];
-    let mut universals = [false; 4097];
-    fill_levels(prefix, &mut levels, &mut universals);
-    match check_rows(n, &levels, &universals, classes, parents) {
-        Verdict::Refused(number, place) => Filled::Refused(number, place),
-        Verdict::Accepted => list_sets(n, &levels, &universals, clauses, classes, parents, out),
     }
 }
 

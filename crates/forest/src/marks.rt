@@ -9,8 +9,7 @@ ghost use mathlib.Core.Path.{_≡_};
 ghost use lib.ListN.{length};
 ghost use Rattle.formula.specs.Lookup.{NextZero, SoundClauses, Stamps};
 ghost use Rattle.forest.specs.Formula.{Shares};
-ghost use Rattle.forest.specs.Search.{Tells, Has, Connects, Flagged, Via};
-ghost use Rattle.forest.specs.Threads.{LastZero};
+ghost use Rattle.forest.specs.Search.{Tells, Has, LastZero, Connects, Flagged, Via};
 
 // What one scan finds of a clause: the entry of its 0, the end of the table where there is none, and whether it has x.
 pub struct Scan {

@@ -3,13 +3,13 @@
 use terms::Level;
 use terms::Variable;
 use terms::Verdict;
-ghost use Prim.Native.Nat.{_≤_, _<_};
+ghost use Prim.Native.Nat.{_<_};
 ghost use mathlib.Core.Path.{_≡_};
 ghost use mathlib.Core.Bool.{true, false};
 ghost use mathlib.Core.List.{[], _∷_};
 ghost use lib.ListN.{getD};
 ghost use Rattle.terms.specs.Refusals.{Judged};
-ghost use Rattle.connection.specs.Tables.{row, ClassName, ClassRow, ParentRow, Row};
+ghost use Rattle.connection.specs.Tables.{row, ClassRow, ParentRow, Row};
 ghost use Rattle.forest.specs.Formula.{existentialIn, universalIn, tabled};
 ghost use Rattle.forest.specs.Causes.{RowsCause};
 ghost use Rattle.forest.specs.Search.{Tells, rowsOf, FirstBad};

@@ -6,7 +6,6 @@ use crate::rows::row_of;
 use terms::Level;
 use terms::Variable;
 ghost use Prim.Native.Nat.{_+_, _≤_, _<_};
-ghost use mathlib.Core.Path.{_≡_};
 ghost use lib.ListN.{length, getD};
 ghost use Rattle.connection.specs.Tables.{WellFormed};
 ghost use Rattle.forest.specs.Formula.{tabled};

@@ -2,8 +2,9 @@
 use borrow.Author.Needs.{needs}
 use Rattle.forest.specs.Causes.{listOrder}
 use Rattle.forest.specs.Answers.{Entries}
+use Rattle.forest.specs.Listed.{Listed}
 use Rattle.capi.proofs.Places.{small-list}
-use Rattle.capi.proofs.Telling.{listed-for, tell-listed, named-unlisted, tell-unlisted}
+use Rattle.capi.proofs.Telling.{listed-for, tell-filled, named-unfilled, tell-unfilled}
 use Rattle.capi.proofs.snow_entry_points.Statement.{statement}
 use Rattle.capi.proofs.snow_entry_points.Tie as tie
 
@@ -26,7 +27,7 @@ cast-place c =
     let listing = listed-for (λ x. listOrder (a .n) (a .prefix .now) (a .clauses .now) (a .classes .now) (a .parents .now) x (Entries (a .n) (a .prefix .now) (a .clauses .now) (a .classes .now) (a .parents .now) x) (a .out .now)) (λ x. Entries (a .n) (a .prefix .now) (a .clauses .now) (a .classes .now) (a .parents .now) x) (a .out .now) _ (b .result) (c .before .before .before .before .before .before .before .new .ensures) (b .ensures) in
     let P = Entries (a .n) (a .prefix .now) (a .clauses .now) (a .classes .now) (a .parents .now) (a .x) in
     let order = listOrder (a .n) (a .prefix .now) (a .clauses .now) (a .classes .now) (a .parents .now) (a .x) P (a .out .now) in
-    record { fits = small-list (a .n) (a .prefix .now) (a .clauses .now) (a .classes .now) (a .parents .now) (a .x) P (a .out .now) _ _ (named-unlisted order P (a .out .now) _ (b .result) listing (c .before .number .given .1)) }
+    record { fits = small-list (a .n) (a .prefix .now) (a .clauses .now) (a .classes .now) (a .parents .now) (a .x) P (a .out .now) _ _ (named-unfilled order (Listed P) (a .out .now) _ (b .result) listing (c .before .number .given .1)) }
 
 same-length : tie.Need-same-length
 same-length c = search needs
@@ -38,7 +39,7 @@ returns c =
     let listing = listed-for (λ x. listOrder (a .n) (a .prefix .now) (a .clauses .now) (a .classes .now) (a .parents .now) x (Entries (a .n) (a .prefix .now) (a .clauses .now) (a .classes .now) (a .parents .now) x) (a .out .now)) (λ x. Entries (a .n) (a .prefix .now) (a .clauses .now) (a .classes .now) (a .parents .now) x) (a .out .now) _ (b .result) (c .before .before .before .before .before .before .before .new .ensures) (b .ensures) in
     let P = Entries (a .n) (a .prefix .now) (a .clauses .now) (a .classes .now) (a .parents .now) (a .x) in
     let order = listOrder (a .n) (a .prefix .now) (a .clauses .now) (a .classes .now) (a .parents .now) (a .x) P (a .out .now) in
-    tell-listed order P (a .out .now) _ (b .result) listing _ (c .before .written .given .1)
+    tell-filled order (Listed P) (a .out .now) _ (b .result) listing _ (c .before .written .given .1)
 
 same-length-2 : tie.Need-same-length-2
 same-length-2 c = search needs
@@ -50,7 +51,7 @@ returns-2 c =
     let listing = listed-for (λ x. listOrder (a .n) (a .prefix .now) (a .clauses .now) (a .classes .now) (a .parents .now) x (Entries (a .n) (a .prefix .now) (a .clauses .now) (a .classes .now) (a .parents .now) x) (a .out .now)) (λ x. Entries (a .n) (a .prefix .now) (a .clauses .now) (a .classes .now) (a .parents .now) x) (a .out .now) _ (b .result) (c .before .before .before .before .before .before .before .new .ensures) (b .ensures) in
     let P = Entries (a .n) (a .prefix .now) (a .clauses .now) (a .classes .now) (a .parents .now) (a .x) in
     let order = listOrder (a .n) (a .prefix .now) (a .clauses .now) (a .classes .now) (a .parents .now) (a .x) P (a .out .now) in
-    tell-unlisted order P (a .out .now) _ (b .result) listing _ _ (c .before .number .given .1)
+    tell-unfilled order (Listed P) (a .out .now) _ (b .result) listing _ _ (c .before .number .given .1)
 
 pub snow-entry-points-spec : {M : Type 1} → statement M
 snow-entry-points-spec =

@@ -1,5 +1,5 @@
 -- `capi::snow_sets` meets its contract.
-use Rattle.forest.specs.Sets.{AllSets, setsOrder}
+use Rattle.sets.specs.Sets.{AllSets, setsOrder}
 use Rattle.capi.proofs.Places.{small-sets}
 use Rattle.capi.proofs.Telling.{tell-filled, named-unfilled, tell-unfilled}
 use borrow.Author.Needs.{needs}

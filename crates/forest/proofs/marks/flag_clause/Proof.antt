@@ -4,8 +4,7 @@ use native.Mathlib.Omega.{arith}
 use Rattle.formula.proofs.Lookups.{part-rows}
 use Rattle.formula.proofs.Signs.{stamps-more}
 use Rattle.forest.specs.Search.{Has, Via, Flagged}
-use Rattle.forest.proofs.Chains.{next-one}
-use Rattle.forest.proofs.Flags.{flag-connected, flag-unconnected}
+use Rattle.forest.proofs.Flags.{next-one, flag-connected, flag-unconnected}
 use borrow.Author.Needs.{needs}
 use Rattle.forest.proofs.marks.flag_clause.Statement.{statement}
 use Rattle.forest.proofs.marks.flag_clause.Tie as tie

@@ -1,0 +1,124 @@
+-- Laws of the list of all sets: there is one, its parts are no longer than it, it is never longer than n records of n members each, and it is stored record by record.
+use Prim.Native.Nat.{ℕ, zero, suc, _+_, _-_, _*_, _≤_, _<_}
+use mathlib.Core.Path.{_≡_, refl, sym, ap, ap₂, _∙_, subst}
+use mathlib.Core.Bool.{Bool, true, false, cond}
+use mathlib.Core.List.{List, [], _∷_, _++_, append-nil, append-assoc, List·Memᴰ, List·Memᴰ·head, List·Memᴰ·tail}
+use mathlib.Core.Logic.{_↔_, by-cases}
+use native.Mathlib.Decide.{ℕ-discrete}
+use native.Mathlib.Numerals.{add-one}
+use native.Mathlib.Omega.{arith}
+use lib.ListN.{length, set, length-append}
+use lib.Seq.{sets, set-comm}
+use Rattle.forest.specs.Listed.{Ascending, Listed}
+use Rattle.sets.specs.Sets.{Record, Records}
+use Rattle.forest.proofs.Picked.{listed-one}
+
+-- A list of numbers from 1 to n has at most n of them.
+ascending-most : (low n : ℕ) (list : List ℕ) → Ascending list → ((v : ℕ) → List·Memᴰ v list → (low < v) × (v ≤ n)) → low ≤ n → low + length list ≤ n
+ascending-most low n [] up within l = omega arith
+ascending-most low n (a ∷ list) up within l =
+    let here = within a (List·Memᴰ·head refl) in
+    let over = here .0 in
+    let rest = ascending-most a n list (up .1) (λ v m. (up .0 v m, within v (List·Memᴰ·tail m) .1)) (here .1) in
+    omega arith
+
+listed-most : (P : ℕ → Type 0) (n : ℕ) (list : List ℕ) → ((v : ℕ) → P v → (1 ≤ v) × (v ≤ n)) → Listed P list → length list ≤ n
+listed-most P n list within l = let most = ascending-most 0 n list (l .ascending) (λ v m. let (a, b) = within v (l .each v m) in (a, b)) (omega arith) in omega arith
+
+module _ (U : ℕ → Bool) (P : ℕ → ℕ → Type 0) where
+  -- Two lists of the same sets are one.
+  adds-one : (b : Bool) (x : ℕ) (part other : List ℕ) → Record b x (P x) part → Record b x (P x) other → part ≡ other
+  adds-one true x part other (s, l, q) (t, m, r) = let same = listed-one s t l m in q ∙ ap₂ (λ (k : ℕ) (rest : List ℕ). x ∷ k ∷ rest) (ap length same) same ∙ sym r
+  adds-one false x part other q r = q ∙ sym r
+
+  pub records-one : (m : ℕ) (list other : List ℕ) → Records U P m list → Records U P m other → list ≡ other
+  records-one zero list other q r = q ∙ sym r
+  records-one (suc m) list other (a, p, ra, pa, q) (b, s, rb, pb, r) = q ∙ ap₂ (λ (l : List ℕ) (k : List ℕ). l ++ k) (records-one m a b ra rb) (adds-one (U (suc m)) (suc m) p s pa pb) ∙ sym r
+
+  -- What comes up to m is no longer than what comes up to a later number.
+  records-later : (n m : ℕ) (list full : List ℕ) → m ≤ n → Records U P m list → Records U P n full → length list ≤ length full
+  records-later zero m list full l r f =
+      let q : m ≡ 0 = omega arith in
+      let same = ap length (records-one 0 list full (subst (λ k. Records U P k list) q r) f) in
+      omega arith
+  records-later (suc n) m list full l r (before, part, f, a, q) =
+      by-cases (ℕ-discrete m (suc n))
+      (λ e. let same = ap length (records-one (suc n) list full (subst (λ k. Records U P k list) e r) (before, part, f, a, q)) in omega arith)
+      (λ other. let low = records-later n m list before (omega arith) r f in let size = ap length q ∙ length-append before part in omega arith)
+
+  pub records-room : (n room : ℕ) (full : List ℕ) → Records U P n full → length full ≤ room → (m : ℕ) (list : List ℕ) → m ≤ n → Records U P m list → length list ≤ room
+  records-room n room full f fits m list l r = let low = records-later n m list full l r f in omega arith
+
+  -- The whole has at most n + 2 entries for each universal.
+  module _ (n : ℕ) (within : (x v : ℕ) → P x v → (1 ≤ v) × (v ≤ n)) where
+    adds-most : (b : Bool) (x : ℕ) (part : List ℕ) → Record b x (P x) part → length part ≤ n + 2
+    adds-most true x part (s, l, q) = let size = ap length q in let most = listed-most (P x) n s (within x) l in omega arith
+    adds-most false x part q = let size = ap length q in omega arith
+
+    pub records-most : (m : ℕ) (list : List ℕ) → Records U P m list → length list ≤ m * (n + 2)
+    records-most zero list q = let size = ap length q in omega arith
+    records-most (suc m) list (before, part, r, p, q) =
+        let size = ap length q ∙ length-append before part in
+        let low = records-most m before r in
+        let one = adds-most (U (suc m)) (suc m) part p in
+        let step : suc m * (n + 2) ≡ (n + 2) + m * (n + 2) = omega arith in
+        omega arith
+
+  -- One variable more: a universal with its set, and any other.
+  module _ (m : ℕ) (list : List ℕ) (r : Records U P m list) where
+    pub records-set : (x : ℕ) (members : List ℕ) → x ≡ m + 1 → U x ≡ true → Listed (P x) members → Records U P (m + 1) (list ++ (x ∷ length members ∷ members))
+    records-set x members is u l = rw (add-one m) (list, x ∷ length members ∷ members, r, adds, refl)
+      where
+        own : Record (U x) x (P x) (x ∷ length members ∷ members)
+        own = subst (λ b. Record b x (P x) (x ∷ length members ∷ members)) (sym u) (members, l, refl)
+
+        adds : Record (U (suc m)) (suc m) (P (suc m)) (x ∷ length members ∷ members)
+        adds = subst (λ y. Record (U y) y (P y) (x ∷ length members ∷ members)) (is ∙ add-one m) own
+
+    pub records-other : (x : ℕ) → x ≡ m + 1 → U x ≡ false → Records U P (m + 1) list
+    records-other x is u = rw (add-one m) (list, [], r, subst (λ y. Record (U y) y (P y) []) (is ∙ add-one m) (subst (λ b. Record b x (P x) []) (sym u) refl), sym (append-nil list))
+
+  -- The list holds the record of each universal.
+  pub records-part : (n : ℕ) (list : List ℕ) → Records U P n list → (x : ℕ) → 1 ≤ x → x ≤ n → U x ≡ true → (members : List ℕ) × Listed (P x) members × (front : List ℕ) × (back : List ℕ) × (list ≡ front ++ ((x ∷ length members ∷ members) ++ back))
+  records-part zero list r x low high u = absurd (omega arith)
+  records-part (suc n) list (before, part, r, a, q) x low high u = by-cases (ℕ-discrete x (suc n)) here′ (λ other. there′ (records-part n before r x low (omega arith) u))
+    where
+      here′ : x ≡ suc n → (members : List ℕ) × Listed (P x) members × (front : List ℕ) × (back : List ℕ) × (list ≡ front ++ ((x ∷ length members ∷ members) ++ back))
+      here′ e =
+          let (members, l, is) = subst (λ b. Record b x (P x) part) u (subst (λ y. Record (U y) y (P y) part) (sym e) a) in
+          (members, l, before, [], q ∙ ap (λ (p : List ℕ). before ++ p) (is ∙ sym (append-nil (x ∷ length members ∷ members))))
+
+      there′ : (members : List ℕ) × Listed (P x) members × (front : List ℕ) × (back : List ℕ) × (before ≡ front ++ ((x ∷ length members ∷ members) ++ back)) → (members : List ℕ) × Listed (P x) members × (front : List ℕ) × (back : List ℕ) × (list ≡ front ++ ((x ∷ length members ∷ members) ++ back))
+      there′ (members, l, front, back, is) =
+          (members, l, front, back ++ part, q ∙ ap (λ (b : List ℕ). b ++ part) is ∙ append-assoc front ((x ∷ length members ∷ members) ++ back) part ∙ ap (λ (p : List ℕ). front ++ p) (append-assoc (x ∷ length members ∷ members) back part))
+
+-- The same sets, said otherwise.
+pub records-as : {U U′ : ℕ → Bool} {P Q : ℕ → ℕ → Type 0} → ((x : ℕ) → U x ≡ U′ x) → ((x : ℕ) → U x ≡ true → (v : ℕ) → P x v ↔ Q x v) → (m : ℕ) (list : List ℕ) → Records U P m list → Records U′ Q m list
+records-as same both zero list q = q
+records-as {U} {U′} {P} {Q} same both (suc m) list (before, part, r, a, q) = (before, part, records-as same both m before r, subst (λ b. Record b (suc m) (Q (suc m)) part) (same (suc m)) (go (U (suc m)) refl a), q)
+  where
+    go : (b : Bool) → U (suc m) ≡ b → Record b (suc m) (P (suc m)) part → Record b (suc m) (Q (suc m)) part
+    go true u (s, l, e) = (s, record { ascending = l .ascending; each = λ v m′. both (suc m) u v .0 (l .each v m′); all = λ v p. l .all v (both (suc m) u v .1 p) }, e)
+    go false u e = e
+
+-- Stores: a run behind a run, and a store in front of a run.
+pub sets-append : (before : List ℕ) (at : ℕ) (list more : List ℕ) → sets (sets before at list) (at + length list) more ≡ sets before at (list ++ more)
+sets-append before at [] more = let q : at + 0 ≡ at = omega arith in ap (λ i. sets before i more) q
+sets-append before at (a ∷ list) more = let q : at + suc (length list) ≡ suc at + length list = omega arith in ap (λ i. sets (sets (set before at a) (suc at) list) i more) q ∙ sets-append (set before at a) (suc at) list more
+
+set-front : (before : List ℕ) (at i a : ℕ) (list : List ℕ) → i < at → set (sets before at list) i a ≡ sets (set before i a) at list
+set-front before at i a [] l = refl
+set-front before at i a (b ∷ list) l = set-front (set before at b) (suc at) i a list (omega arith) ∙ ap (λ o. sets o (suc at) list) (set-comm before at i b a (λ q. omega arith))
+
+-- The record of x, its set written first.
+pub record-stored : (before : List ℕ) (at start x k : ℕ) (members : List ℕ) → start ≡ at + 2 → k ≡ length members → set (set (sets before start members) at x) (at + 1) k ≡ sets before at (x ∷ length members ∷ members)
+record-stored before at start x k members is size =
+    ap₂ (λ i j. set (set (sets before i members) at x) (at + 1) j) is size
+    ∙ ap (λ o. set o (at + 1) (length members)) (set-front before (at + 2) at x members (omega arith))
+    ∙ set-front (set before at x) (at + 2) (at + 1) (length members) members (omega arith)
+    ∙ ap₂ (λ i j. sets (set (set before at x) i (length members)) j members) (add-one at) (let q : at + 2 ≡ suc (suc at) = omega arith in q)
+
+-- Written or only counted, one part more.
+pub put-more : (writing : Bool) (before : List ℕ) {out out′ : List ℕ} (end : ℕ) (list part : List ℕ) → end ≡ length list → out ≡ cond writing (sets before 0 list) before → out′ ≡ cond writing (sets out end part) out → out′ ≡ cond writing (sets before 0 (list ++ part)) before
+put-more true before {out} end list part size here more = more ∙ ap₂ (λ (o : List ℕ) (i : ℕ). sets o i part) here (let q : end ≡ 0 + length list = omega arith in q) ∙ sets-append before 0 list part
+put-more false before end list part size here more = more ∙ here

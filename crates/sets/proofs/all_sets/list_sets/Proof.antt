@@ -1,0 +1,57 @@
+-- `sets::all_sets::list_sets` meets its contract.
+use Prim.Native.Nat.{ℕ}
+use mathlib.Core.Path.{_∙_}
+use native.Mathlib.Omega.{arith}
+use lib.ListN.{length-replicate}
+use Rattle.forest.proofs.Tops.{new-zero}
+use borrow.Author.Needs.{needs}
+use Rattle.sets.proofs.all_sets.list_sets.Statement.{statement}
+use Rattle.sets.proofs.all_sets.list_sets.Tie as tie
+
+slice-aggregate-thread : tie.Need-slice-aggregate-thread
+slice-aggregate-thread c = search needs
+
+slice-aggregate-thread-2 : tie.Need-slice-aggregate-thread-2
+slice-aggregate-thread-2 c = search needs
+
+thread-requires : tie.Need-thread-requires
+thread-requires c κs =
+    let pre = c .before .before .before .before .before .before .before .pre in
+    let few = pre .2 in
+    let size = pre .1 in
+    let heads = length-replicate {A = ℕ} 4097 0 in
+    let links = length-replicate {A = ℕ} 16384 0 in
+    (few, omega arith, omega arith, new-zero 4097)
+
+slice-aggregate-write-fitting : tie.Need-slice-aggregate-write-fitting
+slice-aggregate-write-fitting c = search needs
+
+slice-aggregate-write-fitting-2 : tie.Need-slice-aggregate-write-fitting-2
+slice-aggregate-write-fitting-2 c = search needs
+
+write-fitting-requires : tie.Need-write-fitting-requires
+write-fitting-requires c κs =
+    let pre = c .before .before .before .before .before .before .before .before .before .before .before .before .before .pre in
+    let few = pre .2 in
+    let heads = c .before .before .before .before .before .thread .kept .1 .1 .0 ∙ length-replicate {A = ℕ} 4097 0 in
+    let links = c .before .before .before .before .before .thread .kept .1 .1 .1 .0 ∙ length-replicate {A = ℕ} 16384 0 in
+    (pre .0, omega arith, heads, pre .3, pre .4, c .before .before .before .before .before .thread .ensures)
+
+same-length : tie.Need-same-length
+same-length c = search needs
+
+returns : tie.Need-returns
+returns c = search needs
+
+pub list-sets-spec : {M : Type 1} → statement M
+list-sets-spec =
+    tie.close
+    (tie.spec
+    slice-aggregate-thread
+    slice-aggregate-thread-2
+    thread-requires
+    slice-aggregate-write-fitting
+    slice-aggregate-write-fitting-2
+    write-fitting-requires
+    same-length
+    returns)

@@ -1,0 +1,54 @@
+-- What the inner functions of the call for all sets count and write, by the level table.
+use Prim.Native.Nat.{ℕ, _+_, _≤_, _<_}
+use mathlib.Core.Path.{_≡_}
+use mathlib.Core.Bool.{Bool, true, false, cond}
+use mathlib.Core.List.{List, _∷_}
+use lib.IntN.{ℤ}
+use lib.ListN.{length, replicate}
+use lib.Seq.{sets}
+use Rattle.terms.specs.declared.Filled.{Filled}
+use Rattle.terms.specs.declared.Filled.the-variants.{Count, Refused}
+use Rattle.connection.specs.Tables.{Member}
+use Rattle.forest.specs.declared.listing.Asked.the-variants.{Set}
+use Rattle.forest.specs.Formula.{tabled, universalIn, Shares}
+use Rattle.forest.specs.Search.{rowsOf, Flagged, Via, pick, picked}
+use Rattle.sets.specs.Sets.{Records}
+use Rattle.sets.specs.Threads.{Together}
+
+-- the sets of the universals 1 to m
+abbrev pub TabledSets : ℕ → List ℕ → List Bool → List ℤ → List ℕ → List ℕ → ℕ → List ℕ → Type 0
+TabledSets n levels universals ls classes parents = Records (universalIn n universals) (Member (tabled n levels universals) (rowsOf n classes parents) (Shares ls))
+
+-- the set that some flags pick, written or only counted: `end` is the entry behind its record
+abbrev pub Put : ℕ → List ℕ → List Bool → ℕ → ℕ → Bool → List ℕ → List ℕ → ℕ → Type 0
+Put n tops flags x at writing before after end =
+    (end ≡ at + 2 + length (picked (pick Set n flags tops) n)) × (after ≡ cond writing (sets before at (x ∷ length (picked (pick Set n flags tops) n) ∷ picked (pick Set n flags tops) n)) before)
+
+-- the same for the flags of all that shares a clause with x
+pub record PutSet (n : ℕ) (tops : List ℕ) (ls : List ℤ) (x at : ℕ) (writing : Bool) (before after : List ℕ) (end : ℕ) : Type 0 where
+  pub flags : List Bool
+  pub flagged : Flagged (Via n tops (Together ls x)) (replicate 4097 false) flags
+  pub put : Put n tops flags x at writing before after end
+
+-- there is room for it, if it is to be written
+abbrev pub RoomFor : ℕ → List ℕ → List ℤ → ℕ → ℕ → Bool → List ℕ → Type 0
+RoomFor n tops ls x at writing before =
+    writing ≡ true → (flags : List Bool) → Flagged (Via n tops (Together ls x)) (replicate 4097 false) flags → at + 2 + length (picked (pick Set n flags tops) n) ≤ length before
+
+-- R m is the list of what comes up to m: there is room for each up to n
+abbrev pub RoomUpto : (ℕ → List ℕ → Type 0) → ℕ → ℕ → Type 0
+RoomUpto R n room = (m : ℕ) (list : List ℕ) → m ≤ n → R m list → length list ≤ room
+
+-- whether there is room for the list
+abbrev pub TellsRoom : Bool → (ℕ → List ℕ → Type 0) → ℕ → ℕ → Type 0
+TellsRoom true R n room = RoomUpto R n room
+TellsRoom false R n room = (list : List ℕ) × R n list × (room < length list)
+
+-- the list is written, or only counted
+abbrev pub PutAll : (List ℕ → Type 0) → Bool → List ℕ → List ℕ → ℕ → Type 0
+PutAll R writing before after end = (list : List ℕ) × R list × (end ≡ length list) × (after ≡ cond writing (sets before 0 list) before)
+
+-- the list is written, or there is too little room for it
+abbrev pub Fills : (List ℕ → Type 0) → List ℕ → List ℕ → Filled → Type 0
+Fills R before after (Count count) = (list : List ℕ) × R list × (count ≡ length list) × (length list ≤ length before) × (after ≡ sets before 0 list)
+Fills R before after (Refused number place) = (number ≡ 14) × (place ≡ 0) × ((list : List ℕ) × R list × (length before < length list)) × (after ≡ before)

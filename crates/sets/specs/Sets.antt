@@ -1,0 +1,41 @@
+-- All sets of a formula in one list, the causes of refusal of the call that writes it, and what that call promises.
+use Prim.Native.Nat.{ℕ, zero, suc, _<_}
+use mathlib.Core.Path.{_≡_}
+use mathlib.Core.Bool.{Bool, true, false}
+use mathlib.Core.List.{List, [], _∷_, _++_}
+use lib.IntN.{ℤ}
+use lib.ListN.{length}
+use lib.Seq.{sets}
+use Rattle.terms.specs.Refusals.{Causes, At0}
+use Rattle.terms.specs.declared.Filled.{Filled}
+use Rattle.formula.specs.Causes.{checkOrder}
+use Rattle.forest.specs.Formula.{universal}
+use Rattle.forest.specs.Causes.{ForestCause}
+use Rattle.forest.specs.Answers.{Members}
+use Rattle.forest.specs.Listed.{Listed, Filling}
+
+-- what x adds to the list: if it is universal its number, the count of its set and its set ascending, and else nothing
+abbrev pub Record : Bool → ℕ → (ℕ → Type 0) → List ℕ → Type 0
+Record true x P part = (set : List ℕ) × Listed P set × (part ≡ x ∷ length set ∷ set)
+Record false x P part = part ≡ []
+
+-- what the variables 1 to m add, one after the other; U says which are universal, and P x what the set of x is
+abbrev pub Records : (ℕ → Bool) → (ℕ → ℕ → Type 0) → ℕ → List ℕ → Type 0
+Records U P zero list = list ≡ []
+Records U P (suc m) list = (before : List ℕ) × (part : List ℕ) × Records U P m before × Record (U (suc m)) (suc m) (P (suc m)) part × (list ≡ before ++ part)
+
+-- the sets of all universals, by the lent tables
+abbrev pub AllSets : ℕ → List ℕ → List ℤ → List ℕ → List ℕ → List ℕ → Type 0
+AllSets n es ls classes parents = Records (universal n es) (Members n es ls classes parents) n
+
+-- the list needs more room than the lent table has
+abbrev pub SetsTooLong : ℕ → List ℕ → List ℤ → List ℕ → List ℕ → List ℕ → Type 0
+SetsTooLong n es ls classes parents before = (list : List ℕ) × AllSets n es ls classes parents list × (length before < length list)
+
+-- the order: that of check, 12, 14
+abbrev pub setsOrder : ℕ → List ℕ → List ℤ → List ℕ → List ℕ → List ℕ → List Causes
+setsOrder n es ls classes parents before = checkOrder n es ls ++ (ForestCause n es classes parents ∷ At0 14 (SetsTooLong n es ls classes parents before) ∷ [])
+
+-- what the call for all sets promises
+abbrev pub SetsListed : ℕ → List ℕ → List ℤ → List ℕ → List ℕ → List ℕ → List ℕ → Filled → Type 0
+SetsListed n es ls classes parents before = Filling (setsOrder n es ls classes parents before) (AllSets n es ls classes parents) before

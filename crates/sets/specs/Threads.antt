@@ -1,0 +1,72 @@
+-- Where clauses begin, and the chains that tie a variable to its clauses: what the inner functions of the call for all sets find.
+use Prim.Native.Nat.{ℕ, suc, _+_, _-_, _≤_, _<_}
+use mathlib.Core.Path.{_≡_}
+use mathlib.Core.Bool.{Bool, true, false}
+use mathlib.Core.List.{List}
+use mathlib.Core.Logic.{_≢_}
+use lib.IntN.{ℤ, pos}
+use lib.ListN.{length, getD, take, drop}
+use Rattle.terms.specs.Literals.{variableOf}
+use Rattle.formula.specs.Tables.{literalAt, EndsInside}
+use Rattle.formula.specs.Meaning.{alwaysTrue}
+use Rattle.formula.specs.Lookup.{NextZero, Stamps}
+
+-- a clause begins with entry s: the first, or one behind the 0 of a clause
+pub data Begins (ls : List ℤ) : ℕ → Type 0 where
+  first : {s : ℕ} → s ≡ 0 → Begins ls s
+  after : {s : ℕ} (b z : ℕ) → Begins ls b → NextZero ls b z → z < length ls → s ≡ z + 1 → Begins ls s
+
+-- entry p is a literal of the clause that begins with s
+pub record Inside (ls : List ℤ) (s p : ℕ) : Type 0 where
+  pub begins : Begins ls s
+  pub from : s ≤ p
+  pub literals : (e : ℕ) → s ≤ e → e ≤ p → variableOf (literalAt ls e) ≢ 0
+
+-- the clause that begins with s is not always true
+abbrev pub Connecting : List ℤ → ℕ → Type 0
+Connecting ls s = (z : ℕ) × NextZero ls s z × (alwaysTrue (take (z - s) (drop s ls)) ≡ false)
+
+-- a flag tells whether the clause that begins with s is always true, and no stamp is as great as that of the next clause
+pub record Skipping (ls : List ℤ) (s : ℕ) (skip : Bool) (seen : List ℕ) : Type 0 where
+  pub end : ℕ
+  pub next : NextZero ls s end
+  pub told : skip ≡ alwaysTrue (take (end - s) (drop s ls))
+  pub stamps : Stamps seen (end + 1 + 1)
+
+-- the clause of entry p, which is not always true, has the variable v
+pub record Beside (ls : List ℤ) (p v : ℕ) : Type 0 where
+  pub start : ℕ
+  pub place : ℕ
+  pub own : Inside ls start p
+  pub other : Inside ls start place
+  pub connecting : Connecting ls start
+  pub is : variableOf (literalAt ls place) ≡ v
+
+-- a clause that is not always true has both x and v
+pub record Together (ls : List ℤ) (x v : ℕ) : Type 0 where
+  pub place : ℕ
+  pub is : variableOf (literalAt ls place) ≡ x
+  pub beside : Beside ls place v
+
+-- Entry p is on the chain from k: 0 ends it, and suc q stands for entry q, whose row in `next` goes on.
+pub data On (next : List ℕ) (p : ℕ) : ℕ → Type 0 where
+  here : On next p (suc p)
+  later : {q : ℕ} → On next p (getD next q 0) → On next p (suc q)
+
+-- what holds of an entry p before i on the chain of x: it is x in a clause that is not always true, and the chain goes on to an entry before it
+pub record Noted (ls : List ℤ) (next : List ℕ) (i x p : ℕ) : Type 0 where
+  pub before : p < i
+  pub falls : getD next p 0 ≤ p
+  pub start : ℕ
+  pub inside : Inside ls start p
+  pub connecting : Connecting ls start
+  pub is : variableOf (literalAt ls p) ≡ x
+
+-- each variable is tied to its clauses among the entries before i, those that are always true left out: what is on its chain is noted, and a universal has an entry in each
+pub record Threaded (ls : List ℤ) (universals : List Bool) (first next : List ℕ) (i : ℕ) : Type 0 where
+  pub sound : (x p : ℕ) → On next p (getD first x 0) → Noted ls next i x p
+  pub complete : (x s p : ℕ) → getD universals x false ≡ true → p < i → Inside ls s p → Connecting ls s → variableOf (literalAt ls p) ≡ x → (q : ℕ) × On next q (getD first x 0) × Inside ls s q
+
+-- the table does not end inside a clause
+abbrev pub Closed : List ℤ → Type 0
+Closed ls = EndsInside (pos 0) ls → ⊥

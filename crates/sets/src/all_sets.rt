@@ -1,0 +1,230 @@
+// The sets of all universals, one after the other, each with its number and its count in front. The tables are judged once, and a universal
+// costs its own clauses and one pass over the rows.
+
+use crate::threads::flag_along;
+use crate::threads::thread;
+use forest::listing::Asked;
+use forest::listing::count_picked;
+use forest::listing::write_picked;
+use forest::rows::level_at;
+use forest::rows::universal_at;
+use forest::search::retop;
+use terms::Filled;
+use terms::Level;
+use terms::Variable;
+ghost use Prim.Native.Nat.{_+_, _≤_, _<_};
+ghost use mathlib.Core.Path.{_≡_};
+ghost use mathlib.Core.Bool.{Bool, true, false};
+ghost use mathlib.Core.List.{List};
+ghost use lib.ListN.{length, getD};
+ghost use Rattle.formula.specs.Lookup.{SoundClauses};
+ghost use Rattle.connection.specs.Tables.{WellFormed};
+ghost use Rattle.forest.specs.declared.listing.Asked.the-variants.{Set};
+ghost use Rattle.forest.specs.Formula.{tabled};
+ghost use Rattle.forest.specs.Search.{rowsOf, pick, picked, NoneUpto, Topless};
+ghost use Rattle.sets.specs.Threads.{Closed, Threaded};
+ghost use Rattle.sets.specs.Passed.{TabledSets, Put, PutSet, RoomFor, RoomUpto, TellsRoom, PutAll, Fills};
+
+// Writes the sets of all universals into the front of `out`, if there is room for all of them.
+pub fn list_sets(
+    n: u32,
+    levels: &[u32],
+    universals: &[bool],
+    clauses: &[i32],
+    classes: &[u32],
+    parents: &[u32],
+    out: &mut [u32],
+) -> Filled
+    requires { ⌜ (n ≤ 4096) × (length (now universals) ≡ 4097) × SoundClauses (now clauses) × Closed (now clauses) × WellFormed (tabled n (now levels) (now universals)) (rowsOf n (now classes) (now parents)) ⌝ }
+    ensures { λ r. ⌜ Fills (TabledSets n (now (levels .entry)) (now (universals .entry)) (now (clauses .entry)) (now (classes .entry)) (now (parents .entry)) n) (now (out .entry)) (now (out .exit)) r ⌝ }
+{
+    let mut first = [0u32; 4097];
+    let mut next = [0u32; 16384];
+    thread(clauses, universals, &mut first, &mut next);
+    write_fitting(
+        n,
+        levels,
+        universals,
+        clauses,
+        classes,
+        parents,
+        &first,
+        &next,
+        out,
+    )
+}
+
+// The same, once the universals are tied to their clauses.
+fn write_fitting(
+    n: u32,
+    levels: &[u32],
+    universals: &[bool],
+    clauses: &[i32],
+    classes: &[u32],
+    parents: &[u32],
+    first: &[u32],
+    next: &[u32],
+    out: &mut [u32],
+) -> Filled
+    requires { ⌜ (n ≤ 4096) × (length (now clauses) ≤ length (now next)) × (length (now first) ≡ 4097) × Closed (now clauses) × WellFormed (tabled n (now levels) (now universals)) (rowsOf n (now classes) (now parents)) × Threaded (now clauses) (now universals) (now first) (now next) (length (now clauses)) ⌝ }
+    ensures { λ r. ⌜ Fills (TabledSets n (now (levels .entry)) (now (universals .entry)) (now (clauses .entry)) (now (classes .entry)) (now (parents .entry)) n) (now (out .entry)) (now (out .exit)) r ⌝ }
+{
+    if !sets_fit(
+        n,
+        levels,
+        universals,
+        clauses,
+        classes,
+        parents,
+        first,
+        next,
+        out,
+    ) {
+        return Filled::Refused(14, 0);
+    }
+    let end = pass_sets(
+        n,
+        levels,
+        universals,
+        clauses,
+        classes,
+        parents,
+        first,
+        next,
+        true,
+        out,
+    );
+    Filled::Count(end as u32)
+}
+
+// Whether there is room for all sets. They are counted only where there is room for less than n records of n members each.
+fn sets_fit(
+    n: u32,
+    levels: &[u32],
+    universals: &[bool],
+    clauses: &[i32],
+    classes: &[u32],
+    parents: &[u32],
+    first: &[u32],
+    next: &[u32],
+    out: &mut [u32],
+) -> bool
+    requires { ⌜ (n ≤ 4096) × (length (now clauses) ≤ length (now next)) × (length (now first) ≡ 4097) × Closed (now clauses) × WellFormed (tabled n (now levels) (now universals)) (rowsOf n (now classes) (now parents)) × Threaded (now clauses) (now universals) (now first) (now next) (length (now clauses)) ⌝ }
+    ensures { λ r. ⌜ TellsRoom r (TabledSets n (now (levels .entry)) (now (universals .entry)) (now (clauses .entry)) (now (classes .entry)) (now (parents .entry))) n (length (now (out .entry))) ⌝ }
+    ensures { λ r. ⌜ now (out .exit) ≡ now (out .entry) ⌝ }
+{
+    let count = n as usize;
+    if count * (count + 2) <= out.len() {
+        return true;
+    }
+    let needed = pass_sets(
+        n,
+        levels,
+        universals,
+        clauses,
+        classes,
+        parents,
+        first,
+        next,
+        false,
+        out,
+    );
+    if out.len() < needed {
+        return false;
+    }
+    true
+}
+
+// Passes over all universals in ascending order and writes their sets, or only counts; gives the count of all entries. The tops depend on the
+// block of the universal only, and stay while it does; at first they are those over a level that nothing is deeper than.
+fn pass_sets(
+    n: u32,
+    levels: &[u32],
+    universals: &[bool],
+    clauses: &[i32],
+    classes: &[u32],
+    parents: &[u32],
+    first: &[u32],
+    next: &[u32],
+    writing: bool,
+    out: &mut [u32],
+) -> usize
+    requires { ⌜ (n ≤ 4096) × (length (now clauses) ≤ length (now next)) × (length (now first) ≡ 4097) × Closed (now clauses) × WellFormed (tabled n (now levels) (now universals)) (rowsOf n (now classes) (now parents)) × Threaded (now clauses) (now universals) (now first) (now next) (length (now clauses)) ⌝ }
+    requires { ⌜ (writing ≡ true → RoomUpto (TabledSets n (now levels) (now universals) (now clauses) (now classes) (now parents)) n (length (now out))) ⌝ }
+    ensures { λ r. ⌜ PutAll (TabledSets n (now (levels .entry)) (now (universals .entry)) (now (clauses .entry)) (now (classes .entry)) (now (parents .entry)) n) writing (now (out .entry)) (now (out .exit)) r ⌝ }
+{
+    let mut tops = [0u32; 4096];
+    let mut floor = Level::new(4294967295);
+    let mut from: u32 = 0;
+    let mut end: usize = 0;
+    let mut passed = 0;
+    while passed < n {
+        passed += 1;
+        let x = Variable::new(passed);
+        if universal_at(n, universals, x) {
+            let level = level_at(levels, x);
+            from = retop(
+                n,
+                levels,
+                universals,
+                classes,
+                parents,
+                floor,
+                level,
+                from,
+                &mut tops,
+            );
+            floor = level;
+            end = put_set(n, clauses, first, next, x, &tops, from, end, writing, out);
+        }
+    }
+    end
+}
+
+// Writes the record of the universal x from the entry `at` on, or only counts; gives the entry behind it.
+fn put_set(
+    n: u32,
+    clauses: &[i32],
+    first: &[u32],
+    next: &[u32],
+    x: Variable,
+    tops: &[u32],
+    from: u32,
+    at: usize,
+    writing: bool,
+    out: &mut [u32],
+) -> usize
+    requires { ⌜ (n ≤ 4096) × (at < 4294967296) × (x .0 < length (now first)) × (length (now clauses) ≤ length (now next)) × ((universals : List Bool) × Threaded (now clauses) universals (now first) (now next) (length (now clauses)) × (getD universals (x .0) false ≡ true)) ⌝ }
+    requires { ⌜ (from ≤ n) × Topless n (now tops) from ⌝ }
+    requires { ⌜ RoomFor n (now tops) (now clauses) (x .0) at writing (now out) ⌝ }
+    ensures { λ r. ⌜ PutSet n (now (tops .entry)) (now (clauses .entry)) (x .0) at writing (now (out .entry)) (now (out .exit)) r ⌝ }
+{
+    let mut entered = [false; 4097];
+    flag_along(n, clauses, first, next, x, tops, &mut entered);
+    if !writing {
+        let count = count_picked(n, Asked::Set, &entered, tops, from);
+        return at + 2 + count as usize;
+    }
+    write_record(n, &entered, tops, x, from, at, out)
+}
+
+// Writes a record: the number of x, the count of its set, and the set, which is what its flags pick.
+fn write_record(
+    n: u32,
+    entered: &[bool],
+    tops: &[u32],
+    x: Variable,
+    from: u32,
+    at: usize,
+    out: &mut [u32],
+) -> usize
+    requires { ⌜ (from ≤ n) × NoneUpto (pick Set n (now entered) (now tops)) from ⌝ }
+    requires { ⌜ (at < 4294967296) × (at + 2 + length (picked (pick Set n (now entered) (now tops)) n) ≤ length (now out)) ⌝ }
+    ensures { λ r. ⌜ Put n (now (tops .entry)) (now (entered .entry)) (x .0) at true (now (out .entry)) (now (out .exit)) r ⌝ }
+{
+    let start = at + 2;
+    let end = write_picked(n, Asked::Set, entered, tops, from, start, out);
+    out[at] = x.0;
+    out[at + 1] = (end - start) as u32;
+    end
+}

@@ -1,0 +1,57 @@
+// The sets of all universals in one call.
+
+mod all_sets;
+mod threads;
+
+use all_sets::list_sets;
+use forest::rows::check_rows;
+use formula::levels::fill_levels;
+use terms::Filled;
+use terms::Verdict;
+ghost use mathlib.Core.List.{[], _∷_};
+ghost use Rattle.terms.specs.Refusals.{At0};
+ghost use Rattle.formula.specs.Levels.{SoundPrefix};
+ghost use Rattle.formula.specs.Lookup.{SoundClauses};
+ghost use Rattle.forest.specs.Causes.{ForestCause};
+ghost use Rattle.forest.specs.Listed.{Filling};
+ghost use Rattle.sets.specs.Sets.{AllSets, SetsTooLong, SetsListed};
+ghost use Rattle.sets.specs.Threads.{Closed};
+
+// The sets of all universals, written into `out`: for each universal ascending its number, the count of its set and its set ascending; with the
+// count of all entries.
+pub fn sets(
+    n: u32,
+    prefix: &[u32],
+    clauses: &[i32],
+    classes: &[u32],
+    parents: &[u32],
+    out: &mut [u32],
+) -> Filled
+    ensures { λ r. ⌜ SetsListed n (now (prefix .entry)) (now (clauses .entry)) (now (classes .entry)) (now (parents .entry)) (now (out .entry)) (now (out .exit)) r ⌝ }
+{
+    match formula::check(n, prefix, clauses) {
+        Verdict::Refused(number, place) => Filled::Refused(number, place),
+        Verdict::Accepted => sound_sets(n, prefix, clauses, classes, parents, out),
+    }
+}
+
+// The same, once the formula is accepted.
+fn sound_sets(
+    n: u32,
+    prefix: &[u32],
+    clauses: &[i32],
+    classes: &[u32],
+    parents: &[u32],
+    out: &mut [u32],
+) -> Filled
+    requires { ⌜ SoundPrefix n (now prefix) × SoundClauses (now clauses) × Closed (now clauses) ⌝ }
+    ensures { λ r. ⌜ Filling (ForestCause n (now (prefix .entry)) (now (classes .entry)) (now (parents .entry)) ∷ At0 14 (SetsTooLong n (now (prefix .entry)) (now (clauses .entry)) (now (classes .entry)) (now (parents .entry)) (now (out .entry))) ∷ []) (AllSets n (now (prefix .entry)) (now (clauses .entry)) (now (classes .entry)) (now (parents .entry))) (now (out .entry)) (now (out .exit)) r ⌝ }
+{
+    let mut levels = [0u32; 4097];
+    let mut universals = [false; 4097];
+    fill_levels(prefix, &mut levels, &mut universals);
+    match check_rows(n, &levels, &universals, classes, parents) {
+        Verdict::Refused(number, place) => Filled::Refused(number, place),
+        Verdict::Accepted => list_sets(n, &levels, &universals, clauses, classes, parents, out),
+    }
+}

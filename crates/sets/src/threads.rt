@@ -1,0 +1,100 @@
+// Chains through the clause table, one for each universal, that tie it to its clauses: its entry points are then found without a scan of all
+// clauses. A chain holds one entry of each clause that has the universal, the last clause first; k + 1 stands for entry k, and 0 ends it.
+
+use forest::marks::flag_after;
+use forest::marks::flag_before;
+use forest::rows::flag_at;
+use formula::clauses::next_zero;
+use formula::clauses::variable_at;
+use formula::truth::always_true;
+use terms::Variable;
+ghost use Prim.Native.Nat.{ℕ, _+_, _≤_, _<_};
+ghost use mathlib.Core.Path.{_≡_};
+ghost use mathlib.Core.Bool.{Bool, true, false};
+ghost use mathlib.Core.List.{List};
+ghost use lib.ListN.{length, getD};
+ghost use Rattle.formula.specs.Lookup.{SoundClauses, Stamps};
+ghost use Rattle.forest.specs.Search.{Flagged, Via};
+ghost use Rattle.sets.specs.Threads.{Inside, Connecting, Skipping, Together, Threaded};
+
+// Ties every universal to its clauses, in one pass; those that are always true are left out.
+pub fn thread(clauses: &[i32], universals: &[bool], first: &mut [u32], next: &mut [u32])
+    requires { ⌜ SoundClauses (now clauses) × (length (now universals) ≤ length (now first)) × (length (now clauses) ≤ length (now next)) × ((x : ℕ) → getD (now first) x 0 ≡ 0) ⌝ }
+    ensures { λ r. ⌜ Threaded (now (clauses .entry)) (now (universals .entry)) (now (first .exit)) (now (next .exit)) (length (now (clauses .entry))) ⌝ }
+{
+    let mut seen = [0u16; 8194];
+    let mut skip = is_true(clauses, 0, &mut seen);
+    let mut start: usize = 0;
+    let mut i: usize = 0;
+    while i < clauses.len() {
+        let variable = variable_at(clauses, i);
+        if variable.0 == 0 {
+            i += 1;
+            start = i;
+            skip = is_true(clauses, start, &mut seen);
+        } else if skip {
+            i += 1;
+        } else {
+            note(clauses, universals, start, i, first, next);
+            i += 1;
+        }
+    }
+}
+
+// Whether the clause from `start` on is always true.
+fn is_true(clauses: &[i32], start: usize, seen: &mut [u16]) -> bool
+    requires { ⌜ SoundClauses (now clauses) × (start ≤ length (now clauses)) × Stamps (now seen) (start + 1) ⌝ }
+    ensures { λ r. ⌜ Skipping (now (clauses .entry)) start r (now (seen .exit)) ⌝ }
+{
+    let end = next_zero(clauses, start);
+    let stamp = (end + 1) as u16;
+    always_true(&clauses[start..end], seen, stamp)
+}
+
+// Puts entry i, of the clause that begins with `start`, in front of the chain of its variable, if that is universal and has no entry of this
+// clause yet.
+fn note(
+    clauses: &[i32],
+    universals: &[bool],
+    start: usize,
+    i: usize,
+    first: &mut [u32],
+    next: &mut [u32],
+)
+    requires { ⌜ (i < 16384) × (length (now universals) ≤ length (now first)) × (i < length (now next)) × Inside (now clauses) start i × Connecting (now clauses) start × Threaded (now clauses) (now universals) (now first) (now next) i ⌝ }
+    ensures { λ r. ⌜ Threaded (now (clauses .entry)) (now (universals .entry)) (now (first .exit)) (now (next .exit)) (i + 1) ⌝ }
+{
+    let variable = variable_at(clauses, i);
+    if !flag_at(universals, variable) {
+        return;
+    }
+    let at = variable.0 as usize;
+    let last = first[at];
+    if start < last as usize {
+        return;
+    }
+    next[i] = last;
+    first[at] = (i + 1) as u32;
+}
+
+// Flags the tops of the variables that share a clause with the universal x, along its chain.
+pub fn flag_along(
+    n: u32,
+    clauses: &[i32],
+    first: &[u32],
+    next: &[u32],
+    x: Variable,
+    tops: &[u32],
+    flags: &mut [bool],
+)
+    requires { ⌜ (x .0 < length (now first)) × (length (now clauses) ≤ length (now next)) × ((universals : List Bool) × Threaded (now clauses) universals (now first) (now next) (length (now clauses)) × (getD universals (x .0) false ≡ true)) ⌝ }
+    ensures { λ r. ⌜ Flagged (Via n (now (tops .entry)) (Together (now (clauses .entry)) (x .0))) (now (flags .entry)) (now (flags .exit)) ⌝ }
+{
+    let mut at = first[x.0 as usize];
+    while at != 0 {
+        let entry = (at - 1) as usize;
+        flag_after(n, clauses, entry, tops, flags);
+        flag_before(n, clauses, entry, tops, flags);
+        at = next[entry];
+    }
+}
