@@ -16,7 +16,7 @@ use Rattle.connection.specs.Reach.{Variables, Lawful}
 use Rattle.connection.specs.Tables.{Table, row, WellFormed, Above, start, rise}
 use Rattle.connection.proofs.Climb.{above-class}
 use Rattle.forest.specs.Formula.{tabled, existentialIn}
-use Rattle.forest.specs.Search.{Searched, TopRow, TopRows, TopsBelow}
+use Rattle.forest.specs.Search.{Searched, TopRow, TopRows, TopsOver, TopsBelow}
 use Rattle.forest.proofs.Readings.{row-over, flag-none, flag-over}
 
 module _ {X : Variables} {W : Table} {floor v : ℕ} where
@@ -132,5 +132,6 @@ row-zero n k (suc v) = by (ltb v n)
     by false = refl
 
 -- Over a level that nothing is deeper than there are no tops.
-pub tops-over : {X : Variables} {W : Table} (floor k : ℕ) → ((v : ℕ) → X .lev v ≤ floor) → TopRows X W floor (replicate {A = ℕ} k 0)
-tops-over {X} {W} floor k low y = subst (TopRow X W floor y) (sym (row-zero (X .count) k y)) (top-shallow (low y))
+pub tops-over : {X : Variables} {W : Table} (floor k : ℕ) → ((v : ℕ) → X .lev v ≤ floor) → TopsOver X W floor 0 (replicate {A = ℕ} k 0)
+tops-over {X} {W} floor k low =
+    record { rows = λ y. subst (TopRow X W floor y) (sym (row-zero (X .count) k y)) (top-shallow (low y)); most = omega arith; none = λ v some most. absurd (omega arith) }

@@ -72,7 +72,13 @@ TopRows X W floor tops = (y : ℕ) → TopRow X W floor y (row (X .count) tops y
 abbrev pub Topless : ℕ → List ℕ → ℕ → Type 0
 Topless n tops from = (v : ℕ) → 1 ≤ v → v ≤ from → row n tops v ≡ 0
 
--- the rows of the variables below v are
+-- the rows are the tops over a floor, and up to a number no variable has one
+pub record TopsOver (X : Variables) (W : Table) (floor from : ℕ) (tops : List ℕ) : Type 0 where
+  pub rows : TopRows X W floor tops
+  pub most : from ≤ X .count
+  pub none : Topless (X .count) tops from
+
+-- the rows of the variables below v are tops
 abbrev pub TopsBelow : Variables → Table → ℕ → List ℕ → ℕ → Type 0
 TopsBelow X W floor tops v = (y : ℕ) → y < v → TopRow X W floor y (row (X .count) tops y)
 

@@ -6,15 +6,22 @@ use crate::rows::row_of;
 use terms::Level;
 use terms::Variable;
 ghost use Prim.Native.Nat.{_+_, _≤_, _<_};
+ghost use mathlib.Core.Path.{_≡_};
 ghost use lib.ListN.{length, getD};
 ghost use Rattle.connection.specs.Tables.{WellFormed};
 ghost use Rattle.forest.specs.Formula.{tabled};
-ghost use Rattle.forest.specs.Search.{rowsOf, Falling, Climbs, Finds, TopRow, TopRows, Topless, TopsBelow};
+ghost use Rattle.forest.specs.Search.{rowsOf, Falling, Climbs, Finds, TopRow, TopRows, Topless, TopsOver, TopsBelow};
 
 // Where a climb ends, and how many classes it passed, the first not counted.
 pub struct End {
     pub class: Variable,
     pub rises: u32,
+}
+
+// What a table of tops is over: a level, and a number up to which no variable has a top.
+pub struct Floor {
+    pub level: Level,
+    pub from: u32,
 }
 
 // What the search for y finds: the entry point and its rises; nowhere for a y that is not existential and deeper than x.
@@ -124,28 +131,29 @@ fn top_of(
     if above.0 == 0 { v } else { above }
 }
 
-// Refills the rows, which are tops over one floor, if another floor is wanted; gives a number up to which no variable has a top, as `from` was
-// for the rows before.
+// Refills the rows, which are tops over one floor, with those over the level of x, if that is another; gives the floor that they are over now.
 pub fn retop(
     n: u32,
     levels: &[u32],
     universals: &[bool],
     classes: &[u32],
     parents: &[u32],
-    was: Level,
-    floor: Level,
-    from: u32,
+    was: Floor,
+    x: Variable,
     tops: &mut [u32],
-) -> u32
-    requires { ⌜ WellFormed (tabled n (now levels) (now universals)) (rowsOf n (now classes) (now parents)) × (n ≤ length (now tops)) × TopRows (tabled n (now levels) (now universals)) (rowsOf n (now classes) (now parents)) (was .0) (now tops) × (from ≤ n) × Topless n (now tops) from ⌝ }
-    ensures { λ r. ⌜ TopRows (tabled n (now (levels .entry)) (now (universals .entry))) (rowsOf n (now (classes .entry)) (now (parents .entry))) (floor .0) (now (tops .exit)) ⌝ }
-    ensures { λ r. ⌜ (r ≤ n) × Topless n (now (tops .exit)) r ⌝ }
+) -> Floor
+    requires { ⌜ WellFormed (tabled n (now levels) (now universals)) (rowsOf n (now classes) (now parents)) × (n ≤ length (now tops)) × TopsOver (tabled n (now levels) (now universals)) (rowsOf n (now classes) (now parents)) (was .level .0) (was .from) (now tops) ⌝ }
+    ensures { λ r. ⌜ TopsOver (tabled n (now (levels .entry)) (now (universals .entry))) (rowsOf n (now (classes .entry)) (now (parents .entry))) (r .level .0) (r .from) (now (tops .exit)) ⌝ }
+    ensures { λ r. ⌜ r .level .0 ≡ getD (now (levels .entry)) (x .0) 0 ⌝ }
 {
-    if was.0 == floor.0 {
-        return from;
+    let level = level_at(levels, x);
+    let old = was.level;
+    if old.0 == level.0 {
+        return was;
     }
-    fill_tops(n, levels, universals, classes, parents, floor, tops);
-    topless(n, tops)
+    fill_tops(n, levels, universals, classes, parents, level, tops);
+    let from = topless(n, tops);
+    Floor { level, from }
 }
 
 // The last number up to which no variable has a top.

@@ -5,8 +5,8 @@ mod lines;
 use forest::listing::Asked;
 use forest::listing::list_picked;
 use forest::marks::flag_entries;
-use forest::rows::level_at;
 use forest::rows::universal_at;
+use forest::search::Floor;
 use forest::search::retop;
 use formula::clauses::variable_at;
 use formula::levels::fill_levels;
@@ -138,26 +138,17 @@ fn list_universals(
     requires { ⌜ (n ≤ 4096) × WellFormed (tabled n (now levels) (now universals)) (rowsOf n (now classes) (now parents)) × SoundClauses (now clauses) ⌝ }
 {
     let mut tops = [0u32; 4096];
-    let mut floor = Level::new(4294967295);
+    let mut floor = Floor {
+        level: Level::new(4294967295),
+        from: 0,
+    };
     let mut passed = 0;
     while passed < n {
         passed += 1;
         let x = Variable::new(passed);
         if universal_at(n, universals, x) {
-            let level = level_at(levels, x);
-            retop(
-                n,
-                levels,
-                universals,
-                classes,
-                parents,
-                floor,
-                level,
-                0,
-                &mut tops,
-            );
-            floor = level;
-            list_universal(n, clauses, x, level, &tops);
+            floor = retop(n, levels, universals, classes, parents, floor, x, &mut tops);
+            list_universal(n, clauses, x, floor.level, &tops);
         }
     }
 }

@@ -8,16 +8,25 @@ use lib.ListN.{length, replicate}
 use lib.Seq.{sets}
 use Rattle.terms.specs.declared.Filled.{Filled}
 use Rattle.terms.specs.declared.Filled.the-variants.{Count, Refused}
-use Rattle.connection.specs.Tables.{Member}
+use Rattle.connection.specs.Tables.{WellFormed, Member}
 use Rattle.forest.specs.declared.listing.Asked.the-variants.{Set}
 use Rattle.forest.specs.Formula.{tabled, universalIn, Shares}
 use Rattle.forest.specs.Search.{rowsOf, Flagged, Via, pick, picked}
 use Rattle.sets.specs.Sets.{Records}
-use Rattle.sets.specs.Threads.{Together}
+use Rattle.sets.specs.Threads.{Together, Threaded, Closed}
 
 -- the sets of the universals 1 to m
 abbrev pub TabledSets : ℕ → List ℕ → List Bool → List ℤ → List ℕ → List ℕ → ℕ → List ℕ → Type 0
 TabledSets n levels universals ls classes parents = Records (universalIn n universals) (Member (tabled n levels universals) (rowsOf n classes parents) (Shares ls))
+
+-- what the passes over all universals stand on: well-formed rows, closed clauses, and universals that are tied to them
+pub record Ready (n : ℕ) (levels : List ℕ) (universals : List Bool) (ls : List ℤ) (classes parents first next : List ℕ) : Type 0 where
+  pub few : n ≤ 4096
+  pub formed : WellFormed (tabled n levels universals) (rowsOf n classes parents)
+  pub closed : Closed ls
+  pub heads : length first ≡ 4097
+  pub links : length ls ≤ length next
+  pub threaded : Threaded ls universals first next (length ls)
 
 -- the set that some flags pick, written or only counted: `end` is the entry behind its record
 abbrev pub Put : ℕ → List ℕ → List Bool → ℕ → ℕ → Bool → List ℕ → List ℕ → ℕ → Type 0

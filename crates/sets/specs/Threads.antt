@@ -67,6 +67,14 @@ pub record Threaded (ls : List ℤ) (universals : List Bool) (first next : List 
   pub sound : (x p : ℕ) → On next p (getD first x 0) → Noted ls next i x p
   pub complete : (x s p : ℕ) → getD universals x false ≡ true → p < i → Inside ls s p → Connecting ls s → variableOf (literalAt ls p) ≡ x → (q : ℕ) × On next q (getD first x 0) × Inside ls s q
 
+-- the chain of the universal x ties it to all its clauses
+pub record Tied (ls : List ℤ) (first next : List ℕ) (x : ℕ) : Type 0 where
+  pub heads : x < length first
+  pub links : length ls ≤ length next
+  pub universals : List Bool
+  pub threaded : Threaded ls universals first next (length ls)
+  pub universal : getD universals x false ≡ true
+
 -- the table does not end inside a clause
 abbrev pub Closed : List ℤ → Type 0
 Closed ls = EndsInside (pos 0) ls → ⊥

@@ -6,24 +6,23 @@ use crate::threads::thread;
 use forest::listing::Asked;
 use forest::listing::count_picked;
 use forest::listing::write_picked;
-use forest::rows::level_at;
 use forest::rows::universal_at;
+use forest::search::Floor;
 use forest::search::retop;
 use terms::Filled;
 use terms::Level;
 use terms::Variable;
 ghost use Prim.Native.Nat.{_+_, _≤_, _<_};
 ghost use mathlib.Core.Path.{_≡_};
-ghost use mathlib.Core.Bool.{Bool, true, false};
-ghost use mathlib.Core.List.{List};
-ghost use lib.ListN.{length, getD};
+ghost use mathlib.Core.Bool.{true, false};
+ghost use lib.ListN.{length};
 ghost use Rattle.formula.specs.Lookup.{SoundClauses};
 ghost use Rattle.connection.specs.Tables.{WellFormed};
 ghost use Rattle.forest.specs.declared.listing.Asked.the-variants.{Set};
 ghost use Rattle.forest.specs.Formula.{tabled};
 ghost use Rattle.forest.specs.Search.{rowsOf, pick, picked, NoneUpto, Topless};
-ghost use Rattle.sets.specs.Threads.{Closed, Threaded};
-ghost use Rattle.sets.specs.Passed.{TabledSets, Put, PutSet, RoomFor, RoomUpto, TellsRoom, PutAll, Fills};
+ghost use Rattle.sets.specs.Threads.{Closed, Tied};
+ghost use Rattle.sets.specs.Passed.{TabledSets, Ready, Put, PutSet, RoomFor, RoomUpto, TellsRoom, PutAll, Fills};
 
 // Writes the sets of all universals into the front of `out`, if there is room for all of them.
 pub fn list_sets(
@@ -66,7 +65,7 @@ fn write_fitting(
     next: &[u32],
     out: &mut [u32],
 ) -> Filled
-    requires { ⌜ (n ≤ 4096) × (length (now clauses) ≤ length (now next)) × (length (now first) ≡ 4097) × Closed (now clauses) × WellFormed (tabled n (now levels) (now universals)) (rowsOf n (now classes) (now parents)) × Threaded (now clauses) (now universals) (now first) (now next) (length (now clauses)) ⌝ }
+    requires { ⌜ Ready n (now levels) (now universals) (now clauses) (now classes) (now parents) (now first) (now next) ⌝ }
     ensures { λ r. ⌜ Fills (TabledSets n (now (levels .entry)) (now (universals .entry)) (now (clauses .entry)) (now (classes .entry)) (now (parents .entry)) n) (now (out .entry)) (now (out .exit)) r ⌝ }
 {
     if !sets_fit(
@@ -109,7 +108,7 @@ fn sets_fit(
     next: &[u32],
     out: &mut [u32],
 ) -> bool
-    requires { ⌜ (n ≤ 4096) × (length (now clauses) ≤ length (now next)) × (length (now first) ≡ 4097) × Closed (now clauses) × WellFormed (tabled n (now levels) (now universals)) (rowsOf n (now classes) (now parents)) × Threaded (now clauses) (now universals) (now first) (now next) (length (now clauses)) ⌝ }
+    requires { ⌜ Ready n (now levels) (now universals) (now clauses) (now classes) (now parents) (now first) (now next) ⌝ }
     ensures { λ r. ⌜ TellsRoom r (TabledSets n (now (levels .entry)) (now (universals .entry)) (now (clauses .entry)) (now (classes .entry)) (now (parents .entry))) n (length (now (out .entry))) ⌝ }
     ensures { λ r. ⌜ now (out .exit) ≡ now (out .entry) ⌝ }
 {
@@ -149,33 +148,23 @@ fn pass_sets(
     writing: bool,
     out: &mut [u32],
 ) -> usize
-    requires { ⌜ (n ≤ 4096) × (length (now clauses) ≤ length (now next)) × (length (now first) ≡ 4097) × Closed (now clauses) × WellFormed (tabled n (now levels) (now universals)) (rowsOf n (now classes) (now parents)) × Threaded (now clauses) (now universals) (now first) (now next) (length (now clauses)) ⌝ }
+    requires { ⌜ Ready n (now levels) (now universals) (now clauses) (now classes) (now parents) (now first) (now next) ⌝ }
     requires { ⌜ (writing ≡ true → RoomUpto (TabledSets n (now levels) (now universals) (now clauses) (now classes) (now parents)) n (length (now out))) ⌝ }
     ensures { λ r. ⌜ PutAll (TabledSets n (now (levels .entry)) (now (universals .entry)) (now (clauses .entry)) (now (classes .entry)) (now (parents .entry)) n) writing (now (out .entry)) (now (out .exit)) r ⌝ }
 {
     let mut tops = [0u32; 4096];
-    let mut floor = Level::new(4294967295);
-    let mut from: u32 = 0;
+    let mut floor = Floor {
+        level: Level::new(4294967295),
+        from: 0,
+    };
     let mut end: usize = 0;
     let mut passed = 0;
     while passed < n {
         passed += 1;
         let x = Variable::new(passed);
         if universal_at(n, universals, x) {
-            let level = level_at(levels, x);
-            from = retop(
-                n,
-                levels,
-                universals,
-                classes,
-                parents,
-                floor,
-                level,
-                from,
-                &mut tops,
-            );
-            floor = level;
-            end = put_set(n, clauses, first, next, x, &tops, from, end, writing, out);
+            floor = retop(n, levels, universals, classes, parents, floor, x, &mut tops);
+            end = put_set(n, clauses, first, next, x, &tops, floor, end, writing, out);
         }
     }
     end
@@ -189,23 +178,23 @@ fn put_set(
     next: &[u32],
     x: Variable,
     tops: &[u32],
-    from: u32,
+    floor: Floor,
     at: usize,
     writing: bool,
     out: &mut [u32],
 ) -> usize
-    requires { ⌜ (n ≤ 4096) × (at < 4294967296) × (x .0 < length (now first)) × (length (now clauses) ≤ length (now next)) × ((universals : List Bool) × Threaded (now clauses) universals (now first) (now next) (length (now clauses)) × (getD universals (x .0) false ≡ true)) ⌝ }
-    requires { ⌜ (from ≤ n) × Topless n (now tops) from ⌝ }
+    requires { ⌜ (n ≤ 4096) × (at < 4294967296) × Tied (now clauses) (now first) (now next) (x .0) ⌝ }
+    requires { ⌜ (floor .from ≤ n) × Topless n (now tops) (floor .from) ⌝ }
     requires { ⌜ RoomFor n (now tops) (now clauses) (x .0) at writing (now out) ⌝ }
     ensures { λ r. ⌜ PutSet n (now (tops .entry)) (now (clauses .entry)) (x .0) at writing (now (out .entry)) (now (out .exit)) r ⌝ }
 {
     let mut entered = [false; 4097];
     flag_along(n, clauses, first, next, x, tops, &mut entered);
     if !writing {
-        let count = count_picked(n, Asked::Set, &entered, tops, from);
+        let count = count_picked(n, Asked::Set, &entered, tops, floor.from);
         return at + 2 + count as usize;
     }
-    write_record(n, &entered, tops, x, from, at, out)
+    write_record(n, &entered, tops, x, floor.from, at, out)
 }
 
 // Writes a record: the number of x, the count of its set, and the set, which is what its flags pick.

@@ -10,12 +10,11 @@ use formula::truth::always_true;
 use terms::Variable;
 ghost use Prim.Native.Nat.{ℕ, _+_, _≤_, _<_};
 ghost use mathlib.Core.Path.{_≡_};
-ghost use mathlib.Core.Bool.{Bool, true, false};
-ghost use mathlib.Core.List.{List};
+ghost use mathlib.Core.Bool.{true};
 ghost use lib.ListN.{length, getD};
 ghost use Rattle.formula.specs.Lookup.{SoundClauses, Stamps};
 ghost use Rattle.forest.specs.Search.{Flagged, Via};
-ghost use Rattle.sets.specs.Threads.{Inside, Connecting, Skipping, Together, Threaded};
+ghost use Rattle.sets.specs.Threads.{Inside, Connecting, Skipping, Together, Threaded, Tied};
 
 // Ties every universal to its clauses, in one pass; those that are always true are left out.
 pub fn thread(clauses: &[i32], universals: &[bool], first: &mut [u32], next: &mut [u32])
@@ -87,7 +86,7 @@ pub fn flag_along(
     tops: &[u32],
     flags: &mut [bool],
 )
-    requires { ⌜ (x .0 < length (now first)) × (length (now clauses) ≤ length (now next)) × ((universals : List Bool) × Threaded (now clauses) universals (now first) (now next) (length (now clauses)) × (getD universals (x .0) false ≡ true)) ⌝ }
+    requires { ⌜ Tied (now clauses) (now first) (now next) (x .0) ⌝ }
     ensures { λ r. ⌜ Flagged (Via n (now (tops .entry)) (Together (now (clauses .entry)) (x .0))) (now (flags .entry)) (now (flags .exit)) ⌝ }
 {
     let mut at = first[x.0 as usize];

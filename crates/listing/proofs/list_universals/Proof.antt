@@ -4,14 +4,14 @@ use mathlib.Core.Path.{_≡_, sym, _∙_, subst}
 use native.Mathlib.Omega.{arith}
 use lib.ListN.{length, getD, replicate, length-replicate}
 use Rattle.forest.specs.Formula.{tabled}
-use Rattle.forest.specs.Search.{rowsOf, TopRows}
+use Rattle.forest.specs.Search.{rowsOf, TopsOver}
 use Rattle.forest.proofs.Tops.{tops-over}
 use borrow.Author.Needs.{needs}
 use Rattle.listing.proofs.list_universals.Statement.{statement}
 use Rattle.listing.proofs.list_universals.Tie as tie
 
 abbrev Inv-loop : tie.InvT-loop
-Inv-loop n levels universals clauses classes parents tops₀ floor₀ passed₀ tops floor passed = (passed ≤ n) × (length tops ≡ 4096) × TopRows (tabled n levels universals) (rowsOf n classes parents) (floor .0) tops
+Inv-loop n levels universals clauses classes parents tops₀ floor₀ passed₀ tops floor passed = (passed ≤ n) × (length tops ≡ 4096) × TopsOver (tabled n levels universals) (rowsOf n classes parents) (floor .level .0) (floor .from) tops
 
 abbrev μ-loop : tie.MeasureT-loop
 μ-loop n levels universals clauses classes parents tops₀ floor₀ passed₀ tops floor passed = n - passed
@@ -34,29 +34,29 @@ new-requires-2 c κs = search needs
 universal-at-requires : tie.Need-universal-at-requires Inv-loop μ-loop
 universal-at-requires c κs = search needs
 
-level-at-requires : tie.Need-level-at-requires Inv-loop μ-loop
-level-at-requires c κs = search needs
-
 slice-aggregate-retop : tie.Need-slice-aggregate-retop Inv-loop μ-loop
 slice-aggregate-retop c = search needs
 
 retop-requires : tie.Need-retop-requires Inv-loop μ-loop
 retop-requires c κs =
-    let few = c .before .before .before .before .before .before .before .before .before .before .before .before .pre .0 in
-    let long = c .before .before .before .before .before .before .loop .inv .1 in
-    (c .before .before .before .before .before .before .before .before .before .before .before .before .pre .1, omega arith, c .before .before .before .before .before .before .loop .inv .2, omega arith, λ v low high. absurd (omega arith))
+    let few = c .before .before .before .before .before .before .before .before .before .before .before .pre .0 in
+    let inv = c .before .before .before .before .before .loop .inv in
+    let long = inv .1 in
+    (c .before .before .before .before .before .before .before .before .before .before .before .pre .1, omega arith, inv .2)
 
 slice-aggregate-list-universal : tie.Need-slice-aggregate-list-universal Inv-loop μ-loop
 slice-aggregate-list-universal c = search needs
 
 list-universal-requires : tie.Need-list-universal-requires Inv-loop μ-loop
-list-universal-requires c κs = (c .before .before .before .before .before .before .before .before .before .before .before .before .before .before .before .pre .0, c .before .before .before .before .before .before .before .before .before .before .before .before .before .before .before .pre .2)
+list-universal-requires c κs = (c .before .before .before .before .before .before .before .before .before .before .before .before .before .before .pre .0, c .before .before .before .before .before .before .before .before .before .before .before .before .before .before .pre .2)
 
 loop-less : tie.Need-loop-less Inv-loop μ-loop
 loop-less c = omega arith
 
 loop-again : tie.Need-loop-again Inv-loop μ-loop
-loop-again c = (omega arith, c .before .before .before .retop .kept .1 .1 .1 .1 .1 .1 .1 .1 .0 ∙ c .before .before .before .before .before .before .before .before .before .before .loop .inv .1, c .before .before .before .retop .ensures .0)
+loop-again c =
+    let less = c .before .before .before .before .before .before .before .before .loop-test .taken in
+    (omega arith, c .before .before .before .retop .kept .1 .1 .1 .1 .1 .1 .1 .0 ∙ c .before .before .before .before .before .before .before .before .before .loop .inv .1, c .before .before .before .retop .ensures .0)
 
 loop-less-2 : tie.Need-loop-less-2 Inv-loop μ-loop
 loop-less-2 c = omega arith
@@ -78,7 +78,6 @@ list-universals-spec =
     add-passed
     new-requires-2
     universal-at-requires
-    level-at-requires
     slice-aggregate-retop
     retop-requires
     slice-aggregate-list-universal

@@ -32,10 +32,10 @@ slice-aggregate-write-fitting-2 c = search needs
 write-fitting-requires : tie.Need-write-fitting-requires
 write-fitting-requires c κs =
     let pre = c .before .before .before .before .before .before .before .before .before .before .before .before .before .pre in
-    let few = pre .2 in
+    let short = pre .2 in
     let heads = c .before .before .before .before .before .thread .kept .1 .1 .0 ∙ length-replicate {A = ℕ} 4097 0 in
     let links = c .before .before .before .before .before .thread .kept .1 .1 .1 .0 ∙ length-replicate {A = ℕ} 16384 0 in
-    (pre .0, omega arith, heads, pre .3, pre .4, c .before .before .before .before .before .thread .ensures)
+    record { few = pre .0; formed = pre .4; closed = pre .3; heads = heads; links = omega arith; threaded = c .before .before .before .before .before .thread .ensures }
 
 same-length : tie.Need-same-length
 same-length c = search needs

@@ -6,7 +6,7 @@ use native.Mathlib.Omega.{arith}
 use lib.ListN.{length, getD, length-replicate}
 use lib.Seq.{sets}
 use Rattle.forest.specs.Formula.{tabled, universalIn}
-use Rattle.forest.specs.Search.{rowsOf, TopRows, Topless}
+use Rattle.forest.specs.Search.{rowsOf, TopsOver}
 use Rattle.sets.specs.Passed.{TabledSets, PutAll}
 use Rattle.forest.proofs.Readings.{flag-within}
 use Rattle.forest.proofs.Tops.{tops-over}
@@ -16,11 +16,11 @@ use Rattle.sets.proofs.all_sets.pass_sets.Statement.{statement}
 use Rattle.sets.proofs.all_sets.pass_sets.Tie as tie
 
 abbrev Inv-loop : tie.InvT-loop
-Inv-loop n levels universals clauses classes parents first next writing out₀ tops₀ floor₀ from₀ end₀ passed₀ out tops floor from end passed =
-    (passed ≤ n) × (length tops ≡ 4096) × TopRows (tabled n levels universals) (rowsOf n classes parents) (floor .0) tops × PutAll (TabledSets n levels universals clauses classes parents passed) writing out₀ out end × (from ≤ n) × Topless n tops from
+Inv-loop n levels universals clauses classes parents first next writing out₀ tops₀ floor₀ end₀ passed₀ out tops floor end passed =
+    (passed ≤ n) × (length tops ≡ 4096) × TopsOver (tabled n levels universals) (rowsOf n classes parents) (floor .level .0) (floor .from) tops × PutAll (TabledSets n levels universals clauses classes parents passed) writing out₀ out end
 
 abbrev μ-loop : tie.MeasureT-loop
-μ-loop n levels universals clauses classes parents first next writing out₀ tops₀ floor₀ from₀ end₀ passed₀ out tops floor from end passed = n - passed
+μ-loop n levels universals clauses classes parents first next writing out₀ tops₀ floor₀ end₀ passed₀ out tops floor end passed = n - passed
 
 new-requires : tie.Need-new-requires Inv-loop μ-loop
 new-requires c κs = search needs
@@ -29,7 +29,7 @@ loop-holds : tie.Need-loop-holds Inv-loop μ-loop
 loop-holds c =
     let a = c .before .before .before .before .before .before .before .before .args in
     let over : (v : ℕ) → getD (a .levels .now) v 0 ≤ c .new .result .0 = λ v. let is = c .new .ensures in omega (arith, c .before .before .before .before .before .before .before .shared-slice-known .given v) in
-    (omega arith, length-replicate {A = ℕ} 4096 0, tops-over {X = tabled (a .n) (a .levels .now) (a .universals .now)} {W = rowsOf (a .n) (a .classes .now) (a .parents .now)} (c .new .result .0) 4096 over, put-none (a .n) (a .levels .now) (a .universals .now) (a .clauses .now) (a .classes .now) (a .parents .now) (a .writing) (a .out .now), omega arith, λ v low high. absurd (omega arith))
+    (omega arith, length-replicate {A = ℕ} 4096 0, tops-over {X = tabled (a .n) (a .levels .now) (a .universals .now)} {W = rowsOf (a .n) (a .classes .now) (a .parents .now)} (c .new .result .0) 4096 over, put-none (a .n) (a .levels .now) (a .universals .now) (a .clauses .now) (a .classes .now) (a .parents .now) (a .writing) (a .out .now))
 
 add-passed : tie.Need-add-passed Inv-loop μ-loop
 add-passed c = omega arith
@@ -40,17 +40,16 @@ new-requires-2 c κs = search needs
 universal-at-requires : tie.Need-universal-at-requires Inv-loop μ-loop
 universal-at-requires c κs = search needs
 
-level-at-requires : tie.Need-level-at-requires Inv-loop μ-loop
-level-at-requires c κs = search needs
-
 slice-aggregate-retop : tie.Need-slice-aggregate-retop Inv-loop μ-loop
 slice-aggregate-retop c = search needs
 
 retop-requires : tie.Need-retop-requires Inv-loop μ-loop
 retop-requires c κs =
-    let few = c .before .before .before .before .before .before .before .before .before .before .before .before .before .before .before .pre .0 .0 in
-    let long = c .before .before .before .before .before .before .loop .inv .1 in
-    (c .before .before .before .before .before .before .before .before .before .before .before .before .before .before .before .pre .0 .4, omega arith, c .before .before .before .before .before .before .loop .inv .2, c .before .before .before .before .before .before .loop .inv .4, c .before .before .before .before .before .before .loop .inv .5)
+    let ready = c .before .before .before .before .before .before .before .before .before .before .before .before .before .before .pre .0 in
+    let few = ready .few in
+    let inv = c .before .before .before .before .before .loop .inv in
+    let long = inv .1 in
+    (ready .formed, omega arith, inv .2)
 
 slice-aggregate-put-set : tie.Need-slice-aggregate-put-set Inv-loop μ-loop
 slice-aggregate-put-set c = search needs
@@ -58,30 +57,34 @@ slice-aggregate-put-set c = search needs
 put-set-requires : tie.Need-put-set-requires Inv-loop μ-loop
 unfolding universalIn
 put-set-requires c κs =
-    let a = c .before .before .before .before .before .before .before .before .before .before .before .before .before .before .before .before .before .before .before .args in
-    let pre = c .before .before .before .before .before .before .before .before .before .before .before .before .before .before .before .before .before .before .before .pre .0 in
-    let few = pre .0 in
-    let heads = pre .2 in
-    let inv = c .before .before .before .before .before .before .before .before .before .before .loop .inv in
-    let x = c .before .before .before .before .before .before .before .before .new2 .result .0 in
-    let is = c .before .before .before .before .before .before .before .before .new2 .ensures in
-    let less = c .before .before .before .before .before .before .before .before .before .loop-test .taken in
-    let u = sym (c .before .before .before .before .before .before .before .universal-at .ensures) ∙ c .before .before .before .before .before .before .if1 .taken in
+    let a = c .before .before .before .before .before .before .before .before .before .before .before .before .before .before .before .before .before .before .args in
+    let ready = c .before .before .before .before .before .before .before .before .before .before .before .before .before .before .before .before .before .before .pre .0 in
+    let few = ready .few in
+    let heads = ready .heads in
+    let inv = c .before .before .before .before .before .before .before .before .before .loop .inv in
+    let m = c .before .before .before .before .before .before .before .before .before .loop .passed in
+    let x = c .before .before .before .before .before .before .before .new2 .result .0 in
+    let is = c .before .before .before .before .before .before .before .new2 .ensures in
+    let less = c .before .before .before .before .before .before .before .before .loop-test .taken in
+    let retop = c .before .before .before .retop in
+    let u = sym (c .before .before .before .before .before .before .universal-at .ensures) ∙ c .before .before .before .before .before .if1 .taken in
     let flag = flag-within (a .n) x (getD (a .universals .now) x false) u .2 in
-    let small = sets-small (a .n) (a .levels .now) (a .universals .now) (a .clauses .now) (a .classes .now) (a .parents .now) few (c .before .before .before .before .before .before .before .before .before .before .loop .passed) (inv .3 .0) (inv .0) (inv .3 .1) in
+    let small = sets-small (a .n) (a .levels .now) (a .universals .now) (a .clauses .now) (a .classes .now) (a .parents .now) few m (inv .3 .0) (inv .0) (inv .3 .1) in
     let size = inv .3 .2 in
-    ((few, omega arith, omega arith, pre .1, (a .universals .now, pre .5, flag)), (c .before .before .before .retop .ensures .1, put-room (a .n) (a .levels .now) (a .universals .now) (a .clauses .now) (a .classes .now) (a .parents .now) few (pre .3) (pre .4) (c .before .before .before .before .before .before .before .before .before .before .loop .passed) x (c .before .before .before .before .before .level-at .result .0) (c .before .before .before .retop .last .1 .1 .1 .1 .1 .1 .1 .1 .0) (a .writing) (a .out .now) is (inv .3) u (c .before .before .before .before .before .level-at .ensures) (c .before .before .before .retop .ensures .0) less (c .before .before .before .before .before .before .before .before .before .before .before .before .before .before .before .before .before .before .before .pre .1)))
+    ((few, omega arith, record { heads = omega arith; links = ready .links; universals = a .universals .now; threaded = ready .threaded; universal = flag }), ((retop .ensures .0 .most, retop .ensures .0 .none), put-room (a .n) (a .levels .now) (a .universals .now) (a .clauses .now) (a .classes .now) (a .parents .now) few (ready .closed) (ready .formed) m x (retop .result .level .0) (retop .last .1 .1 .1 .1 .1 .1 .1 .0) (a .writing) (a .out .now) is (inv .3) u (retop .ensures .1) (retop .ensures .0 .rows) less (c .before .before .before .before .before .before .before .before .before .before .before .before .before .before .before .before .before .before .pre .1)))
 
 loop-less : tie.Need-loop-less Inv-loop μ-loop
 loop-less c = omega arith
 
 loop-again : tie.Need-loop-again Inv-loop μ-loop
 loop-again c =
-    let a = c .before .before .before .before .before .before .before .before .before .before .before .before .before .before .before .before .before .before .before .before .before .before .args in
-    let pre = c .before .before .before .before .before .before .before .before .before .before .before .before .before .before .before .before .before .before .before .before .before .before .pre .0 in
-    let inv = c .before .before .before .before .before .before .before .before .before .before .before .before .before .loop .inv in
-    let u = sym (c .before .before .before .before .before .before .before .before .before .before .universal-at .ensures) ∙ c .before .before .before .before .before .before .before .before .before .if1 .taken in
-    (omega arith, c .before .before .before .before .before .before .retop .kept .1 .1 .1 .1 .1 .1 .1 .1 .0 ∙ inv .1, c .before .before .before .before .before .before .retop .ensures .0, put-next (a .n) (a .levels .now) (a .universals .now) (a .clauses .now) (a .classes .now) (a .parents .now) (pre .0) (pre .3) (pre .4) (c .before .before .before .before .before .before .before .before .before .before .before .before .before .loop .passed) (c .before .before .before .before .before .before .before .before .before .before .before .new2 .result .0) (c .before .before .before .before .before .before .before .before .level-at .result .0) (c .before .before .before .before .before .before .retop .last .1 .1 .1 .1 .1 .1 .1 .1 .0) (a .writing) (a .out .now) (c .before .before .before .before .before .before .before .before .before .before .before .new2 .ensures) (inv .3) u (c .before .before .before .before .before .before .before .before .level-at .ensures) (c .before .before .before .before .before .before .retop .ensures .0) (c .before .before .put-set .ensures), c .before .before .before .before .before .before .retop .ensures .1 .0, c .before .before .before .before .before .before .retop .ensures .1 .1)
+    let a = c .before .before .before .before .before .before .before .before .before .before .before .before .before .before .before .before .before .before .before .before .before .args in
+    let ready = c .before .before .before .before .before .before .before .before .before .before .before .before .before .before .before .before .before .before .before .before .before .pre .0 in
+    let inv = c .before .before .before .before .before .before .before .before .before .before .before .before .loop .inv in
+    let retop = c .before .before .before .before .before .before .retop in
+    let u = sym (c .before .before .before .before .before .before .before .before .before .universal-at .ensures) ∙ c .before .before .before .before .before .before .before .before .if1 .taken in
+    let less = c .before .before .before .before .before .before .before .before .before .before .before .loop-test .taken in
+    (omega arith, retop .kept .1 .1 .1 .1 .1 .1 .1 .0 ∙ inv .1, retop .ensures .0, put-next (a .n) (a .levels .now) (a .universals .now) (a .clauses .now) (a .classes .now) (a .parents .now) (ready .few) (ready .closed) (ready .formed) (c .before .before .before .before .before .before .before .before .before .before .before .before .loop .passed) (c .before .before .before .before .before .before .before .before .before .before .new2 .result .0) (retop .result .level .0) (retop .last .1 .1 .1 .1 .1 .1 .1 .0) (a .writing) (a .out .now) (c .before .before .before .before .before .before .before .before .before .before .new2 .ensures) (inv .3) u (retop .ensures .1) (retop .ensures .0 .rows) (c .before .before .put-set .ensures))
 
 loop-less-2 : tie.Need-loop-less-2 Inv-loop μ-loop
 loop-less-2 c = omega arith
@@ -90,10 +93,12 @@ loop-again-2 : tie.Need-loop-again-2 Inv-loop μ-loop
 loop-again-2 c =
     let a = c .before .before .before .before .before .before .before .before .before .before .before .before .before .args in
     let inv = c .before .before .before .before .loop .inv in
-    (omega arith, inv .1, inv .2, put-other (a .n) (a .levels .now) (a .universals .now) (a .clauses .now) (a .classes .now) (a .parents .now) (c .before .before .before .before .loop .passed) (c .before .before .new2 .result .0) (a .writing) (a .out .now) (c .before .before .new2 .ensures) (inv .3) (sym (c .before .universal-at .ensures) ∙ c .if1 .left), inv .4, inv .5)
+    (omega arith, inv .1, inv .2, put-other (a .n) (a .levels .now) (a .universals .now) (a .clauses .now) (a .classes .now) (a .parents .now) (c .before .before .before .before .loop .passed) (c .before .before .new2 .result .0) (a .writing) (a .out .now) (c .before .before .new2 .ensures) (inv .3) (sym (c .before .universal-at .ensures) ∙ c .if1 .left))
 
 same-length : tie.Need-same-length Inv-loop μ-loop
-same-length c = ap length (c .before .loop .inv .3 .3) ∙ put-length (c .before .before .before .before .before .before .before .before .before .before .args .writing) (c .before .before .before .before .before .before .before .before .before .before .args .out .now) (c .before .loop .inv .3 .0)
+same-length c =
+    let a = c .before .before .before .before .before .before .before .before .before .before .args in
+    ap length (c .before .loop .inv .3 .3) ∙ put-length (a .writing) (a .out .now) (c .before .loop .inv .3 .0)
 
 returns : tie.Need-returns Inv-loop μ-loop
 returns c =
@@ -112,7 +117,6 @@ pass-sets-spec =
     add-passed
     new-requires-2
     universal-at-requires
-    level-at-requires
     slice-aggregate-retop
     retop-requires
     slice-aggregate-put-set

@@ -18,13 +18,13 @@ slice-aggregate-flag-along : tie.Need-slice-aggregate-flag-along
 slice-aggregate-flag-along c = search needs
 
 flag-along-requires : tie.Need-flag-along-requires
-flag-along-requires c κs = (c .before .before .before .before .before .pre .0 .2, c .before .before .before .before .before .pre .0 .3, c .before .before .before .before .before .pre .0 .4)
+flag-along-requires c κs = c .before .before .before .before .before .pre .0 .2
 
 slice-aggregate-count-picked : tie.Need-slice-aggregate-count-picked
 slice-aggregate-count-picked c = search needs
 
 count-picked-requires : tie.Need-count-picked-requires
-count-picked-requires c κs = (c .before .before .before .before .before .before .before .before .before .pre .1 .0 .0, topless-none (c .before .before .before .flag-along .last .1 .1 .1 .1 .1 .1 .0) (c .before .before .before .before .before .before .before .before .before .args .from) (c .before .before .before .flag-along .ensures) (c .before .before .before .before .before .before .before .before .before .pre .1 .0 .1))
+count-picked-requires c κs = (c .before .before .before .before .before .before .before .before .before .pre .1 .0 .0, topless-none (c .before .before .before .flag-along .last .1 .1 .1 .1 .1 .1 .0) (c .before .before .before .before .before .before .before .before .before .args .floor .from) (c .before .before .before .flag-along .ensures) (c .before .before .before .before .before .before .before .before .before .pre .1 .0 .1))
 
 add-result : tie.Need-add-result
 add-result c = let small = c .before .before .before .before .before .before .before .before .before .before .pre .0 .1 in omega arith
@@ -54,7 +54,7 @@ slice-aggregate-write-record : tie.Need-slice-aggregate-write-record
 slice-aggregate-write-record c = search needs
 
 write-record-requires : tie.Need-write-record-requires
-write-record-requires c κs = ((c .before .before .before .before .before .before .before .before .before .before .pre .1 .0 .0, topless-none (c .before .before .before .before .flag-along .last .1 .1 .1 .1 .1 .1 .0) (c .before .before .before .before .before .before .before .before .before .before .args .from) (c .before .before .before .before .flag-along .ensures) (c .before .before .before .before .before .before .before .before .before .before .pre .1 .0 .1)), (c .before .before .before .before .before .before .before .before .before .before .pre .0 .1, c .before .before .before .before .before .before .before .before .before .before .pre .1 .1 (not-false (c .before .before .before .before .before .before .before .before .before .before .args .writing) (c .before .before .if1 .left)) (c .before .before .before .before .flag-along .last .1 .1 .1 .1 .1 .1 .0) (c .before .before .before .before .flag-along .ensures)))
+write-record-requires c κs = ((c .before .before .before .before .before .before .before .before .before .before .pre .1 .0 .0, topless-none (c .before .before .before .before .flag-along .last .1 .1 .1 .1 .1 .1 .0) (c .before .before .before .before .before .before .before .before .before .before .args .floor .from) (c .before .before .before .before .flag-along .ensures) (c .before .before .before .before .before .before .before .before .before .before .pre .1 .0 .1)), (c .before .before .before .before .before .before .before .before .before .before .pre .0 .1, c .before .before .before .before .before .before .before .before .before .before .pre .1 .1 (not-false (c .before .before .before .before .before .before .before .before .before .before .args .writing) (c .before .before .if1 .left)) (c .before .before .before .before .flag-along .last .1 .1 .1 .1 .1 .1 .0) (c .before .before .before .before .flag-along .ensures)))
 
 same-length : tie.Need-same-length
 same-length c = search needs

@@ -20,7 +20,7 @@ add-if1 c = search needs
 mul-if1 : tie.Need-mul-if1
 mul-if1 c =
     let n = c .before .before .before .before .before .before .before .args .n in
-    let few = c .before .before .before .before .before .before .before .pre .0 in
+    let few = c .before .before .before .before .before .before .before .pre .few in
     let bound : n * (n + 2) ≤ 4096 * (n + 2) = mul-le-mul-right (n + 2) few in
     omega arith
 

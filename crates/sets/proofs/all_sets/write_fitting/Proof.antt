@@ -33,7 +33,7 @@ cast-t17 : tie.Need-cast-t17
 cast-t17 c =
     let a = c .before .before .before .before .before .before .before .before .before .before .before .before .before .before .before .before .args in
     let (list, r, size, _) = c .before .before .pass-sets .ensures in
-    let small = sets-small (a .n) (a .levels .now) (a .universals .now) (a .clauses .now) (a .classes .now) (a .parents .now) (c .before .before .before .before .before .before .before .before .before .before .before .before .before .before .before .before .pre .0) (a .n) list (omega arith) r in
+    let small = sets-small (a .n) (a .levels .now) (a .universals .now) (a .clauses .now) (a .classes .now) (a .parents .now) (c .before .before .before .before .before .before .before .before .before .before .before .before .before .before .before .before .pre .few) (a .n) list (omega arith) r in
     omega arith
 
 same-length-2 : tie.Need-same-length-2

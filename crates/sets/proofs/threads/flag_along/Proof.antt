@@ -21,12 +21,12 @@ mul-at : tie.Need-mul-at Inv-loop μ-loop
 mul-at c = search needs
 
 shared-slice-read-at : tie.Need-shared-slice-read-at Inv-loop μ-loop
-shared-slice-read-at c = c .before .before .before .before .before .before .pre .0
+shared-slice-read-at c = c .before .before .before .before .before .before .pre .heads
 
 loop-holds : tie.Need-loop-holds Inv-loop μ-loop
 loop-holds c =
     let a = c .before .before .before .before .before .before .args in
-    (a .x .0, follow-none (a .n) (a .tops .now) (a .clauses .now) (a .next .now) (a .x .0) (getD (a .first .now) (a .x .0) 0) (a .flags .now) (λ p o. c .before .before .before .before .before .before .pre .2 .1 .sound (a .x .0) p o), omega (arith, c .shared-slice-known4 .given (a .x .0)))
+    (a .x .0, follow-none (a .n) (a .tops .now) (a .clauses .now) (a .next .now) (a .x .0) (getD (a .first .now) (a .x .0) 0) (a .flags .now) (λ p o. c .before .before .before .before .before .before .pre .threaded .sound (a .x .0) p o), omega (arith, c .shared-slice-known4 .given (a .x .0)))
 
 sub-entry : tie.Need-sub-entry Inv-loop μ-loop
 sub-entry c = omega arith
@@ -45,7 +45,7 @@ mul-at-2 c =
     let some = c .before .before .before .before .before .before .before .before .loop-test .taken in
     let is : c .before .before .before .before .before .before .before .before .before .loop .at ≡ suc (c .before .before .before .before .before .before .before .before .before .loop .at - 1) = omega arith in
     let less = follow-noted (c .before .before .before .before .before .before .before .before .before .loop .inv .1) (c .before .before .before .before .before .before .before .before .before .loop .at - 1) is .before in
-    let room = c .before .before .before .before .before .before .before .before .before .before .before .before .before .before .before .before .pre .1 in
+    let room = c .before .before .before .before .before .before .before .before .before .before .before .before .before .before .before .before .pre .links in
     omega arith
 
 shared-slice-read-at-2 : tie.Need-shared-slice-read-at-2 Inv-loop μ-loop
@@ -53,7 +53,7 @@ shared-slice-read-at-2 c =
     let some = c .before .before .before .before .before .before .before .before .before .loop-test .taken in
     let is : c .before .before .before .before .before .before .before .before .before .before .loop .at ≡ suc (c .before .before .before .before .before .before .before .before .before .before .loop .at - 1) = omega arith in
     let less = follow-noted (c .before .before .before .before .before .before .before .before .before .before .loop .inv .1) (c .before .before .before .before .before .before .before .before .before .before .loop .at - 1) is .before in
-    let room = c .before .before .before .before .before .before .before .before .before .before .before .before .before .before .before .before .before .pre .1 in
+    let room = c .before .before .before .before .before .before .before .before .before .before .before .before .before .before .before .before .before .pre .links in
     omega arith
 
 loop-less : tie.Need-loop-less Inv-loop μ-loop
@@ -77,8 +77,8 @@ same-length c = c .before .loop .inv .1 .size
 returns : tie.Need-returns Inv-loop μ-loop
 returns c =
     let a = c .before .before .before .before .before .before .before .before .args in
-    let (universals, threaded, u) = c .before .before .before .before .before .before .before .before .pre .2 in
-    follow-all (c .before .loop .inv .1) (a .x .0) universals (a .first .now) refl threaded u (c .loop-test .left)
+    let tied = c .before .before .before .before .before .before .before .before .pre in
+    follow-all (c .before .loop .inv .1) (a .x .0) (tied .universals) (a .first .now) refl (tied .threaded) (tied .universal) (c .loop-test .left)
 
 pub flag-along-spec : {M : Type 1} → statement M
 flag-along-spec =
