@@ -14,10 +14,11 @@ use Rattle.terms.specs.Literals.{variableOf}
 use Rattle.terms.proofs.Common.{clash}
 use Rattle.formula.specs.Tables.{literalAt}
 use Rattle.formula.specs.Meaning.{alwaysTrue}
-use Rattle.formula.specs.Lookup.{NextZero}
+use Rattle.formula.specs.Lookup.{NextZero, Stamps}
+use Rattle.formula.proofs.Signs.{stamps-more}
 use Rattle.forest.specs.Search.{LastZero}
 use Rattle.forest.proofs.Flags.{next-one}
-use Rattle.sets.specs.Threads.{Begins, first, after, Inside, Connecting, Skipping, On, here, later, Noted, Threaded}
+use Rattle.sets.specs.Threads.{Begins, first, after, Inside, Connecting, Skipping, Known, On, here, later, Noted, Threaded}
 
 -- A clause begins with the first entry or behind a 0, so that an entry stands in one clause, which the last 0 before it opens.
 opens-at : {ls : List ℤ} {s : ℕ} → Begins ls s → (s ≡ 0) ⊎ (variableOf (literalAt ls (s - 1)) ≡ 0)
@@ -218,3 +219,13 @@ module _ {ls : List ℤ} {start i : ℕ} (p : Passing ls start i) (l : i < lengt
           within = omega arith;
           literals = λ e g f. passing-inside .literals e f (omega arith);
         }
+
+-- At the 0 of a clause, told or not, no stamp is as great as that of the next clause.
+pub known-next : (told skip : Bool) (seen : List ℕ) {ls : List ℤ} {start i : ℕ} → Known ls start told skip seen → NextZero ls start i → Stamps seen (i + 1 + 1)
+known-next true skip seen t next = let same = next-one (t .next) next in stamps-more (t .stamps) (omega arith)
+known-next false skip seen t next = let from = next .from in stamps-more t (omega arith)
+
+-- The table of stamps keeps its size.
+pub known-size : (ls : List ℤ) (start : ℕ) (told skip : Bool) (seen : List ℕ) → Known ls start told skip seen → length seen ≡ 8194
+known-size ls start true skip seen t = t .stamps .size
+known-size ls start false skip seen t = t .size

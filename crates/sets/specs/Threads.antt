@@ -33,6 +33,11 @@ pub record Skipping (ls : List ℤ) (s : ℕ) (skip : Bool) (seen : List ℕ) : 
   pub told : skip ≡ alwaysTrue (take (end - s) (drop s ls))
   pub stamps : Stamps seen (end + 1 + 1)
 
+-- the same once it is told; before, no stamp is as great as that of this clause
+abbrev pub Known : List ℤ → ℕ → Bool → Bool → List ℕ → Type 0
+Known ls s true skip seen = Skipping ls s skip seen
+Known ls s false skip seen = Stamps seen (s + 1)
+
 -- the clause of entry p, which is not always true, has the variable v
 pub record Beside (ls : List ℤ) (p v : ℕ) : Type 0 where
   pub start : ℕ

@@ -10,19 +10,23 @@ use formula::truth::always_true;
 use terms::Variable;
 ghost use Prim.Native.Nat.{ℕ, _+_, _≤_, _<_};
 ghost use mathlib.Core.Path.{_≡_};
-ghost use mathlib.Core.Bool.{true};
+ghost use mathlib.Core.Bool.{Bool};
+ghost use mathlib.Core.List.{List};
 ghost use lib.ListN.{length, getD};
-ghost use Rattle.formula.specs.Lookup.{SoundClauses, Stamps};
+ghost use Rattle.terms.specs.Literals.{variableOf};
+ghost use Rattle.formula.specs.Tables.{literalAt};
+ghost use Rattle.formula.specs.Lookup.{SoundClauses};
 ghost use Rattle.forest.specs.Search.{Flagged, Via};
-ghost use Rattle.sets.specs.Threads.{Inside, Connecting, Skipping, Together, Threaded, Tied};
+ghost use Rattle.sets.specs.Threads.{Inside, Connecting, Skipping, Known, Together, Threaded, Tied};
 
-// Ties every universal to its clauses, in one pass; those that are always true are left out.
+// Ties every universal to its clauses, in one pass; those that are always true are left out, which is told at the first universal of a clause.
 pub fn thread(clauses: &[i32], universals: &[bool], first: &mut [u32], next: &mut [u32])
     requires { ⌜ SoundClauses (now clauses) × (length (now universals) ≤ length (now first)) × (length (now clauses) ≤ length (now next)) × ((x : ℕ) → getD (now first) x 0 ≡ 0) ⌝ }
     ensures { λ r. ⌜ Threaded (now (clauses .entry)) (now (universals .entry)) (now (first .exit)) (now (next .exit)) (length (now (clauses .entry))) ⌝ }
 {
     let mut seen = [0u16; 8194];
-    let mut skip = is_true(clauses, 0, &mut seen);
+    let mut told = false;
+    let mut skip = false;
     let mut start: usize = 0;
     let mut i: usize = 0;
     while i < clauses.len() {
@@ -30,43 +34,41 @@ pub fn thread(clauses: &[i32], universals: &[bool], first: &mut [u32], next: &mu
         if variable.0 == 0 {
             i += 1;
             start = i;
-            skip = is_true(clauses, start, &mut seen);
-        } else if skip {
+            told = false;
+        } else if !flag_at(universals, variable) {
             i += 1;
         } else {
-            note(clauses, universals, start, i, first, next);
-            i += 1;
+            skip = is_true(clauses, start, told, skip, &mut seen);
+            told = true;
+            if skip {
+                i += 1;
+            } else {
+                note(clauses, start, i, first, next);
+                i += 1;
+            }
         }
     }
 }
 
-// Whether the clause from `start` on is always true.
-fn is_true(clauses: &[i32], start: usize, seen: &mut [u16]) -> bool
-    requires { ⌜ SoundClauses (now clauses) × (start ≤ length (now clauses)) × Stamps (now seen) (start + 1) ⌝ }
+// Whether the clause from `start` on is always true; where that is told already, `skip` says it.
+fn is_true(clauses: &[i32], start: usize, told: bool, skip: bool, seen: &mut [u16]) -> bool
+    requires { ⌜ SoundClauses (now clauses) × (start ≤ length (now clauses)) × Known (now clauses) start told skip (now seen) ⌝ }
     ensures { λ r. ⌜ Skipping (now (clauses .entry)) start r (now (seen .exit)) ⌝ }
 {
+    if told {
+        return skip;
+    }
     let end = next_zero(clauses, start);
     let stamp = (end + 1) as u16;
     always_true(&clauses[start..end], seen, stamp)
 }
 
-// Puts entry i, of the clause that begins with `start`, in front of the chain of its variable, if that is universal and has no entry of this
-// clause yet.
-fn note(
-    clauses: &[i32],
-    universals: &[bool],
-    start: usize,
-    i: usize,
-    first: &mut [u32],
-    next: &mut [u32],
-)
-    requires { ⌜ (i < 16384) × (length (now universals) ≤ length (now first)) × (i < length (now next)) × Inside (now clauses) start i × Connecting (now clauses) start × Threaded (now clauses) (now universals) (now first) (now next) i ⌝ }
-    ensures { λ r. ⌜ Threaded (now (clauses .entry)) (now (universals .entry)) (now (first .exit)) (now (next .exit)) (i + 1) ⌝ }
+// Puts entry i, of the clause that begins with `start`, in front of the chain of its variable, if that has no entry of this clause yet.
+fn note(clauses: &[i32], start: usize, i: usize, first: &mut [u32], next: &mut [u32])
+    requires { ⌜ (i < 16384) × (variableOf (literalAt (now clauses) i) < length (now first)) × (i < length (now next)) × Inside (now clauses) start i × Connecting (now clauses) start ⌝ }
+    ensures { λ r. ⌜ ((universals : List Bool) → Threaded (now (clauses .entry)) universals (now (first .entry)) (now (next .entry)) i → Threaded (now (clauses .entry)) universals (now (first .exit)) (now (next .exit)) (i + 1)) ⌝ }
 {
     let variable = variable_at(clauses, i);
-    if !flag_at(universals, variable) {
-        return;
-    }
     let at = variable.0 as usize;
     let last = first[at];
     if start < last as usize {
