@@ -1,6 +1,6 @@
 // Lent forest tables: the entry point of x for y, the entry points of x, and the set of x.
 
-pub mod entering;
+mod entering;
 pub mod listing;
 pub mod marks;
 pub mod rows;

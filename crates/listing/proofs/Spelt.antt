@@ -9,7 +9,7 @@ use lib.ListN.{length, getD, length-append}
 use Rattle.qdimacs.specs.Writing.{decimal, literalWord}
 use Rattle.qdimacs.specs.Bytes.{Wrote}
 use Rattle.qdimacs.proofs.Stores.{word-most, Upto, upto-none, upto-more, upto-all}
-use Rattle.listing.specs.Lines.{numbers, Small}
+use Rattle.listing.specs.Lines.{numbers}
 
 -- a number of at most five digits
 pub number-most : (v : ℕ) → v < 100000 → length (decimal v) ≤ 6

@@ -4,7 +4,6 @@ mod lines;
 
 use forest::listing::Asked;
 use forest::listing::list_picked;
-use forest::marks::flag_entries;
 use forest::rows::universal_at;
 use forest::search::Floor;
 use forest::search::retop;
@@ -13,6 +12,8 @@ use formula::levels::fill_levels;
 use libc::STDIN_FILENO;
 use libc::STDOUT_FILENO;
 use qdimacs::Reading;
+use sets::threads::flag_along;
+use sets::threads::thread;
 use terms::Filled;
 use terms::Level;
 use terms::Variable;
@@ -26,6 +27,8 @@ ghost use Rattle.formula.specs.Meaning.{clauses as Meaning·clauses};
 ghost use Rattle.connection.specs.Tables.{WellFormed, lent};
 ghost use Rattle.forest.specs.Formula.{variables, tabled};
 ghost use Rattle.forest.specs.Search.{rowsOf};
+ghost use Rattle.sets.specs.Threads.{Closed, Tied};
+ghost use Rattle.sets.specs.Passed.{Ready};
 ghost use Rattle.listing.specs.Lines.{Small};
 
 fn main() {
@@ -71,7 +74,7 @@ fn list_formula(n: u32, prefix: &[u32], clauses: &[i32]) {
 
 // The first line, and then the universals in ascending order. The levels are looked up once for all of them.
 fn list_forest(n: u32, prefix: &[u32], clauses: &[i32], classes: &[u32], parents: &[u32])
-    requires { ⌜ SoundPrefix n (now prefix) × SoundClauses (now clauses) × WellFormed (variables n (now prefix)) (lent (variables n (now prefix)) (now classes) (now parents)) ⌝ }
+    requires { ⌜ SoundPrefix n (now prefix) × SoundClauses (now clauses) × Closed (now clauses) × WellFormed (variables n (now prefix)) (lent (variables n (now prefix)) (now classes) (now parents)) ⌝ }
 {
     let mut levels = [0u32; 4097];
     let mut universals = [false; 4097];
@@ -125,8 +128,7 @@ fn count_clauses(clauses: &[i32]) -> usize
     count
 }
 
-// A line for each universal, in ascending order. The tops depend on its block only, and stay while the block does; at first they are those
-// over a level that nothing is deeper than.
+// A line for each universal, in ascending order, once they are tied to their clauses.
 fn list_universals(
     n: u32,
     levels: &[u32],
@@ -135,7 +137,36 @@ fn list_universals(
     classes: &[u32],
     parents: &[u32],
 )
-    requires { ⌜ (n ≤ 4096) × WellFormed (tabled n (now levels) (now universals)) (rowsOf n (now classes) (now parents)) × SoundClauses (now clauses) ⌝ }
+    requires { ⌜ (n ≤ 4096) × (length (now universals) ≡ 4097) × SoundClauses (now clauses) × Closed (now clauses) × WellFormed (tabled n (now levels) (now universals)) (rowsOf n (now classes) (now parents)) ⌝ }
+{
+    let mut first = [0u32; 4097];
+    let mut next = [0u32; 16384];
+    thread(clauses, universals, &mut first, &mut next);
+    list_tied(
+        n,
+        levels,
+        universals,
+        clauses,
+        classes,
+        parents,
+        &first,
+        &next,
+    );
+}
+
+// The lines. The tops depend on the block of a universal only, and stay while it does; at first they are those over a level that nothing is
+// deeper than.
+fn list_tied(
+    n: u32,
+    levels: &[u32],
+    universals: &[bool],
+    clauses: &[i32],
+    classes: &[u32],
+    parents: &[u32],
+    first: &[u32],
+    next: &[u32],
+)
+    requires { ⌜ Ready n (now levels) (now universals) (now clauses) (now classes) (now parents) (now first) (now next) ⌝ }
 {
     let mut tops = [0u32; 4096];
     let mut floor = Floor {
@@ -148,17 +179,25 @@ fn list_universals(
         let x = Variable::new(passed);
         if universal_at(n, universals, x) {
             floor = retop(n, levels, universals, classes, parents, floor, x, &mut tops);
-            list_universal(n, clauses, x, floor.level, &tops);
+            list_universal(n, clauses, first, next, x, floor.level, &tops);
         }
     }
 }
 
-// The line of one universal: its entry points are flagged once, and they and its set are listed.
-fn list_universal(n: u32, clauses: &[i32], x: Variable, level: Level, tops: &[u32])
-    requires { ⌜ (n ≤ 4096) × SoundClauses (now clauses) ⌝ }
+// The line of one universal: its entry points are flagged once, along its chain, and they and its set are listed.
+fn list_universal(
+    n: u32,
+    clauses: &[i32],
+    first: &[u32],
+    next: &[u32],
+    x: Variable,
+    level: Level,
+    tops: &[u32],
+)
+    requires { ⌜ (n ≤ 4096) × Tied (now clauses) (now first) (now next) (x .0) ⌝ }
 {
     let mut entered = [false; 4097];
-    flag_entries(n, clauses, x, tops, &mut entered);
+    flag_along(n, clauses, first, next, x, tops, &mut entered);
     print_universal(n, x, level, &entered, tops);
 }
 

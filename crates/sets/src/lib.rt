@@ -1,7 +1,7 @@
 // The sets of all universals in one call.
 
 mod all_sets;
-mod threads;
+pub mod threads;
 
 use all_sets::list_sets;
 use forest::rows::check_rows;

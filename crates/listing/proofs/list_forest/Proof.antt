@@ -1,4 +1,7 @@
 -- `listing::list_forest` meets its contract.
+use mathlib.Core.Path.{_∙_}
+use mathlib.Core.Bool.{Bool, false}
+use lib.ListN.{length-replicate}
 use Rattle.connection.specs.Tables.{lent}
 use Rattle.forest.proofs.Agreeing.{same-back, formed-same, tables-agree}
 use borrow.Author.Needs.{needs}
@@ -33,7 +36,8 @@ list-universals-requires : tie.Need-list-universals-requires
 unfolding lent
 list-universals-requires c κs =
     let pre = c .before .before .before .before .before .before .before .before .before .before .before .before .before .pre in
-    (pre .0 .few, formed-same (same-back (tables-agree (pre .0) (c .before .before .before .before .before .before .before .fill-levels .ensures))) (pre .2), pre .1)
+    let fill = c .before .before .before .before .before .before .before .fill-levels in
+    (pre .0 .few, fill .kept .1 .1 .0 ∙ length-replicate {A = Bool} 4097 false, pre .1, pre .2, formed-same (same-back (tables-agree (pre .0) (fill .ensures))) (pre .3))
 
 returns : tie.Need-returns
 returns c = search needs

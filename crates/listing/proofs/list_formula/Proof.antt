@@ -6,6 +6,7 @@ use Rattle.formula.specs.Causes.{checkOrder}
 use Rattle.connection.proofs.Growth.{forest-is}
 use Rattle.forest.proofs.Agreeing.{lawful}
 use Rattle.formula.proofs.Sound.{sound-check, sound-clauses}
+use Rattle.sets.proofs.AllSets.{sound-closed}
 use Rattle.growth.specs.Grown.{Builds}
 use borrow.Author.Needs.{needs}
 use Rattle.listing.proofs.list_formula.Statement.{statement}
@@ -41,7 +42,7 @@ list-forest-requires c κs =
     let b = subst (Builds (a .n) (a .prefix .now) (a .clauses .now) (replicate 4096 0) (replicate 4096 0) (c .before .before .before .before .before .before .build .last .1 .1 .1 .0) (c .before .before .before .before .before .before .build .last .1 .1 .1 .1 .0)) (c .before .before .enum-told .given .1) (c .before .before .before .before .before .before .build .ensures) in
     let all = b .judged in
     let none : NoneOf (checkOrder (a .n) (a .prefix .now) (a .clauses .now)) = (all .0, (all .1 .0, (all .1 .1 .0, (all .1 .1 .1 .0, tt)))) in
-    (sound-check none, sound-clauses none, forest-is (lawful (a .n) (a .prefix .now)) .0 (b .leaves .1 .forest) .formed)
+    (sound-check none, sound-clauses none, sound-closed none, forest-is (lawful (a .n) (a .prefix .now)) .0 (b .leaves .1 .forest) .formed)
 
 returns : tie.Need-returns
 returns c = search needs

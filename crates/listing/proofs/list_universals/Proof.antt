@@ -1,89 +1,53 @@
 -- `listing::list_universals` meets its contract.
-use Prim.Native.Nat.{ℕ, _≤_, _-_}
-use mathlib.Core.Path.{_≡_, sym, _∙_, subst}
+use Prim.Native.Nat.{ℕ}
+use mathlib.Core.Path.{_∙_}
 use native.Mathlib.Omega.{arith}
-use lib.ListN.{length, getD, replicate, length-replicate}
-use Rattle.forest.specs.Formula.{tabled}
-use Rattle.forest.specs.Search.{rowsOf, TopsOver}
-use Rattle.forest.proofs.Tops.{tops-over}
+use lib.ListN.{length-replicate}
+use Rattle.forest.proofs.Tops.{new-zero}
 use borrow.Author.Needs.{needs}
 use Rattle.listing.proofs.list_universals.Statement.{statement}
 use Rattle.listing.proofs.list_universals.Tie as tie
 
-abbrev Inv-loop : tie.InvT-loop
-Inv-loop n levels universals clauses classes parents tops₀ floor₀ passed₀ tops floor passed = (passed ≤ n) × (length tops ≡ 4096) × TopsOver (tabled n levels universals) (rowsOf n classes parents) (floor .level .0) (floor .from) tops
+slice-aggregate-thread : tie.Need-slice-aggregate-thread
+slice-aggregate-thread c = search needs
 
-abbrev μ-loop : tie.MeasureT-loop
-μ-loop n levels universals clauses classes parents tops₀ floor₀ passed₀ tops floor passed = n - passed
+slice-aggregate-thread-2 : tie.Need-slice-aggregate-thread-2
+slice-aggregate-thread-2 c = search needs
 
-new-requires : tie.Need-new-requires Inv-loop μ-loop
-new-requires c κs = search needs
+thread-requires : tie.Need-thread-requires
+thread-requires c κs =
+    let pre = c .before .before .before .before .before .before .pre in
+    let few = pre .2 in
+    let size = pre .1 in
+    let heads = length-replicate {A = ℕ} 4097 0 in
+    let links = length-replicate {A = ℕ} 16384 0 in
+    (few, omega arith, omega arith, new-zero 4097)
 
-loop-holds : tie.Need-loop-holds Inv-loop μ-loop
-loop-holds c =
-    let a = c .before .before .before .before .before .args in
-    let over : (v : ℕ) → getD (a .levels .now) v 0 ≤ c .new .result .0 = λ v. let is = c .new .ensures in omega (arith, c .before .before .before .before .shared-slice-known .given v) in
-    (omega arith, length-replicate {A = ℕ} 4096 0, tops-over {X = tabled (a .n) (a .levels .now) (a .universals .now)} {W = rowsOf (a .n) (a .classes .now) (a .parents .now)} (c .new .result .0) 4096 over)
+slice-aggregate-list-tied : tie.Need-slice-aggregate-list-tied
+slice-aggregate-list-tied c = search needs
 
-add-passed : tie.Need-add-passed Inv-loop μ-loop
-add-passed c = omega arith
+slice-aggregate-list-tied-2 : tie.Need-slice-aggregate-list-tied-2
+slice-aggregate-list-tied-2 c = search needs
 
-new-requires-2 : tie.Need-new-requires-2 Inv-loop μ-loop
-new-requires-2 c κs = search needs
+list-tied-requires : tie.Need-list-tied-requires
+list-tied-requires c κs =
+    let pre = c .before .before .before .before .before .before .before .before .before .before .before .pre in
+    let short = pre .2 in
+    let heads = c .before .before .before .before .thread .kept .1 .1 .0 ∙ length-replicate {A = ℕ} 4097 0 in
+    let links = c .before .before .before .before .thread .kept .1 .1 .1 .0 ∙ length-replicate {A = ℕ} 16384 0 in
+    record { few = pre .0; formed = pre .4; closed = pre .3; heads = heads; links = omega arith; threaded = c .before .before .before .before .thread .ensures }
 
-universal-at-requires : tie.Need-universal-at-requires Inv-loop μ-loop
-universal-at-requires c κs = search needs
-
-slice-aggregate-retop : tie.Need-slice-aggregate-retop Inv-loop μ-loop
-slice-aggregate-retop c = search needs
-
-retop-requires : tie.Need-retop-requires Inv-loop μ-loop
-retop-requires c κs =
-    let few = c .before .before .before .before .before .before .before .before .before .before .before .pre .0 in
-    let inv = c .before .before .before .before .before .loop .inv in
-    let long = inv .1 in
-    (c .before .before .before .before .before .before .before .before .before .before .before .pre .1, omega arith, inv .2)
-
-slice-aggregate-list-universal : tie.Need-slice-aggregate-list-universal Inv-loop μ-loop
-slice-aggregate-list-universal c = search needs
-
-list-universal-requires : tie.Need-list-universal-requires Inv-loop μ-loop
-list-universal-requires c κs = (c .before .before .before .before .before .before .before .before .before .before .before .before .before .before .pre .0, c .before .before .before .before .before .before .before .before .before .before .before .before .before .before .pre .2)
-
-loop-less : tie.Need-loop-less Inv-loop μ-loop
-loop-less c = omega arith
-
-loop-again : tie.Need-loop-again Inv-loop μ-loop
-loop-again c =
-    let less = c .before .before .before .before .before .before .before .before .loop-test .taken in
-    (omega arith, c .before .before .before .retop .kept .1 .1 .1 .1 .1 .1 .1 .0 ∙ c .before .before .before .before .before .before .before .before .before .loop .inv .1, c .before .before .before .retop .ensures .0)
-
-loop-less-2 : tie.Need-loop-less-2 Inv-loop μ-loop
-loop-less-2 c = omega arith
-
-loop-again-2 : tie.Need-loop-again-2 Inv-loop μ-loop
-loop-again-2 c = (omega arith, c .before .before .before .before .loop .inv .1, c .before .before .before .before .loop .inv .2)
-
-returns : tie.Need-returns Inv-loop μ-loop
+returns : tie.Need-returns
 returns c = search needs
 
 pub list-universals-spec : {M : Type 1} → statement M
 list-universals-spec =
     tie.close
     (tie.spec
-    Inv-loop
-    μ-loop
-    new-requires
-    loop-holds
-    add-passed
-    new-requires-2
-    universal-at-requires
-    slice-aggregate-retop
-    retop-requires
-    slice-aggregate-list-universal
-    list-universal-requires
-    loop-less
-    loop-again
-    loop-less-2
-    loop-again-2
+    slice-aggregate-thread
+    slice-aggregate-thread-2
+    thread-requires
+    slice-aggregate-list-tied
+    slice-aggregate-list-tied-2
+    list-tied-requires
     returns)
