@@ -1,7 +1,8 @@
-// Generated formulas, the shapes that they have, and their text.
+// Generated formulas, the shapes that they have, and their text; and cases that are written out as text.
 
 pub mod generate;
 pub mod literals;
 pub mod parts;
 pub mod shapes;
+pub mod sheets;
 pub mod spelling;

@@ -2,20 +2,26 @@
 
 use oracle::joins::is_of;
 
-// The literal of a variable below 65,536, of one sign; 0 for any other number.
+// The literal of a variable, of one sign; 0 where no 32-bit number is it.
 pub fn literal_of(v: u32, negative: bool) -> i32 {
     if v == 0 {
         return 0;
     }
-    if 65535 < v {
+    if negative {
+        return negative_of(v - 1);
+    }
+    if 2147483647 < v {
         return 0;
     }
-    if negative {
-        let below = (v - 1) as i32;
-        !below
-    } else {
-        v as i32
+    v as i32
+}
+
+// The number that lies so far below -1; 0 where it is no 32-bit number.
+fn negative_of(below: u32) -> i32 {
+    if 2147483647 < below {
+        return 0;
     }
+    !(below as i32)
 }
 
 // The one of the variables 1 to n that a literal is of, in either sign; 0 where it is of none.

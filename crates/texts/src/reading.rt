@@ -4,6 +4,12 @@ use qdimacs::Reading;
 use samples::parts::bytes;
 use samples::parts::literals;
 use samples::parts::numbers;
+use samples::sheets::count_rows;
+use samples::sheets::field;
+use samples::sheets::fill_literals;
+use samples::sheets::fill_numbers;
+use samples::sheets::number_at;
+use samples::sheets::row;
 use samples::spelling::put_text;
 use score::Score;
 use score::library;
@@ -69,216 +75,6 @@ fn holds_entries(found: &[u32], expected: &[u32]) -> bool {
     same(numbers(found, count), expected) && untouched(found, count)
 }
 
-// Whether a text is read into these tables.
-pub fn reads_as(text: &[u8], n: u32, prefix: &[u32], clauses: &[i32]) -> bool {
-    let mut entries = [UNTOUCHED; 256];
-    let mut table = [UNREAD; 256];
-    let answer = library::read(text, &mut entries, &mut table);
-    gave(answer, n, prefix.len(), clauses.len())
-        && holds_entries(&entries, prefix)
-        && holds_literals(&table, clauses)
-}
-
-// A text that is read.
-fn read_case(score: Score, text: &[u8], n: u32, prefix: &[u32], clauses: &[i32]) -> Score {
-    score.count(reads_as(text, n, prefix, clauses))
-}
-
-// A text that is refused, and two tables that stay.
-fn refused_case(score: Score, text: &[u8], number: u32, place: usize) -> Score {
-    let mut entries = [UNTOUCHED; 256];
-    let mut table = [UNREAD; 256];
-    let answer = library::read(text, &mut entries, &mut table);
-    score.count(refused(answer, number, place) && untouched(&entries, 0) && unread(&table, 0))
-}
-
-// Every case of reading.
-pub fn read_cases() -> Score {
-    let first = line_cases(Score::new());
-    let second = number_cases(first);
-    let third = padded_cases(second);
-    let fourth = sign_cases(third);
-    let fifth = opening_cases(fourth);
-    let sixth = problem_cases(fifth);
-    let seventh = word_cases(sixth);
-    let eighth = close_cases(seventh);
-    let ninth = order_cases(eighth);
-    read_room_cases(ninth)
-}
-
-// The cases that turn on the room that the tables have, and on the length of the text.
-fn read_room_cases(score: Score) -> Score {
-    let rooms = room_cases(score);
-    let full = full_cases(rooms);
-    length_cases(full)
-}
-
-// Texts that are read: comments with any bytes, stray spaces, blocks and clauses with nothing in them, and what check would refuse.
-fn line_cases(score: Score) -> Score {
-    let entries = [0u32; 1];
-    let table = [0i32; 1];
-    let mut t = read_case(score, b"p cnf 0 0\n", 0, &entries[0..0], &table[0..0]);
-    t = read_case(
-        t,
-        b"c\nc any\tbytes\r\np cnf 2 1\ne 1 0\na 2 0\n1 -2 0\n",
-        2,
-        &[1, 1, 0, 2, 2, 0],
-        &[1, -2, 0],
-    );
-    t = read_case(
-        t,
-        b"  p  cnf   2 1 \n e 1  2 0 \n -1   2 0  \n",
-        2,
-        &[1, 1, 2, 0],
-        &[-1, 2, 0],
-    );
-    t = read_case(t, b"p cnf 1 1\ne 0\na 0\n0\n", 1, &[1, 0, 2, 0], &[0]);
-    read_case(
-        t,
-        b"p cnf 1 2\ne 9 9 0\ne 9 0\n9 -9 9 0\n0\n",
-        1,
-        &[1, 9, 9, 0, 1, 9, 0],
-        &[9, -9, 9, 0, 0],
-    )
-}
-
-// Numbers have one to five digits.
-fn number_cases(score: Score) -> Score {
-    let entries = [0u32; 1];
-    let table = [0i32; 1];
-    let mut t = read_case(
-        score,
-        b"p cnf 99999 1\n99999 -99999 0\n",
-        99999,
-        &entries[0..0],
-        &[99999, -99999, 0],
-    );
-    t = read_case(t, b"p cnf 10 0\na 10 0\n", 10, &[2, 10, 0], &table[0..0]);
-    t = refused_case(t, b"p cnf 100000 0\n", 16, 0);
-    t = refused_case(t, b"p cnf 1 100000\n", 16, 0);
-    refused_case(t, b"p cnf 1 1\n100000 0\n", 16, 10)
-}
-
-// Leading zeros count as digits and change no number: a number of zeros is 0, and closes a line.
-fn padded_cases(score: Score) -> Score {
-    let entries = [0u32; 1];
-    let table = [0i32; 1];
-    let mut t = read_case(
-        score,
-        b"p cnf 5 1\ne 0004 0005 0\n-0004 00005 000\n",
-        5,
-        &[1, 4, 5, 0],
-        &[-4, 5, 0],
-    );
-    t = read_case(
-        t,
-        b"p cnf 0009 00005\n0\n00\n000\n0000\n00000\n",
-        9,
-        &entries[0..0],
-        &[0, 0, 0, 0, 0],
-    );
-    t = read_case(t, b"p cnf 000 00\na 00\n", 0, &[2, 0], &table[0..0]);
-    t = read_case(
-        t,
-        b"p cnf 01 01\n-00001 00100 09090 00\n",
-        1,
-        &entries[0..0],
-        &[-1, 100, 9090, 0],
-    );
-    sixth_digit_cases(t)
-}
-
-// A sixth digit is refused also where it is a leading zero.
-fn sixth_digit_cases(score: Score) -> Score {
-    let mut t = refused_case(score, b"p cnf 000009 5\n", 16, 0);
-    t = refused_case(t, b"p cnf 9 000005\n", 16, 0);
-    t = refused_case(t, b"p cnf 000000 0\n", 16, 0);
-    t = refused_case(t, b"p cnf 1 0\ne 000001 0\n", 16, 10);
-    t = refused_case(t, b"p cnf 1 0\ne 1 000000\n", 16, 10);
-    t = refused_case(t, b"p cnf 1 1\n000001 0\n", 16, 10);
-    t = refused_case(t, b"p cnf 1 1\n-000001 0\n", 16, 10);
-    refused_case(t, b"p cnf 1 1\n000000\n", 16, 10)
-}
-
-// Only a literal that is not 0 has a sign, and a number has nothing else.
-fn sign_cases(score: Score) -> Score {
-    let mut t = refused_case(score, b"p cnf -1 0\n", 16, 0);
-    t = refused_case(t, b"p cnf 1 1\n-0\n", 16, 10);
-    t = refused_case(t, b"p cnf 1 1\n-000\n", 16, 10);
-    t = refused_case(t, b"p cnf 1 1\n1 -000 0\n", 16, 10);
-    t = refused_case(t, b"p cnf 1 1\n0-1 0\n", 16, 10);
-    t = refused_case(t, b"p cnf -01 0\n", 16, 0);
-    t = refused_case(t, b"p cnf 1 1\n--1 0\n", 16, 10);
-    t = refused_case(t, b"p cnf 1 1\n+1 0\n", 16, 10);
-    t = refused_case(t, b"p cnf 1 1\n- 1 0\n", 16, 10);
-    t = refused_case(t, b"p cnf 1 1\n1a 0\n", 16, 10);
-    t = refused_case(t, b"p cnf 1 0\ne -1 0\n", 16, 10);
-    refused_case(t, b"p cnf 1 0\ne -01 0\n", 16, 10)
-}
-
-// The lines up to the problem line; where there is none, the place is the length of the text.
-fn opening_cases(score: Score) -> Score {
-    let none = [0u8; 1];
-    let mut t = refused_case(score, &none[0..0], 16, 0);
-    t = refused_case(t, b"\n", 16, 0);
-    t = refused_case(t, b"c only\n", 16, 7);
-    t = refused_case(t, b"c only", 16, 0);
-    t = refused_case(t, b" c\np cnf 1 0\n", 16, 0);
-    t = refused_case(t, b"c\n\np cnf 1 0\n", 16, 2);
-    refused_case(t, b"c\n1 0\np cnf 1 1\n", 16, 2)
-}
-
-// The problem line, what ends it, and what may not follow it.
-fn problem_cases(score: Score) -> Score {
-    let mut t = refused_case(score, b"p cnf 1 0", 16, 0);
-    t = refused_case(t, b"p cnf 1\n", 16, 0);
-    t = refused_case(t, b"p cnf 1 0 0\n", 16, 0);
-    t = refused_case(t, b"p dnf 1 0\n", 16, 0);
-    t = refused_case(t, b"pcnf 1 0\n", 16, 0);
-    t = refused_case(t, b"p\tcnf 1 0\n", 16, 0);
-    t = refused_case(t, b"p cnf 1 0\r\n", 16, 0);
-    t = refused_case(t, b"p cnf 1 0\nc\n", 16, 10);
-    refused_case(t, b"p cnf 1 0\np cnf 1 0\n", 16, 10)
-}
-
-// Words of quantifier lines and clause lines, and lines that are blank.
-fn word_cases(score: Score) -> Score {
-    let mut t = refused_case(score, b"p cnf 1 0\ne1 0\n", 16, 10);
-    t = refused_case(t, b"p cnf 1 0\nx 1 0\n", 16, 10);
-    t = refused_case(t, b"p cnf 1 0\n\n", 16, 10);
-    t = refused_case(t, b"p cnf 1 1\n1\t0\n", 16, 10);
-    t = refused_case(t, b"p cnf 1 1\n1 0\r\n", 16, 10);
-    t = refused_case(t, b"p cnf 1 1\n1 0\n \n", 16, 14);
-    refused_case(t, b"p cnf 1 2\n1 0\ne 1 0\n1 0\n", 16, 14)
-}
-
-// A quantifier line and a clause line have one 0, at the end, and LF after it.
-fn close_cases(score: Score) -> Score {
-    let mut t = refused_case(score, b"p cnf 1 0\ne 1\n", 16, 10);
-    t = refused_case(t, b"p cnf 1 0\ne 1 0", 16, 10);
-    t = refused_case(t, b"p cnf 1 0\ne 0 1 0\n", 16, 10);
-    t = refused_case(t, b"p cnf 1 0\ne 00 1 0\n", 16, 10);
-    t = refused_case(t, b"p cnf 1 0\ne\n", 16, 10);
-    t = refused_case(t, b"p cnf 1 1\n1\n", 16, 10);
-    t = refused_case(t, b"p cnf 1 1\n1 0 1 0\n", 16, 10);
-    t = refused_case(t, b"p cnf 1 1\n1 000 0\n", 16, 10);
-    t = refused_case(t, b"p cnf 1 1\n1 0", 16, 10);
-    refused_case(t, b"p cnf 1 0\n1 0", 16, 10)
-}
-
-// Refusal 17, and 16 and 17 by the earliest line, 16 first at one line.
-fn order_cases(score: Score) -> Score {
-    let mut t = refused_case(score, b"p cnf 1 1\n", 17, 10);
-    t = refused_case(t, b"p cnf 1 99999\n", 17, 14);
-    t = refused_case(t, b"p cnf 1 3\n1 0\n1 0\n", 17, 18);
-    t = refused_case(t, b"p cnf 1 1\n1 0\n1 0\n", 17, 14);
-    t = refused_case(t, b"p cnf 1 0\n0\n", 17, 10);
-    t = refused_case(t, b"p cnf 1 0\n1 0\nx\n", 17, 10);
-    t = refused_case(t, b"p cnf 1 0\n1 x 0\n", 16, 10);
-    t = refused_case(t, b"p cnf 1 2\n1 0\nx\n", 16, 14);
-    refused_case(t, b"p cnf 1 0\nx\n1 0\n", 16, 10)
-}
-
 // Reads into the first rows of two tables.
 fn read_within(
     text: &[u8],
@@ -302,34 +98,274 @@ fn read_within(
     library::read(text, &mut prefix[0..entries], &mut clauses[0..count])
 }
 
-// A text that is refused for tables of so many rows, which stay.
-fn room_case(
-    score: Score,
-    text: &[u8],
-    entries: usize,
-    count: usize,
-    number: u32,
-    place: usize,
-) -> Score {
-    let mut prefix = [UNTOUCHED; 8];
-    let mut table = [UNREAD; 8];
-    let answer = read_within(text, &mut prefix, &mut table, entries, count);
-    score.count(refused(answer, number, place) && untouched(&prefix, 0) && unread(&table, 0))
+// How many rows two tables have that a text is read into.
+struct Room(usize, usize);
+
+// More rows than a short text needs.
+const WIDE: usize = 256;
+
+// Whether a text is read as these tables, and nothing is stored past them.
+fn reads_within(room: Room, text: &[u8], n: u32, prefix: &[u32], clauses: &[i32]) -> bool {
+    let mut entries = [UNTOUCHED; WIDE];
+    let mut table = [UNREAD; WIDE];
+    let answer = read_within(text, &mut entries, &mut table, room.0, room.1);
+    gave(answer, n, prefix.len(), clauses.len())
+        && holds_entries(&entries, prefix)
+        && holds_literals(&table, clauses)
+}
+
+// Whether a text is read into these tables.
+pub fn reads_as(text: &[u8], n: u32, prefix: &[u32], clauses: &[i32]) -> bool {
+    reads_within(Room(WIDE, WIDE), text, n, prefix, clauses)
+}
+
+// Whether a text is refused with a number at a place, and nothing is stored.
+fn refused_within(room: Room, text: &[u8], number: u32, place: u32) -> bool {
+    let mut entries = [UNTOUCHED; WIDE];
+    let mut table = [UNREAD; WIDE];
+    let answer = read_within(text, &mut entries, &mut table, room.0, room.1);
+    refused(answer, number, place as usize) && untouched(&entries, 0) && unread(&table, 0)
+}
+
+// Whether the text of a row is read as the tables of the row.
+fn reads_row(room: Room, row: &[u8], n: u32) -> bool {
+    let mut entries = [0u32; 16];
+    let mut table = [0i32; 16];
+    let prefix = fill_numbers(&mut entries, field(row, 1));
+    let clauses = fill_literals(&mut table, field(row, 2));
+    reads_within(
+        room,
+        field(row, 3),
+        n,
+        numbers(&entries, prefix),
+        literals(&table, clauses),
+    )
+}
+
+// A row of a sheet. A text that is read is written as `0 n;prefix;clauses;text`, one that is refused as `number place;text`.
+fn row_case(score: Score, room: Room, row: &[u8]) -> Score {
+    let told = field(row, 0);
+    let number = number_at(told, 0);
+    let second = number_at(told, 1);
+    if number == 0 {
+        return score.count(reads_row(room, row, second));
+    }
+    score.count(refused_within(room, field(row, 1), number, second))
+}
+
+// The cases of a sheet, read into tables of so many rows.
+fn cases_within(score: Score, room: Room, sheet: &[u8]) -> Score {
+    let rows = count_rows(sheet);
+    let mut t = score;
+    let mut i = 0;
+    while i < rows {
+        t = row_case(t, room, row(sheet, i));
+        i += 1;
+    }
+    t
+}
+
+// The cases of a sheet of short texts.
+fn cases(score: Score, sheet: &[u8]) -> Score {
+    cases_within(score, Room(WIDE, WIDE), sheet)
+}
+
+// Every case of reading.
+pub fn read_cases() -> Score {
+    let numbers = number_cases(Score::new());
+    let lines = line_cases(numbers);
+    let rooms = room_cases(lines);
+    let full = full_cases(rooms);
+    length_cases(full)
+}
+
+// The cases of numbers and their words.
+fn number_cases(score: Score) -> Score {
+    let texts = text_cases(score);
+    let digits = digit_cases(texts);
+    let padded = padded_cases(digits);
+    sign_cases(padded)
+}
+
+// The cases of lines that are refused.
+fn line_cases(score: Score) -> Score {
+    let opened = opening_cases(score);
+    let announced = problem_cases(opened);
+    let words = word_cases(announced);
+    let closed = close_cases(words);
+    order_cases(closed)
+}
+
+// Texts that are read: comments with any bytes, stray spaces, blocks and clauses with nothing in them, and what check would refuse.
+fn text_cases(score: Score) -> Score {
+    cases(
+        score,
+        b"\
+        0 0;;;p cnf 0 0\n|\
+        0 2;1 1 0 2 2 0;1 -2 0;c\nc any\tbytes\r\np cnf 2 1\ne 1 0\na 2 0\n1 -2 0\n|\
+        0 2;1 1 2 0;-1 2 0;  p  cnf   2 1 \n e 1  2 0 \n -1   2 0  \n|\
+        0 1;1 0 2 0;0;p cnf 1 1\ne 0\na 0\n0\n|\
+        0 1;1 9 9 0 1 9 0;9 -9 9 0 0;p cnf 1 2\ne 9 9 0\ne 9 0\n9 -9 9 0\n0\n",
+    )
+}
+
+// Numbers have one to five digits.
+fn digit_cases(score: Score) -> Score {
+    cases(
+        score,
+        b"\
+        0 99999;;99999 -99999 0;p cnf 99999 1\n99999 -99999 0\n|\
+        0 10;2 10 0;;p cnf 10 0\na 10 0\n|\
+        16  0;p cnf 100000 0\n|\
+        16  0;p cnf 1 100000\n|\
+        16 10;p cnf 1 1\n100000 0\n",
+    )
+}
+
+// Leading zeros count as digits and change no number: a number of zeros is 0, and closes a line. A sixth digit is refused also where it
+// is a leading zero.
+fn padded_cases(score: Score) -> Score {
+    cases(
+        score,
+        b"\
+        0 5;1 4 5 0;-4 5 0;p cnf 5 1\ne 0004 0005 0\n-0004 00005 000\n|\
+        0 9;;0 0 0 0 0;p cnf 0009 00005\n0\n00\n000\n0000\n00000\n|\
+        0 0;2 0;;p cnf 000 00\na 00\n|\
+        0 1;;-1 100 9090 0;p cnf 01 01\n-00001 00100 09090 00\n|\
+        16  0;p cnf 000009 5\n|\
+        16  0;p cnf 9 000005\n|\
+        16  0;p cnf 000000 0\n|\
+        16 10;p cnf 1 0\ne 000001 0\n|\
+        16 10;p cnf 1 0\ne 1 000000\n|\
+        16 10;p cnf 1 1\n000001 0\n|\
+        16 10;p cnf 1 1\n-000001 0\n|\
+        16 10;p cnf 1 1\n000000\n",
+    )
+}
+
+// Only a literal that is not 0 has a sign, and a number has nothing else.
+fn sign_cases(score: Score) -> Score {
+    cases(
+        score,
+        b"\
+        16  0;p cnf -1 0\n|\
+        16 10;p cnf 1 1\n-0\n|\
+        16 10;p cnf 1 1\n-000\n|\
+        16 10;p cnf 1 1\n1 -000 0\n|\
+        16 10;p cnf 1 1\n0-1 0\n|\
+        16  0;p cnf -01 0\n|\
+        16 10;p cnf 1 1\n--1 0\n|\
+        16 10;p cnf 1 1\n+1 0\n|\
+        16 10;p cnf 1 1\n- 1 0\n|\
+        16 10;p cnf 1 1\n1a 0\n|\
+        16 10;p cnf 1 0\ne -1 0\n|\
+        16 10;p cnf 1 0\ne -01 0\n",
+    )
+}
+
+// The lines up to the problem line; where there is none, the place is the length of the text.
+fn opening_cases(score: Score) -> Score {
+    cases(
+        score,
+        b"\
+        16 0;|\
+        16 0;\n|\
+        16 7;c only\n|\
+        16 0;c only|\
+        16 0; c\np cnf 1 0\n|\
+        16 2;c\n\np cnf 1 0\n|\
+        16 2;c\n1 0\np cnf 1 1\n",
+    )
+}
+
+// The problem line, what ends it, and what may not follow it.
+fn problem_cases(score: Score) -> Score {
+    cases(
+        score,
+        b"\
+        16  0;p cnf 1 0|\
+        16  0;p cnf 1\n|\
+        16  0;p cnf 1 0 0\n|\
+        16  0;p dnf 1 0\n|\
+        16  0;pcnf 1 0\n|\
+        16  0;p\tcnf 1 0\n|\
+        16  0;p cnf 1 0\r\n|\
+        16 10;p cnf 1 0\nc\n|\
+        16 10;p cnf 1 0\np cnf 1 0\n",
+    )
+}
+
+// Words of quantifier lines and clause lines, and lines that are blank.
+fn word_cases(score: Score) -> Score {
+    cases(
+        score,
+        b"\
+        16 10;p cnf 1 0\ne1 0\n|\
+        16 10;p cnf 1 0\nx 1 0\n|\
+        16 10;p cnf 1 0\n\n|\
+        16 10;p cnf 1 1\n1\t0\n|\
+        16 10;p cnf 1 1\n1 0\r\n|\
+        16 14;p cnf 1 1\n1 0\n \n|\
+        16 14;p cnf 1 2\n1 0\ne 1 0\n1 0\n",
+    )
+}
+
+// A quantifier line and a clause line have one 0, at the end, and LF after it.
+fn close_cases(score: Score) -> Score {
+    cases(
+        score,
+        b"\
+        16 10;p cnf 1 0\ne 1\n|\
+        16 10;p cnf 1 0\ne 1 0|\
+        16 10;p cnf 1 0\ne 0 1 0\n|\
+        16 10;p cnf 1 0\ne 00 1 0\n|\
+        16 10;p cnf 1 0\ne\n|\
+        16 10;p cnf 1 1\n1\n|\
+        16 10;p cnf 1 1\n1 0 1 0\n|\
+        16 10;p cnf 1 1\n1 000 0\n|\
+        16 10;p cnf 1 1\n1 0|\
+        16 10;p cnf 1 0\n1 0",
+    )
+}
+
+// Refusal 17, and 16 and 17 by the earliest line, 16 first at one line.
+fn order_cases(score: Score) -> Score {
+    cases(
+        score,
+        b"\
+        17 10;p cnf 1 1\n|\
+        17 14;p cnf 1 99999\n|\
+        17 18;p cnf 1 3\n1 0\n1 0\n|\
+        17 14;p cnf 1 1\n1 0\n1 0\n|\
+        17 10;p cnf 1 0\n0\n|\
+        17 10;p cnf 1 0\n1 0\nx\n|\
+        16 10;p cnf 1 0\n1 x 0\n|\
+        16 14;p cnf 1 2\n1 0\nx\n|\
+        16 10;p cnf 1 0\nx\n1 0\n",
+    )
 }
 
 // Refusal 14: tables that have a row for each entry, and tables that lack one; it comes last.
 fn room_cases(score: Score) -> Score {
-    let mut prefix = [UNTOUCHED; 8];
-    let mut table = [UNREAD; 8];
-    let answer = read_within(b"p cnf 2 1\ne 1 0\n1 -2 0\n", &mut prefix, &mut table, 3, 3);
-    let read = gave(answer, 2, 3, 3)
-        && holds_entries(&prefix, &[1, 1, 0])
-        && holds_literals(&table, &[1, -2, 0]);
-    let mut t = score.count(read);
-    t = room_case(t, b"p cnf 2 1\ne 1 0\n1 -2 0\n", 2, 3, 14, 0);
-    t = room_case(t, b"p cnf 2 1\ne 1 0\n1 -2 0\n", 3, 2, 14, 0);
-    t = room_case(t, b"p cnf 2 1\ne 1 0\n1 -2 0\nx\n", 2, 3, 16, 23);
-    room_case(t, b"p cnf 2 2\ne 1 0\n1 -2 0\n", 3, 2, 17, 23)
+    let mut t = cases_within(
+        score,
+        Room(3, 3),
+        b"0 2;1 1 0;1 -2 0;p cnf 2 1\ne 1 0\n1 -2 0\n",
+    );
+    t = cases_within(
+        t,
+        Room(2, 3),
+        b"\
+        14  0;p cnf 2 1\ne 1 0\n1 -2 0\n|\
+        16 23;p cnf 2 1\ne 1 0\n1 -2 0\nx\n",
+    );
+    cases_within(
+        t,
+        Room(3, 2),
+        b"\
+        14  0;p cnf 2 1\ne 1 0\n1 -2 0\n|\
+        17 23;p cnf 2 2\ne 1 0\n1 -2 0\n",
+    )
 }
 
 // The entry of a line of ones at a place of a text.
@@ -346,47 +382,46 @@ fn fill_ones(text: &mut [u8]) {
     }
 }
 
-// Whether a text is refused as 14 by tables with a row for each entry that check allows.
-fn too_long(text: &[u8]) -> bool {
+// Whether a text is read or refused as the numbers of a row say, by tables with a row for each entry that check allows.
+fn long_says(text: &[u8], told: &[u8], stored: &[u8]) -> bool {
     let mut prefix = [UNTOUCHED; 8192];
     let mut table = [UNREAD; 16384];
     let answer = library::read(text, &mut prefix, &mut table);
-    refused(answer, 14, 0) && untouched(&prefix, 0) && unread(&table, 0)
+    let entries = number_at(stored, 0) as usize;
+    let count = number_at(stored, 1) as usize;
+    let number = number_at(told, 0);
+    let second = number_at(told, 1);
+    let right = if number == 0 {
+        gave(answer, second, entries, count)
+    } else {
+        refused(answer, number, second as usize)
+    };
+    right && untouched(&prefix, entries) && unread(&table, count)
 }
 
-// Whether a text fills such tables with so many entries.
-fn just_fits(text: &[u8], entries: usize, count: usize) -> bool {
-    let mut prefix = [UNTOUCHED; 8192];
-    let mut table = [UNREAD; 16384];
-    let answer = library::read(text, &mut prefix, &mut table);
-    gave(answer, 1, entries, count) && untouched(&prefix, entries) && unread(&table, count)
+// A text of ones, in which one text stands at the front and one at a place with nothing after it. The row is `0 n` or
+// `number place`; how many entries of each table are stored; the two texts, and the place of the second.
+fn long_case(score: Score, row: &[u8]) -> Score {
+    let mut text = [0u8; 65537];
+    fill_ones(&mut text);
+    put_text(&mut text, 0, field(row, 2));
+    let place = number_at(field(row, 4), 0);
+    let length = put_text(&mut text, place as usize, field(row, 3));
+    score.count(long_says(bytes(&text, length), field(row, 0), field(row, 1)))
 }
 
 // 8,192 entries of a prefix and 16,384 of a clause table fit, and one more of either does not.
 fn full_cases(score: Score) -> Score {
-    let mut text = [0u8; 32780];
-    fill_ones(&mut text);
-    put_text(&mut text, 0, b"p cnf 1 1\n");
-    put_text(&mut text, 32778, b"0\n");
-    let mut t = score.count(too_long(&text));
-    put_text(&mut text, 32776, b"0\n");
-    t = t.count(just_fits(bytes(&text, 32778), 0, 16384));
-    put_text(&mut text, 0, b"p cnf 1 0\ne ");
-    put_text(&mut text, 16394, b"0\n");
-    t = t.count(too_long(bytes(&text, 16396)));
-    put_text(&mut text, 16392, b"0\n");
-    t.count(just_fits(bytes(&text, 16394), 8192, 0))
+    let mut t = long_case(score, b"14 0;0 0;p cnf 1 1\n;0\n;32778");
+    t = long_case(t, b"0 1;0 16384;p cnf 1 1\n;0\n;32776");
+    t = long_case(t, b"14 0;0 0;p cnf 1 0\ne ;0\n;16394");
+    long_case(t, b"0 1;8192 0;p cnf 1 0\ne ;0\n;16392")
 }
 
 // Refusal 15: a text of 65,536 bytes is read, and one more is not, whatever it says.
 fn length_cases(score: Score) -> Score {
-    let entries = [0u32; 1];
-    let table = [0i32; 1];
-    let mut text = [b'c'; 65537];
-    let mut t = refused_case(score, &text, 15, 65536);
-    t = refused_case(t, bytes(&text, 65536), 16, 0);
-    put_text(&mut text, 65525, b"\np cnf 0 0\n");
-    t = read_case(t, bytes(&text, 65536), 0, &entries[0..0], &table[0..0]);
-    put_text(&mut text, 65526, b"\np cnf 0 0\n");
-    refused_case(t, &text, 15, 65536)
+    let mut t = long_case(score, b"15 65536;0 0;c;;65537");
+    t = long_case(t, b"16 0;0 0;c;;65536");
+    t = long_case(t, b"0 0;0 0;c;\np cnf 0 0\n;65525");
+    long_case(t, b"15 65536;0 0;c;\np cnf 0 0\n;65526")
 }

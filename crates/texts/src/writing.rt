@@ -3,7 +3,15 @@
 use crate::reading::reads_as;
 use qdimacs::Output;
 use samples::parts::bytes;
+use samples::parts::literals;
+use samples::parts::numbers;
 use samples::parts::put_literal;
+use samples::sheets::count_rows;
+use samples::sheets::field;
+use samples::sheets::fill_literals;
+use samples::sheets::fill_numbers;
+use samples::sheets::number_at;
+use samples::sheets::row;
 use samples::spelling::spell;
 use score::Score;
 use score::library;
@@ -71,16 +79,12 @@ fn write_within(n: u32, prefix: &[u32], clauses: &[i32], text: &mut [u8], room: 
     library::write(n, prefix, clauses, &mut text[0..room])
 }
 
-// A text that is written, into an output with just enough room, with nothing after it.
-fn text_case(score: Score, n: u32, prefix: &[u32], clauses: &[i32], expected: &[u8]) -> Score {
+// Whether a text is written into an output with just enough room, with nothing after it.
+fn writes(n: u32, prefix: &[u32], clauses: &[i32], expected: &[u8]) -> bool {
     let mut text = [UNWRITTEN; 128];
     let count = expected.len();
     let answer = write_within(n, prefix, clauses, &mut text, count);
-    score.count(
-        wrote(answer, count)
-            && same_bytes(bytes(&text, count), expected)
-            && unwritten(&text, count),
-    )
+    wrote(answer, count) && same_bytes(bytes(&text, count), expected) && unwritten(&text, count)
 }
 
 // A call that refuses for an output of so many bytes, which stays.
@@ -98,36 +102,73 @@ fn refused_case(
     score.count(refused(answer, number, place) && unwritten(&text, 0))
 }
 
+// A case of a row whose tables are read. `told` is 0 and n, or number, place, n and how many bytes the output has.
+fn table_case(score: Score, told: &[u8], prefix: &[u32], clauses: &[i32], text: &[u8]) -> Score {
+    let number = number_at(told, 0);
+    if number == 0 {
+        return score.count(writes(number_at(told, 1), prefix, clauses, text));
+    }
+    let place = number_at(told, 1);
+    let n = number_at(told, 2);
+    let room = number_at(told, 3);
+    refused_case(
+        score,
+        n,
+        prefix,
+        clauses,
+        room as usize,
+        number,
+        place as usize,
+    )
+}
+
+// A row of a sheet. Tables that are written are `0 n;prefix;clauses;text`, others `number place n room;prefix;clauses`.
+fn row_case(score: Score, row: &[u8]) -> Score {
+    let mut entries = [0u32; 16];
+    let mut table = [0i32; 16];
+    let prefix = fill_numbers(&mut entries, field(row, 1));
+    let clauses = fill_literals(&mut table, field(row, 2));
+    table_case(
+        score,
+        field(row, 0),
+        numbers(&entries, prefix),
+        literals(&table, clauses),
+        field(row, 3),
+    )
+}
+
+// The cases of a sheet.
+fn cases(score: Score, sheet: &[u8]) -> Score {
+    let rows = count_rows(sheet);
+    let mut t = score;
+    let mut i = 0;
+    while i < rows {
+        t = row_case(t, row(sheet, i));
+        i += 1;
+    }
+    t
+}
+
 // Every case of writing.
 pub fn write_cases() -> Score {
-    let first = text_cases(Score::new());
-    let second = limit_cases(first);
-    let third = order_cases(second);
-    length_cases(third)
+    let texts = text_cases(Score::new());
+    let limits = limit_cases(texts);
+    let orders = order_cases(limits);
+    length_cases(orders)
 }
 
 // Texts that are written, and refusal 14 for an output that lacks one byte.
 fn text_cases(score: Score) -> Score {
-    let none = [0u32; 1];
-    let closed = [0i32; 1];
-    let mut t = text_case(score, 0, &none[0..0], &closed[0..0], b"p cnf 0 0\n");
-    t = text_case(
-        t,
-        4096,
-        &[2, 4096, 0],
-        &[-4096, 4096, 0, 0],
-        b"p cnf 4096 2\na 4096 0\n-4096 4096 0\n0\n",
-    );
-    t = text_case(
-        t,
-        3,
-        &[1, 1, 0, 2, 2, 3, 0],
-        &[1, -2, 0],
-        b"p cnf 3 1\ne 1 0\na 2 3 0\n1 -2 0\n",
-    );
-    t = refused_case(t, 3, &[1, 1, 0, 2, 2, 3, 0], &[1, -2, 0], 30, 14, 0);
-    t = refused_case(t, 3, &[1, 1, 0, 2, 2, 3, 0], &[1, -2, 0], 0, 14, 0);
-    refused_case(t, 0, &none[0..0], &closed[0..0], 9, 14, 0)
+    cases(
+        score,
+        b"\
+        0 0;;;p cnf 0 0\n|\
+        0 4096;2 4096 0;-4096 4096 0 0;p cnf 4096 2\na 4096 0\n-4096 4096 0\n0\n|\
+        0 3;1 1 0 2 2 3 0;1 -2 0;p cnf 3 1\ne 1 0\na 2 3 0\n1 -2 0\n|\
+        14 0 3 30;1 1 0 2 2 3 0;1 -2 0|\
+        14 0 3  0;1 1 0 2 2 3 0;1 -2 0|\
+        14 0 0  9;;",
+    )
 }
 
 // Refusals 1 and 2, which come first, and a clause table at its limit.
@@ -143,42 +184,39 @@ fn limit_cases(score: Score) -> Score {
 
 // The refusals of entries, which come before 14 too.
 fn order_cases(score: Score) -> Score {
-    let mut t = refused_case(score, 9, &[1], &[10], 0, 3, 1);
-    t = refused_case(t, 9, &[1, 1, 1, 0], &[10], 0, 8, 2);
-    t = refused_case(t, 9, &[1, 1, 0], &[1, -10], 0, 10, 1);
-    t = refused_case(t, 9, &[1, 1, 0], &[1, -2147483648, 0], 0, 10, 1);
-    refused_case(t, 9, &[1, 1, 0], &[1, 0, 1], 0, 11, 3)
+    cases(
+        score,
+        b"\
+         3 1 9 0;1;10|\
+         8 2 9 0;1 1 1 0;10|\
+        10 1 9 0;1 1 0;1 -10|\
+        10 1 9 0;1 1 0;1 -2147483648 0|\
+        11 3 9 0;1 1 0;1 0 1",
+    )
 }
 
-// Refusal 15: a text of 65,536 bytes is written, and one more is not, whatever room there is. 13,104 literals take five bytes each.
-fn length_cases(score: Score) -> Score {
+// A clause of 13,105 literals, of which the last is told and all others take five bytes each, written into an output of so many bytes.
+// Either all of 65,536 bytes are written, or the call refuses with a number at a place, and the output stays.
+fn long_case(score: Score, n: u32, last: i32, room: usize, number: u32, place: usize) -> Score {
     let none = [0u32; 1];
     let mut table = [-999i32; 13106];
-    put_literal(&mut table, 13104, 9);
+    put_literal(&mut table, 13104, last);
     put_literal(&mut table, 13105, 0);
-    let most = most_cases(score, &table);
-    put_literal(&mut table, 13104, 10);
-    let over = most.count(over_long(&table));
-    let t = refused_case(over, 999, &none[0..0], &table, 0, 15, 65536);
-    refused_case(t, 998, &none[0..0], &table, 0, 10, 0)
+    let mut text = [UNWRITTEN; 65537];
+    let answer = write_within(n, &none[0..0], &table, &mut text, room);
+    if number == 0 {
+        return score.count(wrote(answer, 65536) && unwritten(&text, 65536));
+    }
+    score.count(refused(answer, number, place) && unwritten(&text, 0))
 }
 
-// A text of 65,536 bytes, and an output that lacks one byte.
-fn most_cases(score: Score, table: &[i32]) -> Score {
-    let none = [0u32; 1];
-    let mut text = [UNWRITTEN; 65537];
-    let short = write_within(999, &none[0..0], table, &mut text, 65535);
-    let first = score.count(refused(short, 14, 0) && unwritten(&text, 0));
-    let whole = write_within(999, &none[0..0], table, &mut text, 65536);
-    first.count(wrote(whole, 65536) && unwritten(&text, 65536))
-}
-
-// Whether the text of a table is refused as too long where the output has room for it.
-fn over_long(table: &[i32]) -> bool {
-    let none = [0u32; 1];
-    let mut text = [UNWRITTEN; 65537];
-    let answer = library::write(999, &none[0..0], table, &mut text);
-    refused(answer, 15, 65536) && unwritten(&text, 0)
+// Refusal 15: a text of 65,536 bytes is written, and one more is not, whatever room there is.
+fn length_cases(score: Score) -> Score {
+    let mut t = long_case(score, 999, 9, 65535, 14, 0);
+    t = long_case(t, 999, 9, 65536, 0, 0);
+    t = long_case(t, 999, 10, 65537, 15, 65536);
+    t = long_case(t, 999, 10, 0, 15, 65536);
+    long_case(t, 998, 10, 0, 10, 0)
 }
 
 // A generated formula: its text is the one that is spelt out, and is read back into the same tables.
