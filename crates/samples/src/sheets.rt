@@ -139,3 +139,9 @@ pub fn number_at(field: &[u8], at: usize) -> u32 {
     fill_numbers(&mut numbers, field);
     if at < 8 { numbers[at] } else { 0 }
 }
+
+// The length of a table in which so many entries are written out: so many, or more where a row says that 0 follows up to a length.
+pub fn padded(count: usize, length: u32) -> usize {
+    let most = length as usize;
+    if count < most { most } else { count }
+}

@@ -11,6 +11,7 @@ use samples::sheets::field;
 use samples::sheets::fill_literals;
 use samples::sheets::fill_numbers;
 use samples::sheets::number_at;
+use samples::sheets::padded;
 use samples::sheets::row;
 use samples::spelling::spell;
 use score::Score;
@@ -19,14 +20,14 @@ use score::library;
 // What stands in every byte of the output before the call.
 const UNWRITTEN: u8 = 255;
 
-// Whether a call answers a count of bytes.
-fn wrote(answer: Output, count: usize) -> bool {
+// How many bytes a call answers; 0, which no text has, where it refuses.
+fn written(answer: Output) -> usize {
     match answer {
-        Output::Written { count: given } => given == count,
+        Output::Written { count } => count,
         Output::Refused {
             number: _,
             place: _,
-        } => false,
+        } => 0,
     }
 }
 
@@ -84,22 +85,14 @@ fn writes(n: u32, prefix: &[u32], clauses: &[i32], expected: &[u8]) -> bool {
     let mut text = [UNWRITTEN; 128];
     let count = expected.len();
     let answer = write_within(n, prefix, clauses, &mut text, count);
-    wrote(answer, count) && same_bytes(bytes(&text, count), expected) && unwritten(&text, count)
+    written(answer) == count && same_bytes(bytes(&text, count), expected) && unwritten(&text, count)
 }
 
-// A call that refuses for an output of so many bytes, which stays.
-fn refused_case(
-    score: Score,
-    n: u32,
-    prefix: &[u32],
-    clauses: &[i32],
-    room: usize,
-    number: u32,
-    place: usize,
-) -> Score {
+// Whether a call refuses for an output of so many bytes, which stays.
+fn refuses(n: u32, prefix: &[u32], clauses: &[i32], room: u32, number: u32, place: u32) -> bool {
     let mut text = [UNWRITTEN; 128];
-    let answer = write_within(n, prefix, clauses, &mut text, room);
-    score.count(refused(answer, number, place) && unwritten(&text, 0))
+    let answer = write_within(n, prefix, clauses, &mut text, room as usize);
+    refused(answer, number, place as usize) && unwritten(&text, 0)
 }
 
 // A case of a row whose tables are read. `told` is 0 and n, or number, place, n and how many bytes the output has.
@@ -111,28 +104,22 @@ fn table_case(score: Score, told: &[u8], prefix: &[u32], clauses: &[i32], text: 
     let place = number_at(told, 1);
     let n = number_at(told, 2);
     let room = number_at(told, 3);
-    refused_case(
-        score,
-        n,
-        prefix,
-        clauses,
-        room as usize,
-        number,
-        place as usize,
-    )
+    score.count(refuses(n, prefix, clauses, room, number, place))
 }
 
-// A row of a sheet. Tables that are written are `0 n;prefix;clauses;text`, others `number place n room;prefix;clauses`.
+// A row of a sheet. Tables that are written are `0 n;prefix;clauses;text`, others `number place n room;prefix;clauses`, with the lengths
+// of the two tables after the room where 0 follows up to them.
 fn row_case(score: Score, row: &[u8]) -> Score {
-    let mut entries = [0u32; 16];
-    let mut table = [0i32; 16];
+    let told = field(row, 0);
+    let mut entries = [0u32; 8193];
+    let mut table = [0i32; 16385];
     let prefix = fill_numbers(&mut entries, field(row, 1));
     let clauses = fill_literals(&mut table, field(row, 2));
     table_case(
         score,
-        field(row, 0),
-        numbers(&entries, prefix),
-        literals(&table, clauses),
+        told,
+        numbers(&entries, padded(prefix, number_at(told, 4))),
+        literals(&table, padded(clauses, number_at(told, 5))),
         field(row, 3),
     )
 }
@@ -173,13 +160,15 @@ fn text_cases(score: Score) -> Score {
 
 // Refusals 1 and 2, which come first, and a clause table at its limit.
 fn limit_cases(score: Score) -> Score {
-    let long = [0u32; 8193];
-    let closed = [0i32; 16385];
-    let mut t = refused_case(score, 4097, &long, &closed, 0, 1, 0);
-    t = refused_case(t, 9, &long, &[10], 0, 2, 0);
-    t = refused_case(t, 9, &long[0..8192], &[10], 0, 4, 0);
-    t = refused_case(t, 9, &[1], &closed, 0, 2, 0);
-    refused_case(t, 9, &[1, 1, 0], &closed[0..16384], 0, 14, 0)
+    cases(
+        score,
+        b"\
+         1 0 4097 0 8193 16385;;|\
+         2 0 9 0 8193;;10|\
+         4 0 9 0 8192;;10|\
+         2 0 9 0 0 16385;1;|\
+        14 0 9 0 0 16384;1 1 0;",
+    )
 }
 
 // The refusals of entries, which come before 14 too.
@@ -195,19 +184,24 @@ fn order_cases(score: Score) -> Score {
     )
 }
 
-// A clause of 13,105 literals, of which the last is told and all others take five bytes each, written into an output of so many bytes.
-// Either all of 65,536 bytes are written, or the call refuses with a number at a place, and the output stays.
-fn long_case(score: Score, n: u32, last: i32, room: usize, number: u32, place: usize) -> Score {
+// Whether a call that writes a long text into an output of so many bytes either writes all of 65,536, or refuses with a number at a place
+// and the output stays.
+fn long_says(n: u32, table: &[i32], room: usize, number: u32, place: usize) -> bool {
     let none = [0u32; 1];
+    let mut text = [UNWRITTEN; 65537];
+    let answer = write_within(n, &none[0..0], table, &mut text, room);
+    if number == 0 {
+        return written(answer) == 65536 && unwritten(&text, 65536);
+    }
+    refused(answer, number, place) && unwritten(&text, 0)
+}
+
+// A clause of 13,105 literals, of which the last is told and all others take five bytes each.
+fn long_case(score: Score, n: u32, last: i32, room: usize, number: u32, place: usize) -> Score {
     let mut table = [-999i32; 13106];
     put_literal(&mut table, 13104, last);
     put_literal(&mut table, 13105, 0);
-    let mut text = [UNWRITTEN; 65537];
-    let answer = write_within(n, &none[0..0], &table, &mut text, room);
-    if number == 0 {
-        return score.count(wrote(answer, 65536) && unwritten(&text, 65536));
-    }
-    score.count(refused(answer, number, place) && unwritten(&text, 0))
+    score.count(long_says(n, &table, room, number, place))
 }
 
 // Refusal 15: a text of 65,536 bytes is written, and one more is not, whatever room there is.
@@ -219,12 +213,16 @@ fn length_cases(score: Score) -> Score {
     long_case(t, 998, 10, 0, 10, 0)
 }
 
+// Whether a text, and the count that was answered with it, are those that are spelt out.
+fn is_spelt(text: &[u8], count: usize, n: u32, prefix: &[u32], clauses: &[i32]) -> bool {
+    let mut expected = [UNWRITTEN; 2048];
+    spell(&mut expected, n, prefix, clauses) == count && same_bytes(text, &expected)
+}
+
 // A generated formula: its text is the one that is spelt out, and is read back into the same tables.
 pub fn trip_cases(score: Score, n: u32, prefix: &[u32], clauses: &[i32]) -> Score {
-    let mut expected = [UNWRITTEN; 2048];
     let mut text = [UNWRITTEN; 2048];
-    let count = spell(&mut expected, n, prefix, clauses);
-    let answer = library::write(n, prefix, clauses, &mut text);
-    let t = score.count(wrote(answer, count) && same_bytes(&text, &expected));
+    let count = written(library::write(n, prefix, clauses, &mut text));
+    let t = score.count(is_spelt(&text, count, n, prefix, clauses));
     t.count(reads_as(bytes(&text, count), n, prefix, clauses))
 }
