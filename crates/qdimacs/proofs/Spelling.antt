@@ -1,14 +1,20 @@
 -- The laws of a word that is looked for: by its length and by its bytes.
 use Prim.Native.Nat.{ℕ, suc, _+_, _-_, _<_}
-use mathlib.Core.Path.{_≡_, sym, ap, _∙_}
+use mathlib.Core.Path.{_≡_, refl, sym, ap, _∙_}
+use mathlib.Core.Bool.{Bool, true, false, cond}
 use mathlib.Core.List.{List, [], _∷_}
+use native.Mathlib.Nat.{add-zero}
 use native.Mathlib.Omega.{arith}
+use lib.Dec.{ltb}
 use lib.ListN.{length, getD, take}
 use lib.Seq.{slice, slice-empty, slice-cons, length-slice, getD-drop, getD-take}
 use Rattle.qdimacs.specs.declared.Spelt.the-variants.{Missing}
-use Rattle.qdimacs.specs.Places.{wordsAt}
-use Rattle.qdimacs.specs.Steps.{Goes, SpeltIs}
-use Rattle.qdimacs.proofs.Lines.{FoundIs, EndIs}
+use Rattle.qdimacs.specs.declared.Mark.the-variants.{Unmarked}
+use Rattle.qdimacs.specs.declared.Word.the-variants.{Found, End}
+use Rattle.qdimacs.specs.Places.{wordsAt, past, isSpace, inWord, wordAt, wordFrom}
+use Rattle.qdimacs.specs.Words.{LETTER-A, LETTER-E}
+use Rattle.qdimacs.specs.Steps.{Goes, SpeltIs, MarkIs}
+use Rattle.qdimacs.proofs.Lines.{FoundIs, EndIs, found-of, end-of}
 
 -- no word is left
 pub spelt-end : {text : List ℕ} {at stop : ℕ} → EndIs text at stop → (word : List ℕ) (more : List (List ℕ)) → wordsAt text at ≡ word ∷ more → ⊥
@@ -61,3 +67,27 @@ module _ {text : List ℕ} {at start end : ℕ} (found : FoundIs text at start e
       ∙ ap (λ (x : ℕ). x ∷ getD text (suc start) 0 ∷ getD text (suc (suc start)) 0 ∷ []) first
       ∙ ap (λ (x : ℕ). a ∷ x ∷ getD text (suc (suc start)) 0 ∷ []) (ap (λ (k : ℕ). getD text k 0) (sym one) ∙ second)
       ∙ ap (λ (x : ℕ). a ∷ b ∷ x ∷ []) (ap (λ (k : ℕ). getD text k 0) (sym two) ∙ third)
+
+-- the first byte but spaces is another
+pub spelt-unlike : (text : List ℕ) (at letter : ℕ) → (getD text (past isSpace text at) 0 ≡ letter → ⊥) → SpeltIs (letter ∷ []) text at Missing
+unfolding wordAt wordFrom
+spelt-unlike text at letter differs = go (ltb start stop) refl
+  where
+    start : ℕ
+    start = past isSpace text at
+
+    stop : ℕ
+    stop = past inWord text start
+
+    go : (t : Bool) → ltb start stop ≡ t → SpeltIs (letter ∷ []) text at Missing
+    go true is =
+        let f = found-of text at start stop (ap (λ (t : Bool). cond t (Found start stop) (End start)) is) in
+        spelt-other f (letter ∷ []) 0 (let more = f .some in omega arith) (λ e. differs (sym (ap (λ (n : ℕ). getD text n 0) (add-zero start)) ∙ e))
+    go false is = spelt-end (end-of text at start (ap (λ (t : Bool). cond t (Found start stop) (End start)) is)) (letter ∷ [])
+
+-- it is neither mark
+pub unmarked : (text : List ℕ) (at start : ℕ) → start ≡ past isSpace text at → (getD text start 0 ≡ LETTER-E → ⊥) → (getD text start 0 ≡ LETTER-A → ⊥) → MarkIs text at Unmarked
+unmarked text at start is no-e no-a = (spelt-unlike text at LETTER-E (λ e. no-e (read ∙ e)), spelt-unlike text at LETTER-A (λ e. no-a (read ∙ e)))
+  where
+    read : getD text start 0 ≡ getD text (past isSpace text at) 0
+    read = ap (λ (n : ℕ). getD text n 0) is

@@ -10,8 +10,12 @@ use crate::Step;
 use crate::expected::letter_at;
 use crate::tables::block_at;
 use crate::tables::literals_at;
+use crate::words::gap_end;
+ghost use mathlib.Core.Path.{_≡_};
+ghost use mathlib.Core.Bool.{false};
 ghost use Prim.Native.Nat.{_<_, _≤_};
 ghost use lib.ListN.{length};
+ghost use Rattle.qdimacs.specs.declared.Mark.the-variants.{Unmarked};
 ghost use Rattle.qdimacs.specs.Steps.{MarkIs, StepIs};
 
 // A line after the problem line: a quantifier line if no clause line has stood, or a clause line if not all that were announced have.
@@ -69,8 +73,36 @@ pub fn body_at(
     }
 }
 
-// Whether a line begins with `e` or `a`.
+// Whether a line begins with `e` or `a`. Nearly all lines are clause lines, which one byte tells.
 fn mark_at(text: &[u8], at: usize) -> Mark
+    ensures { λ r. ⌜ MarkIs (now (text .entry)) at r ⌝ }
+{
+    if !may_be_mark(text, at) {
+        return Mark::Unmarked;
+    }
+    spelt_mark(text, at)
+}
+
+// Whether the first byte of a line but spaces is `e` or `a`.
+fn may_be_mark(text: &[u8], at: usize) -> bool
+    ensures { λ r. ⌜ (r ≡ false → MarkIs (now (text .entry)) at Unmarked) ⌝ }
+{
+    let start = gap_end(text, at);
+    if text.len() <= start {
+        return false;
+    }
+    let byte = text[start];
+    if byte == LETTER_E {
+        return true;
+    }
+    if byte == LETTER_A {
+        return true;
+    }
+    false
+}
+
+// Whether the first word of a line is `e` or `a`.
+fn spelt_mark(text: &[u8], at: usize) -> Mark
     ensures { λ r. ⌜ MarkIs (now (text .entry)) at r ⌝ }
 {
     match letter_at(text, at, LETTER_E) {

@@ -54,7 +54,7 @@ fn word_at(text: &[u8], at: usize) -> Word
 }
 
 // The place after the spaces that stand at a place.
-fn gap_end(text: &[u8], at: usize) -> usize
+pub fn gap_end(text: &[u8], at: usize) -> usize
     ensures { λ r. ⌜ r ≡ past isSpace (now (text .entry)) at ⌝ }
 {
     let mut i = at;

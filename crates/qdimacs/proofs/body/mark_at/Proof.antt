@@ -1,53 +1,20 @@
 -- `qdimacs::body::mark_at` meets its contract.
-use mathlib.Core.Path.{refl, subst}
-use mathlib.Core.List.{[], _∷_}
-use Rattle.qdimacs.specs.declared.Spelt.{Spelt}
-use Rattle.qdimacs.specs.Words.{LETTER-A, LETTER-E}
-use Rattle.qdimacs.specs.Steps.{SpeltIs, e-mark, a-mark}
 use borrow.Author.Needs.{needs}
+use borrow.Author.Tests.{not-true}
 use Rattle.qdimacs.proofs.body.mark_at.Statement.{statement}
 use Rattle.qdimacs.proofs.body.mark_at.Tie as tie
 
-letter-at-requires : tie.Need-letter-at-requires
-letter-at-requires c κs = search needs
-
-enum-known-next : tie.Need-enum-known-next
-enum-known-next c = search needs
-
-enum-told : tie.Need-enum-told
-enum-told c = search needs
-
-letter-at-requires-2 : tie.Need-letter-at-requires-2
-letter-at-requires-2 c κs = search needs
-
-enum-known-next-2 : tie.Need-enum-known-next-2
-enum-known-next-2 c = search needs
-
-enum-told-2 : tie.Need-enum-told-2
-enum-told-2 c = search needs
+may-be-mark-requires : tie.Need-may-be-mark-requires
+may-be-mark-requires c κs = search needs
 
 returns : tie.Need-returns
-returns c = e-mark refl (subst (λ (r : Spelt). SpeltIs (LETTER-E ∷ []) (c .before .before .before .before .before .args .text .now) (c .before .before .before .before .before .args .at) r) (c .before .next .given .1) (c .before .before .before .letter-at .ensures))
+returns c = c .before .may-be-mark .ensures (not-true (c .before .may-be-mark .result) (c .if1 .taken))
+
+spelt-mark-requires : tie.Need-spelt-mark-requires
+spelt-mark-requires c κs = search needs
 
 returns-2 : tie.Need-returns-2
-returns-2 c = a-mark refl (subst (λ (r : Spelt). SpeltIs (LETTER-A ∷ []) (c .before .before .before .before .before .before .before .before .args .text .now) (c .before .before .before .before .before .before .before .before .args .at) r) (c .before .next2 .given .1) (c .before .before .before .letter-at2 .ensures))
-
-returns-3 : tie.Need-returns-3
-returns-3 c = (
-  subst (λ (r : Spelt). SpeltIs (LETTER-E ∷ []) (c .before .before .before .before .before .before .before .args .text .now) (c .before .before .before .before .before .before .before .args .at) r) (c .before .before .before .enum-told .given .1) (c .before .before .before .before .before .letter-at .ensures),
-  subst (λ (r : Spelt). SpeltIs (LETTER-A ∷ []) (c .before .before .before .before .before .before .before .args .text .now) (c .before .before .before .before .before .before .before .args .at) r) (c .enum-told2 .given .1) (c .before .before .letter-at2 .ensures),
-)
+returns-2 c = search needs
 
 pub mark-at-spec : {M : Type 1} → statement M
-mark-at-spec =
-    tie.close
-    (tie.spec
-    letter-at-requires
-    enum-known-next
-    enum-told
-    letter-at-requires-2
-    enum-known-next-2
-    enum-told-2
-    returns
-    returns-2
-    returns-3)
+mark-at-spec = tie.close (tie.spec may-be-mark-requires returns spelt-mark-requires returns-2)
