@@ -14,10 +14,10 @@
 #include "system.h"
 
 /* What is timed, in the order of the columns. */
-enum work { CHECK, READ, BUILD, READ_BUILD, ADD, SET, SETS, WRITE, LISTING, DEPQBF_READ, DEPQBF_SETS, WORKS };
+enum work { CHECK, READ, BUILD, READ_BUILD, ADD, SET, SIZE, SETS, WRITE, LISTING, DEPQBF_READ, DEPQBF_SETS, WORKS };
 
 static const char *const titles[WORKS] = {
-    "check", "read", "build", "read+build", "add", "set", "all sets", "write", "listing", "Dep init", "Dep sets"
+    "check", "read", "build", "read+build", "add", "set", "size", "all sets", "write", "listing", "Dep init", "Dep sets"
 };
 
 /* What is wanted: at most these. */
@@ -33,7 +33,8 @@ struct subject {
     struct formula f;
     uint8_t text[SNOW_MOST_TEXT];
     uint32_t text_len;
-    uint32_t classes[SNOW_MOST_VARIABLES], parents[SNOW_MOST_VARIABLES];
+    uint32_t classes[SNOW_MOST_VARIABLES], parents[SNOW_MOST_VARIABLES], counts[SNOW_MOST_VARIABLES];
+    struct snow_tally tally;
     int32_t added[ADDED][ADDED_LITERALS];
 };
 
@@ -41,7 +42,7 @@ static struct subject subjects[VARIANTS];
 static uint32_t universals;  /* of each */
 
 /* What the calls fill. */
-static uint32_t grown_classes[SNOW_MOST_VARIABLES], grown_parents[SNOW_MOST_VARIABLES];
+static uint32_t grown_classes[SNOW_MOST_VARIABLES], grown_parents[SNOW_MOST_VARIABLES], grown_counts[SNOW_MOST_VARIABLES];
 static uint32_t out[SNOW_MOST_VARIABLES];
 static uint32_t every[SNOW_MOST_VARIABLES * (SNOW_MOST_VARIABLES + 2)];
 static uint8_t written[SNOW_MOST_TEXT];
@@ -81,7 +82,7 @@ static void call_build(struct subject *s)
     uint32_t count, place;
 
     must(snow_build(s->f.n, s->f.prefix, s->f.prefix_len, s->f.clauses, s->f.clauses_len,
-                    s->classes, s->f.n, s->parents, s->f.n, &count, &place), "build");
+                    s->classes, s->f.n, s->parents, s->f.n, s->counts, s->f.n, &s->tally, &count, &place), "build");
 }
 
 static uint32_t call_set(const struct subject *s, uint32_t x)
@@ -89,8 +90,17 @@ static uint32_t call_set(const struct subject *s, uint32_t x)
     uint32_t count, place;
 
     must(snow_set(s->f.n, s->f.prefix, s->f.prefix_len, s->f.clauses, s->f.clauses_len,
-                  s->classes, s->f.n, s->parents, s->f.n, x, out, SNOW_MOST_VARIABLES, &count, &place), "set");
+                  s->classes, s->f.n, s->parents, s->f.n, s->counts, s->f.n, x, out, SNOW_MOST_VARIABLES, &count, &place), "set");
     return count;
+}
+
+static uint32_t call_size(const struct subject *s, uint32_t x)
+{
+    uint32_t size, place;
+
+    must(snow_size(s->f.n, s->f.prefix, s->f.prefix_len, s->f.clauses, s->f.clauses_len,
+                   s->classes, s->f.n, s->parents, s->f.n, s->counts, s->f.n, x, &size, &place), "size");
+    return size;
 }
 
 /* The sets of all universals in one call, into a table that always suffices. */
@@ -99,7 +109,8 @@ static uint32_t call_sets(const struct subject *s)
     uint32_t count, place;
 
     must(snow_sets(s->f.n, s->f.prefix, s->f.prefix_len, s->f.clauses, s->f.clauses_len,
-                   s->classes, s->f.n, s->parents, s->f.n, every, sizeof every / sizeof *every, &count, &place), "sets");
+                   s->classes, s->f.n, s->parents, s->f.n, s->counts, s->f.n, every, sizeof every / sizeof *every, &count, &place),
+         "sets");
     return count;
 }
 
@@ -148,7 +159,7 @@ static double read_build_job(unsigned times)
 
         call_read(s);
         must(snow_build(read_n, read_prefix, prefix_count, read_clauses, clauses_count,
-                        s->classes, read_n, s->parents, read_n, &count, &place), "build");
+                        s->classes, read_n, s->parents, read_n, s->counts, read_n, &s->tally, &count, &place), "build");
     }
     return now() - start;
 }
@@ -159,16 +170,19 @@ static double add_job(unsigned times)
     double spent = 0, start;
     unsigned k;
     uint32_t place;
+    struct snow_tally tally;
 
     while (times > 0) {
         const struct subject *s = &subjects[times / ADDED % VARIANTS];
 
         memcpy(grown_classes, s->classes, sizeof s->classes);
         memcpy(grown_parents, s->parents, sizeof s->parents);
+        memcpy(grown_counts, s->counts, sizeof s->counts);
+        tally = s->tally;
         start = now();
         for (k = 0; k < ADDED && times > 0; k++, times--)
             must(snow_add(s->f.n, s->f.prefix, s->f.prefix_len, grown_classes, s->f.n, grown_parents, s->f.n,
-                          s->added[k], ADDED_LITERALS, &place), "add");
+                          grown_counts, s->f.n, &tally, s->added[k], ADDED_LITERALS, &place), "add");
         spent += now() - start;
     }
     return spent;
@@ -191,6 +205,26 @@ static double set_job(unsigned times)
 
     while (times-- > 0)
         each_set(&subjects[times % VARIANTS]);
+    return now() - start;
+}
+
+/* The sizes of these sets, one call for each, and their sum. */
+static uint32_t each_size(const struct subject *s)
+{
+    uint32_t x, sum = 0;
+
+    for (x = 1; x <= s->f.n; x++)
+        if (s->f.universal[x])
+            sum += call_size(s, x);
+    return sum;
+}
+
+static double size_job(unsigned times)
+{
+    double start = now();
+
+    while (times-- > 0)
+        each_size(&subjects[times % VARIANTS]);
     return now() - start;
 }
 
@@ -315,7 +349,7 @@ static int sets_equal(unsigned k)
                 return 0;
         }
     }
-    return record == all && each_set(s) == depqbf_all_sets(k);
+    return record == all && each_set(s) == depqbf_all_sets(k) && each_size(s) == each_set(s);
 }
 
 /* Makes the formulas of a family at a size, with their texts and the clauses that are to be added. */
@@ -366,6 +400,7 @@ static void measure(struct row *r)
         keep(r, READ_BUILD, seconds(read_build_job, VARIANTS));
         keep(r, ADD, seconds(add_job, ADDED * VARIANTS));
         keep(r, SET, seconds(set_job, VARIANTS) / universals);
+        keep(r, SIZE, seconds(size_job, VARIANTS) / universals);
         keep(r, SETS, seconds(sets_job, VARIANTS));
         keep(r, WRITE, seconds(write_job, VARIANTS));
         keep(r, LISTING, listing_seconds());

@@ -1,4 +1,4 @@
-/* The ten calls, each wrapped so that every byte that was lent is compared. */
+/* The eleven calls, each wrapped so that every byte that was lent is compared. */
 #include "agree.h"
 #include "calls.h"
 #include "lend.h"
@@ -6,6 +6,7 @@
 /* The formula and the forest, lent. */
 static struct formula lent;
 static struct forest rows;
+static struct snow_tally *tally;
 static uint32_t *place;
 
 static void lend_prefix(const struct formula *f)
@@ -28,6 +29,13 @@ static void lend_forest(const struct forest *w)
     rows.classes_len = w->classes_len;
     rows.parents = lend(w->parents, w->parents_len * sizeof *w->parents);
     rows.parents_len = w->parents_len;
+    rows.counts = lend(w->counts, w->counts_len * sizeof *w->counts);
+    rows.counts_len = w->counts_len;
+}
+
+static void lend_tally(const struct forest *w)
+{
+    tally = lend(&w->tally, sizeof w->tally);
 }
 
 static void lend_place(void)
@@ -63,13 +71,15 @@ struct verdict call_check(const struct formula *f)
     return settle(snow_check(lent.n, lent.prefix, lent.prefix_len, lent.clauses, lent.clauses_len, place));
 }
 
-/* Takes the first n rows of both tables back. */
-static void take_rows(struct forest *w, uint32_t n)
+/* Takes the first n rows of all three tables back, and the tally. */
+static void take_forest(struct forest *w, uint32_t n)
 {
-    if (!within(n, w->classes_len) || !within(n, w->parents_len))
+    take(&w->tally, tally, sizeof w->tally);
+    if (!within(n, w->classes_len) || !within(n, w->parents_len) || !within(n, w->counts_len))
         return;
     take(w->classes, rows.classes, n * sizeof *w->classes);
     take(w->parents, rows.parents, n * sizeof *w->parents);
+    take(w->counts, rows.counts, n * sizeof *w->counts);
 }
 
 struct verdict call_build(const struct formula *f, struct forest *w, uint32_t *count)
@@ -80,13 +90,14 @@ struct verdict call_build(const struct formula *f, struct forest *w, uint32_t *c
     lend_prefix(f);
     lend_clauses(f);
     lend_forest(w);
+    lend_tally(w);
     cell = lend_cell();
     lend_place();
-    number = snow_build(lent.n, lent.prefix, lent.prefix_len, lent.clauses, lent.clauses_len,
-                        rows.classes, rows.classes_len, rows.parents, rows.parents_len, cell, place);
+    number = snow_build(lent.n, lent.prefix, lent.prefix_len, lent.clauses, lent.clauses_len, rows.classes, rows.classes_len,
+                        rows.parents, rows.parents_len, rows.counts, rows.counts_len, tally, cell, place);
     if (number == 0) {
         take(count, cell, sizeof *count);
-        take_rows(w, f->n);
+        take_forest(w, f->n);
     }
     return settle(number);
 }
@@ -120,7 +131,7 @@ struct verdict call_entry_point(const struct formula *f, const struct forest *w,
     rises_cell = lend_cell();
     lend_place();
     number = snow_entry_point(lent.n, lent.prefix, lent.prefix_len, rows.classes, rows.classes_len,
-                              rows.parents, rows.parents_len, x, y, entry_cell, rises_cell, place);
+                              rows.parents, rows.parents_len, rows.counts, rows.counts_len, x, y, entry_cell, rises_cell, place);
     if (number == 0) {
         take(entry, entry_cell, sizeof *entry);
         take(rises, rises_cell, sizeof *rises);
@@ -130,7 +141,7 @@ struct verdict call_entry_point(const struct formula *f, const struct forest *w,
 
 /* The two calls that list variables of x have the same parameters. */
 typedef uint32_t (*listing)(uint32_t, const uint32_t *, size_t, const int32_t *, size_t, const uint32_t *, size_t,
-                            const uint32_t *, size_t, uint32_t, uint32_t *, size_t, uint32_t *, uint32_t *);
+                            const uint32_t *, size_t, const uint32_t *, size_t, uint32_t, uint32_t *, size_t, uint32_t *, uint32_t *);
 
 static struct verdict call_listing(listing call, const struct formula *f, const struct forest *w, uint32_t x,
                                    uint32_t *out, size_t out_len, uint32_t *count)
@@ -144,8 +155,8 @@ static struct verdict call_listing(listing call, const struct formula *f, const 
     table = lend(out, out_len * sizeof *out);
     cell = lend_cell();
     lend_place();
-    number = call(lent.n, lent.prefix, lent.prefix_len, lent.clauses, lent.clauses_len,
-                  rows.classes, rows.classes_len, rows.parents, rows.parents_len, x, table, out_len, cell, place);
+    number = call(lent.n, lent.prefix, lent.prefix_len, lent.clauses, lent.clauses_len, rows.classes, rows.classes_len,
+                  rows.parents, rows.parents_len, rows.counts, rows.counts_len, x, table, out_len, cell, place);
     if (number == 0) {
         take(count, cell, sizeof *count);
         if (within(*count, out_len))
@@ -166,6 +177,23 @@ struct verdict call_set(const struct formula *f, const struct forest *w, uint32_
     return call_listing(snow_set, f, w, x, out, out_len, count);
 }
 
+struct verdict call_size(const struct formula *f, const struct forest *w, uint32_t x, uint32_t *size)
+{
+    uint32_t *cell, number;
+
+    lend_begin();
+    lend_prefix(f);
+    lend_clauses(f);
+    lend_forest(w);
+    cell = lend_cell();
+    lend_place();
+    number = snow_size(lent.n, lent.prefix, lent.prefix_len, lent.clauses, lent.clauses_len, rows.classes, rows.classes_len,
+                       rows.parents, rows.parents_len, rows.counts, rows.counts_len, x, cell, place);
+    if (number == 0)
+        take(size, cell, sizeof *size);
+    return settle(number);
+}
+
 struct verdict call_sets(const struct formula *f, const struct forest *w, uint32_t *out, size_t out_len, uint32_t *count)
 {
     uint32_t *table, *cell, number;
@@ -177,8 +205,8 @@ struct verdict call_sets(const struct formula *f, const struct forest *w, uint32
     table = lend(out, out_len * sizeof *out);
     cell = lend_cell();
     lend_place();
-    number = snow_sets(lent.n, lent.prefix, lent.prefix_len, lent.clauses, lent.clauses_len,
-                       rows.classes, rows.classes_len, rows.parents, rows.parents_len, table, out_len, cell, place);
+    number = snow_sets(lent.n, lent.prefix, lent.prefix_len, lent.clauses, lent.clauses_len, rows.classes, rows.classes_len,
+                       rows.parents, rows.parents_len, rows.counts, rows.counts_len, table, out_len, cell, place);
     if (number == 0) {
         take(count, cell, sizeof *count);
         if (within(*count, out_len))
@@ -195,12 +223,13 @@ struct verdict call_add(const struct formula *f, struct forest *w, const int32_t
     lend_begin();
     lend_prefix(f);
     lend_forest(w);
+    lend_tally(w);
     literals = lend(clause, clause_len * sizeof *clause);
     lend_place();
     number = snow_add(lent.n, lent.prefix, lent.prefix_len, rows.classes, rows.classes_len,
-                      rows.parents, rows.parents_len, literals, clause_len, place);
+                      rows.parents, rows.parents_len, rows.counts, rows.counts_len, tally, literals, clause_len, place);
     if (number == 0)
-        take_rows(w, f->n);
+        take_forest(w, f->n);
     return settle(number);
 }
 

@@ -1,5 +1,5 @@
 /*
- * The ten calls, each wrapped so that every use of it in the test also
+ * The eleven calls, each wrapped so that every use of it in the test also
  * compares every byte that was lent: on a refusal only *place may change, on
  * acceptance *place may not, nor anything past what was written. Answers are
  * handed out on acceptance only.
@@ -18,12 +18,15 @@ struct formula {
     size_t clauses_len;
 };
 
-/* Forest tables as lent. */
+/* Forest tables as lent, and the tally beside them. */
 struct forest {
     uint32_t *classes;
     size_t classes_len;
     uint32_t *parents;
     size_t parents_len;
+    uint32_t *counts;
+    size_t counts_len;
+    struct snow_tally tally;
 };
 
 /* A number and a place; the place is 0 where the number is. */
@@ -41,6 +44,7 @@ struct verdict call_entry_points(const struct formula *f, const struct forest *w
                                  uint32_t *out, size_t out_len, uint32_t *count);
 struct verdict call_set(const struct formula *f, const struct forest *w, uint32_t x,
                         uint32_t *out, size_t out_len, uint32_t *count);
+struct verdict call_size(const struct formula *f, const struct forest *w, uint32_t x, uint32_t *size);
 struct verdict call_sets(const struct formula *f, const struct forest *w, uint32_t *out, size_t out_len, uint32_t *count);
 struct verdict call_add(const struct formula *f, struct forest *w, const int32_t *clause, size_t clause_len);
 struct verdict call_read(const uint8_t *text, size_t text_len, uint32_t *n,

@@ -1,7 +1,7 @@
 /*
  * An example of how a C program uses the library: reads a QDIMACS file,
- * builds the forest, prints the set of each universal, adds a clause and
- * prints the sets again.
+ * builds the forest, prints its tally and the set of each universal with its
+ * size, adds a clause and prints them again.
  *
  *     example FILE [LITERAL ..]
  */
@@ -19,6 +19,8 @@ struct formula {
     uint32_t clauses_count;
     uint32_t classes[SNOW_MOST_VARIABLES];
     uint32_t parents[SNOW_MOST_VARIABLES];
+    uint32_t counts[SNOW_MOST_VARIABLES];
+    struct snow_tally tally;
 };
 
 static struct formula formula;
@@ -57,35 +59,47 @@ static int build(struct formula *f)
     uint32_t rows, place;
     uint32_t number = snow_build(f->n, f->prefix, f->prefix_count, f->clauses, f->clauses_count,
                                  f->classes, SNOW_MOST_VARIABLES, f->parents, SNOW_MOST_VARIABLES,
-                                 &rows, &place);
+                                 f->counts, SNOW_MOST_VARIABLES, &f->tally, &rows, &place);
     return refused("build", number, place);
 }
 
-/* Prints the set of x on one line; nothing if x is not universal, which the call refuses as 13. */
-static int print_set(const struct formula *f, uint32_t x)
+/* Prints the set of x on one line, of which the size is known. */
+static int print_set(const struct formula *f, uint32_t x, uint32_t size)
 {
     uint32_t set[SNOW_MOST_VARIABLES];
     uint32_t count, place, i;
     uint32_t number = snow_set(f->n, f->prefix, f->prefix_count, f->clauses, f->clauses_count,
                                f->classes, SNOW_MOST_VARIABLES, f->parents, SNOW_MOST_VARIABLES,
-                               x, set, SNOW_MOST_VARIABLES, &count, &place);
-    if (number == 13)
-        return 0;
+                               f->counts, SNOW_MOST_VARIABLES, x, set, size, &count, &place);
     if (refused("set", number, place))
         return 1;
-    printf("%u:", (unsigned)x);
+    printf("%u has %u:", (unsigned)x, (unsigned)size);
     for (i = 0; i < count; i++)
         printf(" %u", (unsigned)set[i]);
     printf("\n");
     return 0;
 }
 
+/* Prints a line for x, the size found first; nothing if x is not universal, which the call refuses as 13. */
+static int print_line(const struct formula *f, uint32_t x)
+{
+    uint32_t size, place;
+    uint32_t number = snow_size(f->n, f->prefix, f->prefix_count, f->clauses, f->clauses_count,
+                                f->classes, SNOW_MOST_VARIABLES, f->parents, SNOW_MOST_VARIABLES,
+                                f->counts, SNOW_MOST_VARIABLES, x, &size, &place);
+    if (number == 13)
+        return 0;
+    return refused("size", number, place) || print_set(f, x, size);
+}
+
 static int print_sets(const struct formula *f)
 {
     uint32_t x;
 
+    printf("clauses %u merges %u classes %u\n", (unsigned)f->tally.clauses, (unsigned)f->tally.merges,
+           (unsigned)f->tally.classes);
     for (x = 1; x <= f->n; x++)
-        if (print_set(f, x))
+        if (print_line(f, x))
             return 1;
     return 0;
 }
@@ -100,7 +114,8 @@ static int add(struct formula *f, const int32_t *clause, uint32_t length)
         return 1;
     }
     number = snow_add(f->n, f->prefix, f->prefix_count, f->classes, SNOW_MOST_VARIABLES,
-                      f->parents, SNOW_MOST_VARIABLES, clause, length, &place);
+                      f->parents, SNOW_MOST_VARIABLES, f->counts, SNOW_MOST_VARIABLES, &f->tally,
+                      clause, length, &place);
     if (refused("add", number, place))
         return 1;
     for (i = 0; i < length; i++)

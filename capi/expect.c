@@ -13,11 +13,13 @@ struct forest forest_a(void)
 {
     static const uint32_t a_classes[ROWS] = { 1, 2, 0, 4, 5, 0, 7, 8, 9, 0xFFFFFFFF, 77, 0 };
     static const uint32_t a_parents[ROWS] = { 0, 0, 0, 0, 1, 0, 4, 4, 5, 0xFFFFFFFF, 77, 0 };
-    static uint32_t classes[ROWS], parents[ROWS];
-    struct forest w = { classes, ROWS, parents, ROWS };
+    static const uint32_t a_counts[ROWS] = { 3, 1, 0, 3, 2, 0, 1, 1, 1, 0xFFFFFFFF, 77, 0 };
+    static uint32_t classes[ROWS], parents[ROWS], counts[ROWS];
+    struct forest w = { classes, ROWS, parents, ROWS, counts, ROWS, { 5, 0, 7 } };
 
     memcpy(classes, a_classes, sizeof classes);
     memcpy(parents, a_parents, sizeof parents);
+    memcpy(counts, a_counts, sizeof counts);
     return w;
 }
 
@@ -34,6 +36,11 @@ void expect_accepted(struct verdict v, const char *call)
 void expect_refused(struct verdict v, uint32_t number, uint32_t place, const char *call)
 {
     agree(v.number == number && v.place == place, call);
+}
+
+void expect_tally(const struct forest *w, uint32_t clauses, uint32_t merges, uint32_t classes, const char *what)
+{
+    agree(w->tally.clauses == clauses && w->tally.merges == merges && w->tally.classes == classes, what);
 }
 
 void expect_rows(const uint32_t *rows, const uint32_t *expected, size_t count, const char *what)

@@ -11,12 +11,13 @@ extern const struct formula formula_a;
 
 enum { ROWS = 12 };  /* rows of its forest tables, which are longer than n */
 
-/* The forest of A, as tables of ROWS rows, the last three filled with what no call may touch. */
+/* The forest of A, as tables of ROWS rows, the last three filled with what no call may touch; and its tally. */
 struct forest forest_a(void);
 
 void expect_accepted(struct verdict v, const char *call);
 void expect_refused(struct verdict v, uint32_t number, uint32_t place, const char *call);
 void expect_verdict(struct verdict v, struct verdict expected, const char *call);
+void expect_tally(const struct forest *w, uint32_t clauses, uint32_t merges, uint32_t classes, const char *what);
 void expect_rows(const uint32_t *rows, const uint32_t *expected, size_t count, const char *what);
 
 #endif

@@ -5,11 +5,11 @@
 #include "expect.h"
 #include "tests.h"
 
-/* P1 and P2: its classes and parents, from tables that held anything. */
+/* P1 and P2: its classes and parents, and its counts and tally, from tables and a tally that held anything. */
 static void builds(void)
 {
     struct forest a = forest_a(), w;
-    uint32_t classes[ROWS], parents[ROWS], count = 0;
+    uint32_t classes[ROWS], parents[ROWS], counts[ROWS], count = 0;
     uint32_t length;
 
     about("rows lent", 0);
@@ -17,25 +17,33 @@ static void builds(void)
         about("rows lent", length);
         memset(classes, 0x5A, sizeof classes);
         memset(parents, 0xFF, sizeof parents);
+        memset(counts, 0xA5, sizeof counts);
+        memset(&w.tally, 0xFF, sizeof w.tally);
         w.classes = classes;
         w.classes_len = length;
         w.parents = parents;
         w.parents_len = ROWS + 9 - length;
+        w.counts = counts;
+        w.counts_len = length % 2 == 0 ? 9 : length;
         expect_accepted(call_check(&formula_a), "check");
         expect_accepted(call_build(&formula_a, &w, &count), "build");
         agree(count == 9, "build gives n");
         expect_rows(classes, a.classes, 9, "P1 classes");
         expect_rows(parents, a.parents, 9, "P2 parents");
+        expect_rows(counts, a.counts, 9, "counts");
+        expect_tally(&w, 5, 0, 7, "tally");
     }
 }
 
-/* The set of x is the list given. */
+/* The set of x is the list given, and its size the length. */
 static void has_set(const struct formula *f, const struct forest *w, uint32_t x, const uint32_t *list, uint32_t length,
                     const char *what)
 {
-    uint32_t out[9], count = 0;
+    uint32_t out[9], count = 0, size = 99;
 
     memset(out, 0x5A, sizeof out);
+    expect_accepted(call_size(f, w, x, &size), what);
+    agree(size == length, what);
     expect_accepted(call_set(f, w, x, out, 9, &count), what);
     agree(count == length, what);
     expect_rows(out, list, length, what);
@@ -80,47 +88,60 @@ static struct formula with_clause(const int32_t *clause, size_t length)
     return f;
 }
 
-/* Adds a clause to A's forest; the rows become those given, and build gives the same of A with the clause. */
-static void adds(const int32_t *clause, size_t length, const uint32_t *classes, const uint32_t *parents, struct forest *w,
-                 const char *what)
+/* A forest of nine rows, with the merges and classes of its tally. */
+struct nine {
+    uint32_t classes[9], parents[9], counts[9];
+    uint32_t merges, left;
+};
+
+static void is_forest(const struct forest *w, const struct nine *rows, const char *what)
+{
+    expect_rows(w->classes, rows->classes, 9, what);
+    expect_rows(w->parents, rows->parents, 9, what);
+    expect_rows(w->counts, rows->counts, 9, what);
+    expect_tally(w, 6, rows->merges, rows->left, what);
+}
+
+/* Adds a clause to A's forest; the rows and the tally become those given, and build gives the same of A with the clause. */
+static void adds(const int32_t *clause, size_t length, const struct nine *rows, struct forest *w, const char *what)
 {
     struct formula f = with_clause(clause, length);
     uint32_t count;
 
     *w = forest_a();
     expect_accepted(call_add(&formula_a, w, clause, length), what);
-    expect_rows(w->classes, classes, 9, what);
-    expect_rows(w->parents, parents, 9, what);
+    is_forest(w, rows, what);
     *w = forest_a();
     expect_accepted(call_build(&f, w, &count), what);
-    expect_rows(w->classes, classes, 9, what);
-    expect_rows(w->parents, parents, 9, what);
+    is_forest(w, rows, what);
 }
 
-/* P5 to P9. */
+/* P5 to P9, and clauses that are always true, by existentials of two classes and by a universal. */
 static void additions(void)
 {
     static const int32_t seven_nine[] = { 7, -9 }, five_eight[] = { 5, 8 }, one_two[] = { 1, -2 };
-    static const uint32_t p5_classes[] = { 1, 2, 0, 4, 4, 0, 7, 8, 7 }, p5_parents[] = { 0, 0, 0, 1, 0, 0, 4, 4, 0 };
-    static const uint32_t p7_classes[] = { 1, 2, 0, 4, 4, 0, 7, 8, 9 }, p7_parents[] = { 0, 0, 0, 1, 0, 0, 4, 4, 4 };
-    static const uint32_t p8_classes[] = { 1, 1, 0, 4, 5, 0, 7, 8, 9 };
+    static const int32_t always_true[] = { 7, -9, -7 }, by_universal[] = { 6, 4, 5, -6 };
+    static const struct nine
+        a = { { 1, 2, 0, 4, 5, 0, 7, 8, 9 }, { 0, 0, 0, 0, 1, 0, 4, 4, 5 }, { 3, 1, 0, 3, 2, 0, 1, 1, 1 }, 0, 7 },
+        p5 = { { 1, 2, 0, 4, 4, 0, 7, 8, 7 }, { 0, 0, 0, 1, 0, 0, 4, 4, 0 }, { 6, 1, 0, 5, 0, 0, 2, 1, 0 }, 2, 5 },
+        p7 = { { 1, 2, 0, 4, 4, 0, 7, 8, 9 }, { 0, 0, 0, 1, 0, 0, 4, 4, 4 }, { 6, 1, 0, 5, 0, 0, 1, 1, 1 }, 1, 6 },
+        p8 = { { 1, 1, 0, 4, 5, 0, 7, 8, 9 }, { 0, 0, 0, 0, 1, 0, 4, 4, 5 }, { 4, 0, 0, 3, 2, 0, 1, 1, 1 }, 1, 6 };
     static const uint32_t all[] = { 4, 5, 7, 8, 9 }, set_6[] = { 7, 9 }, nine[] = { 9 };
-    struct forest a = forest_a(), w;
-    uint32_t a_classes[9], a_parents[9];
+    struct forest w;
     struct formula f;
 
-    memcpy(a_classes, a.classes, sizeof a_classes);
-    memcpy(a_parents, a.parents, sizeof a_parents);
-    adds(seven_nine, 2, p5_classes, p5_parents, &w, "P5 add 7 -9");
+    adds(seven_nine, 2, &p5, &w, "P5 add 7 -9");
     f = with_clause(seven_nine, 2);
     has_set(&f, &w, 3, all, 5, "P6 set of 3");
     has_set(&f, &w, 6, set_6, 2, "P6 set of 6");
-    adds(five_eight, 2, p7_classes, p7_parents, &w, "P7 add 5 8");
+    adds(five_eight, 2, &p7, &w, "P7 add 5 8");
     f = with_clause(five_eight, 2);
     has_set(&f, &w, 6, nine, 1, "P7 set of 6");
     has_set(&f, &w, 3, all, 5, "P7 set of 3");
-    adds(one_two, 2, p8_classes, a_parents, &w, "P8 add 1 -2");
-    adds(one_two, 0, a_classes, a_parents, &w, "P9 add the empty clause");
+    adds(one_two, 2, &p8, &w, "P8 add 1 -2");
+    adds(one_two, 0, &a, &w, "P9 add the empty clause");
+    adds(always_true, 3, &a, &w, "an always-true clause");
+    adds(by_universal, 4, &a, &w, "one that a universal makes true");
 }
 
 static void has_entry_point(uint32_t x, uint32_t y, uint32_t entry, uint32_t rises, const char *what)
@@ -178,8 +199,8 @@ static void empty(void)
 {
     static const struct formula nothing = { 0, NULL, 0, NULL, 0 };
     static const char text[] = "p cnf 0 0\n";
-    struct forest w = { NULL, 0, NULL, 0 };
-    uint32_t count, n, entry, rises, start, length, prefix_count, clauses_count;
+    struct forest w = { NULL, 0, NULL, 0, NULL, 0, { 7, 7, 7 } };
+    uint32_t count, size, n, entry, rises, start, length, prefix_count, clauses_count;
     uint8_t out[16];
     unsigned round;
 
@@ -189,11 +210,14 @@ static void empty(void)
         expect_accepted(call_check(&nothing), "check");
         expect_accepted(call_build(&nothing, &w, &count), "build");
         agree(count == 0, "build gives n");
+        expect_tally(&w, 0, 0, 0, "the tally of nothing");
         expect_accepted(call_add(&nothing, &w, NULL, 0), "add");
+        expect_tally(&w, 1, 0, 0, "the tally of the empty clause");
         expect_refused(call_clause(&nothing, 0, &start, &length), 13, 0, "clause");
         expect_refused(call_entry_point(&nothing, &w, 1, 1, &entry, &rises), 13, 0, "entry point");
         expect_refused(call_entry_points(&nothing, &w, 1, NULL, 0, &count), 13, 0, "entry points");
         expect_refused(call_set(&nothing, &w, 1, NULL, 0, &count), 13, 0, "set");
+        expect_refused(call_size(&nothing, &w, 1, &size), 13, 0, "size");
         count = 99;
         expect_accepted(call_sets(&nothing, &w, NULL, 0, &count), "all sets");
         agree(count == 0, "there are none");
@@ -212,8 +236,8 @@ static void empty_sets(void)
     static const uint32_t prefix[] = { 1, 1, 0, 2, 2, 0 };
     static const int32_t table[] = { 1, 2, 0 };
     static const struct formula f = { 2, prefix, LEN(prefix), table, LEN(table) };
-    uint32_t classes[2] = { 1, 0 }, parents[2] = { 0, 0 }, out[2] = { 7, 7 }, count;
-    struct forest w = { classes, 2, parents, 2 };
+    uint32_t classes[2] = { 1, 0 }, parents[2] = { 0, 0 }, counts[2] = { 1, 0 }, out[2] = { 7, 7 }, count, size;
+    struct forest w = { classes, 2, parents, 2, counts, 2, { 1, 0, 1 } };
     unsigned round;
 
     for (round = 0; round < 2; round++) {
@@ -221,6 +245,9 @@ static void empty_sets(void)
         count = 99;
         expect_accepted(call_set(&f, &w, 2, NULL, 0, &count), "set");
         agree(count == 0, "it is empty");
+        size = 99;
+        expect_accepted(call_size(&f, &w, 2, &size), "size");
+        agree(size == 0, "its size");
         expect_accepted(call_entry_points(&f, &w, 2, NULL, 0, &count), "entry points");
         agree(count == 0, "there are none");
         expect_accepted(call_sets(&f, &w, out, 2, &count), "all sets");

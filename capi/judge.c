@@ -214,19 +214,70 @@ static int right_parent(const struct formula *f, const struct forest *w, uint32_
     return class_name(f, w, v) && class_name(f, w, p) && judge_block(f, p) < judge_block(f, v);
 }
 
+/* The rows of classes and parents that v has. */
+static int right_rows(const struct formula *f, const struct forest *w, uint32_t v)
+{
+    if (judge_universal(f, v))
+        return w->classes[v - 1] == 0 && w->parents[v - 1] == 0;
+    return right_class(f, w, v) && right_parent(f, w, v);
+}
+
+/* y is in class c or in a class below it, by tables whose classes and parents are right. */
+static int at_or_below(const struct forest *w, uint32_t y, uint32_t c)
+{
+    uint32_t name = w->classes[y - 1];
+
+    while (name != 0 && name != c)
+        name = w->parents[name - 1];
+    return name == c;
+}
+
+/* For a class name the number of variables in it and in all classes below; 0 elsewhere. */
+static int right_count(const struct formula *f, const struct forest *w, uint32_t v)
+{
+    uint32_t y, count = 0;
+
+    for (y = 1; class_name(f, w, v) && y <= f->n; y++)
+        count += (uint32_t)at_or_below(w, y, v);
+    return w->counts[v - 1] == count;
+}
+
+uint32_t judge_rows(const struct formula *f, const struct forest *w)
+{
+    uint32_t v;
+
+    for (v = 1; v <= f->n; v++)
+        if (!right_rows(f, w, v))
+            return v;
+    return 0;
+}
+
+/* The counts are judged once all else is well formed. */
 struct verdict judge_forest(const struct formula *f, const struct forest *w)
 {
     uint32_t v;
 
-    if (w->classes_len < f->n || w->parents_len < f->n)
+    if (w->classes_len < f->n || w->parents_len < f->n || w->counts_len < f->n)
         return refused(12, 0);
-    for (v = 1; v <= f->n; v++) {
-        if (judge_universal(f, v)) {
-            if (w->classes[v - 1] != 0 || w->parents[v - 1] != 0)
-                return refused(12, v);
-        } else if (!right_class(f, w, v) || !right_parent(f, w, v)) {
+    v = judge_rows(f, w);
+    if (v != 0)
+        return refused(12, v);
+    for (v = 1; v <= f->n; v++)
+        if (!right_count(f, w, v))
             return refused(12, v);
-        }
+    return accepted;
+}
+
+struct verdict judge_tally(const struct formula *f, const struct forest *w)
+{
+    uint64_t sum = (uint64_t)w->tally.merges + w->tally.classes;
+    uint32_t v, names = 0, existentials = 0;
+
+    for (v = 1; v <= f->n; v++) {
+        names += (uint32_t)class_name(f, w, v);
+        existentials += (uint32_t)judge_existential(f, v);
     }
+    if (w->tally.clauses >= SNOW_MOST_TAKEN || w->tally.classes != names || sum != existentials)
+        return refused(18, 0);
     return accepted;
 }

@@ -20,8 +20,12 @@ struct verdict judge_formula(const struct formula *f);
 /* The same for a clause to be added, in place of the clause table. */
 struct verdict judge_added(const struct formula *f, const int32_t *clause, size_t clause_len);
 
-/* 12, for an accepted prefix. */
+/* 12, for an accepted prefix; and 18, for a forest that is well formed. */
 struct verdict judge_forest(const struct formula *f, const struct forest *w);
+struct verdict judge_tally(const struct formula *f, const struct forest *w);
+
+/* The first row whose class or parent is not right, in tables of n rows at least; 0 if all are. */
+uint32_t judge_rows(const struct formula *f, const struct forest *w);
 
 /* The block of a variable, and whether it is universal, for an accepted prefix. */
 uint32_t judge_block(const struct formula *f, uint32_t v);

@@ -9,7 +9,7 @@ enum { SIDE = 64 };  /* the large formula has 64 blocks of 64 variables */
 
 static uint32_t prefix[SNOW_MOST_PREFIX + 1];
 static int32_t clauses[SNOW_MOST_CLAUSES + 1];
-static uint32_t class_rows[SNOW_MOST_VARIABLES + 2], parent_rows[SNOW_MOST_VARIABLES + 2];
+static uint32_t class_rows[SNOW_MOST_VARIABLES + 2], parent_rows[SNOW_MOST_VARIABLES + 2], count_rows[SNOW_MOST_VARIABLES + 2];
 static uint32_t out[SNOW_MOST_VARIABLES + 2];
 static uint32_t every[SNOW_MOST_VARIABLES * (SNOW_MOST_VARIABLES + 2)];
 static uint8_t text[SNOW_MOST_TEXT + 2];
@@ -48,7 +48,7 @@ static struct formula formula(uint32_t n, size_t prefix_len, size_t clauses_len)
 
 static struct forest forest(uint32_t rows)
 {
-    struct forest w = { class_rows, rows, parent_rows, rows };
+    struct forest w = { class_rows, rows, parent_rows, rows, count_rows, rows, { 0, 0, 0 } };
 
     return w;
 }
@@ -57,12 +57,13 @@ static struct forest forest(uint32_t rows)
 static void every_call(const struct formula *f, uint32_t number, uint32_t place)
 {
     struct forest w = forest(SNOW_MOST_VARIABLES + 2);
-    uint32_t count;
+    uint32_t count, size;
 
     expect_refused(call_check(f), number, place, "check");
     expect_refused(call_build(f, &w, &count), number, place, "build");
     expect_refused(call_entry_points(f, &w, 1, out, 1, &count), number, place, "entry points");
     expect_refused(call_set(f, &w, 1, out, 1, &count), number, place, "set");
+    expect_refused(call_size(f, &w, 1, &size), number, place, "size");
     expect_refused(call_sets(f, &w, out, 1, &count), number, place, "all sets");
     expect_refused(call_write(f, text, 64, &count), number, place, "write");
 }
@@ -89,26 +90,47 @@ static uint32_t joined_parent(uint32_t v)
     return joined_class(v) == v && v > 2 * SIDE ? v - 2 * SIDE : 0;
 }
 
-static void joined_forest(const char *what)
+/* All existentials of its block and of those behind. */
+static uint32_t joined_count(uint32_t v)
+{
+    uint32_t block = (v - 1) / SIDE + 1;
+
+    return joined_class(v) == v ? (SIDE - block + 1) / 2 * SIDE : 0;
+}
+
+/* That forest, and its tally: of each existential block one class is left. */
+static void joined_forest(const struct forest *w, const char *what)
 {
     uint32_t v, wrong = 0;
 
-    for (v = 1; v <= SNOW_MOST_VARIABLES; v++)
+    for (v = 1; v <= SNOW_MOST_VARIABLES; v++) {
         wrong += class_rows[v - 1] != joined_class(v) || parent_rows[v - 1] != joined_parent(v);
+        wrong += count_rows[v - 1] != joined_count(v);
+    }
     agree(wrong == 0, what);
+    expect_tally(w, 1, SIDE / 2 * (SIDE - 1), SIDE / 2, what);
 }
 
 /* All existentials of blocks deeper than b, ascending. */
 static void joined_set(const struct formula *f, uint32_t x)
 {
     struct forest w = forest(SNOW_MOST_VARIABLES);
-    uint32_t count = 0, v, listed = 0, wrong = 0;
+    uint32_t count = 0, size = 0, v, listed = 0, wrong = 0;
 
     expect_accepted(call_set(f, &w, x, out, SNOW_MOST_VARIABLES, &count), "set");
     for (v = x; v <= SNOW_MOST_VARIABLES; v++)
         if (joined_class(v) != 0)
             wrong += out[listed++] != v;
     agree(count == listed && wrong == 0, "the set is all that is deeper");
+    expect_accepted(call_size(f, &w, x, &size), "size");
+    agree(size == listed, "its size");
+}
+
+/* All sets into the large table, of which so many entries are lent. */
+static uint32_t sets_into(const struct formula *f, size_t length, uint32_t *count, uint32_t *place)
+{
+    return snow_sets(f->n, f->prefix, f->prefix_len, f->clauses, f->clauses_len, class_rows, SNOW_MOST_VARIABLES,
+                     parent_rows, SNOW_MOST_VARIABLES, count_rows, SNOW_MOST_VARIABLES, every, length, count, place);
 }
 
 /* All sets, each as above, in a table of just the room they need and in one that always suffices; one entry less is too little. */
@@ -124,8 +146,7 @@ static void joined_sets(const struct formula *f)
     for (k = 0; k < LEN(spare); k++) {
         memset(every, 0x5A, sizeof every);
         count = 7;
-        agree(snow_sets(f->n, f->prefix, f->prefix_len, f->clauses, f->clauses_len, class_rows, SNOW_MOST_VARIABLES, parent_rows,
-                        SNOW_MOST_VARIABLES, every, spare[k] == 0 ? needed : spare[k], &count, &place) == 0, "all sets");
+        agree(sets_into(f, spare[k] == 0 ? needed : spare[k], &count, &place) == 0, "all sets");
         agree(count == needed && place == 7, "the count of all sets");
         for (x = 1, at = 0, wrong = 0; x <= SNOW_MOST_VARIABLES; x++) {
             size_t first = at;
@@ -141,8 +162,7 @@ static void joined_sets(const struct formula *f)
         agree(at == needed && wrong == 0 && every[at] == 0x5A5A5A5A, "each set is all that is deeper");
     }
     memset(every, 0x5A, sizeof every);
-    agree(snow_sets(f->n, f->prefix, f->prefix_len, f->clauses, f->clauses_len, class_rows, SNOW_MOST_VARIABLES, parent_rows,
-                    SNOW_MOST_VARIABLES, every, needed - 1, &count, &place) == 14, "too little room for all sets");
+    agree(sets_into(f, needed - 1, &count, &place) == 14, "too little room for all sets");
     agree(count == needed && place == 0 && every[0] == 0x5A5A5A5A && every[needed - 2] == 0x5A5A5A5A, "nothing is written then");
 }
 
@@ -157,7 +177,7 @@ static void largest(void)
     expect_accepted(call_check(&f), "check");
     expect_accepted(call_build(&f, &w, &count), "build");
     agree(count == SNOW_MOST_VARIABLES, "build gives n");
-    joined_forest("the forest of one giant clause");
+    joined_forest(&w, "the forest of one giant clause");
     joined_set(&f, SIDE + 1);
     joined_set(&f, 31 * SIDE + 7);
     joined_set(&f, SNOW_MOST_VARIABLES);
@@ -180,11 +200,14 @@ static void largest_added(void)
     uint32_t count;
 
     expect_accepted(call_build(&f, &w, &count), "build");
+    expect_tally(&w, 0, 0, SIDE / 2 * SIDE, "the tally of no clause");
     fill_clause(SNOW_MOST_VARIABLES, SNOW_MOST_CLAUSES + 1);
     clauses[SNOW_MOST_CLAUSES] = 1;
     expect_refused(call_add(&f, &w, clauses, SNOW_MOST_CLAUSES + 1), 2, 0, "add 16,385 literals");
     expect_accepted(call_add(&f, &w, clauses, SNOW_MOST_CLAUSES), "add 16,384 literals");
-    joined_forest("the forest of one giant clause, added");
+    joined_forest(&w, "the forest of one giant clause, added");
+    w.tally.classes++;
+    expect_refused(call_add(&f, &w, clauses, SNOW_MOST_CLAUSES + 1), 2, 0, "2 before 18");
     w.classes_len = 0;
     expect_refused(call_add(&f, &w, clauses, SNOW_MOST_CLAUSES + 1), 2, 0, "2 before 12");
     f.prefix_len = 1;
@@ -222,7 +245,8 @@ static void past(void)
 static void long_tables(void)
 {
     struct formula f = formula(SNOW_MOST_VARIABLES, 0, 0);
-    uint32_t start, length;
+    struct forest w = forest(SNOW_MOST_VARIABLES);
+    uint32_t start, length, count;
     size_t k;
 
     /* no prefix of 8,192 entries is accepted; it is not refused for its length */
@@ -237,6 +261,8 @@ static void long_tables(void)
     memset(clauses, 0, sizeof clauses);
     f.clauses_len = SNOW_MOST_CLAUSES;
     expect_accepted(call_check(&f), "16,384 empty clauses");
+    expect_accepted(call_build(&f, &w, &count), "build");
+    expect_tally(&w, SNOW_MOST_CLAUSES, 0, SNOW_MOST_VARIABLES, "all of them are taken");
     expect_accepted(call_clause(&f, SNOW_MOST_CLAUSES - 1, &start, &length), "clause");
     agree(start == SNOW_MOST_CLAUSES - 1 && length == 0, "the last of them");
     expect_refused(call_clause(&f, SNOW_MOST_CLAUSES, &start, &length), 13, 0, "clause");

@@ -18,6 +18,8 @@ static void prefix_calls(const struct formula *f, uint32_t number, uint32_t plac
     expect_refused(call_entry_point(f, &w, 3, 8, &entry, &rises), number, place, "entry point");
     expect_refused(call_entry_point(f, &w, 0, 0, &entry, &rises), number, place, "entry point, before 13");
     expect_refused(call_add(f, &w, clause, 2), number, place, "add");
+    w.tally.classes = 0;
+    expect_refused(call_add(f, &w, clause, 2), number, place, "add, before 18");
     w.classes_len = 0;
     expect_refused(call_entry_point(f, &w, 3, 8, &entry, &rises), number, place, "entry point, before 12");
     expect_refused(call_add(f, &w, clause, 2), number, place, "add, before 12");
@@ -27,13 +29,14 @@ static void prefix_calls(const struct formula *f, uint32_t number, uint32_t plac
 static void formula_calls(const struct formula *f, uint32_t number, uint32_t place)
 {
     struct forest w = forest_a();
-    uint32_t out[9] = { 0 }, count;
+    uint32_t out[9] = { 0 }, count, size;
     uint8_t text[256] = { 0 };
 
     expect_refused(call_check(f), number, place, "check");
     expect_refused(call_build(f, &w, &count), number, place, "build");
     expect_refused(call_entry_points(f, &w, 3, out, 9, &count), number, place, "entry points");
     expect_refused(call_set(f, &w, 3, out, 9, &count), number, place, "set");
+    expect_refused(call_size(f, &w, 3, &size), number, place, "size");
     expect_refused(call_sets(f, &w, out, 9, &count), number, place, "all sets");
     expect_refused(call_write(f, text, sizeof text, &count), number, place, "write");
     expect_refused(call_write(f, text, 0, &count), number, place, "write, before 14");
@@ -41,6 +44,7 @@ static void formula_calls(const struct formula *f, uint32_t number, uint32_t pla
     expect_refused(call_build(f, &w, &count), number, place, "build, before 14");
     expect_refused(call_entry_points(f, &w, 1, out, 0, &count), number, place, "entry points, before 12");
     expect_refused(call_set(f, &w, 1, out, 0, &count), number, place, "set, before 12");
+    expect_refused(call_size(f, &w, 1, &size), number, place, "size, before 12");
     expect_refused(call_sets(f, &w, out, 0, &count), number, place, "all sets, before 12");
 }
 
@@ -201,7 +205,7 @@ static const struct bad_row bad_rows[] = {
 static void refused_rows(struct forest *w, uint32_t place)
 {
     static const int32_t clause[] = { 7, -9 };
-    uint32_t out[9] = { 0 }, count, entry, rises;
+    uint32_t out[9] = { 0 }, count, size, entry, rises;
 
     expect_refused(call_entry_point(&formula_a, w, 3, 8, &entry, &rises), 12, place, "entry point");
     expect_refused(call_entry_point(&formula_a, w, 8, 3, &entry, &rises), 12, place, "entry point, before 13");
@@ -209,9 +213,13 @@ static void refused_rows(struct forest *w, uint32_t place)
     expect_refused(call_entry_points(&formula_a, w, 4, out, 0, &count), 12, place, "entry points, before 13");
     expect_refused(call_set(&formula_a, w, 3, out, 9, &count), 12, place, "set");
     expect_refused(call_set(&formula_a, w, 4, out, 0, &count), 12, place, "set, before 13");
+    expect_refused(call_size(&formula_a, w, 3, &size), 12, place, "size");
+    expect_refused(call_size(&formula_a, w, 4, &size), 12, place, "size, before 13");
     expect_refused(call_sets(&formula_a, w, out, 9, &count), 12, place, "all sets");
     expect_refused(call_sets(&formula_a, w, out, 0, &count), 12, place, "all sets, before 14");
     expect_refused(call_add(&formula_a, w, clause, 2), 12, place, "add");
+    w->tally.clauses = 0xFFFFFFFF;
+    expect_refused(call_add(&formula_a, w, clause, 2), 12, place, "add, before 18");
 }
 
 static void set_rows(struct forest *w, uint32_t v, uint32_t class_name, uint32_t parent)
@@ -245,8 +253,97 @@ static void forests(void)
     w.classes[2] = 3;
     refused_rows(&w, 0);
     w = forest_a();
-    w.classes_len = w.parents_len = 0;
+    w.counts_len = 8;
     refused_rows(&w, 0);
+    w.classes[2] = 3;
+    refused_rows(&w, 0);
+    w = forest_a();
+    w.classes_len = w.parents_len = w.counts_len = 0;
+    refused_rows(&w, 0);
+}
+
+/* Each count of A's forest, one too many, one too few, and some that cannot be; and two of them, of which the first is told. */
+static void counts(void)
+{
+    static const uint32_t by[] = { 1, 0xFFFFFFFF, 0x80000000, 9 };
+    struct forest w;
+    uint32_t v, k;
+
+    for (v = 1; v <= 9; v++) {
+        about("bad count", v);
+        for (k = 0; k < LEN(by); k++) {
+            w = forest_a();
+            w.counts[v - 1] += by[k];
+            refused_rows(&w, v);
+        }
+        w = forest_a();
+        w.counts[v - 1]++;
+        w.counts[8]--;
+        if (v < 9)
+            refused_rows(&w, v);
+        /* a bad class or parent comes first, also behind the bad count */
+        w = forest_a();
+        w.counts[v - 1]++;
+        w.classes[8] = 0;
+        refused_rows(&w, 9);
+        w = forest_a();
+        w.counts[v - 1]++;
+        w.parents[7] = 7;
+        refused_rows(&w, 8);
+    }
+}
+
+/* A tally that is not A's: everything else is right. */
+static void refused_tally(uint32_t taken, uint32_t merges, uint32_t left, const char *what)
+{
+    static const int32_t joins[] = { 7, -9 }, always_true[] = { 1, -1, 2 }, zero[] = { 7, 0 };
+    struct forest w = forest_a();
+    uint32_t entry, rises;
+
+    w.tally.clauses = taken;
+    w.tally.merges = merges;
+    w.tally.classes = left;
+    expect_refused(call_add(&formula_a, &w, joins, 2), 18, 0, what);
+    expect_refused(call_add(&formula_a, &w, always_true, 3), 18, 0, what);
+    expect_refused(call_add(&formula_a, &w, NULL, 0), 18, 0, what);
+    expect_refused(call_add(&formula_a, &w, zero, 2), 10, 1, "10 before 18");
+    /* no other call takes the tally */
+    expect_accepted(call_entry_point(&formula_a, &w, 3, 8, &entry, &rises), "entry point takes no tally");
+    w.counts[6] = 2;
+    expect_refused(call_add(&formula_a, &w, zero, 1), 12, 7, "12 before 18");
+    w.counts_len = 8;
+    expect_refused(call_add(&formula_a, &w, zero, 1), 12, 0, "12 before 18");
+}
+
+/* 18, by each of its causes, and what is just within. */
+static void tallies(void)
+{
+    static const int32_t clause[] = { 7, -9 };
+    struct forest w;
+
+    about("tally", 0);
+    refused_tally(65535, 0, 7, "65,535 clauses");
+    refused_tally(65536, 0, 7, "65,536 clauses");
+    refused_tally(0xFFFFFFFF, 0, 7, "the most clauses");
+    refused_tally(5, 1, 6, "a class too few, with the right sum");
+    refused_tally(5, 0xFFFFFFFF, 8, "a class too many, with the right sum in 32 bits");
+    refused_tally(5, 0, 6, "a class too few");
+    refused_tally(5, 0, 8, "a class too many");
+    refused_tally(5, 7, 0, "no class");
+    refused_tally(5, 1, 7, "a merge too many");
+    refused_tally(5, 0xFFFFFFFF, 7, "merges that overflow the sum");
+    refused_tally(5, 0x80000000, 0x80000007, "a sum that is right in 32 bits");
+    refused_tally(0, 0, 0, "no tally");
+    w = forest_a();
+    w.tally.clauses = 65534;
+    expect_accepted(call_add(&formula_a, &w, clause, 2), "65,534 clauses");
+    expect_tally(&w, 65535, 2, 5, "the last clause that is taken");
+    expect_refused(call_add(&formula_a, &w, clause, 2), 18, 0, "and no more");
+    expect_refused(call_add(&formula_a, &w, clause, 0), 18, 0, "nor an empty one");
+    w = forest_a();
+    w.tally.clauses = 0;
+    expect_accepted(call_add(&formula_a, &w, clause, 2), "clauses that are not A's number");
+    expect_tally(&w, 1, 2, 5, "one more");
 }
 
 /* 13: no such clause; an x that is not universal; a y that is not existential and deeper. */
@@ -255,13 +352,14 @@ static void askings(void)
     static const uint32_t not_universal[] = { 0, 1, 2, 4, 9, 10, 4096, 0xFFFFFFFF };
     static const uint32_t not_deeper_than_6[] = { 0, 1, 3, 4, 5, 6, 10, 4097, 0xFFFFFFFF };
     struct forest w = forest_a();
-    uint32_t out[9] = { 0 }, count, entry, rises, start, length;
+    uint32_t out[9] = { 0 }, count, size, entry, rises, start, length;
     size_t k;
 
     for (k = 0; k < LEN(not_universal); k++) {
         about("x", not_universal[k]);
         expect_refused(call_set(&formula_a, &w, not_universal[k], out, 9, &count), 13, 0, "set");
         expect_refused(call_set(&formula_a, &w, not_universal[k], out, 0, &count), 13, 0, "set, before 14");
+        expect_refused(call_size(&formula_a, &w, not_universal[k], &size), 13, 0, "size");
         expect_refused(call_entry_points(&formula_a, &w, not_universal[k], out, 9, &count), 13, 0, "entry points");
         expect_refused(call_entry_point(&formula_a, &w, not_universal[k], 8, &entry, &rises), 13, 0, "entry point");
     }
@@ -290,6 +388,9 @@ static void outputs(void)
     w.parents_len = 8;
     expect_refused(call_build(&formula_a, &w, &count), 14, 0, "build, parents");
     w = forest_a();
+    w.counts_len = 8;
+    expect_refused(call_build(&formula_a, &w, &count), 14, 0, "build, counts");
+    w = forest_a();
     for (k = 0; k < 3; k++)
         expect_refused(call_set(&formula_a, &w, 3, out, k, &count), 14, 0, "set");
     for (k = 0; k < 8; k++)
@@ -314,6 +415,9 @@ void test_refusals(void)
     added();
     group("refusal 12");
     forests();
+    counts();
+    group("refusal 18");
+    tallies();
     group("refusal 13");
     askings();
     group("refusal 14");

@@ -169,6 +169,33 @@ uint32_t search_parent(const struct world *w, uint32_t v)
     return deepest;
 }
 
+uint32_t search_count(const struct world *w, uint32_t v)
+{
+    uint32_t y, count = 0;
+
+    for (y = 1; names_class(w, v) && y <= w->n; y++)
+        count += w->existential[y] && (search_class(w, y) == v || above(w, v, search_class(w, y)));
+    return count;
+}
+
+uint32_t search_existentials(const struct world *w)
+{
+    uint32_t v, count = 0;
+
+    for (v = 1; v <= w->n; v++)
+        count += w->existential[v];
+    return count;
+}
+
+uint32_t search_classes(const struct world *w)
+{
+    uint32_t v, count = 0;
+
+    for (v = 1; v <= w->n; v++)
+        count += (uint32_t)names_class(w, v);
+    return count;
+}
+
 int search_in_set(const struct world *w, uint32_t x, uint32_t y)
 {
     return w->existential[y] && w->reach[w->block[x]][x][y];

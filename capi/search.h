@@ -1,7 +1,7 @@
 /*
  * An independent slow search, written from the definitions of reach, class,
- * parent, entry point and set, for small formulas that are accepted. Nothing
- * here is clever: reach is a closure, all else is looked up in it.
+ * parent, count, entry point and set, for small formulas that are accepted.
+ * Nothing here is clever: reach is a closure, all else is looked up in it.
  */
 #ifndef SEARCH_H
 #define SEARCH_H
@@ -38,6 +38,13 @@ void search_close(struct world *w);
 /* The class of v, by its lowest variable, and the parent of the class that v names; 0 for a universal, and where v names none. */
 uint32_t search_class(const struct world *w, uint32_t v);
 uint32_t search_parent(const struct world *w, uint32_t v);
+
+/* The number of variables in the class that v names and in all classes below it; 0 where v names none. */
+uint32_t search_count(const struct world *w, uint32_t v);
+
+/* How many existentials there are, and how many classes. */
+uint32_t search_existentials(const struct world *w);
+uint32_t search_classes(const struct world *w);
 
 /* Whether y is in the set of the universal x. */
 int search_in_set(const struct world *w, uint32_t x, uint32_t y);

@@ -2,14 +2,15 @@
  * snowcoddle.h: dependency sets of quantified Boolean formulas, for C and C++.
  *
  * The library takes a formula in prenex conjunctive form, builds its
- * connection forest, answers which existentials depend on a universal, takes
- * further clauses, and reads and writes QDIMACS text. Every call is proved
- * against its contract. There is no state between calls and no allocation:
- * all tables are the caller's, lent for the time of the call.
+ * connection forest, answers which existentials depend on a universal and how
+ * many they are, takes further clauses, and reads and writes QDIMACS text.
+ * Every call is proved against its contract. There is no state between calls
+ * and no allocation: all tables are the caller's, lent for the time of the
+ * call.
  *
  * Link target/staticlib/libcapi.a, which `rt staticlib capi` writes. It is
- * for x86-64 Linux, and calls nothing but memset. A call keeps its own tables
- * on the stack, some 100 KiB at most.
+ * for x86-64 Linux, and calls nothing but memset and memcpy. A call keeps its
+ * own tables on the stack, some 140 KiB at most (snow_sets).
  *
  *
  * THE FORMULA
@@ -40,16 +41,28 @@
  *           member; 0 for a universal.
  * parents   Row v-1 is the parent of the class that v names: the deepest
  *           class above it, or 0. 0 too where v names no class.
+ * counts    Row v-1 is the number of variables in the class that v names and
+ *           in all classes below it; 0 where v names no class.
  *
- * Of A: classes 1 2 0 4 5 0 7 8 9, parents 0 0 0 0 1 0 4 4 5.
+ * Of A: classes 1 2 0 4 5 0 7 8 9, parents 0 0 0 0 1 0 4 4 5, counts
+ * 3 1 0 3 2 0 1 1 1.
  *
- * Either table may be longer than n; rows past n are neither read nor
- * written. Tables that are lent as input must be well formed, else the call
- * is refused as 12: a universal's rows are 0; an existential's class name is
- * at most its own number, is existential, of the same block, and names
- * itself; a parent is 0 or a class name of a lesser block, and only a class
- * name has one. They need not come from the clauses lent beside them; then
- * entry points and sets are those of the tables as lent.
+ * Each table may be longer than n; rows past n are neither read nor written.
+ * Tables that are lent as input must be well formed, else the call is refused
+ * as 12: a universal's rows are 0; an existential's class name is at most its
+ * own number, is existential, of the same block, and names itself; a parent
+ * is 0 or a class name of a lesser block, and only a class name has one; and
+ * once all that holds, every count is the right one for these classes and
+ * parents. They need not come from the clauses lent beside them; then entry
+ * points, sets and sizes are those of the tables as lent.
+ *
+ * tally     Stands beside the forest: how many clauses were taken, how many
+ *           classes disappeared in merges since there was no clause, and how
+ *           many classes are left. Merges and classes always sum to the
+ *           number of existentials. snow_build gives the tally of its
+ *           clauses, snow_add updates it, and no other call takes it.
+ *
+ * Of A: 5 clauses, 0 merges, 7 classes.
  *
  *
  * WHAT A CALL GIVES
@@ -75,7 +88,9 @@
  *  11   clause table ends inside a clause               its length
  *  12   forest tables lent as input are not well        the variable of the
  *       formed, or shorter than n                       first bad row; 0 if
- *                                                       shorter
+ *                                                       shorter. A bad count
+ *                                                       only where all other
+ *                                                       rows are right
  *  13   clause number not below the count; x not
  *       universal; y not existential and deeper than x  0
  *  14   an output table is shorter than needed          0
@@ -83,10 +98,14 @@
  *  16   a line is outside the rules of the format       its first byte
  *  17   clause lines are not as many as announced       first line too many,
  *                                                       or the text's length
+ *  18   the tally has 65,535 clauses or more; or its
+ *       classes are not as many as the tables have; or
+ *       its merges and classes do not sum to the
+ *       existentials                                    0
  *
  * Entries and bytes are counted from 0. Where several refusals apply, the
  * first in this order is given: 1, 2, the prefix from the left, the clause
- * literals from the left, 12, 13, 15 (writing), 14; at one entry the lower
+ * literals from the left, 12, 18, 13, 15 (writing), 14; at one entry the lower
  * number. snow_read gives 15, then 16 and 17 by the earliest line, then 14.
  * A call skips what it does not take; the list above each prototype says
  * which refusals it can give.
@@ -94,8 +113,8 @@
  *
  * WHAT THE CALLER OWES
  *
- * - A pointer to each cell (place, count, n, entry, ..) is a valid one, also
- *   where the call turns out not to write through it.
+ * - A pointer to each cell (place, count, n, entry, ..) and to a tally is a
+ *   valid one, also where the call turns out not to write through it.
  * - A table is a pointer and a length in entries (bytes for a text). With
  *   length 0 any pointer will do, NULL too: nothing is read or written
  *   through it.
@@ -128,6 +147,20 @@ extern "C" {
 #define SNOW_MOST_TEXT 65536
 
 /*
+ * The most clauses that a tally takes: at so many, snow_add refuses it as 18.
+ */
+#define SNOW_MOST_TAKEN 65535
+
+/*
+ * The tally beside a forest.
+ */
+struct snow_tally {
+    uint32_t clauses;  /* taken; always-true and empty ones count too */
+    uint32_t merges;   /* made: the classes that disappeared */
+    uint32_t classes;  /* left */
+};
+
+/*
  * Check: whether a formula keeps every rule. All other calls check what they
  * take by themselves; none needs this one first.
  *
@@ -138,15 +171,18 @@ uint32_t snow_check(uint32_t n, const uint32_t *prefix, size_t prefix_len,
                     uint32_t *place);
 
 /*
- * Build: the forest of a formula. Fills n rows of classes and of parents,
- * and gives *count = n. What the rows held before does not matter.
+ * Build: the forest of a formula. Fills n rows of classes, of parents and of
+ * counts, gives the tally of the clauses, as if each had been added from none,
+ * and *count = n. What the rows and the tally held before does not matter.
  *
- * Refuses 1 to 11, and 14 where either table has fewer than n rows.
+ * Refuses 1 to 11, and 14 where a table has fewer than n rows.
  */
 uint32_t snow_build(uint32_t n, const uint32_t *prefix, size_t prefix_len,
                     const int32_t *clauses, size_t clauses_len,
                     uint32_t *classes, size_t classes_len,
                     uint32_t *parents, size_t parents_len,
+                    uint32_t *counts, size_t counts_len,
+                    struct snow_tally *tally,
                     uint32_t *count, uint32_t *place);
 
 /*
@@ -175,6 +211,7 @@ uint32_t snow_clause(uint32_t n, const int32_t *clauses, size_t clauses_len,
 uint32_t snow_entry_point(uint32_t n, const uint32_t *prefix, size_t prefix_len,
                           const uint32_t *classes, size_t classes_len,
                           const uint32_t *parents, size_t parents_len,
+                          const uint32_t *counts, size_t counts_len,
                           uint32_t x, uint32_t y,
                           uint32_t *entry, uint32_t *rises, uint32_t *place);
 
@@ -192,6 +229,7 @@ uint32_t snow_entry_points(uint32_t n, const uint32_t *prefix, size_t prefix_len
                            const int32_t *clauses, size_t clauses_len,
                            const uint32_t *classes, size_t classes_len,
                            const uint32_t *parents, size_t parents_len,
+                           const uint32_t *counts, size_t counts_len,
                            uint32_t x, uint32_t *out, size_t out_len,
                            uint32_t *count, uint32_t *place);
 
@@ -211,8 +249,24 @@ uint32_t snow_set(uint32_t n, const uint32_t *prefix, size_t prefix_len,
                   const int32_t *clauses, size_t clauses_len,
                   const uint32_t *classes, size_t classes_len,
                   const uint32_t *parents, size_t parents_len,
+                  const uint32_t *counts, size_t counts_len,
                   uint32_t x, uint32_t *out, size_t out_len,
                   uint32_t *count, uint32_t *place);
+
+/*
+ * Size of the set of the universal x, by the counts of its entry points: what
+ * snow_set gives as *count, without the list.
+ *
+ * Of A: 3 for x = 3.
+ *
+ * Refuses 1 to 13.
+ */
+uint32_t snow_size(uint32_t n, const uint32_t *prefix, size_t prefix_len,
+                   const int32_t *clauses, size_t clauses_len,
+                   const uint32_t *classes, size_t classes_len,
+                   const uint32_t *parents, size_t parents_len,
+                   const uint32_t *counts, size_t counts_len,
+                   uint32_t x, uint32_t *size, uint32_t *place);
 
 /*
  * Sets of all universals: for each universal, ascending, its number, the
@@ -230,26 +284,34 @@ uint32_t snow_sets(uint32_t n, const uint32_t *prefix, size_t prefix_len,
                    const int32_t *clauses, size_t clauses_len,
                    const uint32_t *classes, size_t classes_len,
                    const uint32_t *parents, size_t parents_len,
+                   const uint32_t *counts, size_t counts_len,
                    uint32_t *out, size_t out_len,
                    uint32_t *count, uint32_t *place);
 
 /*
  * Add a clause: rewrites the n rows of the lent forest to those of the
- * forest with the clause. The clause is given by its literals, with no
- * closing 0. With the forest of a formula this gives what snow_build gives
- * of the formula with the clause behind its last one.
+ * forest with the clause, and updates the tally: one clause more is taken,
+ * the classes that disappeared are added to its merges, and its classes are
+ * those left. The clause is given by its literals, with no closing 0. With
+ * the forest and the tally of a formula this gives what snow_build gives of
+ * the formula with the clause behind its last one. An always-true clause
+ * changes nothing but the number of clauses taken.
  *
- * snow_entry_points, snow_set and snow_sets take the clause table too: append
- * the clause there as well, with its 0.
+ * snow_entry_points, snow_set, snow_size and snow_sets take the clause table
+ * too: append the clause there as well, with its 0.
  *
  * Of A: adding 7 -9 gives classes 1 2 0 4 4 0 7 8 7, parents
- * 0 0 0 1 0 0 4 4 0.
+ * 0 0 0 1 0 0 4 4 0, counts 6 1 0 5 0 0 2 1 0, and a tally of 6 clauses,
+ * 2 merges and 5 classes.
  *
- * Refuses 1 to 9, 10 for a bad literal of the clause or a 0 in it, and 12.
+ * Refuses 1 to 9, 10 for a bad literal of the clause or a 0 in it, 12, and 18
+ * for the tally. The tally of a formula within the limits is never refused.
  */
 uint32_t snow_add(uint32_t n, const uint32_t *prefix, size_t prefix_len,
                   uint32_t *classes, size_t classes_len,
                   uint32_t *parents, size_t parents_len,
+                  uint32_t *counts, size_t counts_len,
+                  struct snow_tally *tally,
                   const int32_t *clause, size_t clause_len,
                   uint32_t *place);
 

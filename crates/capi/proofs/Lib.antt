@@ -1,6 +1,7 @@
 -- The laws of what C is told, in reading order: that every place and count fits its cell, how a library's answer is told, and that nothing is left open.
 pub mod Places
 pub mod Telling
+pub mod Rewritten
 pub mod Texts
 pub mod Writes
 pub mod Tight

@@ -9,10 +9,11 @@ use lib.ListN.{length}
 use Rattle.terms.specs.Refusals.{Causes, At0, FirstOf, NoneOf}
 use Rattle.formula.specs.Meaning.{clauses}
 use Rattle.formula.specs.Causes.{VariableCount, PrefixLong, ClausesLong, PrefixCause, ClauseCause, prefixOrder, checkOrder, clauseOrder}
-use Rattle.forest.specs.Causes.{ForestCause, short, bad-row, NotUniversal, NotDeeper, entryOrder, listOrder}
+use Rattle.forest.specs.Causes.{ForestCause, short, bad-row, bad-count, NotUniversal, NotDeeper, entryOrder, readOrder, listOrder}
 use Rattle.forest.specs.Listed.{TooLong}
 use Rattle.sets.specs.Sets.{SetsTooLong, setsOrder}
-use Rattle.growth.specs.Grown.{AddedCause, TooShort, buildOrder, addOrder, clauseFirst}
+use Rattle.forest.specs.Formula.{variables}
+use Rattle.growth.specs.Grown.{Standing, classNames, existentials, AddedCause, TooShort, WrongTally, buildOrder, addOrder, clauseFirst}
 
 -- the places of an order's causes fit 32 bits, if each is the first one
 abbrev pub Small : List Causes → Type 0
@@ -50,9 +51,10 @@ added-place : {n : ℕ} {ls : List ℤ} (k p : ℕ) → AddedCause n ls k p → 
 added-place k p (AddedCause.outside _ l _) = omega arith
 
 -- the variables of a forest
-forest-place : (n : ℕ) (es classes parents : List ℕ) (k p : ℕ) → ForestCause n es classes parents k p → p ≤ n
-forest-place n es classes parents k p (short _ q _) = omega arith
-forest-place n es classes parents k p (bad-row _ _ l _) = l
+forest-place : {n : ℕ} {es classes parents counts : List ℕ} (k p : ℕ) → ForestCause n es classes parents counts k p → p ≤ n
+forest-place k p (short _ q _) = omega arith
+forest-place k p (bad-row _ _ l _) = l
+forest-place k p (bad-count _ _ l _ _) = l
 
 -- What is known of n and the lengths where neither 1 nor 2 is given.
 few : (n : ℕ) → NoneOf (VariableCount n ∷ []) → n ≤ 4096
@@ -69,8 +71,8 @@ module _ (n : ℕ) (es : List ℕ) where
   small-added : (ls : List ℤ) → length ls ≤ 16384 → Small (AddedCause n ls ∷ [])
   small-added ls l = small-within (AddedCause n ls) 16384 (omega arith) (λ k p cause. let m = added-place k p cause in omega arith)
 
-  small-forest : (classes parents : List ℕ) → n ≤ 4096 → Small (ForestCause n es classes parents ∷ [])
-  small-forest classes parents l = small-within (ForestCause n es classes parents) 4096 (omega arith) (λ k p cause. let m = forest-place n es classes parents k p cause in omega arith)
+  small-forest : (classes parents counts : List ℕ) → n ≤ 4096 → Small (ForestCause n es classes parents counts ∷ [])
+  small-forest classes parents counts l = small-within (ForestCause n es classes parents counts) 4096 (omega arith) (λ k p cause. let m = forest-place k p cause in omega arith)
 
   -- 1, 2 and the prefix; and then causes in a table of literals
   small-first : (entries : ℕ) → Small (prefixOrder n es entries)
@@ -87,32 +89,31 @@ module _ (n : ℕ) (es : List ℕ) where
   pub small-check : (ls : List ℤ) → Small (checkOrder n es ls)
   small-check ls = small-two ls (ClauseCause n ls) (small-clauses ls)
 
-  pub small-build : (ls : List ℤ) (classes parents : List ℕ) → Small (buildOrder n es ls classes parents)
-  small-build ls classes parents =
-      small-then (checkOrder n es ls) (At0 14 (TooShort n classes parents) ∷ []) (small-check ls) (λ _. small-at0 14 (TooShort n classes parents))
+  pub small-build : (ls : List ℤ) (s : Standing) → Small (buildOrder n es ls s)
+  small-build ls s = small-then (checkOrder n es ls) (At0 14 (TooShort n s) ∷ []) (small-check ls) (λ _. small-at0 14 (TooShort n s))
 
-  pub small-add : (classes parents : List ℕ) (ls : List ℤ) → Small (addOrder n es classes parents ls)
-  small-add classes parents ls =
-      small-then (clauseFirst n es ls) (ForestCause n es classes parents ∷ []) (small-two ls (AddedCause n ls) (small-added ls))
-      (λ none. small-forest classes parents (few n (none .0, tt)))
+  -- the forest after what comes first, and then causes at place 0
+  small-after : (first : List Causes) (classes parents counts : List ℕ) (number : ℕ) (condition : Type 0) → Small first → (NoneOf first → n ≤ 4096) → Small (first ++ (ForestCause n es classes parents counts ∷ At0 number condition ∷ []))
+  small-after first classes parents counts number condition small most =
+      small-then first (ForestCause n es classes parents counts ∷ At0 number condition ∷ []) small
+      (λ none. small-then (ForestCause n es classes parents counts ∷ []) (At0 number condition ∷ []) (small-forest classes parents counts (most none)) (λ _. small-at0 number condition))
 
-  pub small-entry : (classes parents : List ℕ) (x y : ℕ) → Small (entryOrder n es classes parents x y)
-  small-entry classes parents x y =
-      small-then (prefixOrder n es 0) (ForestCause n es classes parents ∷ At0 13 (NotUniversal n es x ⊎ NotDeeper n es x y) ∷ []) (small-first 0)
-      (λ none. small-then (ForestCause n es classes parents ∷ []) (At0 13 (NotUniversal n es x ⊎ NotDeeper n es x y) ∷ []) (small-forest classes parents (few n (none .0, tt)))
-      (λ _. small-at0 13 (NotUniversal n es x ⊎ NotDeeper n es x y)))
+  pub small-add : (s : Standing) (ls : List ℤ) → Small (addOrder n es s ls)
+  small-add s ls =
+      small-after (clauseFirst n es ls) (s .classes) (s .parents) (s .counts) 18 (WrongTally (s .tally) (classNames (variables n es) s) (existentials (variables n es)))
+      (small-two ls (AddedCause n ls) (small-added ls)) (λ none. few n (none .0, tt))
 
-  pub small-list : (ls : List ℤ) (classes parents : List ℕ) (x : ℕ) (P : ℕ → Type 0) (before : List ℕ) → Small (listOrder n es ls classes parents x P before)
-  small-list ls classes parents x P before =
-      small-then (checkOrder n es ls) (ForestCause n es classes parents ∷ At0 13 (NotUniversal n es x) ∷ At0 14 (TooLong P before) ∷ []) (small-check ls)
-      (λ none. small-then (ForestCause n es classes parents ∷ []) (At0 13 (NotUniversal n es x) ∷ At0 14 (TooLong P before) ∷ []) (small-forest classes parents (few n (none .0, tt)))
-      (λ _. small-then (At0 13 (NotUniversal n es x) ∷ []) (At0 14 (TooLong P before) ∷ []) (small-at0 13 (NotUniversal n es x)) (λ _. small-at0 14 (TooLong P before))))
+  pub small-entry : (classes parents counts : List ℕ) (x y : ℕ) → Small (entryOrder n es classes parents counts x y)
+  small-entry classes parents counts x y = small-after (prefixOrder n es 0) classes parents counts 13 (NotUniversal n es x ⊎ NotDeeper n es x y) (small-first 0) (λ none. few n (none .0, tt))
 
-  pub small-sets : (ls : List ℤ) (classes parents before : List ℕ) → Small (setsOrder n es ls classes parents before)
-  small-sets ls classes parents before =
-      small-then (checkOrder n es ls) (ForestCause n es classes parents ∷ At0 14 (SetsTooLong n es ls classes parents before) ∷ []) (small-check ls)
-      (λ none. small-then (ForestCause n es classes parents ∷ []) (At0 14 (SetsTooLong n es ls classes parents before) ∷ []) (small-forest classes parents (few n (none .0, tt)))
-      (λ _. small-at0 14 (SetsTooLong n es ls classes parents before)))
+  pub small-read : (ls : List ℤ) (classes parents counts : List ℕ) (x : ℕ) → Small (readOrder n es ls classes parents counts x)
+  small-read ls classes parents counts x = small-after (checkOrder n es ls) classes parents counts 13 (NotUniversal n es x) (small-check ls) (λ none. few n (none .0, tt))
+
+  pub small-list : (ls : List ℤ) (classes parents counts : List ℕ) (x : ℕ) (P : ℕ → Type 0) (before : List ℕ) → Small (listOrder n es ls classes parents counts x P before)
+  small-list ls classes parents counts x P before = small-then (readOrder n es ls classes parents counts x) (At0 14 (TooLong P before) ∷ []) (small-read ls classes parents counts x) (λ _. small-at0 14 (TooLong P before))
+
+  pub small-sets : (ls : List ℤ) (classes parents counts before : List ℕ) → Small (setsOrder n es ls classes parents counts before)
+  small-sets ls classes parents counts before = small-after (checkOrder n es ls) classes parents counts 14 (SetsTooLong n es ls classes parents before) (small-check ls) (λ none. few n (none .0, tt))
 
 pub small-clause : (n : ℕ) (ls : List ℤ) (asked : ℕ) → Small (clauseOrder n ls asked)
 small-clause n ls asked =

@@ -1,15 +1,22 @@
--- How the library's answers are told: from a verdict, from an answer with a count, and from a table that was filled.
+-- How the library's answers are told: from a verdict, and from an answer that is laid out in cells.
 use Prim.Native.Nat.{ℕ}
-use mathlib.Core.Path.{_≡_, refl, subst}
+use mathlib.Core.Path.{_≡_, refl, sym, subst}
 use mathlib.Core.List.{List}
+use lib.IntN.{ℤ}
 use Rattle.terms.specs.declared.Filled.{Filled}
+use Rattle.terms.specs.declared.Filled.the-variants.{Count}
+use Rattle.terms.specs.declared.Variable.{Variable}
 use Rattle.terms.specs.declared.Verdict.{Verdict}
 use Rattle.terms.specs.declared.Verdict.the-variants.{Accepted, Refused}
-use Rattle.terms.specs.Refusals.{Causes, FirstOf, Judged}
+use Rattle.terms.specs.Refusals.{Causes, FirstOf, NoneOf, Judged}
 use Rattle.forest.specs.declared.EntryAnswer.{EntryAnswer}
-use Rattle.forest.specs.Answers.{Answered}
+use Rattle.forest.specs.Answers.{Entry, EntryAnswered, Size, Sized}
+use Rattle.forest.specs.Causes.{entryOrder, readOrder, listOrder}
 use Rattle.forest.specs.Listed.{Listing, Filling}
-use Rattle.capi.specs.Told.{Told, accepted, refused, Front}
+use Rattle.connection.specs.Listed.{Listed}
+use Rattle.capi.specs.Cells.{Fits, Laid, counted, placed}
+use Rattle.capi.specs.Told.{Told, accepted, refused, Front, Written}
+use Rattle.capi.proofs.Places.{Small, small-read, small-list}
 
 module _ (order : List Causes) {given kept : Type 0} {verdict : Verdict} (place : ℕ) where
   -- a verdict that accepts, with what the call has given
@@ -24,21 +31,69 @@ module _ (order : List Causes) {given kept : Type 0} {verdict : Verdict} (place 
 pub named : (order : List Causes) {verdict : Verdict} {number at : ℕ} → verdict ≡ Refused number at → Judged order verdict → FirstOf order number at
 named order q judged = subst (Judged order) q judged
 
+-- What an answer says: with a count, no cause holds and G holds of the count; refused, its cause is the first, and K holds.
+abbrev Says : List Causes → (ℕ → Type 0) → Type 0 → Filled → Type 0
+Says order G K (Count written) = NoneOf order × G written
+Says order G K (Filled.Refused number at) = FirstOf order number at × K
+
+module _ (order : List Causes) (G : ℕ → Type 0) (K : Type 0) where
+  -- its place fits its cell, where those of all causes do
+  fits-said : (answer : Filled) → Small order → Says order G K answer → Fits answer
+  fits-said (Count written) small said = tt
+  fits-said (Filled.Refused number at) small said = small number at (said .0)
+
+  -- and laid out it is what C is told
+  tell-said : {answer : Filled} {kept : Type 0} {count count′ place place′ returned : ℕ} → Laid answer count count′ place place′ returned → Says order G K answer → (count′ ≡ count → K → kept) → Told order (G count′) kept returned place place′
+  tell-said (counted q c r p) said keeps = let s = subst (Says order G K) q said in accepted (s .0) (subst G (sym c) (s .1)) r p
+  tell-said {place′ = place′} (placed {number = number} q r p c) said keeps =
+      let s = subst (Says order G K) q said in
+      refused (subst (λ k. FirstOf order k place′) (sym r) (subst (FirstOf order number) (sym p) (s .0))) (keeps c (s .1))
+
 -- A table filled with a list: with a count, the list is written; refused, the table and the count are kept.
-module _ (order : List Causes) (L : List ℕ → Type 0) (out out′ : List ℕ) (answer : Filled) (filling : Filling order L out out′ answer) where
-  pub tell-filled : {kept : Type 0} {written : ℕ} (place : ℕ) → answer ≡ Filled.Count written → Told order (Front L out out′ written) kept 0 place place
-  tell-filled place q = let l = subst (Filling order L out out′) q filling in accepted (l .0) (l .1) refl refl
+module _ (order : List Causes) (L : List ℕ → Type 0) (out out′ : List ℕ) where
+  filling-said : (answer : Filled) → Filling order L out out′ answer → Says order (Front L out out′) (out′ ≡ out) answer
+  filling-said (Count written) filling = filling
+  filling-said (Filled.Refused number at) filling = filling
 
-  pub named-unfilled : {number at : ℕ} → answer ≡ Filled.Refused number at → FirstOf order number at
-  named-unfilled q = subst (Filling order L out out′) q filling .0
+  pub fits-filling : (answer : Filled) → Small order → Filling order L out out′ answer → Fits answer
+  fits-filling answer small filling = fits-said order (Front L out out′) (out′ ≡ out) answer small (filling-said answer filling)
 
-  pub tell-unfilled : {given : Type 0} {number at : ℕ} (count place : ℕ) → answer ≡ Filled.Refused number at → Told order given ((count ≡ count) × (out′ ≡ out)) number place at
-  tell-unfilled count place q = let l = subst (Filling order L out out′) q filling in refused (l .0) (refl, l .1)
+  pub tell-filling : {answer : Filled} {count count′ place place′ returned : ℕ} → Laid answer count count′ place place′ returned → Filling order L out out′ answer
+      → Told order (Front L out out′ count′) ((count′ ≡ count) × (out′ ≡ out)) returned place place′
+  tell-filling {answer} laid filling = tell-said order (Front L out out′) (out′ ≡ out) laid (filling-said answer filling) (λ q r. (q, r))
 
--- What is answered for some numbers is answered for equal ones.
-pub listed-for : (order : ℕ → List Causes) (P : ℕ → ℕ → Type 0) (out out′ : List ℕ) (answer : Filled) {x x′ : ℕ} → x ≡ x′ → Listing (order x) (P x) out out′ answer → Listing (order x′) (P x′) out out′ answer
-listed-for order P out out′ answer q = subst (λ (x : ℕ). Listing (order x) (P x) out out′ answer) q
+-- What is listed for x, and its size: what is answered for a number is told for an equal one.
+module _ (n : ℕ) (es : List ℕ) (ls : List ℤ) (classes parents counts : List ℕ) where
+  pub fits-listing : (P : ℕ → ℕ → Type 0) (out out′ : List ℕ) (answer : Filled) (x : ℕ) → Listing (listOrder n es ls classes parents counts x (P x) out) (P x) out out′ answer → Fits answer
+  fits-listing P out out′ answer x = fits-filling (listOrder n es ls classes parents counts x (P x) out) (Listed (P x)) out out′ answer (small-list n es ls classes parents counts x (P x) out)
 
-pub answered-for : (order : ℕ → ℕ → List Causes) (P : ℕ → ℕ → ℕ → ℕ → Type 0) (answer : EntryAnswer) {x x′ y y′ : ℕ} → x ≡ x′ → y ≡ y′ → Answered (order x y) (P x y) answer → Answered (order x′ y′) (P x′ y′) answer
-answered-for order P answer {x} {x′} {y} {y′} q r said =
-    subst (λ (v : ℕ). Answered (order x′ v) (P x′ v) answer) r (subst (λ (v : ℕ). Answered (order v y) (P v y) answer) q said)
+  pub tell-listing : (P : ℕ → ℕ → Type 0) (out out′ : List ℕ) {answer : Filled} {x x′ count count′ place place′ returned : ℕ} → x ≡ x′ → Laid answer count count′ place place′ returned
+      → Listing (listOrder n es ls classes parents counts x (P x) out) (P x) out out′ answer
+      → Told (listOrder n es ls classes parents counts x′ (P x′) out) (Written (P x′) out out′ count′) ((count′ ≡ count) × (out′ ≡ out)) returned place place′
+  tell-listing P out out′ {answer} {x} {x′} q laid listing =
+      tell-filling (listOrder n es ls classes parents counts x′ (P x′) out) (Listed (P x′)) out out′ laid
+      (subst (λ (v : ℕ). Listing (listOrder n es ls classes parents counts v (P v) out) (P v) out out′ answer) q listing)
+
+  sized-said : (answer : Filled) (x : ℕ) → Sized n es ls classes parents counts x answer → Says (readOrder n es ls classes parents counts x) (Size n es ls classes parents counts x) (Unit {0}) answer
+  sized-said (Count size) x sized = sized
+  sized-said (Filled.Refused number at) x sized = (sized, tt)
+
+  pub fits-sized : (answer : Filled) (x : ℕ) → Sized n es ls classes parents counts x answer → Fits answer
+  fits-sized answer x sized = fits-said (readOrder n es ls classes parents counts x) (Size n es ls classes parents counts x) (Unit {0}) answer (small-read n es ls classes parents counts x) (sized-said answer x sized)
+
+  pub tell-sized : {answer : Filled} {x x′ size size′ place place′ returned : ℕ} → x ≡ x′ → Laid answer size size′ place place′ returned → Sized n es ls classes parents counts x answer
+      → Told (readOrder n es ls classes parents counts x′) (Size n es ls classes parents counts x′ size′) (size′ ≡ size) returned place place′
+  tell-sized {answer} {x} {x′} q laid sized =
+      tell-said (readOrder n es ls classes parents counts x′) (Size n es ls classes parents counts x′) (Unit {0}) laid
+      (sized-said answer x′ (subst (λ (v : ℕ). Sized n es ls classes parents counts v answer) q sized)) (λ r _. r)
+
+-- The entry point: what is answered for two numbers is told for equal ones.
+module _ (n : ℕ) (es classes parents counts : List ℕ) {x x′ y y′ : ℕ} (q : x ≡ x′) (r : y ≡ y′) (answer : EntryAnswer) (said : EntryAnswered n es classes parents counts x y answer) where
+  asked : EntryAnswered n es classes parents counts x′ y′ answer
+  asked = subst (λ (v : ℕ). EntryAnswered n es classes parents counts x′ v answer) r (subst (λ (v : ℕ). EntryAnswered n es classes parents counts v y answer) q said)
+
+  pub tell-entry : {class : Variable} {rises : ℕ} {kept : Type 0} (place : ℕ) → answer ≡ EntryAnswer.At class rises → Told (entryOrder n es classes parents counts x′ y′) (Entry n es classes parents x′ y′ (class .0) rises) kept 0 place place
+  tell-entry place e = let at = subst (EntryAnswered n es classes parents counts x′ y′) e asked in accepted (at .0) (at .1) refl refl
+
+  pub named-entry : {number at : ℕ} → answer ≡ EntryAnswer.Refused number at → FirstOf (entryOrder n es classes parents counts x′ y′) number at
+  named-entry e = subst (EntryAnswered n es classes parents counts x′ y′) e asked

@@ -1,12 +1,19 @@
--- What C is told leaves nothing open: the number and the cell `place` are settled by what was lent. (What is given on acceptance is settled by the library's calls.)
+-- What C is told leaves nothing open: the number and the cell `place` are settled by what was lent, and so are the tables and the cells of the tally after
+-- build and add. (What else is given on acceptance is settled as the library's calls settle it.)
 use Prim.Native.Nat.{ℕ}
-use mathlib.Core.Path.{_≡_, sym, ap, _∙_}
+use mathlib.Core.Path.{_≡_, refl, sym, ap, _∙_}
 use mathlib.Core.List.{List}
+use lib.IntN.{ℤ}
+use lib.Seq.{sets}
 use Rattle.terms.specs.declared.Verdict.{Verdict}
 use Rattle.terms.specs.declared.Verdict.the-variants.{Accepted, Refused}
-use Rattle.terms.specs.Refusals.{Causes}
+use Rattle.terms.specs.declared.Filled.the-variants.{Count}
+use Rattle.terms.specs.Refusals.{Causes, NoneOf}
 use Rattle.terms.proofs.Verdicts.{judged-unique, first-or-none}
-use Rattle.capi.specs.Told.{Told, accepted, refused}
+use Rattle.forest.specs.Formula.{variables, Shares}
+use Rattle.growth.specs.Grown.{Standing, tableOf, many, buildOrder, addOrder, Extended, Grown, TallyOf, Took, Builds, Adds}
+use Rattle.growth.proofs.Tight.{build-tight, add-tight}
+use Rattle.capi.specs.Told.{Told, accepted, refused, cellsOf, Left}
 
 numberIn : Verdict → ℕ
 numberIn Accepted = 0
@@ -24,3 +31,31 @@ told-tight order place {k} {p} (refused first _) (accepted none _ _ _) = absurd 
 told-tight order place {k} {p} {k′} {p′} (refused first _) (refused first′ _) =
     let same = judged-unique order (Refused k p) (Refused k′ p′) first first′ in
     (ap numberIn same, ap placeIn same)
+
+-- Where S settles what is left, it settles the tables and the cells.
+module _ (S : Standing → Type 0) (one : (a b : Standing) → S a → S b → a ≡ b) {classes parents counts classes′ parents′ counts′ : List ℕ} (cells : List ℕ) {after after′ : List ℕ} where
+  left-tight : Left S classes parents counts cells after → Left S classes′ parents′ counts′ cells after′ → (classes ≡ classes′) × (parents ≡ parents′) × (counts ≡ counts′) × (after ≡ after′)
+  left-tight (t, f, q) (u, g, r) =
+      let e = one _ _ f g in
+      (ap (λ (s : Standing). s .classes) e, ap (λ (s : Standing). s .parents) e, ap (λ (s : Standing). s .counts) e, q ∙ ap (λ (s : Standing). sets cells 0 (cellsOf (s .tally))) e ∙ sym r)
+
+module _ (n : ℕ) (es : List ℕ) (ls : List ℤ) (s : Standing) {classes parents counts classes′ parents′ counts′ : List ℕ} (cells : List ℕ) {after after′ : List ℕ} where
+  -- what build gives
+  pub built-tight : NoneOf (buildOrder n es ls s)
+      → Left (λ a. Grown (variables n es) (Shares ls) s a × TallyOf (variables n es) (many ls) a) classes parents counts cells after
+      → Left (λ a. Grown (variables n es) (Shares ls) s a × TallyOf (variables n es) (many ls) a) classes′ parents′ counts′ cells after′
+      → (classes ≡ classes′) × (parents ≡ parents′) × (counts ≡ counts′) × (after ≡ after′)
+  built-tight none = left-tight _ (λ a b f g. build-tight (Count n) (Count n) (built a f) (built b g) .1) cells
+    where
+      built : (a : Standing) → Grown (variables n es) (Shares ls) s a × TallyOf (variables n es) (many ls) a → Builds n es ls s a (Count n)
+      built a (grown, tally) = record { judged = none; leaves = (refl, grown, tally) }
+
+  -- what add gives
+  pub added-tight : NoneOf (addOrder n es s ls)
+      → Left (λ a. Grown (variables n es) (Extended (variables n es) (tableOf (variables n es) s) ls) s a × Took (variables n es) s a) classes parents counts cells after
+      → Left (λ a. Grown (variables n es) (Extended (variables n es) (tableOf (variables n es) s) ls) s a × Took (variables n es) s a) classes′ parents′ counts′ cells after′
+      → (classes ≡ classes′) × (parents ≡ parents′) × (counts ≡ counts′) × (after ≡ after′)
+  added-tight none = left-tight _ (λ a b f g. add-tight (Count n) (Count n) (added a f) (added b g) .1) cells
+    where
+      added : (a : Standing) → Grown (variables n es) (Extended (variables n es) (tableOf (variables n es) s) ls) s a × Took (variables n es) s a → Adds n es s ls a (Count n)
+      added a (grown, took) = record { judged = none; leaves = (refl, grown, took) }

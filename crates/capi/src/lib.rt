@@ -1,24 +1,28 @@
 // The calls of the library for C, as include/snowcoddle.h has them: each calls the library and lays its answer out. A slice is a pointer and
-// a length there, and a `&mut` to a number is a cell.
+// a length there, a `&mut` to a number is a cell, and that to the three numbers of a tally is a pointer to its struct.
 
+mod cells;
+
+use cells::lay;
+use cells::lay_tally;
+use cells::tally_in;
 use forest::EntryAnswer;
 use formula::clauses::Found;
 use qdimacs::Output;
 use qdimacs::Reading;
-use terms::Filled;
 use terms::Variable;
 use terms::Verdict;
 ghost use mathlib.Core.Path.{_≡_};
 ghost use Rattle.formula.specs.Causes.{checkOrder, clauseOrder};
-ghost use Rattle.forest.specs.Causes.{entryOrder, listOrder};
-ghost use Rattle.forest.specs.Answers.{Entry, Entries, Members};
+ghost use Rattle.forest.specs.Causes.{entryOrder, readOrder as sizeOrder, listOrder};
+ghost use Rattle.forest.specs.Answers.{Entry, Entries, Members, Size};
 ghost use Rattle.forest.specs.Formula.{variables, Shares};
 ghost use Rattle.sets.specs.Sets.{AllSets, setsOrder};
-ghost use Rattle.growth.specs.Grown.{buildOrder, addOrder, Extended, Grown};
+ghost use Rattle.growth.specs.Grown.{standing, tableOf, many, buildOrder, addOrder, Extended, Grown, TallyOf, Took};
 ghost use Rattle.qdimacs.specs.Reading.{ReadInto, readOrder};
 ghost use Rattle.qdimacs.specs.Stored.{Stored, tablesOrder};
 ghost use Rattle.qdimacs.specs.Writing.{textOf};
-ghost use Rattle.capi.specs.Told.{Told, Clause, Front, Written};
+ghost use Rattle.capi.specs.Told.{Told, Clause, Front, Written, tallyIn, Left};
 
 // Check: whether a formula keeps every rule.
 #[no_mangle]
@@ -62,7 +66,7 @@ pub extern "C" fn snow_clause(
     }
 }
 
-// Build: the forest of a formula, with n as the count of its rows.
+// Build: the forest of a formula and its tally, with n as the count of its rows.
 #[no_mangle]
 pub extern "C" fn snow_build(
     n: u32,
@@ -70,21 +74,18 @@ pub extern "C" fn snow_build(
     clauses: &[i32],
     classes: &mut [u32],
     parents: &mut [u32],
+    counts: &mut [u32],
+    tally: &mut [u32; 3],
     count: &mut u32,
     place: &mut u32,
 ) -> u32
-    ensures { λ r. ⌜ Told (buildOrder n (now (prefix .entry)) (now (clauses .entry)) (now (classes .entry)) (now (parents .entry))) ((now (count .exit) ≡ n) × Grown (variables n (now (prefix .entry))) (Shares (now (clauses .entry))) (now (classes .entry)) (now (parents .entry)) (now (classes .exit)) (now (parents .exit))) ((now (count .exit) ≡ now (count .entry)) × (now (classes .exit) ≡ now (classes .entry)) × (now (parents .exit) ≡ now (parents .entry))) r (now (place .entry)) (now (place .exit)) ⌝ }
+    ensures { λ r. ⌜ Told (buildOrder n (now (prefix .entry)) (now (clauses .entry)) (standing (now (classes .entry)) (now (parents .entry)) (now (counts .entry)) (tallyIn (now (tally .entry))))) ((now (count .exit) ≡ n) × Left (λ s. Grown (variables n (now (prefix .entry))) (Shares (now (clauses .entry))) (standing (now (classes .entry)) (now (parents .entry)) (now (counts .entry)) (tallyIn (now (tally .entry)))) s × TallyOf (variables n (now (prefix .entry))) (many (now (clauses .entry))) s) (now (classes .exit)) (now (parents .exit)) (now (counts .exit)) (now (tally .entry)) (now (tally .exit))) ((now (count .exit) ≡ now (count .entry)) × (now (classes .exit) ≡ now (classes .entry)) × (now (parents .exit) ≡ now (parents .entry)) × (now (counts .exit) ≡ now (counts .entry)) × (now (tally .exit) ≡ now (tally .entry))) r (now (place .entry)) (now (place .exit)) ⌝ }
 {
-    match growth::build(n, prefix, clauses, classes, parents) {
-        Filled::Count(written) => {
-            *count = written;
-            0
-        }
-        Filled::Refused(number, at) => {
-            *place = at as u32;
-            number
-        }
-    }
+    let lent = tally_in(tally);
+    let told = growth::build_tallied(n, prefix, clauses, classes, parents, counts, lent);
+    lay_tally(told, tally);
+    let answer = told.answer;
+    lay(answer, count, place)
 }
 
 // The entry point of x for y, and the number of rises up to it.
@@ -94,19 +95,21 @@ pub extern "C" fn snow_entry_point(
     prefix: &[u32],
     classes: &[u32],
     parents: &[u32],
+    counts: &[u32],
     x: u32,
     y: u32,
     entry: &mut u32,
     rises: &mut u32,
     place: &mut u32,
 ) -> u32
-    ensures { λ r. ⌜ Told (entryOrder n (now (prefix .entry)) (now (classes .entry)) (now (parents .entry)) x y) (Entry n (now (prefix .entry)) (now (classes .entry)) (now (parents .entry)) x y (now (entry .exit)) (now (rises .exit))) ((now (entry .exit) ≡ now (entry .entry)) × (now (rises .exit) ≡ now (rises .entry))) r (now (place .entry)) (now (place .exit)) ⌝ }
+    ensures { λ r. ⌜ Told (entryOrder n (now (prefix .entry)) (now (classes .entry)) (now (parents .entry)) (now (counts .entry)) x y) (Entry n (now (prefix .entry)) (now (classes .entry)) (now (parents .entry)) x y (now (entry .exit)) (now (rises .exit))) ((now (entry .exit) ≡ now (entry .entry)) × (now (rises .exit) ≡ now (rises .entry))) r (now (place .entry)) (now (place .exit)) ⌝ }
 {
     match forest::entry_point(
         n,
         prefix,
         classes,
         parents,
+        counts,
         Variable::new(x),
         Variable::new(y),
     ) {
@@ -130,23 +133,25 @@ pub extern "C" fn snow_entry_points(
     clauses: &[i32],
     classes: &[u32],
     parents: &[u32],
+    counts: &[u32],
     x: u32,
     out: &mut [u32],
     count: &mut u32,
     place: &mut u32,
 ) -> u32
-    ensures { λ r. ⌜ Told (listOrder n (now (prefix .entry)) (now (clauses .entry)) (now (classes .entry)) (now (parents .entry)) x (Entries n (now (prefix .entry)) (now (clauses .entry)) (now (classes .entry)) (now (parents .entry)) x) (now (out .entry))) (Written (Entries n (now (prefix .entry)) (now (clauses .entry)) (now (classes .entry)) (now (parents .entry)) x) (now (out .entry)) (now (out .exit)) (now (count .exit))) ((now (count .exit) ≡ now (count .entry)) × (now (out .exit) ≡ now (out .entry))) r (now (place .entry)) (now (place .exit)) ⌝ }
+    ensures { λ r. ⌜ Told (listOrder n (now (prefix .entry)) (now (clauses .entry)) (now (classes .entry)) (now (parents .entry)) (now (counts .entry)) x (Entries n (now (prefix .entry)) (now (clauses .entry)) (now (classes .entry)) (now (parents .entry)) x) (now (out .entry))) (Written (Entries n (now (prefix .entry)) (now (clauses .entry)) (now (classes .entry)) (now (parents .entry)) x) (now (out .entry)) (now (out .exit)) (now (count .exit))) ((now (count .exit) ≡ now (count .entry)) × (now (out .exit) ≡ now (out .entry))) r (now (place .entry)) (now (place .exit)) ⌝ }
 {
-    match forest::entry_points(n, prefix, clauses, classes, parents, Variable::new(x), out) {
-        Filled::Count(written) => {
-            *count = written;
-            0
-        }
-        Filled::Refused(number, at) => {
-            *place = at as u32;
-            number
-        }
-    }
+    let answer = forest::entry_points(
+        n,
+        prefix,
+        clauses,
+        classes,
+        parents,
+        counts,
+        Variable::new(x),
+        out,
+    );
+    lay(answer, count, place)
 }
 
 // The set of x, ascending, with the count of its members.
@@ -157,23 +162,52 @@ pub extern "C" fn snow_set(
     clauses: &[i32],
     classes: &[u32],
     parents: &[u32],
+    counts: &[u32],
     x: u32,
     out: &mut [u32],
     count: &mut u32,
     place: &mut u32,
 ) -> u32
-    ensures { λ r. ⌜ Told (listOrder n (now (prefix .entry)) (now (clauses .entry)) (now (classes .entry)) (now (parents .entry)) x (Members n (now (prefix .entry)) (now (clauses .entry)) (now (classes .entry)) (now (parents .entry)) x) (now (out .entry))) (Written (Members n (now (prefix .entry)) (now (clauses .entry)) (now (classes .entry)) (now (parents .entry)) x) (now (out .entry)) (now (out .exit)) (now (count .exit))) ((now (count .exit) ≡ now (count .entry)) × (now (out .exit) ≡ now (out .entry))) r (now (place .entry)) (now (place .exit)) ⌝ }
+    ensures { λ r. ⌜ Told (listOrder n (now (prefix .entry)) (now (clauses .entry)) (now (classes .entry)) (now (parents .entry)) (now (counts .entry)) x (Members n (now (prefix .entry)) (now (clauses .entry)) (now (classes .entry)) (now (parents .entry)) x) (now (out .entry))) (Written (Members n (now (prefix .entry)) (now (clauses .entry)) (now (classes .entry)) (now (parents .entry)) x) (now (out .entry)) (now (out .exit)) (now (count .exit))) ((now (count .exit) ≡ now (count .entry)) × (now (out .exit) ≡ now (out .entry))) r (now (place .entry)) (now (place .exit)) ⌝ }
 {
-    match forest::set_of(n, prefix, clauses, classes, parents, Variable::new(x), out) {
-        Filled::Count(written) => {
-            *count = written;
-            0
-        }
-        Filled::Refused(number, at) => {
-            *place = at as u32;
-            number
-        }
-    }
+    let answer = forest::set_of(
+        n,
+        prefix,
+        clauses,
+        classes,
+        parents,
+        counts,
+        Variable::new(x),
+        out,
+    );
+    lay(answer, count, place)
+}
+
+// The size of the set of x.
+#[no_mangle]
+pub extern "C" fn snow_size(
+    n: u32,
+    prefix: &[u32],
+    clauses: &[i32],
+    classes: &[u32],
+    parents: &[u32],
+    counts: &[u32],
+    x: u32,
+    size: &mut u32,
+    place: &mut u32,
+) -> u32
+    ensures { λ r. ⌜ Told (sizeOrder n (now (prefix .entry)) (now (clauses .entry)) (now (classes .entry)) (now (parents .entry)) (now (counts .entry)) x) (Size n (now (prefix .entry)) (now (clauses .entry)) (now (classes .entry)) (now (parents .entry)) (now (counts .entry)) x (now (size .exit))) (now (size .exit) ≡ now (size .entry)) r (now (place .entry)) (now (place .exit)) ⌝ }
+{
+    let answer = forest::set_size(
+        n,
+        prefix,
+        clauses,
+        classes,
+        parents,
+        counts,
+        Variable::new(x),
+    );
+    lay(answer, size, place)
 }
 
 // The sets of all universals: for each universal ascending its number, the count of its set and its set; with the count of all entries.
@@ -184,43 +218,37 @@ pub extern "C" fn snow_sets(
     clauses: &[i32],
     classes: &[u32],
     parents: &[u32],
+    counts: &[u32],
     out: &mut [u32],
     count: &mut u32,
     place: &mut u32,
 ) -> u32
-    ensures { λ r. ⌜ Told (setsOrder n (now (prefix .entry)) (now (clauses .entry)) (now (classes .entry)) (now (parents .entry)) (now (out .entry))) (Front (AllSets n (now (prefix .entry)) (now (clauses .entry)) (now (classes .entry)) (now (parents .entry))) (now (out .entry)) (now (out .exit)) (now (count .exit))) ((now (count .exit) ≡ now (count .entry)) × (now (out .exit) ≡ now (out .entry))) r (now (place .entry)) (now (place .exit)) ⌝ }
+    ensures { λ r. ⌜ Told (setsOrder n (now (prefix .entry)) (now (clauses .entry)) (now (classes .entry)) (now (parents .entry)) (now (counts .entry)) (now (out .entry))) (Front (AllSets n (now (prefix .entry)) (now (clauses .entry)) (now (classes .entry)) (now (parents .entry))) (now (out .entry)) (now (out .exit)) (now (count .exit))) ((now (count .exit) ≡ now (count .entry)) × (now (out .exit) ≡ now (out .entry))) r (now (place .entry)) (now (place .exit)) ⌝ }
 {
-    match sets::sets(n, prefix, clauses, classes, parents, out) {
-        Filled::Count(written) => {
-            *count = written;
-            0
-        }
-        Filled::Refused(number, at) => {
-            *place = at as u32;
-            number
-        }
-    }
+    let answer = sets::sets(n, prefix, clauses, classes, parents, counts, out);
+    lay(answer, count, place)
 }
 
-// Add a clause: the lent rows become those of the forest with it.
+// Add a clause: the lent rows become those of the forest with it, and the tally takes it.
 #[no_mangle]
 pub extern "C" fn snow_add(
     n: u32,
     prefix: &[u32],
     classes: &mut [u32],
     parents: &mut [u32],
+    counts: &mut [u32],
+    tally: &mut [u32; 3],
     clause: &[i32],
     place: &mut u32,
 ) -> u32
-    ensures { λ r. ⌜ Told (addOrder n (now (prefix .entry)) (now (classes .entry)) (now (parents .entry)) (now (clause .entry))) (Grown (variables n (now (prefix .entry))) (Extended n (now (prefix .entry)) (now (classes .entry)) (now (parents .entry)) (now (clause .entry))) (now (classes .entry)) (now (parents .entry)) (now (classes .exit)) (now (parents .exit))) ((now (classes .exit) ≡ now (classes .entry)) × (now (parents .exit) ≡ now (parents .entry))) r (now (place .entry)) (now (place .exit)) ⌝ }
+    ensures { λ r. ⌜ Told (addOrder n (now (prefix .entry)) (standing (now (classes .entry)) (now (parents .entry)) (now (counts .entry)) (tallyIn (now (tally .entry)))) (now (clause .entry))) (Left (λ s. Grown (variables n (now (prefix .entry))) (Extended (variables n (now (prefix .entry))) (tableOf (variables n (now (prefix .entry))) (standing (now (classes .entry)) (now (parents .entry)) (now (counts .entry)) (tallyIn (now (tally .entry))))) (now (clause .entry))) (standing (now (classes .entry)) (now (parents .entry)) (now (counts .entry)) (tallyIn (now (tally .entry)))) s × Took (variables n (now (prefix .entry))) (standing (now (classes .entry)) (now (parents .entry)) (now (counts .entry)) (tallyIn (now (tally .entry)))) s) (now (classes .exit)) (now (parents .exit)) (now (counts .exit)) (now (tally .entry)) (now (tally .exit))) ((now (classes .exit) ≡ now (classes .entry)) × (now (parents .exit) ≡ now (parents .entry)) × (now (counts .exit) ≡ now (counts .entry)) × (now (tally .exit) ≡ now (tally .entry))) r (now (place .entry)) (now (place .exit)) ⌝ }
 {
-    match growth::add(n, prefix, classes, parents, clause) {
-        Filled::Count(_) => 0,
-        Filled::Refused(number, at) => {
-            *place = at as u32;
-            number
-        }
-    }
+    let lent = tally_in(tally);
+    let told = growth::add_tallied(n, prefix, classes, parents, counts, lent, clause);
+    lay_tally(told, tally);
+    let answer = told.answer;
+    let mut count: u32 = 0;
+    lay(answer, &mut count, place)
 }
 
 // Read a text: n, and both tables with the counts of their entries.

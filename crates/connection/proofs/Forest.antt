@@ -19,6 +19,13 @@ module _ {X : Variables} {J : ℕ → ℕ → Type 0} where
   pub names-one : {c d v : ℕ} → Names X J c v → Names X J d v → c ≡ d
   names-one {c} {d} m n = le-antisymm (m .lowest d (n .member)) (n .lowest c (m .member))
 
+  -- Where every class row names the class, by reach, the class names are those that name themselves.
+  pub class-names : {W : Table} → ((v : ℕ) → X .ex v ≡ true → Names X J (W .cls v) v) → {c : ℕ} → Names X J c c ↔ ClassName X W c
+  class-names class {c} = (
+    λ n. record { existential = n .member .left; itself = names-one (class c (n .member .left)) n },
+    λ n. subst (λ (d : ℕ). Names X J d c) (n .itself) (class c (n .existential)),
+  )
+
   -- Of two classes of one block above the same class, each reaches the other: they are one class.
   above-one : Symmetric J → {p q c : ℕ} → ClassAbove X J p c → ClassAbove X J q c → X .lev p ≡ X .lev q → q ≤ p
   above-one flip {p} {q} {c} a b l =
@@ -72,10 +79,7 @@ module _ {X : Variables} {J : ℕ → ℕ → Type 0} where
 
     -- A class name of the table names its class, and conversely.
     pub represents-name : {c : ℕ} → Names X J c c ↔ ClassName X W c
-    represents-name {c} = (
-      λ n. record { existential = n .member .left; itself = names-one (represents-class c (n .member .left)) n },
-      λ n. subst (λ (d : ℕ). Names X J d c) (n .itself) (represents-class c (n .existential)),
-    )
+    represents-name = class-names represents-class
 
     -- Where the climb from c would stop before q, q is not above c.
     not-above : {q c : ℕ} → ClassName X W c → ClassAbove X J q c → (W .par c ≢ 0 → X .lev (W .par c) < X .lev q) → ⊥

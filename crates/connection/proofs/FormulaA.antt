@@ -24,15 +24,15 @@ abbrev existentials : List ℕ
 existentials = 1 ∷ 2 ∷ 4 ∷ 5 ∷ 7 ∷ 8 ∷ 9 ∷ []
 
 -- The variables of formula A.
-abbrev A : Variables
+abbrev pub A : Variables
 A = record { count = 9; lev = λ v. getD (0 ∷ 1 ∷ 1 ∷ 2 ∷ 3 ∷ 3 ∷ 4 ∷ 5 ∷ 5 ∷ 5 ∷ []) v 0; ex = λ v. has v existentials }
 
 -- Clauses {3 4 7} {-4 8} {6 9} {5 9} {1 5}.
-abbrev clauses : List (List ℕ)
+abbrev pub clauses : List (List ℕ)
 clauses = (3 ∷ 4 ∷ 7 ∷ []) ∷ (4 ∷ 8 ∷ []) ∷ (6 ∷ 9 ∷ []) ∷ (5 ∷ 9 ∷ []) ∷ (1 ∷ 5 ∷ []) ∷ []
 
 -- A with a clause more.
-abbrev with : List ℕ → List (List ℕ)
+abbrev pub with : List ℕ → List (List ℕ)
 with C = clauses ++ (C ∷ [])
 
 -- B differs from A in that 3 shares a clause with 7 only: {3 7} {4 7} {-4 8}.
@@ -55,7 +55,7 @@ unfolding has fill classes-up marks goes-before under fuse-class fuse-parent tab
 computed = record { forest-79 = refl; set-3-B = refl; climb-3-7-B = refl; too-far-4 = refl; too-far-8 = refl; through = refl; not-through = refl }
 
 -- Its existentials are in range.
-A-lawful : Lawful A
+pub A-lawful : Lawful A
 A-lawful = record { within = λ v e. all v (has-member existentials e) }
   where
     all : (v : ℕ) → List·Memᴰ v existentials → (1 ≤ v) × (v ≤ 9)
@@ -64,7 +64,7 @@ A-lawful = record { within = λ v e. all v (has-member existentials e) }
         (cons-all P (lit≤ tt, lit≤ tt) (cons-all P (lit≤ tt, lit≤ tt) (cons-all P (lit≤ tt, lit≤ tt) (λ n m. absurd (List·Memᴰ·not-nil m))))))))
 
 -- The forest is what was computed.
-forest-by : {cs : List (List ℕ)} {R : Rows} → forest-of A cs ≡ R → Forest A (Joined cs) (table-of A R)
+pub forest-by : {cs : List (List ℕ)} {R : Rows} → forest-of A cs ≡ R → Forest A (Joined cs) (table-of A R)
 forest-by {cs} e = subst (λ (R : Rows). Forest A (Joined cs) (table-of A R)) e (forest-exists A-lawful cs)
 
 -- The set is what was computed.

@@ -32,7 +32,7 @@ row-fill : (n v : ℕ) (f : ℕ → ℕ) → 1 ≤ v → v ≤ n → row n (fill
 row-fill n v f l h = let e : 1 + (v - 1) ≡ v = omega arith in row-at n v (fill n 1 f) l h ∙ fill-row n 1 (v - 1) f (omega arith) ∙ ap f e
 
 -- Among the classes up from c are all that stand above c.
-up-member : {W : Table} {m c k : ℕ} (fuel : ℕ) → Above W m c k → k ≤ fuel → List·Memᴰ m (classes-up W fuel c)
+pub up-member : {W : Table} {m c k : ℕ} (fuel : ℕ) → Above W m c k → k ≤ fuel → List·Memᴰ m (classes-up W fuel c)
 unfolding classes-up
 up-member zero start h = List·Memᴰ·head refl
 up-member (suc fuel) start h = List·Memᴰ·head refl
@@ -44,7 +44,7 @@ above-self : {W : Table} {m c : ℕ} → m ≡ c → (k : ℕ) × Above W m c k
 above-self {W} {m} e = (0, subst (λ (d : ℕ). Above W m d 0) e start)
 
 -- And no others.
-member-up : {W : Table} {m : ℕ} (fuel c : ℕ) → List·Memᴰ m (classes-up W fuel c) → (k : ℕ) × Above W m c k
+pub member-up : {W : Table} {m : ℕ} (fuel c : ℕ) → List·Memᴰ m (classes-up W fuel c) → (k : ℕ) × Above W m c k
 unfolding classes-up
 member-up zero c h = above-self (List·Memᴰ·eq-of-singleton h)
 member-up {W} {m} (suc fuel) c h = ⊎-elim above-self

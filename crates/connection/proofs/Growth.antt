@@ -22,7 +22,7 @@ joined-none : {v y : ℕ} → Joined [] v y → ⊥
 joined-none j = List·Memᴰ·not-nil (j .listed)
 
 -- So nothing else is reached.
-reach-none : {E : ℕ → Type 0} {v y : ℕ} → Reach (Joined []) E v y → v ≡ y
+pub reach-none : {E : ℕ → Type 0} {v y : ℕ} → Reach (Joined []) E v y → v ≡ y
 reach-none here = refl
 reach-none (step r j e) = absurd (joined-none j)
 

@@ -22,5 +22,16 @@ pub mod Growth
 pub mod Sets
 -- Theorem (e): demand 3, second sentence.
 pub mod Alone
+-- Ascending lists, and counting.
+pub mod Listed
+pub mod Numbered
+-- Counts of a table, and the size of a set.
+pub mod Counts
+pub mod Passing
+-- Counts computed.
+pub mod Counting
+-- How many classes a clause leaves.
+pub mod Fewer
 -- Formula A computed, and the wrong readings refuted.
 pub mod FormulaA
+pub mod CountsA

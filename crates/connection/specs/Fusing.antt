@@ -1,10 +1,11 @@
--- The forest of a list, computed as rows, one clause at a time.
+-- The forest of a list, computed as rows, one clause at a time; and the counts of rows.
 use Prim.Native.Nat.{ℕ, zero, suc}
 use mathlib.Core.Bool.{Bool, cond, _||_, _&&_}
 use mathlib.Core.List.{List, [], _∷_, _++_}
 use lib.Dec.{eqb, ltb}
 use Rattle.connection.specs.Reach.{Variables}
 use Rattle.connection.specs.Tables.{Table, lent}
+use Rattle.connection.specs.Counts.{how-many}
 use Rattle.connection.specs.Search.{has}
 
 -- f of n numbers from s on.
@@ -72,3 +73,11 @@ singles X = rows-by X (λ v. cond (X .ex v) v 0) (λ v. 0)
 -- The forest of a list.
 unfoldable pub forest-of : Variables → List (List ℕ) → Rows
 forest-of X clauses = fuse-all X (singles X) clauses
+
+-- How many variables stand in class c or below it.
+unfoldable pub count-of : Variables → Table → ℕ → ℕ
+count-of X W c = how-many (λ v. X .ex v && has c (classes-up W (X .lev v) (W .cls v))) (X .count)
+
+-- The counts of a table.
+unfoldable pub counts-of : Variables → Table → List ℕ
+counts-of X W = fill (X .count) 1 (count-of X W)

@@ -1,7 +1,10 @@
--- The definitions of connection, in reading order: reach, tables, the forest, growth, and the forms that compute.
+-- The definitions of connection, in reading order: reach, tables, the forest, growth, counts, and the forms that compute.
 pub mod Reach
 pub mod Tables
 pub mod Forest
 pub mod Growth
+pub mod Listed
+pub mod Counts
 pub mod Search
 pub mod Fusing
+pub mod Passing

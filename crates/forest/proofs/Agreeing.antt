@@ -2,24 +2,26 @@
 use Prim.Native.Nat.{ℕ, _≤_}
 use mathlib.Core.Path.{_≡_, refl, sym, ap, _∙_}
 use mathlib.Core.Bool.{Bool, true, false, not, _&&_}
-use mathlib.Core.List.{List, [], _∷_}
-use mathlib.Core.Logic.{inl, inr, _↔_, by-cases}
+use mathlib.Core.List.{List}
+use mathlib.Core.Logic.{by-cases}
 use native.Mathlib.Decide.{ℕ-discrete, decLe}
 use native.Mathlib.Omega.{arith}
 use lib.Dec.{leb}
 use lib.ListN.{getD}
-use Rattle.terms.specs.Refusals.{Causes, None, Judged}
-use Rattle.terms.specs.declared.Verdict.{Verdict}
-use Rattle.terms.specs.declared.Verdict.the-variants.{Accepted, Refused}
+use Rattle.terms.specs.Refusals.{Causes, None}
 use Rattle.terms.proofs.Common.{clash}
 use Rattle.formula.specs.Meaning.{level, isUniversal, isExistential}
 use Rattle.formula.specs.Levels.{SoundPrefix, Levelled}
 use Rattle.connection.specs.Reach.{Variables, Lawful}
 use Rattle.connection.specs.Tables.{Table, row, lent, ClassName, Row, WellFormed, Above, EntryPoint, EntryPointOf, Member}
+use Rattle.connection.specs.Counts.{CountRow, Counted}
 use Rattle.connection.proofs.Climb.{above-class}
+use Rattle.connection.proofs.Counts.{row-is}
+use Rattle.connection.proofs.Counting.{counts-counted}
 use Rattle.forest.specs.Formula.{variables, universal, tabled, existentialIn, universalIn}
-use Rattle.forest.specs.Causes.{RowsCause, short, bad-row, ForestCause}
-use Rattle.forest.specs.Search.{Deeper, EntryRow}
+use Rattle.forest.specs.Causes.{ForestCause, bad-row, bad-count}
+use Rattle.forest.specs.Search.{rowsOf, FirstBad, Deeper, EntryRow}
+use Rattle.forest.proofs.Formed.{bad-same}
 use Rattle.forest.proofs.Readings.{row-none, row-over, flag-over, flag-within}
 
 -- The same existentials, of the same levels.
@@ -73,6 +75,19 @@ entry-row-same s formed own {y} r =
       none = λ no-deeper. r .none (λ d. no-deeper (deeper-same s formed own d));
     }
 
+-- an existential is one of 1 to n
+pub lawful : (n : ℕ) (es : List ℕ) → Lawful (variables n es)
+unfolding isExistential
+lawful n es = record { within = λ v e. let (a, b, _) = flag-within n v (not (isUniversal es v)) e in (a, b) }
+
+-- Rows that are right from 1 to n are well formed: outside nothing is existential and both rows read 0.
+pub rows-formed : {X : Variables} (classes parents : List ℕ) → Lawful X → ((v : ℕ) → 1 ≤ v → v ≤ X .count → Row X (lent X classes parents) v) → WellFormed X (lent X classes parents)
+unfolding lent
+rows-formed {X} classes parents law rows = record { right = λ v. by-cases (decLe v (X .count)) (λ l. by-cases (ℕ-discrete v 0) (λ z. outside v (λ e. let w = law .within v e in let a = w .0 in omega arith) (λ rows. row-none (X .count) rows v z)) (λ some. rows v (omega arith) l)) (λ l. outside v (λ e. let w = law .within v e in let b = w .1 in omega arith) (λ rows. row-over (X .count) rows v (omega arith))) }
+  where
+    outside : (v : ℕ) → (X .ex v ≡ true → ⊥) → ((rows : List ℕ) → row (X .count) rows v ≡ 0) → Row X (record { cls = row (X .count) classes; par = row (X .count) parents }) v
+    outside v none zero′ = record { universal = λ _. (zero′ classes, zero′ parents); class = λ e. absurd (none e); parent = λ some. absurd (some (zero′ parents)) }
+
 -- The level table of an accepted prefix.
 module _ {n : ℕ} {es levels : List ℕ} {universals : List Bool} (sound : SoundPrefix n es) (table : Levelled es levels universals) where
   flag-agrees : (f : Bool → Bool) (v : ℕ) → (leb 1 v && leb v n && f (getD universals v false)) ≡ (leb 1 v && leb v n && f (isUniversal es v))
@@ -91,34 +106,19 @@ module _ {n : ℕ} {es levels : List ℕ} {universals : List Bool} (sound : Soun
   unfolding existentialIn isExistential
   tables-agree = record { ex = λ v. flag-agrees not v; lev = λ v e. level-agrees v (flag-within n v (not (getD universals v false)) e .1) }
 
+  -- The first bad row by the level table is the first one ...
+  pub bad-rows : (classes parents : List ℕ) {bad : ℕ} → FirstBad (Row (tabled n levels universals) (rowsOf n classes parents)) n bad → FirstBad (Row (variables n es) (lent (variables n es) classes parents)) n bad
+  unfolding lent
+  bad-rows classes parents f = bad-same (λ v. (row-same tables-agree, row-same (same-back tables-agree))) f
+
+  -- ... and where there is none the rows are well formed.
+  pub fine-rows : (classes parents : List ℕ) → FirstBad (Row (tabled n levels universals) (rowsOf n classes parents)) n 0 → WellFormed (variables n es) (lent (variables n es) classes parents)
+  fine-rows classes parents f = rows-formed classes parents (lawful n es) (λ v a b. bad-rows classes parents f .right v a b (λ z. absurd (z refl)))
+
 -- x universal is one of 1 to n
 pub universal-within : (n : ℕ) (es : List ℕ) (x : ℕ) → universal n es x ≡ true → (1 ≤ x) × (x ≤ n) × (isUniversal es x ≡ true)
 unfolding universal
 universal-within n es x u = flag-within n x (isUniversal es x) u
-
--- an existential is one of 1 to n
-pub lawful : (n : ℕ) (es : List ℕ) → Lawful (variables n es)
-unfolding isExistential
-lawful n es = record { within = λ v e. let (a, b, _) = flag-within n v (not (isUniversal es v)) e in (a, b) }
-
--- Causes that hold alike are judged alike.
-pub judged-same : (A B : Causes) → ((k p : ℕ) → A k p ↔ B k p) → (v : Verdict) → Judged (A ∷ []) v → Judged (B ∷ []) v
-judged-same A B same Accepted none = (λ k p b. none .0 k p (same k p .1 b), tt)
-judged-same A B same (Refused k p) (inl f) = inl (record { holds = same k p .0 (f .holds); leftmost = λ k′ p′ b. f .leftmost k′ p′ (same k′ p′ .1 b); lowest = λ k′ b. f .lowest k′ (same k′ p .1 b) })
-judged-same A B same (Refused k p) (inr f) = absurd (f .1)
-
-rows-cause : {n : ℕ} (levels : List ℕ) (universals : List Bool) (es classes parents : List ℕ) → Same (tabled n levels universals) (variables n es) → {k p : ℕ} → RowsCause (tabled n levels universals) classes parents k p → ForestCause n es classes parents k p
-unfolding lent
-rows-cause levels universals es classes parents s (short q z small) = short q z small
-rows-cause levels universals es classes parents s (bad-row q some most wrong) = bad-row q some most (λ r. wrong (row-same (same-back s) r))
-
-rows-cause-back : {n : ℕ} (levels : List ℕ) (universals : List Bool) (es classes parents : List ℕ) → Same (tabled n levels universals) (variables n es) → {k p : ℕ} → ForestCause n es classes parents k p → RowsCause (tabled n levels universals) classes parents k p
-unfolding lent
-rows-cause-back levels universals es classes parents s (short q z small) = short q z small
-rows-cause-back levels universals es classes parents s (bad-row q some most wrong) = bad-row q some most (λ r. wrong (row-same s r))
-
-pub rows-judged : {n : ℕ} (levels : List ℕ) (universals : List Bool) (es classes parents : List ℕ) → Same (tabled n levels universals) (variables n es) → (v : Verdict) → Judged (RowsCause (tabled n levels universals) classes parents ∷ []) v → Judged (ForestCause n es classes parents ∷ []) v
-rows-judged levels universals es classes parents s v = judged-same _ _ (λ k p. (rows-cause levels universals es classes parents s, rows-cause-back levels universals es classes parents s)) v
 
 -- Whether a row is right can be told, so a row that is not wrong is right.
 steady : {a b : ℕ} → ((a ≡ b → ⊥) → ⊥) → a ≡ b
@@ -147,10 +147,19 @@ row-steady h =
       };
     }
 
--- No cause of refusal 12: well formed. Outside 1 to n nothing is existential and both rows read 0.
-pub none-formed : {X : Variables} {classes parents : List ℕ} → Lawful X → None (RowsCause X classes parents) → WellFormed X (lent X classes parents)
-unfolding lent
-none-formed {X} {classes} {parents} law none = record { right = λ v. by-cases (decLe v (X .count)) (λ l. by-cases (ℕ-discrete v 0) (λ z. outside v (λ e. let w = law .within v e in let a = w .0 in omega arith) (λ rows. row-none (X .count) rows v z)) (λ some. row-steady (λ wrong. none 12 v (bad-row refl (omega arith) l wrong)))) (λ l. outside v (λ e. let w = law .within v e in let b = w .1 in omega arith) (λ rows. row-over (X .count) rows v (omega arith))) }
-  where
-    outside : (v : ℕ) → (X .ex v ≡ true → ⊥) → ((rows : List ℕ) → row (X .count) rows v ≡ 0) → Row X (record { cls = row (X .count) classes; par = row (X .count) parents }) v
-    outside v none zero′ = record { universal = λ _. (zero′ classes, zero′ parents); class = λ e. absurd (none e); parent = λ some. absurd (some (zero′ parents)) }
+-- No cause of refusal 12: the tables are well formed ...
+module _ {n : ℕ} {es classes parents counts : List ℕ} (none : None (ForestCause n es classes parents counts)) where
+  pub none-formed : WellFormed (variables n es) (lent (variables n es) classes parents)
+  none-formed = rows-formed classes parents (lawful n es) (λ v a b. row-steady (λ wrong. none 12 v (bad-row refl a b wrong)))
+
+  -- ... and every count is right.
+  pub none-counted : Counted (variables n es) (lent (variables n es) classes parents) (row n counts)
+  none-counted = record { right = λ v. by-cases (decLe v n) (λ l. by-cases (ℕ-discrete v 0) (λ z. outside v (λ e. let w = lawful n es .within v e in let a = w .0 in omega arith) (row-none n counts v z)) (λ some. inside v (omega arith) l)) (λ l. outside v (λ e. let w = lawful n es .within v e in let b = w .1 in omega arith) (row-over n counts v (omega arith))) }
+    where
+      outside : (v : ℕ) → (variables n es .ex v ≡ true → ⊥) → row n counts v ≡ 0 → CountRow (variables n es) (lent (variables n es) classes parents) (row n counts) v
+      outside v no′ z = record { class = λ c. absurd (no′ (c .existential)); none = λ _. z }
+
+      inside : (v : ℕ) → 1 ≤ v → v ≤ n → CountRow (variables n es) (lent (variables n es) classes parents) (row n counts) v
+      inside v a b =
+          let is = row-is none-formed {counts = row n counts} {v = v} (counts-counted (lawful n es) none-formed) in
+          is .1 (steady (λ other. none 12 v (bad-count refl a b none-formed (λ r. other (is .0 r)))))

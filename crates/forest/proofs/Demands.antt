@@ -3,7 +3,7 @@ use Prim.Native.Nat.{ℕ, suc, _+_, _≤_}
 use mathlib.Core.Path.{_≡_, refl, sym, ap, ap₂, _∙_}
 use mathlib.Core.Bool.{Bool, true, false, cond, not}
 use mathlib.Core.List.{List, [], _∷_}
-use mathlib.Core.Logic.{_≢_, inl, inr, ⊎-elim, _↔_}
+use mathlib.Core.Logic.{_≢_, inl, inr, _↔_}
 use native.Mathlib.Omega.{arith}
 use borrow.Author.Tests.{eqb-true, not-true}
 use lib.Dec.{eqb}
@@ -19,20 +19,24 @@ use Rattle.terms.proofs.Common.{clash}
 use Rattle.terms.proofs.Verdicts.{judged-unique}
 use Rattle.formula.specs.Meaning.{blocks, markOf, names, saidOf, firstMark, freeLevel, level, isUniversal, isExistential}
 use Rattle.connection.specs.Reach.{Universal, Depends}
-use Rattle.connection.specs.Tables.{lent}
+use Rattle.connection.specs.Tables.{row, lent}
 use Rattle.connection.specs.Forest.{Forest, EntryClass}
+use Rattle.connection.specs.Listed.{Listed}
+use Rattle.connection.specs.Counts.{Counted, sum}
 use Rattle.connection.proofs.Climb.{entry-one}
+use Rattle.connection.proofs.Counts.{size-is-length}
 use Rattle.connection.proofs.Growth.{forest-is}
+use Rattle.connection.proofs.Listed.{listed-one}
 use Rattle.connection.proofs.Sets.{set-members, entry-class}
 use Rattle.forest.specs.declared.EntryAnswer.{EntryAnswer}
 use Rattle.forest.specs.declared.EntryAnswer.the-variants.{At}
 use Rattle.forest.specs.Formula.{variables, universal, Shares}
-use Rattle.forest.specs.Causes.{short, bad-row, ForestCause, entryOrder, listOrder}
-use Rattle.forest.specs.Answers.{Members, EntryAnswered, SetListed}
-use Rattle.forest.specs.Listed.{Listed, Filling, Listing}
+use Rattle.forest.specs.Causes.{ForestCause, entryOrder, readOrder, listOrder}
+use Rattle.forest.specs.Answers.{Members, EntryAnswered, SetListed, Sized}
+use Rattle.forest.specs.Listed.{Filling, Listing}
 use Rattle.forest.proofs.Readings.{flag-in, flag-within}
-use Rattle.forest.proofs.Picked.{listed-one}
-use Rattle.forest.proofs.Agreeing.{lawful, none-formed, universal-within}
+use Rattle.forest.proofs.Formed.{forest-fine}
+use Rattle.forest.proofs.Agreeing.{lawful, none-formed, none-counted, universal-within}
 
 -- What the blocks say of a variable, level and quantifier at once: nothing, or what the block at m says.
 data Said (bs : List (List ℕ)) (number free : ℕ) (un : Bool) (l : ℕ) (u : Bool) : Type 0 where
@@ -101,15 +105,15 @@ not-false-true : (b : Bool) → (b ≡ false → ⊥) → b ≡ true
 not-false-true true h = refl
 not-false-true false h = absurd (h refl)
 
-module _ (n : ℕ) (es : List ℕ) (ls : List ℤ) (classes parents : List ℕ) (x : ℕ) where
+module _ (n : ℕ) (es : List ℕ) (ls : List ℤ) (classes parents counts : List ℕ) (x : ℕ) where
   -- x is universal where a call that lists is not refused.
-  pub not-refused : (P : ℕ → Type 0) (before : List ℕ) → NoneOf (listOrder n es ls classes parents x P before) → universal n es x ≡ true
+  pub not-refused : (P : ℕ → Type 0) (before : List ℕ) → NoneOf (listOrder n es ls classes parents counts x P before) → universal n es x ≡ true
   not-refused P before none = not-false-true (universal n es x) (λ q. none .1 .1 .1 .1 .1 .0 13 0 (refl, refl, q))
 
   module _ (forest : Forest (variables n es) (Shares ls) (lent (variables n es) classes parents)) where
     -- Demand 2: for the formula's own forest, what the set call writes where it is not refused is the standard dependency set.
     pub set-is-dependencies : (before after : List ℕ) (count : ℕ)
-        → SetListed n es ls classes parents x before after (Count count)
+        → SetListed n es ls classes parents counts x before after (Count count)
         → (list : List ℕ) × Listed (Depends (variables n es) (Shares ls) x) list × (count ≡ length list) × (after ≡ sets before 0 list)
     set-is-dependencies before after count (none, written) =
         let u = universal-alone n es x (not-refused (Members n es ls classes parents x) before none) in
@@ -117,15 +121,14 @@ module _ (n : ℕ) (es : List ℕ) (ls : List ℤ) (classes parents : List ℕ) 
 
     -- And what the entry point call answers is the class of definition 4.24, said by reach.
     pub entry-is-class : (y : ℕ) (class : Variable) (rises : ℕ)
-        → EntryAnswered n es classes parents x y (At class rises) → EntryClass (variables n es) (Shares ls) x y (class .0)
+        → EntryAnswered n es classes parents counts x y (At class rises) → EntryClass (variables n es) (Shares ls) x y (class .0)
     entry-is-class y class rises (none, entry) =
         let ex = not-false-true (isExistential n es y) (λ q. none .1 .1 .1 .1 .0 13 0 (refl, refl, inr (inl q))) in
         entry-class (forest-is (lawful n es) .0 forest) ex .1 (rises, entry .0)
 
-    -- It has no cause of refusal 12, where the tables are as long as n.
-    pub own-forest-fine : n ≤ length classes → n ≤ length parents → None (ForestCause n es classes parents)
-    own-forest-fine long long′ k p (short _ _ small) = ⊎-elim (λ l. omega arith) (λ l. omega arith) small
-    own-forest-fine long long′ k p (bad-row _ _ _ wrong) = wrong (forest-is (lawful n es) .0 forest .formed .right p)
+    -- It has no cause of refusal 12, where the tables are as long as n and the counts are right.
+    pub own-forest-fine : n ≤ length classes → n ≤ length parents → n ≤ length counts → Counted (variables n es) (lent (variables n es) classes parents) (row n counts) → None (ForestCause n es classes parents counts)
+    own-forest-fine long long′ long″ counted = forest-fine long long′ long″ (forest-is (lawful n es) .0 forest .formed) (record { right = λ v _ _ _. counted .right v; wrong = λ some. absurd (some refl) })
 
 -- What was lent settles what a call answers that fills a table with a list, if there is one list, and every entry of the table that it fills.
 pub filling-settled : (order : List Causes) (L : List ℕ → Type 0) → ((list other : List ℕ) → L list → L other → list ≡ other) → (before after after′ : List ℕ) (r r′ : Filled) → Filling order L before after r → Filling order L before after′ r′ → (r ≡ r′) × (after ≡ after′)
@@ -143,13 +146,28 @@ pub listing-settled : (order : List Causes) (P : ℕ → Type 0) (before after a
 listing-settled order P before after after′ r r′ l l′ = filling-settled order (Listed P) listed-one before after after′ r r′ l l′
 
 -- What was lent settles the answer of the entry point call.
-module _ (n : ℕ) (es classes parents : List ℕ) (x y : ℕ) where
-  pub entry-settled : (r r′ : EntryAnswer) → EntryAnswered n es classes parents x y r → EntryAnswered n es classes parents x y r′ → r ≡ r′
+module _ (n : ℕ) (es classes parents counts : List ℕ) (x y : ℕ) where
+  pub entry-settled : (r r′ : EntryAnswer) → EntryAnswered n es classes parents counts x y r → EntryAnswered n es classes parents counts x y r′ → r ≡ r′
   entry-settled (EntryAnswer.At c k) (EntryAnswer.At c′ k′) (none, a) (none′, b) =
-      let (same, rises) = entry-one (none-formed (lawful n es) (none .1 .1 .1 .0)) (a .0) (b .0) in
+      let (same, rises) = entry-one (none-formed (none .1 .1 .1 .0)) (a .0) (b .0) in
       ap₂ At (one-variable c c′ same) rises
-  entry-settled (EntryAnswer.At c k) (EntryAnswer.Refused number place) (none, a) first = absurd (accepted-or-refused (judged-unique (entryOrder n es classes parents x y) Accepted (Refused number place) none first))
-  entry-settled (EntryAnswer.Refused number place) (EntryAnswer.At c k) first (none, a) = absurd (accepted-or-refused (judged-unique (entryOrder n es classes parents x y) Accepted (Refused number place) none first))
+  entry-settled (EntryAnswer.At c k) (EntryAnswer.Refused number place) (none, a) first = absurd (accepted-or-refused (judged-unique (entryOrder n es classes parents counts x y) Accepted (Refused number place) none first))
+  entry-settled (EntryAnswer.Refused number place) (EntryAnswer.At c k) first (none, a) = absurd (accepted-or-refused (judged-unique (entryOrder n es classes parents counts x y) Accepted (Refused number place) none first))
   entry-settled (EntryAnswer.Refused number place) (EntryAnswer.Refused number′ place′) first first′ =
-      let (k, p) = same-refusal (judged-unique (entryOrder n es classes parents x y) (Refused number place) (Refused number′ place′) first first′) in
+      let (k, p) = same-refusal (judged-unique (entryOrder n es classes parents counts x y) (Refused number place) (Refused number′ place′) first first′) in
       ap₂ EntryAnswer.Refused k p
+
+-- The size call: what was lent settles its answer, and it is the count of what the set call lists.
+module _ (n : ℕ) (es : List ℕ) (ls : List ℤ) (classes parents counts : List ℕ) (x : ℕ) where
+  pub size-settled : (r r′ : Filled) → Sized n es ls classes parents counts x r → Sized n es ls classes parents counts x r′ → r ≡ r′
+  size-settled (Filled.Count k) (Filled.Count k′) (none, a) (none′, b) = ap Count (a .2 ∙ ap (sum (row n counts)) (listed-one (a .0) (b .0) (a .1) (b .1)) ∙ sym (b .2))
+  size-settled (Filled.Count k) (Filled.Refused number place) (none, a) first = absurd (accepted-or-refused (judged-unique (readOrder n es ls classes parents counts x) Accepted (Refused number place) none first))
+  size-settled (Filled.Refused number place) (Filled.Count k) first (none, a) = absurd (accepted-or-refused (judged-unique (readOrder n es ls classes parents counts x) Accepted (Refused number place) none first))
+  size-settled (Filled.Refused number place) (Filled.Refused number′ place′) first first′ =
+      let (k, p) = same-refusal (judged-unique (readOrder n es ls classes parents counts x) (Refused number place) (Refused number′ place′) first first′) in
+      ap₂ Filled.Refused k p
+
+  pub size-is-count : (size count : ℕ) (before after : List ℕ) → Sized n es ls classes parents counts x (Count size) → SetListed n es ls classes parents counts x before after (Count count) → size ≡ count
+  size-is-count size count before after (none, a) (none′, b) =
+      let forest = none .1 .1 .1 .1 .0 in
+      a .2 ∙ size-is-length (none-formed forest) (none-counted forest) (a .1) (b .1) ∙ sym (b .2)

@@ -2,12 +2,12 @@
 use Prim.Native.Nat.{ℕ, _≤_, _<_}
 use mathlib.Core.Path.{_≡_, refl, sym, ap, _∙_, subst}
 use mathlib.Core.Bool.{Bool, true, false, not}
-use mathlib.Core.List.{List, [], _∷_}
+use mathlib.Core.List.{List}
 use mathlib.Core.Logic.{_≢_, inl, inr, ⊎-elim, _↔_, by-cases}
 use native.Mathlib.Decide.{decLt}
 use native.Mathlib.Omega.{arith}
 use lib.ListN.{getD, replicate, length-replicate, getD-replicate, List·getD-eq-default}
-use Rattle.terms.specs.Refusals.{Judged}
+use Rattle.terms.specs.Refusals.{None}
 use Rattle.terms.specs.declared.Verdict.the-variants.{Accepted}
 use Rattle.terms.proofs.Common.{clash}
 use Rattle.formula.specs.Meaning.{level, isExistential}
@@ -17,7 +17,7 @@ use Rattle.connection.specs.Tables.{Table, row, lent, WellFormed, EntryPoint, E
 use Rattle.connection.proofs.Climb.{above-class, entry-one, entry-climb, entry-rises}
 use Rattle.connection.proofs.Sets.{member-deeper, member-climb}
 use Rattle.forest.specs.Formula.{variables, tabled, existentialIn, universalIn}
-use Rattle.forest.specs.Causes.{RowsCause, NotUniversal, NotDeeper}
+use Rattle.forest.specs.Causes.{ForestCause, NotUniversal, NotDeeper}
 use Rattle.forest.specs.Answers.{Entry}
 use Rattle.forest.specs.Search.{rowsOf, Deeper, EntryRows, TopRows, Flagged, Via, Blank, Enters}
 use Rattle.forest.proofs.Readings.{flag-within}
@@ -98,11 +98,11 @@ unfolding existentialIn
 tabled-lawful n levels universals = record { within = λ v e. let (a, b, _) = flag-within n v (not (getD universals v false)) e in (a, b) }
 
 -- What the inner calls find by the level table, said of the formula.
-module _ (n : ℕ) (levels : List ℕ) (universals : List Bool) (classes parents : List ℕ) where
-  -- Rows that are accepted are well formed.
-  pub rows-formed : Judged (RowsCause (tabled n levels universals) classes parents ∷ []) Accepted → WellFormed (tabled n levels universals) (rowsOf n classes parents)
+module _ {n : ℕ} {es levels : List ℕ} {universals : List Bool} (sound : SoundPrefix n es) (table : Levelled es levels universals) (classes parents : List ℕ) where
+  -- Tables with no cause of refusal 12 are well formed, by the level table too.
+  pub tabled-formed : {counts : List ℕ} → None (ForestCause n es classes parents counts) → WellFormed (tabled n levels universals) (rowsOf n classes parents)
   unfolding lent
-  rows-formed accepted = none-formed (tabled-lawful n levels universals) (accepted .0)
+  tabled-formed none = formed-same (same-back (tables-agree sound table)) (none-formed none)
 
 module _ {n : ℕ} {es levels : List ℕ} {universals : List Bool} (sound : SoundPrefix n es) (table : Levelled es levels universals) (classes parents : List ℕ) (x : ℕ) where
   pub own-level : universalIn n universals x ≡ true → getD levels x 0 ≡ level es x

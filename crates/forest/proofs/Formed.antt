@@ -3,7 +3,7 @@ use Prim.Native.Nat.{ℕ, _+_, _≤_, _<_}
 use mathlib.Core.Path.{_≡_, refl, sym, ap, _∙_, subst}
 use mathlib.Core.Bool.{Bool, true, false}
 use mathlib.Core.List.{List}
-use mathlib.Core.Logic.{_≢_, _⊎_, ⊎-elim, by-cases}
+use mathlib.Core.Logic.{_≢_, _⊎_, inl, inr, _↔_, by-cases}
 use native.Mathlib.Decide.{ℕ-discrete}
 use native.Mathlib.Omega.{arith}
 use lib.ListN.{length, getD}
@@ -11,9 +11,10 @@ use Rattle.terms.specs.Refusals.{First, None}
 use Rattle.terms.proofs.Common.{clash}
 use Rattle.terms.proofs.Verdicts.{first-at}
 use Rattle.connection.specs.Reach.{Variables}
-use Rattle.connection.specs.Tables.{Table, row, lent, ClassName, ClassRow, ParentRow, Row}
-use Rattle.forest.specs.Formula.{tabled, existentialIn}
-use Rattle.forest.specs.Causes.{RowsCause, short, bad-row}
+use Rattle.connection.specs.Tables.{Table, row, lent, ClassName, ClassRow, ParentRow, Row, WellFormed}
+use Rattle.connection.specs.Counts.{CountRow}
+use Rattle.forest.specs.Formula.{variables, tabled, existentialIn}
+use Rattle.forest.specs.Causes.{ForestCause, short, bad-row, bad-count}
 use Rattle.forest.specs.Search.{rowsOf, FirstBad}
 
 module _ (n : ℕ) (levels : List ℕ) (universals : List Bool) (classes parents : List ℕ) where
@@ -117,27 +118,45 @@ module _ (P : ℕ → Type 0) (n : ℕ) where
   pub bad-none : {passed : ℕ} → Right passed → n ≤ passed → FirstBad P n 0
   bad-none r l = record { right = λ v a b _. r .1 v a (omega arith); wrong = λ some. absurd (some refl) }
 
--- A forest's verdict, from the first bad row.
-module _ {X : Variables} {classes parents : List ℕ} where
-  pub forest-short : (length classes < X .count) ⊎ (length parents < X .count) → First (RowsCause X classes parents) 12 0
-  forest-short small = first-at (λ e l. absurd (omega arith)) (short refl refl small) low
-    where
-      low : (k : ℕ) → RowsCause X classes parents k 0 → 12 ≤ k
-      low k (short q _ _) = omega arith
-      low k (bad-row q _ _ _) = omega arith
+-- The first bad row of what holds alike.
+pub bad-same : {P Q : ℕ → Type 0} {n bad : ℕ} → ((v : ℕ) → P v ↔ Q v) → FirstBad P n bad → FirstBad Q n bad
+bad-same {bad = bad} same f = record { right = λ v a b first. same v .0 (f .right v a b first); wrong = λ some. let w = f .wrong some in (w .0, λ q. w .1 (same bad .1 q)) }
 
-  module _ (long : X .count ≤ length classes) (long′ : X .count ≤ length parents) where
-    pub forest-fine : FirstBad (Row X (lent X classes parents)) (X .count) 0 → None (RowsCause X classes parents)
-    forest-fine f k e (short _ _ small) = ⊎-elim (λ l. omega arith) (λ l. omega arith) small
-    forest-fine f k e (bad-row _ some most wrong) = wrong (f .right e some most (λ z. absurd (z refl)))
+-- No table is too short.
+all-long : {n c p k : ℕ} → n ≤ c → n ≤ p → n ≤ k → (c < n) ⊎ (p < n) ⊎ (k < n) → ⊥
+all-long a b d (inl l) = omega arith
+all-long a b d (inr (inl l)) = omega arith
+all-long a b d (inr (inr l)) = omega arith
 
-    pub forest-bad : (bad : ℕ) → bad ≢ 0 → FirstBad (Row X (lent X classes parents)) (X .count) bad → First (RowsCause X classes parents) 12 bad
-    forest-bad bad some f = first-at clean (bad-row refl (omega arith) (f .wrong some .0) (f .wrong some .1)) low
+-- A forest's verdict: tables that are too short, the first bad row, and once the rows are well formed the first bad count.
+module _ {n : ℕ} {es classes parents counts : List ℕ} where
+  low : (k p : ℕ) → ForestCause n es classes parents counts k p → 12 ≤ k
+  low k p (short q _ _) = omega arith
+  low k p (bad-row q _ _ _) = omega arith
+  low k p (bad-count q _ _ _ _) = omega arith
+
+  pub forest-short : (length classes < n) ⊎ (length parents < n) ⊎ (length counts < n) → First (ForestCause n es classes parents counts) 12 0
+  forest-short small = first-at (λ e l. absurd (omega arith)) (short refl refl small) (λ k. low k 0)
+
+  module _ (long : n ≤ length classes) (long′ : n ≤ length parents) (long″ : n ≤ length counts) where
+    pub forest-bad : (bad : ℕ) → bad ≢ 0 → FirstBad (Row (variables n es) (lent (variables n es) classes parents)) n bad → First (ForestCause n es classes parents counts) 12 bad
+    forest-bad bad some f = first-at clean (bad-row refl (omega arith) (f .wrong some .0) (f .wrong some .1)) (λ k. low k bad)
       where
-        clean : (e : ℕ) → e < bad → (k : ℕ) → RowsCause X classes parents k e → ⊥
-        clean e l k (short _ _ small) = ⊎-elim (λ l. omega arith) (λ l. omega arith) small
-        clean e l k (bad-row _ some most wrong) = wrong (f .right e some most (λ _. l))
+        clean : (e : ℕ) → e < bad → (k : ℕ) → ForestCause n es classes parents counts k e → ⊥
+        clean e l k (short _ _ small) = all-long long long′ long″ small
+        clean e l k (bad-row _ some′ most wrong) = wrong (f .right e some′ most (λ _. l))
+        clean e l k (bad-count _ _ _ formed _) = f .wrong some .1 (formed .right bad)
 
-        low : (k : ℕ) → RowsCause X classes parents k bad → 12 ≤ k
-        low k (short q _ _) = omega arith
-        low k (bad-row q _ _ _) = omega arith
+    module _ (formed : WellFormed (variables n es) (lent (variables n es) classes parents)) where
+      pub forest-miscounted : (bad : ℕ) → bad ≢ 0 → FirstBad (CountRow (variables n es) (lent (variables n es) classes parents) (row n counts)) n bad → First (ForestCause n es classes parents counts) 12 bad
+      forest-miscounted bad some f = first-at clean (bad-count refl (omega arith) (f .wrong some .0) formed (f .wrong some .1)) (λ k. low k bad)
+        where
+          clean : (e : ℕ) → e < bad → (k : ℕ) → ForestCause n es classes parents counts k e → ⊥
+          clean e l k (short _ _ small) = all-long long long′ long″ small
+          clean e l k (bad-row _ some′ most wrong) = wrong (formed .right e)
+          clean e l k (bad-count _ some′ most _ wrong) = wrong (f .right e some′ most (λ _. l))
+
+      pub forest-fine : FirstBad (CountRow (variables n es) (lent (variables n es) classes parents) (row n counts)) n 0 → None (ForestCause n es classes parents counts)
+      forest-fine f k e (short _ _ small) = all-long long long′ long″ small
+      forest-fine f k e (bad-row _ some most wrong) = wrong (formed .right e)
+      forest-fine f k e (bad-count _ some most _ wrong) = wrong (f .right e some most (λ z. absurd (z refl)))

@@ -5,6 +5,7 @@ pub mod Tops
 pub mod Picked
 pub mod Flags
 pub mod Agreeing
+pub mod Counting
 pub mod Entered
 pub mod Listings
 pub mod Demands

@@ -1,29 +1,33 @@
 -- From flags to what a call that lists promises, and from the parts of an order to the whole.
 use Prim.Native.Nat.{ℕ, _≤_}
 use mathlib.Core.Path.{_≡_, refl, sym, ap, subst₂}
-use mathlib.Core.Bool.{Bool}
+use mathlib.Core.Bool.{Bool, false}
 use mathlib.Core.List.{List, [], _∷_, _++_}
 use mathlib.Core.Logic.{inl}
 use native.Mathlib.Omega.{arith}
 use lib.IntN.{ℤ}
-use lib.ListN.{length}
+use lib.ListN.{length, getD}
 use Rattle.terms.specs.Refusals.{Causes, At0, FirstOf, NoneOf, Judged}
 use Rattle.terms.specs.declared.Verdict.{Verdict}
 use Rattle.terms.specs.declared.Verdict.the-variants.{Accepted, Refused}
 use Rattle.terms.specs.declared.Filled.{Filled}
 use Rattle.terms.proofs.Verdicts.{at0-first, at0-none, accepted-then}
 use Rattle.connection.specs.Reach.{Variables, Lawful}
-use Rattle.connection.specs.Tables.{Table, lent, WellFormed, EntryPointOf, Member}
+use Rattle.connection.specs.Tables.{Table, row, lent, WellFormed, EntryPointOf, Member}
+use Rattle.connection.specs.Listed.{Listed}
+use Rattle.connection.specs.Counts.{sum}
+use Rattle.connection.proofs.Counts.{count-most}
+use Rattle.connection.proofs.Listed.{listed-one}
 use Rattle.forest.specs.declared.EntryAnswer.{EntryAnswer}
 use Rattle.forest.specs.Formula.{variables, Shares}
 use Rattle.forest.specs.Causes.{readOrder}
-use Rattle.forest.specs.Answers.{Answered}
-use Rattle.forest.specs.Listed.{Listed, TooLong, Listing}
+use Rattle.forest.specs.Answers.{Answered, Size}
+use Rattle.forest.specs.Listed.{TooLong, Listing}
 use Rattle.forest.specs.declared.listing.Asked.{Asked}
 use Rattle.forest.specs.declared.listing.Asked.the-variants.{Points, Set}
 use Rattle.forest.specs.Search.{pick, picked, Wanted, Picks, EntryRows, Flagged, Enters, Blank}
-use Rattle.forest.proofs.Picked.{picked-listed, listed-one}
-use Rattle.forest.proofs.Agreeing.{lawful, none-formed}
+use Rattle.forest.proofs.Picked.{picked-listed}
+use Rattle.forest.proofs.Agreeing.{lawful, none-formed, none-counted}
 use Rattle.formula.proofs.Sound.{sound-check}
 use Rattle.forest.proofs.Entered.{flags-are, of-within, members-of}
 
@@ -47,10 +51,10 @@ unfolding pick
 members-picked {X} law formed few {entered = entered} tops blank rows f =
     picked-listed (pick Set (X .count) entered tops) (X .count) (λ y m. law .within y (m .existential)) (λ y _ _. members-of law formed tops rows entered (λ e l. flags-are blank f e (omega arith)) y)
 
-module _ {n : ℕ} {es : List ℕ} {ls : List ℤ} {classes parents : List ℕ} (x : ℕ) (none : NoneOf (readOrder n es ls classes parents x)) where
+module _ {n : ℕ} {es : List ℕ} {ls : List ℤ} {classes parents counts : List ℕ} (x : ℕ) (none : NoneOf (readOrder n es ls classes parents counts x)) where
   -- Where nothing is refused before the output, the tables are well formed and n is within its limit.
   formed : WellFormed (variables n es) (lent (variables n es) classes parents)
-  formed = none-formed (lawful n es) (none .1 .1 .1 .1 .0)
+  formed = none-formed (none .1 .1 .1 .1 .0)
 
   few : n ≤ 4096
   few = sound-check (none .0, (none .1 .0, (none .1 .1 .0, (none .1 .1 .1 .0, tt)))) .few
@@ -61,3 +65,12 @@ module _ {n : ℕ} {es : List ℕ} {ls : List ℤ} {classes parents : List ℕ} 
     unfolding pick lent
     asked-listed Points = picked-listed (pick Points n entered tops) n (λ e o. of-within (lawful n es) formed o) (λ e _ l. flags-are blank (enters .1) e (let f = few in omega arith))
     asked-listed Set = members-picked (lawful n es) formed few tops blank (enters .0) (enters .1)
+
+    -- The sum of their counts is the size.
+    pub entries-sized : Size n es ls classes parents counts x (sum (row n counts) (picked (λ v. getD entered v false) n))
+    unfolding pick
+    entries-sized = (picked (λ v. getD entered v false) n, asked-listed Points, refl)
+
+  -- No count is over the limit.
+  pub counts-small : (v : ℕ) → row n counts v ≤ 4096
+  counts-small v = let most = count-most formed (lawful n es) (none-counted (none .1 .1 .1 .1 .0)) v in let f = few in omega arith

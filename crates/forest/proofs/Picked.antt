@@ -1,15 +1,17 @@
 -- The picked numbers as a list: how the loops that count and write them go on, and that the list is ascending and holds exactly them.
-use Prim.Native.Nat.{ℕ, zero, suc, _+_, _-_, _≤_, _<_}
-use mathlib.Core.Path.{_≡_, refl, sym, ap, _∙_, subst}
+use Prim.Native.Nat.{ℕ, zero, suc, _+_, _-_, _*_, _≤_, _<_}
+use mathlib.Core.Path.{_≡_, refl, sym, ap, ap₂, _∙_, subst}
 use mathlib.Core.Bool.{Bool, true, false, cond}
-use mathlib.Core.List.{List, [], _∷_, _++_, append-nil, List·Memᴰ, List·Memᴰ·head, List·Memᴰ·tail, List·Memᴰ·not-nil, List·Memᴰ·cases-cons, List·Memᴰ·append-cases, List·Memᴰ·eq-of-singleton, Memᴰ·append-left, Memᴰ·append-right}
+use mathlib.Core.List.{List, [], _∷_, _++_, append-nil, List·Memᴰ, List·Memᴰ·head, List·Memᴰ·tail, List·Memᴰ·not-nil, List·Memᴰ·append-cases, List·Memᴰ·eq-of-singleton, Memᴰ·append-left, Memᴰ·append-right}
 use mathlib.Core.Logic.{⊎-elim, _↔_}
 use native.Mathlib.Decide.{ℕ-discrete}
 use native.Mathlib.Numerals.{add-one}
 use native.Mathlib.Omega.{arith}
 use lib.ListN.{length, set, length-append}
 use lib.Seq.{sets}
-use Rattle.forest.specs.Listed.{Ascending, Listed}
+use Rattle.connection.specs.Listed.{Ascending, Listed}
+use Rattle.connection.specs.Counts.{sum}
+use Rattle.connection.proofs.Counts.{sum-more}
 use Rattle.forest.specs.Search.{picked, NoneUpto}
 
 -- One number more: it is added if it is picked.
@@ -94,22 +96,6 @@ picked-listed f n within tells =
       all = λ v p. let (a, b) = within v p in flag-picked f n v a b (tells v a b .1 p);
     }
 
--- Two ascending lists of the same numbers are one.
-pub listed-one : {P : ℕ → Type 0} (list other : List ℕ) → Listed P list → Listed P other → list ≡ other
-listed-one list other l o = same list other (l .ascending) (o .ascending) (λ v m. o .all v (l .each v m)) (λ v m. l .all v (o .each v m))
-  where
-    same : (r s : List ℕ) → Ascending r → Ascending s → ((v : ℕ) → List·Memᴰ v r → List·Memᴰ v s) → ((v : ℕ) → List·Memᴰ v s → List·Memᴰ v r) → r ≡ s
-    same [] [] up up′ there back = refl
-    same [] (b ∷ s) up up′ there back = absurd (List·Memᴰ·not-nil (back b (List·Memᴰ·head refl)))
-    same (a ∷ r) [] up up′ there back = absurd (List·Memᴰ·not-nil (there a (List·Memᴰ·head refl)))
-    same (a ∷ r) (b ∷ s) up up′ there back =
-        let q : a ≡ b =
-        ⊎-elim (λ e. e) (λ m. ⊎-elim (λ e. sym e) (λ m′. let l = up′ .0 a m in let l′ = up .0 b m′ in absurd (omega arith)) (List·Memᴰ·cases-cons (back b (List·Memᴰ·head refl)))) (List·Memᴰ·cases-cons (there a (List·Memᴰ·head refl))) in
-        ap (λ h. h ∷ r) q ∙ ap (λ t. b ∷ t)
-        (same r s (up .1) (up′ .1)
-        (λ v m. ⊎-elim (λ e. let l = up .0 v m in absurd (omega arith)) (λ m′. m′) (List·Memᴰ·cases-cons (there v (List·Memᴰ·tail m))))
-        (λ v m. ⊎-elim (λ e. let l = up′ .0 v m in absurd (omega arith)) (λ m′. m′) (List·Memᴰ·cases-cons (back v (List·Memᴰ·tail m)))))
-
 -- What the loop that counts knows, and the one that writes: both count from a first entry on.
 pub record Counted (n : ℕ) (f : ℕ → Bool) (first count passed : ℕ) : Type 0 where
   pub most : passed ≤ n
@@ -147,3 +133,27 @@ module _ {n : ℕ} {f : ℕ → Bool} {first count passed : ℕ} (c : Counted n 
 
 pub count-all : {n : ℕ} {f : ℕ → Bool} {first count passed : ℕ} → Counted n f first count passed → n ≤ passed → count ≡ first + length (picked f n)
 count-all {n} {f} {first} {passed = passed} c done = let q : passed ≡ n = let m = c .most in omega arith in c .counted ∙ ap (λ m. first + length (picked f m)) q
+
+-- The sum over those picked so far, each at most 4,096.
+pub record Summed (n : ℕ) (f : ℕ → Bool) (g : ℕ → ℕ) (passed total : ℕ) : Type 0 where
+  pub within : passed ≤ n
+  pub sum-is : total ≡ sum g (picked f passed)
+  pub most : total ≤ passed * 4096
+
+module _ (n : ℕ) (f : ℕ → Bool) (g : ℕ → ℕ) where
+  pub sum-none : Summed n f g 0 0
+  unfolding sum picked
+  sum-none = record { within = omega arith; sum-is = refl; most = omega arith }
+
+  pub sum-more-flagged : {passed total here : ℕ} → ((v : ℕ) → g v ≤ 4096) → Summed n f g passed total → passed < n → f (passed + 1) ≡ true → here ≡ g (passed + 1) → Summed n f g (passed + 1) (total + here)
+  sum-more-flagged {passed} {total} {here} small s l flag is =
+      let most = s .most in
+      let one = small (passed + 1) in
+      record {
+        within = omega arith;
+        sum-is = ap₂ (λ (a b : ℕ). a + b) (s .sum-is) is ∙ sym (ap (sum g) (picked-more f passed flag) ∙ sum-more g (picked f passed) (passed + 1));
+        most = omega arith;
+      }
+
+  pub sum-same : {passed total : ℕ} → Summed n f g passed total → passed < n → f (passed + 1) ≡ false → Summed n f g (passed + 1) total
+  sum-same {passed} s l flag = let most = s .most in record { within = omega arith; sum-is = s .sum-is ∙ sym (ap (sum g) (picked-same f passed flag)); most = omega arith }

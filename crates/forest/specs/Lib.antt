@@ -3,3 +3,4 @@ pub mod Listed
 pub mod Causes
 pub mod Answers
 pub mod Search
+pub mod Counting

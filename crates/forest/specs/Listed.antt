@@ -1,23 +1,13 @@
 -- Numbers written ascending into a lent table: what a call lists, and what it leaves.
 use Prim.Native.Nat.{ℕ, _<_}
 use mathlib.Core.Path.{_≡_}
-use mathlib.Core.List.{List, [], _∷_, List·Memᴰ}
+use mathlib.Core.List.{List}
 use lib.ListN.{length}
 use lib.Seq.{sets}
 use Rattle.terms.specs.Refusals.{Causes, FirstOf, NoneOf}
 use Rattle.terms.specs.declared.Filled.{Filled}
 use Rattle.terms.specs.declared.Filled.the-variants.{Count, Refused}
-
--- ascending: each number is less than all that follow it
-abbrev pub Ascending : List ℕ → Type 0
-Ascending [] = Unit {0}
-Ascending (a ∷ rest) = ((b : ℕ) → List·Memᴰ b rest → a < b) × Ascending rest
-
--- the ascending list of exactly those numbers of which P holds
-pub record Listed (P : ℕ → Type 0) (list : List ℕ) : Type 0 where
-  pub ascending : Ascending list
-  pub each : (v : ℕ) → List·Memᴰ v list → P v
-  pub all : (v : ℕ) → P v → List·Memᴰ v list
+use Rattle.connection.specs.Listed.{Listed}
 
 -- the list needs more room than the lent table has
 abbrev pub TooLong : (ℕ → Type 0) → List ℕ → Type 0

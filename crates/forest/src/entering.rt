@@ -1,10 +1,10 @@
 // What the two calls that list share: every refusal but 14, and then the entry of each variable and the entry points of x.
 
 use crate::marks::flag_entries;
-use crate::rows::check_rows;
 use crate::rows::level_at;
 use crate::rows::universal_at;
 use crate::search::fill_tops;
+use crate::tables::check_forest;
 use formula::levels::fill_levels;
 use terms::Variable;
 use terms::Verdict;
@@ -26,17 +26,28 @@ pub fn enter(
     clauses: &[i32],
     classes: &[u32],
     parents: &[u32],
+    counts: &[u32],
     x: Variable,
     tops: &mut [u32],
     entered: &mut [bool],
 ) -> Verdict
     requires { ⌜ (length (now tops) ≡ 4096) × Blank (now entered) ⌝ }
-    ensures { λ r. ⌜ Judged (readOrder n (now (prefix .entry)) (now (clauses .entry)) (now (classes .entry)) (now (parents .entry)) (x .0)) r ⌝ }
+    ensures { λ r. ⌜ Judged (readOrder n (now (prefix .entry)) (now (clauses .entry)) (now (classes .entry)) (now (parents .entry)) (now (counts .entry)) (x .0)) r ⌝ }
     ensures { λ r. ⌜ Enters (variables n (now (prefix .entry))) (lent (variables n (now (prefix .entry))) (now (classes .entry)) (now (parents .entry))) (Shares (now (clauses .entry))) (x .0) (now (tops .exit)) (now (entered .entry)) (now (entered .exit)) r ⌝ }
 {
     match formula::check(n, prefix, clauses) {
         Verdict::Refused(number, place) => Verdict::Refused(number, place),
-        Verdict::Accepted => sound_enter(n, prefix, clauses, classes, parents, x, tops, entered),
+        Verdict::Accepted => sound_enter(
+            n,
+            prefix,
+            clauses,
+            classes,
+            parents,
+            counts,
+            x,
+            tops,
+            entered,
+        ),
     }
 }
 
@@ -47,18 +58,19 @@ fn sound_enter(
     clauses: &[i32],
     classes: &[u32],
     parents: &[u32],
+    counts: &[u32],
     x: Variable,
     tops: &mut [u32],
     entered: &mut [bool],
 ) -> Verdict
     requires { ⌜ SoundPrefix n (now prefix) × (length (now tops) ≡ 4096) × Blank (now entered) × SoundClauses (now clauses) ⌝ }
-    ensures { λ r. ⌜ Judged (ForestCause n (now (prefix .entry)) (now (classes .entry)) (now (parents .entry)) ∷ At0 13 (NotUniversal n (now (prefix .entry)) (x .0)) ∷ []) r ⌝ }
+    ensures { λ r. ⌜ Judged (ForestCause n (now (prefix .entry)) (now (classes .entry)) (now (parents .entry)) (now (counts .entry)) ∷ At0 13 (NotUniversal n (now (prefix .entry)) (x .0)) ∷ []) r ⌝ }
     ensures { λ r. ⌜ Enters (variables n (now (prefix .entry))) (lent (variables n (now (prefix .entry))) (now (classes .entry)) (now (parents .entry))) (Shares (now (clauses .entry))) (x .0) (now (tops .exit)) (now (entered .entry)) (now (entered .exit)) r ⌝ }
 {
     let mut levels = [0u32; 4097];
     let mut universals = [false; 4097];
     fill_levels(prefix, &mut levels, &mut universals);
-    match check_rows(n, &levels, &universals, classes, parents) {
+    match check_forest(n, prefix, &levels, &universals, classes, parents, counts) {
         Verdict::Refused(number, place) => Verdict::Refused(number, place),
         Verdict::Accepted => {
             if universal_at(n, &universals, x) {

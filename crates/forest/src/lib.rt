@@ -1,20 +1,23 @@
-// Lent forest tables: the entry point of x for y, the entry points of x, and the set of x.
+// Lent forest tables: the entry point of x for y, the entry points of x, the set of x and its size.
 
+pub mod counts;
 mod entering;
 pub mod listing;
 pub mod marks;
 pub mod rows;
 pub mod search;
+pub mod tables;
 
 use entering::enter;
 use formula::levels::fill_levels;
 use formula::prefix::prefix_verdict;
 use listing::Asked;
 use listing::list_picked;
-use rows::check_rows;
+use listing::sum_flagged;
 use rows::universal_at;
 use search::Found;
 use search::find_entry;
+use tables::check_forest;
 use terms::Filled;
 use terms::Variable;
 use terms::Verdict;
@@ -23,7 +26,7 @@ ghost use mathlib.Core.Logic.{_⊎_};
 ghost use Rattle.terms.specs.Refusals.{At0};
 ghost use Rattle.formula.specs.Levels.{SoundPrefix};
 ghost use Rattle.forest.specs.Causes.{ForestCause, NotUniversal, NotDeeper, listOrder};
-ghost use Rattle.forest.specs.Answers.{Answered, Entry, EntryAnswered, EntriesListed, SetListed};
+ghost use Rattle.forest.specs.Answers.{Answered, Entry, EntryAnswered, EntriesListed, SetListed, Sized};
 ghost use Rattle.forest.specs.Listed.{Listing};
 ghost use Rattle.forest.specs.Search.{Wanted};
 
@@ -40,14 +43,15 @@ pub fn entry_point(
     prefix: &[u32],
     classes: &[u32],
     parents: &[u32],
+    counts: &[u32],
     x: Variable,
     y: Variable,
 ) -> EntryAnswer
-    ensures { λ r. ⌜ EntryAnswered n (now (prefix .entry)) (now (classes .entry)) (now (parents .entry)) (x .0) (y .0) r ⌝ }
+    ensures { λ r. ⌜ EntryAnswered n (now (prefix .entry)) (now (classes .entry)) (now (parents .entry)) (now (counts .entry)) (x .0) (y .0) r ⌝ }
 {
     match prefix_verdict(n, prefix, 0) {
         Verdict::Refused(number, place) => EntryAnswer::Refused(number, place),
-        Verdict::Accepted => sound_entry(n, prefix, classes, parents, x, y),
+        Verdict::Accepted => sound_entry(n, prefix, classes, parents, counts, x, y),
     }
 }
 
@@ -58,12 +62,23 @@ pub fn entry_points(
     clauses: &[i32],
     classes: &[u32],
     parents: &[u32],
+    counts: &[u32],
     x: Variable,
     out: &mut [u32],
 ) -> Filled
-    ensures { λ r. ⌜ EntriesListed n (now (prefix .entry)) (now (clauses .entry)) (now (classes .entry)) (now (parents .entry)) (x .0) (now (out .entry)) (now (out .exit)) r ⌝ }
+    ensures { λ r. ⌜ EntriesListed n (now (prefix .entry)) (now (clauses .entry)) (now (classes .entry)) (now (parents .entry)) (now (counts .entry)) (x .0) (now (out .entry)) (now (out .exit)) r ⌝ }
 {
-    list_asked(n, prefix, clauses, classes, parents, x, Asked::Points, out)
+    list_asked(
+        n,
+        prefix,
+        clauses,
+        classes,
+        parents,
+        counts,
+        x,
+        Asked::Points,
+        out,
+    )
 }
 
 // The set of x, written ascending into `out`, with the count of its members.
@@ -73,26 +88,36 @@ pub fn set_of(
     clauses: &[i32],
     classes: &[u32],
     parents: &[u32],
+    counts: &[u32],
     x: Variable,
     out: &mut [u32],
 ) -> Filled
-    ensures { λ r. ⌜ SetListed n (now (prefix .entry)) (now (clauses .entry)) (now (classes .entry)) (now (parents .entry)) (x .0) (now (out .entry)) (now (out .exit)) r ⌝ }
+    ensures { λ r. ⌜ SetListed n (now (prefix .entry)) (now (clauses .entry)) (now (classes .entry)) (now (parents .entry)) (now (counts .entry)) (x .0) (now (out .entry)) (now (out .exit)) r ⌝ }
 {
-    list_asked(n, prefix, clauses, classes, parents, x, Asked::Set, out)
+    list_asked(
+        n,
+        prefix,
+        clauses,
+        classes,
+        parents,
+        counts,
+        x,
+        Asked::Set,
+        out,
+    )
 }
 
-// What both do: the entry points of x are flagged, and what is asked for is listed by the flags.
-fn list_asked(
+// The size of the set of x, by the counts of its entry points.
+pub fn set_size(
     n: u32,
     prefix: &[u32],
     clauses: &[i32],
     classes: &[u32],
     parents: &[u32],
+    counts: &[u32],
     x: Variable,
-    asked: Asked,
-    out: &mut [u32],
 ) -> Filled
-    ensures { λ r. ⌜ Listing (listOrder n (now (prefix .entry)) (now (clauses .entry)) (now (classes .entry)) (now (parents .entry)) (x .0) (Wanted asked n (now (prefix .entry)) (now (clauses .entry)) (now (classes .entry)) (now (parents .entry)) (x .0)) (now (out .entry))) (Wanted asked n (now (prefix .entry)) (now (clauses .entry)) (now (classes .entry)) (now (parents .entry)) (x .0)) (now (out .entry)) (now (out .exit)) r ⌝ }
+    ensures { λ r. ⌜ Sized n (now (prefix .entry)) (now (clauses .entry)) (now (classes .entry)) (now (parents .entry)) (now (counts .entry)) (x .0) r ⌝ }
 {
     let mut tops = [0u32; 4096];
     let mut entered = [false; 4097];
@@ -102,6 +127,39 @@ fn list_asked(
         clauses,
         classes,
         parents,
+        counts,
+        x,
+        &mut tops,
+        &mut entered,
+    ) {
+        Verdict::Refused(number, place) => Filled::Refused(number, place),
+        Verdict::Accepted => Filled::Count(sum_flagged(n, &entered, counts)),
+    }
+}
+
+// What the two that list do: the entry points of x are flagged, and what is asked for is listed by the flags.
+fn list_asked(
+    n: u32,
+    prefix: &[u32],
+    clauses: &[i32],
+    classes: &[u32],
+    parents: &[u32],
+    counts: &[u32],
+    x: Variable,
+    asked: Asked,
+    out: &mut [u32],
+) -> Filled
+    ensures { λ r. ⌜ Listing (listOrder n (now (prefix .entry)) (now (clauses .entry)) (now (classes .entry)) (now (parents .entry)) (now (counts .entry)) (x .0) (Wanted asked n (now (prefix .entry)) (now (clauses .entry)) (now (classes .entry)) (now (parents .entry)) (x .0)) (now (out .entry))) (Wanted asked n (now (prefix .entry)) (now (clauses .entry)) (now (classes .entry)) (now (parents .entry)) (x .0)) (now (out .entry)) (now (out .exit)) r ⌝ }
+{
+    let mut tops = [0u32; 4096];
+    let mut entered = [false; 4097];
+    match enter(
+        n,
+        prefix,
+        clauses,
+        classes,
+        parents,
+        counts,
         x,
         &mut tops,
         &mut entered,
@@ -117,16 +175,17 @@ fn sound_entry(
     prefix: &[u32],
     classes: &[u32],
     parents: &[u32],
+    counts: &[u32],
     x: Variable,
     y: Variable,
 ) -> EntryAnswer
     requires { ⌜ SoundPrefix n (now prefix) ⌝ }
-    ensures { λ r. ⌜ Answered (ForestCause n (now (prefix .entry)) (now (classes .entry)) (now (parents .entry)) ∷ At0 13 (NotUniversal n (now (prefix .entry)) (x .0) ⊎ NotDeeper n (now (prefix .entry)) (x .0) (y .0)) ∷ []) (Entry n (now (prefix .entry)) (now (classes .entry)) (now (parents .entry)) (x .0) (y .0)) r ⌝ }
+    ensures { λ r. ⌜ Answered (ForestCause n (now (prefix .entry)) (now (classes .entry)) (now (parents .entry)) (now (counts .entry)) ∷ At0 13 (NotUniversal n (now (prefix .entry)) (x .0) ⊎ NotDeeper n (now (prefix .entry)) (x .0) (y .0)) ∷ []) (Entry n (now (prefix .entry)) (now (classes .entry)) (now (parents .entry)) (x .0) (y .0)) r ⌝ }
 {
     let mut levels = [0u32; 4097];
     let mut universals = [false; 4097];
     fill_levels(prefix, &mut levels, &mut universals);
-    match check_rows(n, &levels, &universals, classes, parents) {
+    match check_forest(n, prefix, &levels, &universals, classes, parents, counts) {
         Verdict::Refused(number, place) => EntryAnswer::Refused(number, place),
         Verdict::Accepted => {
             if universal_at(n, &universals, x) {

@@ -4,10 +4,13 @@ use crate::rows::flag_at;
 use crate::rows::row_of;
 use terms::Filled;
 use terms::Variable;
-ghost use Prim.Native.Nat.{_+_, _≤_};
+ghost use Prim.Native.Nat.{ℕ, _+_, _≤_};
 ghost use mathlib.Core.Path.{_≡_};
-ghost use lib.ListN.{length};
+ghost use mathlib.Core.Bool.{false};
+ghost use lib.ListN.{length, getD};
 ghost use lib.Seq.{sets};
+ghost use Rattle.connection.specs.Tables.{row};
+ghost use Rattle.connection.specs.Counts.{sum};
 ghost use Rattle.forest.specs.Search.{Tells, pick, picked, NoneUpto, Picks};
 
 // What is listed: the flagged entry points themselves, or the set, which is the variables with a flagged top.
@@ -92,4 +95,21 @@ fn picks(n: u32, asked: Asked, flags: &[bool], tops: &[u32], v: Variable) -> boo
         Asked::Points => flag_at(flags, v),
         Asked::Set => flag_at(flags, row_of(n, tops, v)),
     }
+}
+
+// The sum of the rows of the flagged numbers from 1 to n.
+pub fn sum_flagged(n: u32, flags: &[bool], rows: &[u32]) -> u32
+    requires { ⌜ (n ≤ 4096) × ((v : ℕ) → row n (now rows) v ≤ 4096) ⌝ }
+    ensures { λ r. ⌜ r ≡ sum (row n (now (rows .entry))) (picked (λ v. getD (now (flags .entry)) v false) n) ⌝ }
+{
+    let mut total: u32 = 0;
+    let mut passed: u32 = 0;
+    while passed < n {
+        passed += 1;
+        let v = Variable::new(passed);
+        if flag_at(flags, v) {
+            total += row_of(n, rows, v).0;
+        }
+    }
+    total
 }

@@ -2,45 +2,23 @@
 
 use terms::Level;
 use terms::Variable;
-use terms::Verdict;
 ghost use Prim.Native.Nat.{_<_};
 ghost use mathlib.Core.Path.{_≡_};
 ghost use mathlib.Core.Bool.{true, false};
-ghost use mathlib.Core.List.{[], _∷_};
+ghost use mathlib.Core.List.{[]};
 ghost use lib.ListN.{getD};
-ghost use Rattle.terms.specs.Refusals.{Judged};
 ghost use Rattle.connection.specs.Tables.{row, ClassRow, ParentRow, Row};
 ghost use Rattle.forest.specs.Formula.{existentialIn, universalIn, tabled};
-ghost use Rattle.forest.specs.Causes.{RowsCause};
 ghost use Rattle.forest.specs.Search.{Tells, rowsOf, FirstBad};
 
-// Whether the tables of a forest are well formed: refused as 12 with the first bad row, 0 where a table is shorter than n.
-pub fn check_rows(
+// The first variable whose rows are not right, 0 where all are.
+pub fn first_bad(
     n: u32,
     levels: &[u32],
     universals: &[bool],
     classes: &[u32],
     parents: &[u32],
-) -> Verdict
-    ensures { λ r. ⌜ Judged (RowsCause (tabled n (now (levels .entry)) (now (universals .entry))) (now (classes .entry)) (now (parents .entry)) ∷ []) r ⌝ }
-{
-    let count = n as usize;
-    if classes.len() < count {
-        return Verdict::Refused(12, 0);
-    }
-    if parents.len() < count {
-        return Verdict::Refused(12, 0);
-    }
-    let bad = first_bad(n, levels, universals, classes, parents);
-    if bad == 0 {
-        return Verdict::Accepted;
-    }
-    let place = bad as usize;
-    Verdict::Refused(12, place)
-}
-
-// The first variable whose rows are not right, 0 where all are.
-fn first_bad(n: u32, levels: &[u32], universals: &[bool], classes: &[u32], parents: &[u32]) -> u32
+) -> u32
     ensures { λ r. ⌜ FirstBad (Row (tabled n (now (levels .entry)) (now (universals .entry))) (rowsOf n (now (classes .entry)) (now (parents .entry)))) n r ⌝ }
 {
     let mut passed = 0;

@@ -10,6 +10,7 @@ pub mod Signs
 -- An accepted prefix, and its level table.
 pub mod Sound
 pub mod Levelling
+pub mod Ordered
 -- Nothing is left open; acceptance by computing, and worked examples.
 pub mod Tight
 pub mod Accepts

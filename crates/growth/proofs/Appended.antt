@@ -18,7 +18,7 @@ use Rattle.formula.specs.Causes.{ClauseCause, checkOrder}
 use Rattle.formula.specs.Meaning.{clauses, isZero, connected}
 use Rattle.formula.specs.Tables.{literalAt, cut, push, EndsInside}
 use Rattle.forest.specs.Formula.{joined}
-use Rattle.growth.specs.Grown.{AddedCause, clauseFirst, withLast}
+use Rattle.growth.specs.Grown.{many, AddedCause, clauseFirst, withLast}
 
 nought : ℤ → Bool
 nought literal = isZero (variableOf literal)
@@ -66,11 +66,18 @@ module _ {n : ℕ} {es : List ℕ} {ls clause : List ℤ} (accepted : NoneOf (ch
   some-variable : (e : ℕ) → e < length clause → variableOf (literalAt clause e) ≢ 0
   some-variable e l z = first .1 .1 .1 .0 10 e (AddedCause.outside refl l (inl z))
 
-  -- The joins of the longer table are those of the table and the clause.
+  -- The clauses of the longer table are those of the table and the clause, which is one more ...
+  clauses-last : clauses (withLast ls clause) ≡ clauses ls ++ (clause ∷ [])
+  unfolding clauses nought
+  clauses-last = cut-append ls (clause ++ (pos 0 ∷ [])) closed ∙ ap (λ cs. cut nought ls ++ cs) (cut-one clause some-variable)
+
+  pub many-last : many (withLast ls clause) ≡ many ls + 1
+  many-last = ap length clauses-last ∙ length-append (clauses ls) (clause ∷ [])
+
+  -- ... and so are its joins.
   pub joined-last : joined (withLast ls clause) ≡ joined ls ++ (connected clause ∷ [])
-  unfolding joined clauses nought
-  joined-last = ap (map connected) (cut-append ls (clause ++ (pos 0 ∷ [])) closed ∙ ap (λ cs. cut nought ls ++ cs) (cut-one clause some-variable))
-      ∙ map-append connected (clauses ls) (clause ∷ [])
+  unfolding joined
+  joined-last = ap (map connected) clauses-last ∙ map-append connected (clauses ls) (clause ∷ [])
 
   -- An entry of the longer table is one of the table, one of the clause, or the closing 0.
   entry-last : (e : ℕ) → e < length (withLast ls clause)

@@ -20,11 +20,11 @@ use Rattle.connection.proofs.Reach.{reach-one, reach-trans, reach-mono, allow}
 use Rattle.connection.proofs.Represent.{Link, to-class, to-parent, Linked, up, down, linked-sym, linked-tops}
 use Rattle.connection.proofs.Rows.{row-at, row-out}
 use Rattle.connection.proofs.Forest.{represents-rows, represents-forest}
-use Rattle.growth.specs.Grown.{Grown}
-use Rattle.growth.specs.Loose.{Inside, Equal, Loose, table, ranked, Growing}
-use Rattle.growth.specs.Rows.{Depths, Settled, Written}
-use Rattle.growth.proofs.Inside.{inside-reach, inside-links, equal-trans}
-use Rattle.growth.proofs.Steps.{no-zero}
+use Rattle.loose.specs.Loose.{Inside, Equal, Loose, table, ranked, Growing}
+use Rattle.loose.specs.Rows.{Depths, Settled, Written}
+use Rattle.growth.specs.Rows.{Rowed}
+use Rattle.loose.proofs.Inside.{inside-reach, inside-links, equal-trans}
+use Rattle.loose.proofs.Steps.{no-zero}
 
 -- The table of settled rows, with the class of each parent.
 abbrev exact : Table → Table
@@ -159,7 +159,7 @@ module _ {n : ℕ} {es depths : List ℕ} (d : Depths n es depths) where
 
   -- Loose rows that stand for joins, settled and written out, are their forest.
   pub grown : {J : ℕ → ℕ → Type 0} {C₀ C P rows rows′ ups ups′ : List ℕ} → Growing depths C₀ P → Equal X J (Linked D (table C₀ P)) → Settled C₀ C → Written n C P rows rows′ ups ups′
-      → Grown X J rows ups rows′ ups′
+      → Rowed X J rows ups rows′ ups′
   unfolding lent
   grown {J} {C₀} {C} {P} g equal s w =
       let none = no-zero g in

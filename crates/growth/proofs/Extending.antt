@@ -1,12 +1,11 @@
 -- Well-formed tables are loose rows, which stand for the tables' own joins.
 use Prim.Native.Nat.{ℕ, _+_}
 use mathlib.Core.Path.{_≡_, sym, _∙_, ap, subst}
-use mathlib.Core.List.{List, map}
+use mathlib.Core.List.{List}
 use native.Mathlib.Omega.{arith}
 use lib.IntN.{ℤ}
 use lib.ListN.{length, getD}
 use Rattle.formula.specs.Meaning.{connected}
-use Rattle.terms.specs.Literals.{variableOf}
 use Rattle.forest.specs.Formula.{variables}
 use Rattle.forest.proofs.Agreeing.{lawful}
 use Rattle.connection.specs.Reach.{Variables, Joined}
@@ -16,9 +15,9 @@ use Rattle.connection.proofs.Represent.{Linked}
 use Rattle.connection.proofs.Joins.{joins-linked}
 use Rattle.connection.proofs.Forest.{same-rows}
 use Rattle.growth.specs.Grown.{Extended}
-use Rattle.growth.specs.Loose.{Equal, Loose, table, ranked, Growing, Grew}
-use Rattle.growth.specs.Rows.{Depths}
-use Rattle.growth.proofs.Inside.{equal-trans, equal-sym, equal-snoc, equal-added}
+use Rattle.loose.specs.Loose.{Equal, Loose, table, ranked, Growing, Grew}
+use Rattle.loose.specs.Rows.{Depths}
+use Rattle.loose.proofs.Inside.{equal-trans, equal-sym, equal-snoc, equal-added}
 use Rattle.growth.proofs.Exact.{depth-existential, ex-same, equal-formula, equal-linked, depth-none}
 
 module _ {n : ℕ} {es depths : List ℕ} (d : Depths n es depths) where
@@ -65,5 +64,5 @@ module _ {n : ℕ} {es depths : List ℕ} (d : Depths n es depths) where
         }) (equal-sym (equal-linked d)))
 
     -- ... and with a clause put in, for those and the clause.
-    pub extended : {C′ P′ : List ℕ} (ls : List ℤ) → Grew depths C P (connected ls) C′ P′ → Equal X (Extended n es classes parents ls) (Linked D (table C′ P′))
+    pub extended : {C′ P′ : List ℕ} (ls : List ℤ) → Grew depths C P (connected ls) C′ P′ → Equal X (Extended X (lent X classes parents) ls) (Linked D (table C′ P′))
     extended ls g = equal-trans equal-snoc (equal-trans (equal-added stands) (equal-formula d (g .equal)))

@@ -1,12 +1,12 @@
 -- The laws of growth, in reading order.
-pub mod Inside
-pub mod Relinked
-pub mod Ways
-pub mod Steps
-pub mod Stars
-pub mod Passes
 pub mod Exact
+pub mod Recounted
+pub mod Census
+pub mod Standings
+pub mod Tallies
 pub mod Extending
 pub mod Accepted
 pub mod Appended
+pub mod Tight
 pub mod Demand3
+pub mod Thin

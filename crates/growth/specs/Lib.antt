@@ -1,4 +1,3 @@
 -- The definitions of growth: first what the two calls promise, then what their inner functions do, which only proofs rest on.
 pub mod Grown
-pub mod Loose
 pub mod Rows

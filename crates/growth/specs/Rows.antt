@@ -1,37 +1,37 @@
--- The tables that build and add work in, from the depths of the variables to the rows that are written: what each pass makes of them.
-use Prim.Native.Nat.{ℕ, _+_, _<_}
+-- What the inner functions of build and add make of the lent tables: rows, counts, and how many of them there are.
+use Prim.Native.Nat.{ℕ, _+_, _≤_, _<_}
 use mathlib.Core.Path.{_≡_}
-use mathlib.Core.Bool.{Bool, false, cond, not, _&&_}
 use mathlib.Core.List.{List}
-use lib.Dec.{leb}
 use lib.ListN.{length, getD}
-use Rattle.connection.specs.Reach.{Variables, Joined}
-use Rattle.connection.proofs.Represent.{Linked}
-use Rattle.formula.specs.Meaning.{level, isExistential}
-use Rattle.growth.specs.Grown.{Past}
-use Rattle.growth.specs.Loose.{Equal, Loose, Kept, table, ranked, Growing}
+use Rattle.connection.specs.Reach.{Variables}
+use Rattle.connection.specs.Tables.{row, lent}
+use Rattle.connection.specs.Forest.{Forest}
+use Rattle.connection.specs.Counts.{Counted, how-many, names}
+use Rattle.forest.specs.Formula.{variables}
+use Rattle.forest.specs.Counting.{ForClasses}
+use Rattle.loose.specs.Past.{Past}
 
--- The depth of v: its level plus one, if it is an existential of 1 to n, and else 0.
-abbrev pub depthOf : ℕ → ℕ → ℕ → Bool → ℕ
-depthOf n v level universal = cond (leb 1 v && leb v n && not universal) (level + 1) 0
+-- The rows of classes and parents of 1 to n become the forest of the joins J; those past n stay.
+pub record Rowed (X : Variables) (J : ℕ → ℕ → Type 0) (classes parents classes′ parents′ : List ℕ) : Type 0 where
+  pub past : Past (X .count) classes classes′ × Past (X .count) parents parents′
+  pub forest : Forest X J (lent X classes′ parents′)
 
--- The table of the depths of a formula's variables.
-pub record Depths (n : ℕ) (es : List ℕ) (depths : List ℕ) : Type 0 where
-  pub size : length depths ≡ 4097
-  pub depth-is : (v : ℕ) → getD depths v 0 ≡ cond (isExistential n es v) (level es v + 1) 0
+-- The first rows of a table with row v for the variable v are copied out, for 1 to at; the others stay.
+pub record Copied (n : ℕ) (table rows : List ℕ) (at : ℕ) (rows′ : List ℕ) : Type 0 where
+  pub few : at ≤ n
+  pub past : Past at rows rows′
+  pub copy : (u : ℕ) → u < at → getD rows′ u 0 ≡ getD table (u + 1) 0
 
--- The rows stand for the clauses.
-pub record Holds (depths classes parents : List ℕ) (clauses : List (List ℕ)) : Type 0 where
-  pub growing : Growing depths classes parents
-  pub equal : Equal (ranked depths) (Joined clauses) (Linked (ranked depths) (table classes parents))
+-- The lent rows are the counts of the forest; those past n stay.
+pub record Recounted (n : ℕ) (es classes parents counts counts′ : List ℕ) : Type 0 where
+  pub past : Past n counts counts′
+  pub counted : Counted (variables n es) (lent (variables n es) classes parents) (row n counts′)
 
--- Every class row names its class.
-pub record Settled (classes classes′ : List ℕ) : Type 0 where
-  pub names : (v : ℕ) → getD classes′ (getD classes′ v 0) 0 ≡ getD classes′ v 0
-  pub kept : (X : Variables) (parents : List ℕ) → X .ex 0 ≡ false → Loose X (table classes parents) → Kept X (table classes parents) (table classes′ parents)
+-- Of 1 to v so many are existential and so many class names, by class rows that are well formed.
+pub record CensusOf (n : ℕ) (classes : List ℕ) (v exs named : ℕ) : Type 0 where
+  pub few : (named ≤ exs) × (exs ≤ v) × (v ≤ n)
+  pub right : ForClasses n classes (λ es parents. (exs ≡ how-many (variables n es .ex) v) × (named ≡ how-many (names (variables n es) (lent (variables n es) classes parents)) v))
 
--- The rows of 1 to n are written out: for each variable its class row, and the class of its parent.
-pub record Written (n : ℕ) (classes parents : List ℕ) (rows rows′ ups ups′ : List ℕ) : Type 0 where
-  pub past : Past n rows rows′ × Past n ups ups′
-  pub class : (u : ℕ) → u < n → getD rows′ u 0 ≡ getD classes (u + 1) 0
-  pub parent : (u : ℕ) → u < n → getD ups′ u 0 ≡ getD classes (getD parents (u + 1) 0) 0
+-- Every lent table has n rows.
+abbrev pub Room : ℕ → List ℕ → List ℕ → List ℕ → Type 0
+Room n classes parents counts = (n ≤ length classes) × (n ≤ length parents) × (n ≤ length counts)

@@ -1,129 +1,128 @@
-// Build and add: the forest of a formula, and of a table with a clause added.
+// Build and add: the forest of a formula, and of tables with a clause added, each with its counts and the tally beside it.
 
 mod added;
-mod chains;
-mod clause;
-mod depths;
-mod rows;
+mod adding;
+mod building;
+mod counts;
+mod tallying;
 
 use added::added_verdict;
-use clause::put_one;
-use depths::fill_depths;
-use forest::rows::check_rows;
-use formula::levels::fill_levels;
-use rows::load;
-use rows::put_all;
-use rows::settle;
-use rows::singles;
-use rows::write_out;
+use adding::add_sound;
+use building::build_sound;
+use building::has_room;
 use terms::Filled;
 use terms::Verdict;
-ghost use Prim.Native.Nat.{_≤_};
-ghost use mathlib.Core.List.{[], _∷_};
-ghost use lib.ListN.{length};
-ghost use Rattle.terms.specs.Answers.{verdictOf};
-ghost use Rattle.terms.specs.Refusals.{Judged};
-ghost use Rattle.formula.specs.Levels.{SoundPrefix};
-ghost use Rattle.connection.specs.Tables.{WellFormed, lent};
-ghost use Rattle.forest.specs.Causes.{ForestCause};
-ghost use Rattle.forest.specs.Formula.{variables, Shares};
-ghost use Rattle.growth.specs.Grown.{Extended, Grown, Leaves, Builds, Adds};
-ghost use Rattle.formula.specs.Lookup.{InRows, SoundClauses};
+ghost use mathlib.Core.Path.{_≡_};
+ghost use Rattle.terms.specs.declared.Filled.the-variants.{Refused};
+ghost use Rattle.growth.specs.Grown.{standing, Builds, Adds};
 
-// Fills the lent rows of 1 to n with the forest of a formula, and gives n as the count.
+// A running tally beside a forest: the clauses taken, the merges made and the classes left.
+pub struct Tally {
+    pub clauses: u32,
+    pub merges: u32,
+    pub classes: u32,
+}
+
+impl Tally {
+    // A tally with so many clauses takes no more.
+    pub const CLAUSES: u32 = 65535;
+}
+
+// What a call that keeps a tally comes to: its answer, and the tally afterwards.
+pub struct Tallied {
+    pub answer: Filled,
+    pub tally: Tally,
+}
+
+// Fills the lent rows of 1 to n with the forest of a formula and its counts and the lent tally with that of its list, and gives n as the count.
 pub fn build(
     n: u32,
     prefix: &[u32],
     clauses: &[i32],
     classes: &mut [u32],
     parents: &mut [u32],
+    counts: &mut [u32],
+    tally: &mut Tally,
 ) -> Filled
-    ensures { λ r. ⌜ Builds n (now (prefix .entry)) (now (clauses .entry)) (now (classes .entry)) (now (parents .entry)) (now (classes .exit)) (now (parents .exit)) r ⌝ }
+    ensures { λ r. ⌜ Builds n (now (prefix .entry)) (now (clauses .entry)) (standing (now (classes .entry)) (now (parents .entry)) (now (counts .entry)) (now (tally .entry))) (standing (now (classes .exit)) (now (parents .exit)) (now (counts .exit)) (now (tally .exit))) r ⌝ }
+{
+    let done = build_tallied(n, prefix, clauses, classes, parents, counts, *tally);
+    *tally = done.tally;
+    done.answer
+}
+
+// The same with the tally passed and returned: the tally before is what a refusal leaves. Whoever calls this lends no struct.
+pub fn build_tallied(
+    n: u32,
+    prefix: &[u32],
+    clauses: &[i32],
+    classes: &mut [u32],
+    parents: &mut [u32],
+    counts: &mut [u32],
+    tally: Tally,
+) -> Tallied
+    ensures { λ r. ⌜ Builds n (now (prefix .entry)) (now (clauses .entry)) (standing (now (classes .entry)) (now (parents .entry)) (now (counts .entry)) tally) (standing (now (classes .exit)) (now (parents .exit)) (now (counts .exit)) (r .tally)) (r .answer) ⌝ }
 {
     match formula::check(n, prefix, clauses) {
-        Verdict::Refused(number, place) => Filled::Refused(number, place),
+        Verdict::Refused(number, place) => refused(number, place, tally),
         Verdict::Accepted => {
-            let count = n as usize;
-            if classes.len() < count {
-                return Filled::Refused(14, 0);
+            if !has_room(n, classes, parents, counts) {
+                return refused(14, 0, tally);
             }
-            if parents.len() < count {
-                return Filled::Refused(14, 0);
-            }
-            grow(n, prefix, clauses, classes, parents);
-            Filled::Count(n)
+            let built = build_sound(n, prefix, clauses, classes, parents, counts);
+            counted(n, built)
         }
     }
 }
 
-// The forest of an accepted formula: loose rows of no clause, every clause put in, and the exact rows written out.
-fn grow(n: u32, prefix: &[u32], clauses: &[i32], classes: &mut [u32], parents: &mut [u32])
-    requires { ⌜ SoundPrefix n (now prefix) × SoundClauses (now clauses) × (n ≤ length (now classes)) × (n ≤ length (now parents)) ⌝ }
-    ensures { λ r. ⌜ Grown (variables n (now (prefix .entry))) (Shares (now (clauses .entry))) (now (classes .entry)) (now (parents .entry)) (now (classes .exit)) (now (parents .exit)) ⌝ }
-{
-    let mut depths = [0u32; 4097];
-    let mut loose = [0u32; 4097];
-    let mut ups = [0u32; 4097];
-    fill_depths(n, prefix, &mut depths);
-    singles(&depths, &mut loose, &mut ups);
-    put_all(&depths, &mut loose, &mut ups, clauses);
-    settle(&mut loose);
-    write_out(n, &loose, &ups, classes, parents);
-}
-
-// Rewrites the lent rows of 1 to n to the forest of the tables' joins with a clause added, and gives n as the count. The clause has no closing 0.
+// Rewrites the lent rows of 1 to n to the forest of the tables' joins with a clause added and to its counts, takes the clause in the lent tally, and gives
+// n as the count. The clause has no closing 0.
 pub fn add(
     n: u32,
     prefix: &[u32],
     classes: &mut [u32],
     parents: &mut [u32],
+    counts: &mut [u32],
+    tally: &mut Tally,
     clause: &[i32],
 ) -> Filled
-    ensures { λ r. ⌜ Adds n (now (prefix .entry)) (now (classes .entry)) (now (parents .entry)) (now (clause .entry)) (now (classes .exit)) (now (parents .exit)) r ⌝ }
+    ensures { λ r. ⌜ Adds n (now (prefix .entry)) (standing (now (classes .entry)) (now (parents .entry)) (now (counts .entry)) (now (tally .entry))) (now (clause .entry)) (standing (now (classes .exit)) (now (parents .exit)) (now (counts .exit)) (now (tally .exit))) r ⌝ }
 {
-    match added_verdict(n, prefix, clause) {
-        Verdict::Refused(number, place) => Filled::Refused(number, place),
-        Verdict::Accepted => add_sound(n, prefix, classes, parents, clause),
-    }
+    let done = add_tallied(n, prefix, classes, parents, counts, *tally, clause);
+    *tally = done.tally;
+    done.answer
 }
 
-// The same, once the prefix and the clause are accepted: the tables are judged before the first write.
-fn add_sound(
+// The same with the tally passed and returned. Whoever calls this lends no struct.
+pub fn add_tallied(
     n: u32,
     prefix: &[u32],
     classes: &mut [u32],
     parents: &mut [u32],
+    counts: &mut [u32],
+    tally: Tally,
     clause: &[i32],
-) -> Filled
-    requires { ⌜ SoundPrefix n (now prefix) × InRows (now clause) ⌝ }
-    ensures judged { λ r. ⌜ Judged (ForestCause n (now (prefix .entry)) (now (classes .entry)) (now (parents .entry)) ∷ []) (verdictOf r) ⌝ }
-    ensures leaves { λ r. ⌜ Leaves (variables n (now (prefix .entry))) (Extended n (now (prefix .entry)) (now (classes .entry)) (now (parents .entry)) (now (clause .entry))) (now (classes .entry)) (now (parents .entry)) (now (classes .exit)) (now (parents .exit)) r ⌝ }
+) -> Tallied
+    ensures { λ r. ⌜ Adds n (now (prefix .entry)) (standing (now (classes .entry)) (now (parents .entry)) (now (counts .entry)) tally) (now (clause .entry)) (standing (now (classes .exit)) (now (parents .exit)) (now (counts .exit)) (r .tally)) (r .answer) ⌝ }
 {
-    let mut levels = [0u32; 4097];
-    let mut universals = [false; 4097];
-    fill_levels(prefix, &mut levels, &mut universals);
-    match check_rows(n, &levels, &universals, classes, parents) {
-        Verdict::Refused(number, place) => Filled::Refused(number, place),
-        Verdict::Accepted => {
-            extend(n, prefix, classes, parents, clause);
-            Filled::Count(n)
-        }
+    match added_verdict(n, prefix, clause) {
+        Verdict::Refused(number, place) => refused(number, place, tally),
+        Verdict::Accepted => add_sound(n, prefix, classes, parents, counts, tally, clause),
     }
 }
 
-// Well-formed tables are loose rows already: the clause is put in, and the exact rows are written back.
-fn extend(n: u32, prefix: &[u32], classes: &mut [u32], parents: &mut [u32], clause: &[i32])
-    requires { ⌜ SoundPrefix n (now prefix) × InRows (now clause) × (n ≤ length (now classes)) × (n ≤ length (now parents)) ⌝ }
-    requires { ⌜ WellFormed (variables n (now prefix)) (lent (variables n (now prefix)) (now classes) (now parents)) ⌝ }
-    ensures { λ r. ⌜ Grown (variables n (now (prefix .entry))) (Extended n (now (prefix .entry)) (now (classes .entry)) (now (parents .entry)) (now (clause .entry))) (now (classes .entry)) (now (parents .entry)) (now (classes .exit)) (now (parents .exit)) ⌝ }
+// A refusal, which leaves the tally.
+fn refused(number: u32, place: usize, tally: Tally) -> Tallied
+    ensures { λ r. ⌜ (r .answer ≡ Refused number place) × (r .tally ≡ tally) ⌝ }
 {
-    let mut depths = [0u32; 4097];
-    let mut loose = [0u32; 4097];
-    let mut ups = [0u32; 4097];
-    fill_depths(n, prefix, &mut depths);
-    load(n, classes, &mut loose);
-    load(n, parents, &mut ups);
-    put_one(&depths, &mut loose, &mut ups, clause);
-    settle(&mut loose);
-    write_out(n, &loose, &ups, classes, parents);
+    let answer = Filled::Refused(number, place);
+    Tallied { answer, tally }
+}
+
+// A count, with the tally that is given.
+fn counted(n: u32, tally: Tally) -> Tallied
+    ensures { λ r. ⌜ (r .answer ≡ Filled.Count n) × (r .tally ≡ tally) ⌝ }
+{
+    let answer = Filled::Count(n);
+    Tallied { answer, tally }
 }

@@ -9,6 +9,7 @@ use forest::search::Floor;
 use forest::search::retop;
 use formula::clauses::variable_at;
 use formula::levels::fill_levels;
+use growth::Tally;
 use libc::STDIN_FILENO;
 use libc::STDOUT_FILENO;
 use qdimacs::Reading;
@@ -62,11 +63,27 @@ fn print_refusal(number: u32, place: usize) {
     }
 }
 
-// Lists an accepted formula; refusals 1 to 11 are build's.
+// Lists an accepted formula; refusals 1 to 11 are build's. The counts and the tally are not asked for.
 fn list_formula(n: u32, prefix: &[u32], clauses: &[i32]) {
     let mut classes = [0u32; 4096];
     let mut parents = [0u32; 4096];
-    match growth::build(n, prefix, clauses, &mut classes, &mut parents) {
+    let mut counts = [0u32; 4096];
+    let none = Tally {
+        clauses: 0,
+        merges: 0,
+        classes: 0,
+    };
+    let built = growth::build_tallied(
+        n,
+        prefix,
+        clauses,
+        &mut classes,
+        &mut parents,
+        &mut counts,
+        none,
+    );
+    let answer = built.answer;
+    match answer {
         Filled::Refused(number, place) => print_refusal(number, place),
         Filled::Count(_) => list_forest(n, prefix, clauses, &classes, &parents),
     }

@@ -3,6 +3,7 @@
 use crate::tables::CLASS;
 use crate::tables::PARENT;
 use crate::tables::class_of;
+use crate::tables::count_of;
 use crate::tables::is_existential;
 use crate::tables::level_of;
 use crate::tables::parent_of;
@@ -85,11 +86,12 @@ pub fn fill_parents(n: u32, facts: &mut [u32], links: &[bool]) {
 }
 
 // The forest as rows to lend: row v - 1 for the variable v.
-pub fn lend(n: u32, facts: &[u32], classes: &mut [u32], parents: &mut [u32]) {
+pub fn lend(n: u32, facts: &[u32], classes: &mut [u32], parents: &mut [u32], counts: &mut [u32]) {
     let mut v: u32 = 0;
     while v < n {
         v += 1;
         put_number(classes, v, class_of(facts, v));
         put_number(parents, v, parent_of(facts, v));
+        put_number(counts, v, count_of(facts, v));
     }
 }

@@ -1,15 +1,18 @@
 // The independent search, straight from the definitions, the slow way; it stands on nothing of the library.
 
 pub mod classes;
+pub mod counts;
 pub mod joins;
 pub mod levels;
 pub mod reach;
 pub mod sets;
 pub mod tables;
+pub mod totals;
 pub mod truth;
 
 use classes::fill_classes;
 use classes::fill_parents;
+use counts::fill_counts;
 use joins::fill_joins;
 use levels::fill_levels;
 use reach::fill_reach;
@@ -21,4 +24,5 @@ pub fn fill_search(n: u32, prefix: &[u32], clauses: &[i32], facts: &mut [u32], l
     fill_reach(n, facts, links);
     fill_classes(n, facts, links);
     fill_parents(n, facts, links);
+    fill_counts(n, facts, links);
 }

@@ -1,6 +1,6 @@
 // What the search knows of each variable and of each pair of variables; nothing is read or stored past a table's end.
 
-// The four numbers that a table of facts has for each variable: its level, 1 if it is existential, its class, its parent.
+// The five numbers that a table of facts has for each variable: its level, 1 if it is existential, its class, its parent, its count.
 pub const LEVEL: usize = 0;
 
 pub const EXISTENTIAL: usize = 1;
@@ -8,6 +8,8 @@ pub const EXISTENTIAL: usize = 1;
 pub const CLASS: usize = 2;
 
 pub const PARENT: usize = 3;
+
+pub const COUNT: usize = 4;
 
 // How many flags a table of pairs has, 72 for each first variable. A table of links has them twice: for pairs of which one clause has
 // both and, after all of these, for pairs of which the first reaches the second at the level of its own block.
@@ -34,14 +36,14 @@ pub fn put_number(rows: &mut [u32], v: u32, number: u32) {
 }
 
 // A fact about v; 0 past the end of the table. No fact is stored about 0.
-fn fact_at(facts: &[u32], v: u32, kind: usize) -> u32 {
-    let at = (v as usize) * 4 + kind % 4;
+pub fn fact_at(facts: &[u32], v: u32, kind: usize) -> u32 {
+    let at = (v as usize) * 5 + kind % 5;
     if at < facts.len() { facts[at] } else { 0 }
 }
 
 // Stores a fact about v, if the table has that row.
 pub fn put_fact(facts: &mut [u32], v: u32, kind: usize, fact: u32) {
-    let at = (v as usize) * 4 + kind % 4;
+    let at = (v as usize) * 5 + kind % 5;
     if at < facts.len() {
         facts[at] = fact;
     }
@@ -61,6 +63,10 @@ pub fn class_of(facts: &[u32], v: u32) -> u32 {
 
 pub fn parent_of(facts: &[u32], v: u32) -> u32 {
     fact_at(facts, v, PARENT)
+}
+
+pub fn count_of(facts: &[u32], v: u32) -> u32 {
+    fact_at(facts, v, COUNT)
 }
 
 // Whether x is one of the variables 1 to n and universal.

@@ -4,9 +4,11 @@ use forest::EntryAnswer;
 use score::Score;
 use score::library;
 use score::rows::UNTOUCHED;
-use score::rows::counts;
+use score::rows::gives;
 use score::rows::row_at;
 use score::rows::same;
+use score::tallies::leaves_tally;
+use score::tallies::tally_of;
 
 // The most variables, and the blocks of the formula.
 const MOST: u32 = 4096;
@@ -29,30 +31,98 @@ fn has_rows(rows: &[u32], first: u32, inner: u32, last: u32) -> bool {
         && row_at(rows, 4096) == UNTOUCHED
 }
 
-// The set of 1, its entry points, and its entry point for 4,096.
-fn asked_cases(score: Score, prefix: &[u32], classes: &[u32], parents: &[u32]) -> Score {
+// The set of 1, its size, its entry points, and its entry point for 4,096.
+fn asked_cases(
+    score: Score,
+    prefix: &[u32],
+    classes: &[u32],
+    parents: &[u32],
+    counts: &[u32],
+) -> Score {
     let clauses = [1i32, 4096, 0];
     let mut set = [UNTOUCHED; 1];
-    let mut entries = [UNTOUCHED; 1];
-    let listed = library::set_of(MOST, prefix, &clauses, classes, parents, 1, &mut set);
-    let entered = library::entry_points(MOST, prefix, &clauses, classes, parents, 1, &mut entries);
-    let answer = library::entry_point(MOST, prefix, classes, parents, 1, MOST);
-    let first = score.count(counts(listed, 1) && same(&set, &[4096]));
-    let second = first.count(counts(entered, 1) && same(&entries, &[4096]));
-    second.count(is_last(answer))
+    let mut points = [UNTOUCHED; 1];
+    let listed = library::set_of(
+        MOST,
+        prefix,
+        &clauses,
+        classes,
+        parents,
+        counts,
+        1,
+        &mut set,
+    );
+    let entered = library::entry_points(
+        MOST,
+        prefix,
+        &clauses,
+        classes,
+        parents,
+        counts,
+        1,
+        &mut points,
+    );
+    let first = score.count(gives(listed, 1) && same(&set, &[4096]));
+    let second = first.count(gives(entered, 1) && same(&points, &[4096]));
+    number_cases(second, prefix, &clauses, classes, parents, counts)
 }
 
-// Build, the calls that ask, and add, which makes 4,095 the parent of 4,096.
+// The size of the set of 1, and its entry point for 4,096.
+fn number_cases(
+    score: Score,
+    prefix: &[u32],
+    clauses: &[i32],
+    classes: &[u32],
+    parents: &[u32],
+    counts: &[u32],
+) -> Score {
+    let size = library::set_size(MOST, prefix, clauses, classes, parents, counts, 1);
+    let answer = library::entry_point(MOST, prefix, classes, parents, counts, 1, MOST);
+    let first = score.count(gives(size, 1));
+    first.count(is_last(answer))
+}
+
+// Build, the calls that ask, and add, which makes 4,095 the parent of 4,096 and merges nothing.
 pub fn limit_cases() -> Score {
     let prefix = PREFIX;
     let mut classes = [UNTOUCHED; 4097];
     let mut parents = [UNTOUCHED; 4097];
-    let built = library::build(MOST, &prefix, &[1, 4096, 0], &mut classes, &mut parents);
-    let names = has_rows(&classes, 0, 4095, 4096);
-    let mut t = Score::new();
-    t = t.count(counts(built, MOST) && names && has_rows(&parents, 0, 0, 0));
-    t = asked_cases(t, &prefix, &classes, &parents);
-    let added = library::add(MOST, &prefix, &mut classes, &mut parents, &[4096, -4095]);
-    let stays = has_rows(&classes, 0, 4095, 4096);
-    t.count(counts(added, MOST) && stays && has_rows(&parents, 0, 0, 4095))
+    let mut counts = [UNTOUCHED; 4097];
+    let built = built_case(&prefix, &mut classes, &mut parents, &mut counts);
+    let asked = asked_cases(built, &prefix, &classes, &parents, &counts);
+    added_case(asked, &prefix, &mut classes, &mut parents, &mut counts)
+}
+
+// Build: 4,095 existentials, each a class of its own with nothing below.
+fn built_case(
+    prefix: &[u32],
+    classes: &mut [u32],
+    parents: &mut [u32],
+    counts: &mut [u32],
+) -> Score {
+    let none = tally_of(0, 0, 0);
+    let clauses = [1i32, 4096, 0];
+    let built = library::build(MOST, prefix, &clauses, classes, parents, counts, none);
+    let answer = built.answer;
+    let names = has_rows(classes, 0, 4095, 4096) && has_rows(parents, 0, 0, 0);
+    let tallied = has_rows(counts, 0, 1, 1) && leaves_tally(built, tally_of(1, 0, 4095));
+    let score = Score::new();
+    score.count(gives(answer, MOST) && names && tallied)
+}
+
+// Add of {4096 -4095} with the tally of build.
+fn added_case(
+    score: Score,
+    prefix: &[u32],
+    classes: &mut [u32],
+    parents: &mut [u32],
+    counts: &mut [u32],
+) -> Score {
+    let one = tally_of(1, 0, 4095);
+    let clause = [4096i32, -4095];
+    let added = library::add(MOST, prefix, classes, parents, counts, one, &clause);
+    let answer = added.answer;
+    let names = has_rows(classes, 0, 4095, 4096) && has_rows(parents, 0, 0, 4095);
+    let tallied = has_rows(counts, 0, 2, 1) && leaves_tally(added, tally_of(2, 0, 4095));
+    score.count(gives(answer, MOST) && names && tallied)
 }

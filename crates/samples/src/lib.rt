@@ -1,5 +1,6 @@
-// Generated formulas, the shapes that they have, and their text; and cases that are written out as text.
+// Formula A of document 01; generated formulas, the shapes that they have, and their text; and cases that are written out as text.
 
+pub mod formula_a;
 pub mod generate;
 pub mod literals;
 pub mod parts;

@@ -50,3 +50,12 @@ pub fn put_literal(clauses: &mut [i32], at: usize, literal: i32) {
         clauses[at] = literal;
     }
 }
+
+// Copies rows, as far as both tables have them.
+pub fn copy_rows(from: &[u32], to: &mut [u32]) {
+    let mut i = 0;
+    while i < from.len() {
+        put_row(to, i, from[i]);
+        i += 1;
+    }
+}

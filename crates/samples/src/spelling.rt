@@ -1,7 +1,7 @@
 // The text of a formula, spelt out the plain way: what the library should write.
 
 use crate::literals::variable_of;
-use std::num::wrapping_add_u32;
+use oracle::totals::count_clauses;
 use std::num::wrapping_add_usize;
 
 // Stores a byte and answers the place after it; where the text has no such place, nothing is stored and the place stays.
@@ -118,19 +118,6 @@ fn spell_clauses(text: &mut [u8], from: usize, n: u32, clauses: &[i32]) -> usize
         i += 1;
     }
     pen.at
-}
-
-// How many clauses a table has.
-fn count_clauses(clauses: &[i32]) -> u32 {
-    let mut count = 0;
-    let mut i = 0;
-    while i < clauses.len() {
-        if clauses[i] == 0 {
-            count = wrapping_add_u32(count, 1);
-        }
-        i += 1;
-    }
-    count
 }
 
 // Spells the text of a formula with fewer than 1,000 variables and clauses, and answers its length.

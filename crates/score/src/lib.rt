@@ -2,6 +2,7 @@
 
 pub mod library;
 pub mod rows;
+pub mod tallies;
 
 use libc::STDOUT_FILENO;
 use std::num::wrapping_add_u32;

@@ -1,6 +1,8 @@
 // The calls of the library, each behind a function that promises nothing, so that no comparison leans on a promise.
 
 use forest::EntryAnswer;
+use growth::Tallied;
+use growth::Tally;
 use qdimacs::Output;
 use qdimacs::Reading;
 use terms::Filled;
@@ -19,24 +21,30 @@ pub fn clause(n: u32, clauses: &[i32], asked: u32) -> &[i32] {
     formula::clause(n, clauses, asked)
 }
 
+// Build, with the tally before, which a refusal leaves, and the tally afterwards.
 pub fn build(
     n: u32,
     prefix: &[u32],
     clauses: &[i32],
     classes: &mut [u32],
     parents: &mut [u32],
-) -> Filled {
-    growth::build(n, prefix, clauses, classes, parents)
+    counts: &mut [u32],
+    tally: Tally,
+) -> Tallied {
+    growth::build_tallied(n, prefix, clauses, classes, parents, counts, tally)
 }
 
+// Add, likewise.
 pub fn add(
     n: u32,
     prefix: &[u32],
     classes: &mut [u32],
     parents: &mut [u32],
+    counts: &mut [u32],
+    tally: Tally,
     clause: &[i32],
-) -> Filled {
-    growth::add(n, prefix, classes, parents, clause)
+) -> Tallied {
+    growth::add_tallied(n, prefix, classes, parents, counts, tally, clause)
 }
 
 pub fn set_of(
@@ -45,10 +53,40 @@ pub fn set_of(
     clauses: &[i32],
     classes: &[u32],
     parents: &[u32],
+    counts: &[u32],
     x: u32,
     out: &mut [u32],
 ) -> Filled {
-    forest::set_of(n, prefix, clauses, classes, parents, Variable::new(x), out)
+    forest::set_of(
+        n,
+        prefix,
+        clauses,
+        classes,
+        parents,
+        counts,
+        Variable::new(x),
+        out,
+    )
+}
+
+pub fn set_size(
+    n: u32,
+    prefix: &[u32],
+    clauses: &[i32],
+    classes: &[u32],
+    parents: &[u32],
+    counts: &[u32],
+    x: u32,
+) -> Filled {
+    forest::set_size(
+        n,
+        prefix,
+        clauses,
+        classes,
+        parents,
+        counts,
+        Variable::new(x),
+    )
 }
 
 pub fn entry_points(
@@ -57,10 +95,20 @@ pub fn entry_points(
     clauses: &[i32],
     classes: &[u32],
     parents: &[u32],
+    counts: &[u32],
     x: u32,
     out: &mut [u32],
 ) -> Filled {
-    forest::entry_points(n, prefix, clauses, classes, parents, Variable::new(x), out)
+    forest::entry_points(
+        n,
+        prefix,
+        clauses,
+        classes,
+        parents,
+        counts,
+        Variable::new(x),
+        out,
+    )
 }
 
 pub fn entry_point(
@@ -68,6 +116,7 @@ pub fn entry_point(
     prefix: &[u32],
     classes: &[u32],
     parents: &[u32],
+    counts: &[u32],
     x: u32,
     y: u32,
 ) -> EntryAnswer {
@@ -76,6 +125,7 @@ pub fn entry_point(
         prefix,
         classes,
         parents,
+        counts,
         Variable::new(x),
         Variable::new(y),
     )
@@ -89,13 +139,14 @@ pub fn write(n: u32, prefix: &[u32], clauses: &[i32], out: &mut [u8]) -> Output 
     qdimacs::write(n, prefix, clauses, out)
 }
 
-// One of the two calls that list.
+// One of the calls that answer a count for x: the two that list, and the size of the set.
 pub enum Call {
     Sets,
     Entries,
+    Sizes,
 }
 
-// Asks the call about x.
+// Asks the call about x; the size of the set takes no output.
 pub fn ask(
     call: Call,
     n: u32,
@@ -103,12 +154,14 @@ pub fn ask(
     clauses: &[i32],
     classes: &[u32],
     parents: &[u32],
+    counts: &[u32],
     x: u32,
     out: &mut [u32],
 ) -> Filled {
     match call {
-        Call::Sets => set_of(n, prefix, clauses, classes, parents, x, out),
-        Call::Entries => entry_points(n, prefix, clauses, classes, parents, x, out),
+        Call::Sets => set_of(n, prefix, clauses, classes, parents, counts, x, out),
+        Call::Entries => entry_points(n, prefix, clauses, classes, parents, counts, x, out),
+        Call::Sizes => set_size(n, prefix, clauses, classes, parents, counts, x),
     }
 }
 
@@ -120,6 +173,7 @@ pub fn ask_within(
     clauses: &[i32],
     classes: &[u32],
     parents: &[u32],
+    counts: &[u32],
     x: u32,
     out: &mut [u32],
     room: usize,
@@ -132,10 +186,11 @@ pub fn ask_within(
             clauses,
             classes,
             parents,
+            counts,
             x,
             &mut out[0..room],
         )
     } else {
-        ask(call, n, prefix, clauses, classes, parents, x, out)
+        ask(call, n, prefix, clauses, classes, parents, counts, x, out)
     }
 }

@@ -1,5 +1,6 @@
 // Rows that a call left, held against what they should be.
 
+use forest::EntryAnswer;
 use terms::Filled;
 use terms::Verdict;
 
@@ -53,8 +54,8 @@ pub fn row_at(rows: &[u32], at: usize) -> u32 {
     if at < rows.len() { rows[at] } else { 0 }
 }
 
-// Whether a call that fills answers a count.
-pub fn counts(answer: Filled, count: u32) -> bool {
+// Whether a call that fills gives a count.
+pub fn gives(answer: Filled, count: u32) -> bool {
     match answer {
         Filled::Count(given) => given == count,
         Filled::Refused(_, _) => false,
@@ -72,7 +73,7 @@ pub fn refuses(answer: Filled, number: u32, place: usize) -> bool {
 // Whether the answer of a call that fills is the refusal with this number and place; the number 0 stands for a count.
 pub fn fills(answer: Filled, count: u32, number: u32, place: usize) -> bool {
     if number == 0 {
-        counts(answer, count)
+        gives(answer, count)
     } else {
         refuses(answer, number, place)
     }
@@ -83,5 +84,13 @@ pub fn says(verdict: Verdict, number: u32, place: usize) -> bool {
     match verdict {
         Verdict::Accepted => number == 0,
         Verdict::Refused(given, at) => given == number && at == place,
+    }
+}
+
+// Whether the entry point call refuses with this number and place; the number 0 stands for an answer.
+pub fn entry_says(answer: EntryAnswer, number: u32, place: usize) -> bool {
+    match answer {
+        EntryAnswer::At(_, _) => number == 0,
+        EntryAnswer::Refused(given, at) => given == number && at == place,
     }
 }

@@ -18,11 +18,12 @@ use Rattle.formula.specs.Causes.{ends-inside, checkOrder}
 use Rattle.formula.specs.Levels.{SoundPrefix, Levelled}
 use Rattle.connection.specs.Reach.{Variables}
 use Rattle.connection.specs.Tables.{Table, lent, WellFormed, Member}
+use Rattle.connection.specs.Listed.{Listed}
 use Rattle.forest.specs.declared.listing.Asked.the-variants.{Set}
 use Rattle.forest.specs.Formula.{tabled, universal, universalIn, Shares}
 use Rattle.forest.specs.Causes.{ForestCause}
 use Rattle.forest.specs.Answers.{Members}
-use Rattle.forest.specs.Listed.{Listed, Filling}
+use Rattle.forest.specs.Listed.{Filling}
 use Rattle.forest.specs.Search.{rowsOf, TopRows, Topless, Flagged, Via, pick, picked, NoneUpto}
 use Rattle.sets.specs.Sets.{AllSets, SetsTooLong}
 use Rattle.sets.specs.Threads.{Closed, Together}
@@ -120,14 +121,14 @@ module _ {n : ℕ} {es levels : List ℕ} {universals : List Bool} (sound : Soun
       (λ x u v. let own = own-level sound table classes parents x u in (member-same s formed own, member-same (same-back s) (formed-same s formed) (sym own))) n list r
 
 -- What is written, or what there is no room for, as the call promises it.
-pub fills-filling : (n : ℕ) (es : List ℕ) (ls : List ℤ) (classes parents : List ℕ) {L : List ℕ → Type 0} (before after : List ℕ) → ((list : List ℕ) → L list → AllSets n es ls classes parents list) → None (ForestCause n es classes parents) → (r : Filled) → Fills L before after r
-    → Filling (ForestCause n es classes parents ∷ At0 14 (SetsTooLong n es ls classes parents before) ∷ []) (AllSets n es ls classes parents) before after r
-fills-filling n es ls classes parents before after as-sets none (Filled.Count count) (list, is, size, room, stored) =
+pub fills-filling : (n : ℕ) (es : List ℕ) (ls : List ℤ) (classes parents counts : List ℕ) {L : List ℕ → Type 0} (before after : List ℕ) → ((list : List ℕ) → L list → AllSets n es ls classes parents list) → None (ForestCause n es classes parents counts) → (r : Filled) → Fills L before after r
+    → Filling (ForestCause n es classes parents counts ∷ At0 14 (SetsTooLong n es ls classes parents before) ∷ []) (AllSets n es ls classes parents) before after r
+fills-filling n es ls classes parents counts before after as-sets none (Filled.Count count) (list, is, size, room, stored) =
     let fits : SetsTooLong n es ls classes parents before → ⊥ = λ long. let q = ap length (records-one (universal n es) (Members n es ls classes parents) n (long .0) list (long .1) (as-sets list is)) in let l = long .2 in omega arith in
     ((none, (at0-none 14 fits, tt)), (list, as-sets list is, size, stored))
-fills-filling n es ls classes parents before after as-sets none (Filled.Refused number place) (k, p, long, same) =
-    let first : FirstOf (ForestCause n es classes parents ∷ At0 14 (SetsTooLong n es ls classes parents before) ∷ []) 14 0 = inr (none, inl (at0-first 14 (long .0, as-sets (long .0) (long .1), long .2))) in
-    (subst₂ (FirstOf (ForestCause n es classes parents ∷ At0 14 (SetsTooLong n es ls classes parents before) ∷ [])) (sym k) (sym p) first, same)
+fills-filling n es ls classes parents counts before after as-sets none (Filled.Refused number place) (k, p, long, same) =
+    let first : FirstOf (ForestCause n es classes parents counts ∷ At0 14 (SetsTooLong n es ls classes parents before) ∷ []) 14 0 = inr (none, inl (at0-first 14 (long .0, as-sets (long .0) (long .1), long .2))) in
+    (subst₂ (FirstOf (ForestCause n es classes parents counts ∷ At0 14 (SetsTooLong n es ls classes parents before) ∷ [])) (sym k) (sym p) first, same)
 
 -- A list filled, once an order before it has accepted.
 pub filling-then : (order more : List Causes) (L : List ℕ → Type 0) (before after : List ℕ) {v : Verdict} → v ≡ Accepted → Judged order v → (r : Filled) → Filling more L before after r → Filling (order ++ more) L before after r

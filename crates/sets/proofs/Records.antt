@@ -2,28 +2,16 @@
 use Prim.Native.Nat.{ℕ, zero, suc, _+_, _-_, _*_, _≤_, _<_}
 use mathlib.Core.Path.{_≡_, refl, sym, ap, ap₂, _∙_, subst}
 use mathlib.Core.Bool.{Bool, true, false, cond}
-use mathlib.Core.List.{List, [], _∷_, _++_, append-nil, append-assoc, List·Memᴰ, List·Memᴰ·head, List·Memᴰ·tail}
+use mathlib.Core.List.{List, [], _∷_, _++_, append-nil, append-assoc}
 use mathlib.Core.Logic.{_↔_, by-cases}
 use native.Mathlib.Decide.{ℕ-discrete}
 use native.Mathlib.Numerals.{add-one}
 use native.Mathlib.Omega.{arith}
 use lib.ListN.{length, set, length-append}
 use lib.Seq.{sets, set-comm}
-use Rattle.forest.specs.Listed.{Ascending, Listed}
+use Rattle.connection.specs.Listed.{Listed}
+use Rattle.connection.proofs.Listed.{listed-one, listed-most}
 use Rattle.sets.specs.Sets.{Record, Records}
-use Rattle.forest.proofs.Picked.{listed-one}
-
--- A list of numbers from 1 to n has at most n of them.
-ascending-most : (low n : ℕ) (list : List ℕ) → Ascending list → ((v : ℕ) → List·Memᴰ v list → (low < v) × (v ≤ n)) → low ≤ n → low + length list ≤ n
-ascending-most low n [] up within l = omega arith
-ascending-most low n (a ∷ list) up within l =
-    let here = within a (List·Memᴰ·head refl) in
-    let over = here .0 in
-    let rest = ascending-most a n list (up .1) (λ v m. (up .0 v m, within v (List·Memᴰ·tail m) .1)) (here .1) in
-    omega arith
-
-listed-most : (P : ℕ → Type 0) (n : ℕ) (list : List ℕ) → ((v : ℕ) → P v → (1 ≤ v) × (v ≤ n)) → Listed P list → length list ≤ n
-listed-most P n list within l = let most = ascending-most 0 n list (l .ascending) (λ v m. let (a, b) = within v (l .each v m) in (a, b)) (omega arith) in omega arith
 
 module _ (U : ℕ → Bool) (P : ℕ → ℕ → Type 0) where
   -- Two lists of the same sets are one.

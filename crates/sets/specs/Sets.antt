@@ -9,10 +9,11 @@ use lib.Seq.{sets}
 use Rattle.terms.specs.Refusals.{Causes, At0}
 use Rattle.terms.specs.declared.Filled.{Filled}
 use Rattle.formula.specs.Causes.{checkOrder}
+use Rattle.connection.specs.Listed.{Listed}
 use Rattle.forest.specs.Formula.{universal}
 use Rattle.forest.specs.Causes.{ForestCause}
 use Rattle.forest.specs.Answers.{Members}
-use Rattle.forest.specs.Listed.{Listed, Filling}
+use Rattle.forest.specs.Listed.{Filling}
 
 -- what x adds to the list: if it is universal its number, the count of its set and its set ascending, and else nothing
 abbrev pub Record : Bool → ℕ → (ℕ → Type 0) → List ℕ → Type 0
@@ -33,9 +34,9 @@ abbrev pub SetsTooLong : ℕ → List ℕ → List ℤ → List ℕ → List ℕ
 SetsTooLong n es ls classes parents before = (list : List ℕ) × AllSets n es ls classes parents list × (length before < length list)
 
 -- the order: that of check, 12, 14
-abbrev pub setsOrder : ℕ → List ℕ → List ℤ → List ℕ → List ℕ → List ℕ → List Causes
-setsOrder n es ls classes parents before = checkOrder n es ls ++ (ForestCause n es classes parents ∷ At0 14 (SetsTooLong n es ls classes parents before) ∷ [])
+abbrev pub setsOrder : ℕ → List ℕ → List ℤ → List ℕ → List ℕ → List ℕ → List ℕ → List Causes
+setsOrder n es ls classes parents counts before = checkOrder n es ls ++ (ForestCause n es classes parents counts ∷ At0 14 (SetsTooLong n es ls classes parents before) ∷ [])
 
 -- what the call for all sets promises
-abbrev pub SetsListed : ℕ → List ℕ → List ℤ → List ℕ → List ℕ → List ℕ → List ℕ → Filled → Type 0
-SetsListed n es ls classes parents before = Filling (setsOrder n es ls classes parents before) (AllSets n es ls classes parents) before
+abbrev pub SetsListed : ℕ → List ℕ → List ℤ → List ℕ → List ℕ → List ℕ → List ℕ → List ℕ → Filled → Type 0
+SetsListed n es ls classes parents counts before = Filling (setsOrder n es ls classes parents counts before) (AllSets n es ls classes parents) before

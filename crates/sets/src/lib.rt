@@ -4,7 +4,7 @@ mod all_sets;
 pub mod threads;
 
 use all_sets::list_sets;
-use forest::rows::check_rows;
+use forest::tables::check_forest;
 use formula::levels::fill_levels;
 use terms::Filled;
 use terms::Verdict;
@@ -25,13 +25,14 @@ pub fn sets(
     clauses: &[i32],
     classes: &[u32],
     parents: &[u32],
+    counts: &[u32],
     out: &mut [u32],
 ) -> Filled
-    ensures { λ r. ⌜ SetsListed n (now (prefix .entry)) (now (clauses .entry)) (now (classes .entry)) (now (parents .entry)) (now (out .entry)) (now (out .exit)) r ⌝ }
+    ensures { λ r. ⌜ SetsListed n (now (prefix .entry)) (now (clauses .entry)) (now (classes .entry)) (now (parents .entry)) (now (counts .entry)) (now (out .entry)) (now (out .exit)) r ⌝ }
 {
     match formula::check(n, prefix, clauses) {
         Verdict::Refused(number, place) => Filled::Refused(number, place),
-        Verdict::Accepted => sound_sets(n, prefix, clauses, classes, parents, out),
+        Verdict::Accepted => sound_sets(n, prefix, clauses, classes, parents, counts, out),
     }
 }
 
@@ -42,15 +43,16 @@ fn sound_sets(
     clauses: &[i32],
     classes: &[u32],
     parents: &[u32],
+    counts: &[u32],
     out: &mut [u32],
 ) -> Filled
     requires { ⌜ SoundPrefix n (now prefix) × SoundClauses (now clauses) × Closed (now clauses) ⌝ }
-    ensures { λ r. ⌜ Filling (ForestCause n (now (prefix .entry)) (now (classes .entry)) (now (parents .entry)) ∷ At0 14 (SetsTooLong n (now (prefix .entry)) (now (clauses .entry)) (now (classes .entry)) (now (parents .entry)) (now (out .entry))) ∷ []) (AllSets n (now (prefix .entry)) (now (clauses .entry)) (now (classes .entry)) (now (parents .entry))) (now (out .entry)) (now (out .exit)) r ⌝ }
+    ensures { λ r. ⌜ Filling (ForestCause n (now (prefix .entry)) (now (classes .entry)) (now (parents .entry)) (now (counts .entry)) ∷ At0 14 (SetsTooLong n (now (prefix .entry)) (now (clauses .entry)) (now (classes .entry)) (now (parents .entry)) (now (out .entry))) ∷ []) (AllSets n (now (prefix .entry)) (now (clauses .entry)) (now (classes .entry)) (now (parents .entry))) (now (out .entry)) (now (out .exit)) r ⌝ }
 {
     let mut levels = [0u32; 4097];
     let mut universals = [false; 4097];
     fill_levels(prefix, &mut levels, &mut universals);
-    match check_rows(n, &levels, &universals, classes, parents) {
+    match check_forest(n, prefix, &levels, &universals, classes, parents, counts) {
         Verdict::Refused(number, place) => Filled::Refused(number, place),
         Verdict::Accepted => list_sets(n, &levels, &universals, clauses, classes, parents, out),
     }

@@ -1,8 +1,12 @@
 // The families that run on generated formulas.
 
-use crate::damage::changed_cases;
-use crate::lists::listing_cases;
-use crate::points::point_cases;
+use asking::lists::listing_cases;
+use asking::lists::size_cases;
+use asking::points::point_cases;
+use growing::adding::add_cases;
+use growing::building::build_cases;
+use growing::damage::changed_cases;
+use growing::tallying::tally_cases;
 use oracle::classes::lend;
 use oracle::fill_search;
 use oracle::joins::fill_joins;
@@ -14,24 +18,23 @@ use samples::parts::between;
 use samples::parts::literals;
 use samples::parts::numbers;
 use score::Score;
-use score::library;
 use score::library::Call;
 use score::rows::UNTOUCHED;
-use score::rows::counts;
-use score::rows::same;
 use std::num::wrapping_add_usize;
 use texts::writing::trip_cases;
 
 // What the cases of a family run.
 pub enum Family {
     Build,
+    Adds,
     Sets,
+    Sizes,
     Entries,
     Points,
     Crossed,
     Damaged,
     Changed,
-    Adds,
+    Tallies,
     Trips,
 }
 
@@ -83,32 +86,22 @@ fn cases_on(
     let clause = between(table, count, added);
     let alone = between(table, count, end);
     let longer = literals(table, end);
-    let mut facts = [0u32; 320];
+    let mut facts = [0u32; 400];
     let mut links = [false; 10368];
     fill_search(n, prefix, clauses, &mut facts, &mut links);
     match family {
         Family::Build => build_cases(score, n, prefix, clauses, &facts),
+        Family::Adds => add_cases(score, number, n, prefix, longer, count),
         Family::Sets => set_cases(score, n, prefix, clauses, &facts, &links),
+        Family::Sizes => set_size_cases(score, n, prefix, clauses, &facts, &links),
         Family::Entries => entries_cases(score, n, prefix, clauses, &facts, &links),
         Family::Points => entry_cases(score, n, prefix, &facts, &links),
         Family::Crossed => crossed_cases(score, n, prefix, alone, &facts, &links),
         Family::Damaged => changed_cases(score, false, number, n, prefix, &facts),
         Family::Changed => changed_cases(score, true, number, n, prefix, &facts),
-        Family::Adds => add_cases(score, n, prefix, clause, longer, &facts),
+        Family::Tallies => tally_cases(score, n, prefix, clause, &facts),
         Family::Trips => trip_cases(score, n, prefix, clauses),
     }
-}
-
-// Build: the class rows and the parent rows.
-fn build_cases(score: Score, n: u32, prefix: &[u32], clauses: &[i32], facts: &[u32]) -> Score {
-    let mut classes = [UNTOUCHED; 80];
-    let mut parents = [UNTOUCHED; 80];
-    lend(n, facts, &mut classes, &mut parents);
-    let mut found = [UNTOUCHED; 80];
-    let mut above = [UNTOUCHED; 80];
-    let answer = library::build(n, prefix, clauses, &mut found, &mut above);
-    let t = score.count(counts(answer, n) && same(&found, &classes));
-    t.count(same(&above, &parents))
 }
 
 // The set of x, by the forest of the search.
@@ -125,6 +118,20 @@ fn set_cases(
     listing_cases(score, Call::Sets, n, prefix, clauses, facts, &sets)
 }
 
+// The size of the set of x, by the forest of the search.
+fn set_size_cases(
+    score: Score,
+    n: u32,
+    prefix: &[u32],
+    clauses: &[i32],
+    facts: &[u32],
+    links: &[bool],
+) -> Score {
+    let mut sets = [false; 5184];
+    fill_sets(n, facts, links, &mut sets);
+    size_cases(score, n, prefix, clauses, facts, &sets)
+}
+
 // The entry points of x, by the forest of the search.
 fn entries_cases(
     score: Score,
@@ -139,7 +146,7 @@ fn entries_cases(
     listing_cases(score, Call::Entries, n, prefix, clauses, facts, &entries)
 }
 
-// Sets and entry points by a forest that comes from other clauses than those lent beside it.
+// Entry points, sets and their sizes by a forest that comes from other clauses than those lent beside it.
 fn crossed_cases(
     score: Score,
     n: u32,
@@ -155,36 +162,15 @@ fn crossed_cases(
     fill_entries(n, facts, links, &joins, &mut entries);
     fill_members(n, facts, links, &entries, &mut sets);
     let t = listing_cases(score, Call::Entries, n, prefix, clauses, facts, &entries);
-    listing_cases(t, Call::Sets, n, prefix, clauses, facts, &sets)
+    let u = listing_cases(t, Call::Sets, n, prefix, clauses, facts, &sets);
+    size_cases(u, n, prefix, clauses, facts, &sets)
 }
 
 // The entry point of x for y, by the forest of the search.
 fn entry_cases(score: Score, n: u32, prefix: &[u32], facts: &[u32], links: &[bool]) -> Score {
     let mut classes = [UNTOUCHED; 80];
     let mut parents = [UNTOUCHED; 80];
-    lend(n, facts, &mut classes, &mut parents);
-    point_cases(score, n, prefix, &classes, &parents, facts, links)
-}
-
-// Add: the class rows and the parent rows, against the search on the longer list.
-fn add_cases(
-    score: Score,
-    n: u32,
-    prefix: &[u32],
-    clause: &[i32],
-    longer: &[i32],
-    facts: &[u32],
-) -> Score {
-    let mut grown = [0u32; 320];
-    let mut links = [false; 10368];
-    let mut classes = [UNTOUCHED; 80];
-    let mut parents = [UNTOUCHED; 80];
-    let mut found = [UNTOUCHED; 80];
-    let mut above = [UNTOUCHED; 80];
-    fill_search(n, prefix, longer, &mut grown, &mut links);
-    lend(n, &grown, &mut classes, &mut parents);
-    lend(n, facts, &mut found, &mut above);
-    let answer = library::add(n, prefix, &mut found, &mut above, clause);
-    let t = score.count(counts(answer, n) && same(&found, &classes));
-    t.count(same(&above, &parents))
+    let mut counts = [UNTOUCHED; 80];
+    lend(n, facts, &mut classes, &mut parents, &mut counts);
+    point_cases(score, n, prefix, &classes, &parents, &counts, facts, links)
 }

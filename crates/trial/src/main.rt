@@ -1,9 +1,6 @@
 // Runs every two-sided rule, holds the library against an independent search, and prints how much came out as it should.
 
-mod damage;
 mod generated;
-mod lists;
-mod points;
 mod shapes;
 
 use generated::Family;
@@ -15,6 +12,7 @@ const FORMULAS: u32 = 400;
 
 fn main() {
     run_rules();
+    run_builds();
     run_texts();
     print_shapes();
     run_searched();
@@ -25,10 +23,8 @@ fn main() {
 fn run_rules() {
     print_score(b"check", rules::checking::check_cases());
     print_score(b"clause", rules::numbering::clause_cases());
-    print_score(b"refusals of build", rules::building::build_cases());
-    print_score(b"refusals of add", rules::building::add_cases());
     print_score(
-        b"refusals of set and entry points",
+        b"refusals of set, size and entry points",
         rules::asking::list_cases(),
     );
     print_score(
@@ -36,6 +32,18 @@ fn run_rules() {
         rules::asking::entry_cases(),
     );
     print_score(b"calls at 4096 variables", rules::limits::limit_cases());
+}
+
+// The cases of build and add that are written out.
+fn run_builds() {
+    print_score(b"refusals of build", builds::refusing::build_cases());
+    print_score(b"refusals of add", builds::refusing::add_cases());
+    print_score(b"counts that are wrong", builds::counting::count_cases());
+    print_score(b"tallies that are refused", builds::tallying::tally_cases());
+    print_score(
+        b"rows, counts and tallies of A",
+        builds::results::result_cases(),
+    );
 }
 
 // The cases of read and write that are written out.
@@ -54,21 +62,23 @@ fn run_searched() {
     run_family(b"build", Family::Build);
     run_family(b"add", Family::Adds);
     run_family(b"sets", Family::Sets);
+    run_family(b"sizes", Family::Sizes);
     run_family(b"entry points", Family::Entries);
     run_family(b"entry point for y", Family::Points);
     run_family(
-        b"sets and entry points by rows of other clauses",
+        b"entry points, sets and sizes by rows of other clauses",
         Family::Crossed,
     );
 }
 
-// The families that change rows, and the round trip of the text.
+// The families that change rows and tallies, and the round trip of the text.
 fn run_changed() {
     run_family(b"forests with a row made wrong", Family::Damaged);
     run_family(
         b"forests with a row changed and none wrong",
         Family::Changed,
     );
+    run_family(b"tallies around the right one", Family::Tallies);
     run_family(b"text written and read back", Family::Trips);
 }
 

@@ -1,27 +1,20 @@
 -- `capi::snow_add` meets its contract.
-use mathlib.Core.Path.{ap, subst}
 use borrow.Author.Needs.{needs}
-use Rattle.terms.specs.Answers.{verdictOf}
-use Rattle.forest.specs.Formula.{variables}
-use Rattle.growth.specs.Grown.{addOrder, Extended, Leaves}
-use Rattle.capi.proofs.Places.{small-add}
-use Rattle.capi.proofs.Telling.{tell-accepted, tell-refused, named}
+use Rattle.capi.proofs.Rewritten.{fits-added, tell-added}
 use Rattle.capi.proofs.snow_add.Statement.{statement}
 use Rattle.capi.proofs.snow_add.Tie as tie
 
-add-requires : tie.Need-add-requires
-add-requires c κs = search needs
+tally-in-requires : tie.Need-tally-in-requires
+tally-in-requires c κs = search needs
 
-enum-told : tie.Need-enum-told
-enum-told c = search needs
+add-tallied-requires : tie.Need-add-tallied-requires
+add-tallied-requires c κs = search needs
 
-enum-known-number : tie.Need-enum-known-number
-enum-known-number c = search needs
+lay-tally-requires : tie.Need-lay-tally-requires
+lay-tally-requires c κs = search needs
 
-cast-place : tie.Need-cast-place
-cast-place c =
-    let a = c .before .before .before .before .before .before .before .before .before .before .before .before .before .args in
-    record { fits = small-add (a .n) (a .prefix .now) (a .classes .now) (a .parents .now) (a .clause .now) _ _ (named (addOrder (a .n) (a .prefix .now) (a .classes .now) (a .parents .now) (a .clause .now)) (ap verdictOf (c .before .number .given .1)) (c .before .before .before .before .before .before .before .add .ensures .judged)) }
+lay-requires : tie.Need-lay-requires
+lay-requires c κs = fits-added (c .before .before .before .before .before .before .before .before .before .before .add-tallied .ensures)
 
 same-length : tie.Need-same-length
 same-length c = search needs
@@ -29,39 +22,23 @@ same-length c = search needs
 same-length-2 : tie.Need-same-length-2
 same-length-2 c = search needs
 
-returns : tie.Need-returns
-returns c =
-    let a = c .before .before .before .before .before .before .before .before .before .before .before .before .args in
-    let b = c .before .before .before .before .before .before .add in
-    let q = c .enum-told .given .1 in
-    tell-accepted (addOrder (a .n) (a .prefix .now) (a .classes .now) (a .parents .now) (a .clause .now)) _ (ap verdictOf q) (b .ensures .judged)
-    (subst (Leaves (variables (a .n) (a .prefix .now)) (Extended (a .n) (a .prefix .now) (a .classes .now) (a .parents .now) (a .clause .now)) (a .classes .now) (a .parents .now) _ _) q (b .ensures .leaves) .1)
-
 same-length-3 : tie.Need-same-length-3
 same-length-3 c = search needs
 
-same-length-4 : tie.Need-same-length-4
-same-length-4 c = search needs
-
-returns-2 : tie.Need-returns-2
-returns-2 c =
-    let a = c .before .before .before .before .before .before .before .before .before .before .before .before .before .args in
-    let b = c .before .before .before .before .before .before .before .add in
-    let q = c .before .number .given .1 in
-    tell-refused (addOrder (a .n) (a .prefix .now) (a .classes .now) (a .parents .now) (a .clause .now)) _ (ap verdictOf q) (b .ensures .judged)
-    (subst (Leaves (variables (a .n) (a .prefix .now)) (Extended (a .n) (a .prefix .now) (a .classes .now) (a .parents .now) (a .clause .now)) (a .classes .now) (a .parents .now) _ _) q (b .ensures .leaves))
+returns : tie.Need-returns
+returns c =
+    let a = c .before .before .before .before .before .before .before .before .before .before .before .before .before .before .before .before .before .before .before .before .before .args in
+    tell-added (a .classes .now) (a .parents .now) (a .counts .now) (a .tally .now) _ _ _ _ (c .before .before .before .before .before .before .before .before .before .before .before .before .before .before .before .tally-in .ensures) (c .lay .ensures) (c .before .before .before .lay-tally .ensures) (c .before .before .before .before .before .before .before .before .before .before .before .add-tallied .ensures)
 
 pub snow-add-spec : {M : Type 1} → statement M
 snow-add-spec =
     tie.close
     (tie.spec
-    add-requires
-    enum-told
-    enum-known-number
-    cast-place
+    tally-in-requires
+    add-tallied-requires
+    lay-tally-requires
+    lay-requires
     same-length
     same-length-2
-    returns
     same-length-3
-    same-length-4
-    returns-2)
+    returns)

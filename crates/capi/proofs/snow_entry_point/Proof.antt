@@ -1,11 +1,9 @@
 -- `capi::snow_entry_point` meets its contract.
-use mathlib.Core.Path.{refl, subst}
+use mathlib.Core.Path.{refl}
 use borrow.Author.Needs.{needs}
-use Rattle.forest.specs.Causes.{entryOrder}
-use Rattle.forest.specs.Answers.{Answered, Entry}
-use Rattle.capi.specs.Told.{accepted, refused}
+use Rattle.capi.specs.Told.{refused}
 use Rattle.capi.proofs.Places.{small-entry}
-use Rattle.capi.proofs.Telling.{answered-for}
+use Rattle.capi.proofs.Telling.{tell-entry, named-entry}
 use Rattle.capi.proofs.snow_entry_point.Statement.{statement}
 use Rattle.capi.proofs.snow_entry_point.Tie as tie
 
@@ -26,22 +24,21 @@ enum-known-number c = search needs
 
 cast-place : tie.Need-cast-place
 cast-place c =
-    let a = c .before .before .before .before .before .before .before .before .before .args in
-    let said = answered-for (entryOrder (a .n) (a .prefix .now) (a .classes .now) (a .parents .now)) (Entry (a .n) (a .prefix .now) (a .classes .now) (a .parents .now)) (c .before .before .before .entry-point .result) (c .before .before .before .before .before .new .ensures) (c .before .before .before .before .new2 .ensures) (c .before .before .before .entry-point .ensures) in
-    record { fits = small-entry (a .n) (a .prefix .now) (a .classes .now) (a .parents .now) (a .x) (a .y) _ _ (subst (Answered (entryOrder (a .n) (a .prefix .now) (a .classes .now) (a .parents .now) (a .x) (a .y)) (Entry (a .n) (a .prefix .now) (a .classes .now) (a .parents .now) (a .x) (a .y))) (c .before .number .given .1) said) }
+    let a = c .before .before .before .before .before .before .before .before .before .before .args in
+    let b = c .before .before .before .entry-point in
+    record { fits = small-entry (a .n) (a .prefix .now) (a .classes .now) (a .parents .now) (a .counts .now) (a .x) (a .y) _ _ (named-entry (a .n) (a .prefix .now) (a .classes .now) (a .parents .now) (a .counts .now) (c .before .before .before .before .before .new .ensures) (c .before .before .before .before .new2 .ensures) (b .result) (b .ensures) (c .before .number .given .1)) }
 
 returns : tie.Need-returns
 returns c =
-    let a = c .before .before .before .before .before .before .before .before .before .args in
-    let said = answered-for (entryOrder (a .n) (a .prefix .now) (a .classes .now) (a .parents .now)) (Entry (a .n) (a .prefix .now) (a .classes .now) (a .parents .now)) (c .before .before .before .entry-point .result) (c .before .before .before .before .before .new .ensures) (c .before .before .before .before .new2 .ensures) (c .before .before .before .entry-point .ensures) in
-    let at = subst (Answered (entryOrder (a .n) (a .prefix .now) (a .classes .now) (a .parents .now) (a .x) (a .y)) (Entry (a .n) (a .prefix .now) (a .classes .now) (a .parents .now) (a .x) (a .y))) (c .before .class .given .1) said in
-    accepted (at .0) (at .1) refl refl
+    let a = c .before .before .before .before .before .before .before .before .before .before .args in
+    let b = c .before .before .before .entry-point in
+    tell-entry (a .n) (a .prefix .now) (a .classes .now) (a .parents .now) (a .counts .now) (c .before .before .before .before .before .new .ensures) (c .before .before .before .before .new2 .ensures) (b .result) (b .ensures) _ (c .before .class .given .1)
 
 returns-2 : tie.Need-returns-2
 returns-2 c =
-    let a = c .before .before .before .before .before .before .before .before .before .args in
-    let said = answered-for (entryOrder (a .n) (a .prefix .now) (a .classes .now) (a .parents .now)) (Entry (a .n) (a .prefix .now) (a .classes .now) (a .parents .now)) (c .before .before .before .entry-point .result) (c .before .before .before .before .before .new .ensures) (c .before .before .before .before .new2 .ensures) (c .before .before .before .entry-point .ensures) in
-    refused (subst (Answered (entryOrder (a .n) (a .prefix .now) (a .classes .now) (a .parents .now) (a .x) (a .y)) (Entry (a .n) (a .prefix .now) (a .classes .now) (a .parents .now) (a .x) (a .y))) (c .before .number .given .1) said) (refl, refl)
+    let a = c .before .before .before .before .before .before .before .before .before .before .args in
+    let b = c .before .before .before .entry-point in
+    refused (named-entry (a .n) (a .prefix .now) (a .classes .now) (a .parents .now) (a .counts .now) (c .before .before .before .before .before .new .ensures) (c .before .before .before .before .new2 .ensures) (b .result) (b .ensures) (c .before .number .given .1)) (refl, refl)
 
 pub snow-entry-point-spec : {M : Type 1} → statement M
 snow-entry-point-spec =

@@ -1,10 +1,7 @@
 -- `capi::snow_entry_points` meets its contract.
 use borrow.Author.Needs.{needs}
-use Rattle.forest.specs.Causes.{listOrder}
 use Rattle.forest.specs.Answers.{Entries}
-use Rattle.forest.specs.Listed.{Listed}
-use Rattle.capi.proofs.Places.{small-list}
-use Rattle.capi.proofs.Telling.{listed-for, tell-filled, named-unfilled, tell-unfilled}
+use Rattle.capi.proofs.Telling.{fits-listing, tell-listing}
 use Rattle.capi.proofs.snow_entry_points.Statement.{statement}
 use Rattle.capi.proofs.snow_entry_points.Tie as tie
 
@@ -14,55 +11,20 @@ new-requires c κs = search needs
 entry-points-requires : tie.Need-entry-points-requires
 entry-points-requires c κs = search needs
 
-enum-known-written : tie.Need-enum-known-written
-enum-known-written c = search needs
-
-enum-known-number : tie.Need-enum-known-number
-enum-known-number c = search needs
-
-cast-place : tie.Need-cast-place
-cast-place c =
+lay-requires : tie.Need-lay-requires
+lay-requires c κs =
     let a = c .before .before .before .before .before .before .before .before .before .before .before .before .args in
-    let b = c .before .before .before .before .before .entry-points in
-    let listing = listed-for (λ x. listOrder (a .n) (a .prefix .now) (a .clauses .now) (a .classes .now) (a .parents .now) x (Entries (a .n) (a .prefix .now) (a .clauses .now) (a .classes .now) (a .parents .now) x) (a .out .now)) (λ x. Entries (a .n) (a .prefix .now) (a .clauses .now) (a .classes .now) (a .parents .now) x) (a .out .now) _ (b .result) (c .before .before .before .before .before .before .before .new .ensures) (b .ensures) in
-    let P = Entries (a .n) (a .prefix .now) (a .clauses .now) (a .classes .now) (a .parents .now) (a .x) in
-    let order = listOrder (a .n) (a .prefix .now) (a .clauses .now) (a .classes .now) (a .parents .now) (a .x) P (a .out .now) in
-    record { fits = small-list (a .n) (a .prefix .now) (a .clauses .now) (a .classes .now) (a .parents .now) (a .x) P (a .out .now) _ _ (named-unfilled order (Listed P) (a .out .now) _ (b .result) listing (c .before .number .given .1)) }
+    let b = c .before .before .before .before .entry-points in
+    fits-listing (a .n) (a .prefix .now) (a .clauses .now) (a .classes .now) (a .parents .now) (a .counts .now) (Entries (a .n) (a .prefix .now) (a .clauses .now) (a .classes .now) (a .parents .now)) (a .out .now) _ (b .result) _ (b .ensures)
 
 same-length : tie.Need-same-length
 same-length c = search needs
 
 returns : tie.Need-returns
 returns c =
-    let a = c .before .before .before .before .before .before .before .before .before .before .before .before .args in
+    let a = c .before .before .before .before .before .before .before .before .before .before .before .before .before .args in
     let b = c .before .before .before .before .before .entry-points in
-    let listing = listed-for (λ x. listOrder (a .n) (a .prefix .now) (a .clauses .now) (a .classes .now) (a .parents .now) x (Entries (a .n) (a .prefix .now) (a .clauses .now) (a .classes .now) (a .parents .now) x) (a .out .now)) (λ x. Entries (a .n) (a .prefix .now) (a .clauses .now) (a .classes .now) (a .parents .now) x) (a .out .now) _ (b .result) (c .before .before .before .before .before .before .before .new .ensures) (b .ensures) in
-    let P = Entries (a .n) (a .prefix .now) (a .clauses .now) (a .classes .now) (a .parents .now) (a .x) in
-    let order = listOrder (a .n) (a .prefix .now) (a .clauses .now) (a .classes .now) (a .parents .now) (a .x) P (a .out .now) in
-    tell-filled order (Listed P) (a .out .now) _ (b .result) listing _ (c .before .written .given .1)
-
-same-length-2 : tie.Need-same-length-2
-same-length-2 c = search needs
-
-returns-2 : tie.Need-returns-2
-returns-2 c =
-    let a = c .before .before .before .before .before .before .before .before .before .before .before .before .args in
-    let b = c .before .before .before .before .before .entry-points in
-    let listing = listed-for (λ x. listOrder (a .n) (a .prefix .now) (a .clauses .now) (a .classes .now) (a .parents .now) x (Entries (a .n) (a .prefix .now) (a .clauses .now) (a .classes .now) (a .parents .now) x) (a .out .now)) (λ x. Entries (a .n) (a .prefix .now) (a .clauses .now) (a .classes .now) (a .parents .now) x) (a .out .now) _ (b .result) (c .before .before .before .before .before .before .before .new .ensures) (b .ensures) in
-    let P = Entries (a .n) (a .prefix .now) (a .clauses .now) (a .classes .now) (a .parents .now) (a .x) in
-    let order = listOrder (a .n) (a .prefix .now) (a .clauses .now) (a .classes .now) (a .parents .now) (a .x) P (a .out .now) in
-    tell-unfilled order (Listed P) (a .out .now) _ (b .result) listing _ _ (c .before .number .given .1)
+    tell-listing (a .n) (a .prefix .now) (a .clauses .now) (a .classes .now) (a .parents .now) (a .counts .now) (Entries (a .n) (a .prefix .now) (a .clauses .now) (a .classes .now) (a .parents .now)) (a .out .now) _ (c .before .before .before .before .before .before .before .new .ensures) (c .lay .ensures) (b .ensures)
 
 pub snow-entry-points-spec : {M : Type 1} → statement M
-snow-entry-points-spec =
-    tie.close
-    (tie.spec
-    new-requires
-    entry-points-requires
-    enum-known-written
-    enum-known-number
-    cast-place
-    same-length
-    returns
-    same-length-2
-    returns-2)
+snow-entry-points-spec = tie.close (tie.spec new-requires entry-points-requires lay-requires same-length returns)

@@ -24,18 +24,18 @@ enum-told c = search needs
 
 sound-entry-requires : tie.Need-sound-entry-requires
 sound-entry-requires c κs =
-    let a = c .before .before .before .before .before .before .args in
+    let a = c .before .before .before .before .before .before .before .args in
     sound-prefix 0 [] (subst (Judged (prefixOrder (a .n) (a .prefix .now) 0)) (c .enum-told .given .1) (c .before .before .prefix-verdict .ensures))
 
 returns : tie.Need-returns
 returns c =
-    let a = c .before .before .before .before .before .before .before .args in
-    refused-first (prefixOrder (a .n) (a .prefix .now) 0) (ForestCause (a .n) (a .prefix .now) (a .classes .now) (a .parents .now) ∷ At0 13 (NotUniversal (a .n) (a .prefix .now) (a .x .0) ⊎ NotDeeper (a .n) (a .prefix .now) (a .x .0) (a .y .0)) ∷ []) (c .before .number .given .1) (c .before .before .before .prefix-verdict .ensures)
+    let a = c .before .before .before .before .before .before .before .before .args in
+    refused-first (prefixOrder (a .n) (a .prefix .now) 0) (ForestCause (a .n) (a .prefix .now) (a .classes .now) (a .parents .now) (a .counts .now) ∷ At0 13 (NotUniversal (a .n) (a .prefix .now) (a .x .0) ⊎ NotDeeper (a .n) (a .prefix .now) (a .x .0) (a .y .0)) ∷ []) (c .before .number .given .1) (c .before .before .before .prefix-verdict .ensures)
 
 returns-2 : tie.Need-returns-2
 returns-2 c =
-    let a = c .before .before .before .before .before .before .before .args in
-    answered-then (prefixOrder (a .n) (a .prefix .now) 0) (ForestCause (a .n) (a .prefix .now) (a .classes .now) (a .parents .now) ∷ At0 13 (NotUniversal (a .n) (a .prefix .now) (a .x .0) ⊎ NotDeeper (a .n) (a .prefix .now) (a .x .0) (a .y .0)) ∷ []) (Entry (a .n) (a .prefix .now) (a .classes .now) (a .parents .now) (a .x .0) (a .y .0)) (c .before .enum-told .given .1) (c .before .before .before .prefix-verdict .ensures) (c .sound-entry .result) (c .sound-entry .ensures)
+    let a = c .before .before .before .before .before .before .before .before .args in
+    answered-then (prefixOrder (a .n) (a .prefix .now) 0) (ForestCause (a .n) (a .prefix .now) (a .classes .now) (a .parents .now) (a .counts .now) ∷ At0 13 (NotUniversal (a .n) (a .prefix .now) (a .x .0) ⊎ NotDeeper (a .n) (a .prefix .now) (a .x .0) (a .y .0)) ∷ []) (Entry (a .n) (a .prefix .now) (a .classes .now) (a .parents .now) (a .x .0) (a .y .0)) (c .before .enum-told .given .1) (c .before .before .before .prefix-verdict .ensures) (c .sound-entry .result) (c .sound-entry .ensures)
 
 pub entry-point-spec : {M : Type 1} → statement M
 entry-point-spec =

@@ -3,14 +3,12 @@ use mathlib.Core.Path.{sym, subst, _∙_}
 use mathlib.Core.List.{[], _∷_}
 use mathlib.Core.Logic.{_⊎_, inl, inr, ⊎-elim}
 use borrow.Author.Needs.{needs}
-use Rattle.terms.specs.declared.Verdict.the-variants.{Accepted}
 use Rattle.terms.specs.Refusals.{At0, Judged}
 use Rattle.terms.proofs.Verdicts.{at0-first, at0-none, refused-first}
 use Rattle.forest.specs.Formula.{tabled}
-use Rattle.forest.specs.Causes.{RowsCause, ForestCause, NotUniversal, NotDeeper}
+use Rattle.forest.specs.Causes.{ForestCause, NotUniversal, NotDeeper}
 use Rattle.forest.specs.Search.{rowsOf, Finds}
-use Rattle.forest.proofs.Agreeing.{tables-agree, rows-judged}
-use Rattle.forest.proofs.Entered.{rows-formed, sound-universal, sound-not-universal, sound-found, sound-nowhere}
+use Rattle.forest.proofs.Entered.{tabled-formed, sound-universal, sound-not-universal, sound-found, sound-nowhere}
 use Rattle.forest.proofs.sound_entry.Statement.{statement}
 use Rattle.forest.proofs.sound_entry.Tie as tie
 
@@ -23,14 +21,14 @@ slice-aggregate-fill-levels-2 c = search needs
 fill-levels-requires : tie.Need-fill-levels-requires
 fill-levels-requires c κs = search needs
 
-slice-aggregate-check-rows : tie.Need-slice-aggregate-check-rows
-slice-aggregate-check-rows c = search needs
+slice-aggregate-check-forest : tie.Need-slice-aggregate-check-forest
+slice-aggregate-check-forest c = search needs
 
-slice-aggregate-check-rows-2 : tie.Need-slice-aggregate-check-rows-2
-slice-aggregate-check-rows-2 c = search needs
+slice-aggregate-check-forest-2 : tie.Need-slice-aggregate-check-forest-2
+slice-aggregate-check-forest-2 c = search needs
 
-check-rows-requires : tie.Need-check-rows-requires
-check-rows-requires c κs = search needs
+check-forest-requires : tie.Need-check-forest-requires
+check-forest-requires c κs = search needs
 
 enum-known-number : tie.Need-enum-known-number
 enum-known-number c = search needs
@@ -52,10 +50,8 @@ slice-aggregate-find-entry-2 c = search needs
 
 find-entry-requires : tie.Need-find-entry-requires
 find-entry-requires c κs =
-    let a = c .before .before .before .before .before .before .before .before .before .before .before .before .before .before .before .before .before .before .args in
-    let levels = c .before .before .before .before .before .before .before .before .before .before .before .before .fill-levels .last .1 .0 in
-    let universals = c .before .before .before .before .before .before .before .before .before .before .before .before .fill-levels .last .1 .1 .0 in
-    rows-formed (a .n) levels universals (a .classes .now) (a .parents .now) (subst (Judged (RowsCause (tabled (a .n) levels universals) (a .classes .now) (a .parents .now) ∷ [])) (c .before .before .before .before .before .enum-told .given .1) (c .before .before .before .before .before .before .before .check-rows .ensures))
+    let a = c .before .before .before .before .before .before .before .before .before .before .before .before .before .before .before .before .before .before .before .args in
+    tabled-formed (c .before .before .before .before .before .before .before .before .before .before .before .before .before .before .before .before .before .before .before .pre) (c .before .before .before .before .before .before .before .before .before .before .before .before .fill-levels .ensures) (a .classes .now) (a .parents .now) ((subst (Judged (ForestCause (a .n) (a .prefix .now) (a .classes .now) (a .parents .now) (a .counts .now) ∷ [])) (c .before .before .before .before .before .enum-told .given .1) (c .before .before .before .before .before .before .before .check-forest .ensures)) .0)
 
 enum-known-class : tie.Need-enum-known-class
 enum-known-class c = search needs
@@ -65,50 +61,47 @@ enum-told-2 c = search needs
 
 returns : tie.Need-returns
 returns c =
-    let a = c .before .before .before .before .before .before .before .before .before .before .before .before .before .before .args in
+    let a = c .before .before .before .before .before .before .before .before .before .before .before .before .before .before .before .args in
     let levels = c .before .before .before .before .before .before .before .before .fill-levels .last .1 .0 in
     let universals = c .before .before .before .before .before .before .before .before .fill-levels .last .1 .1 .0 in
     let table = c .before .before .before .before .before .before .before .before .fill-levels .ensures in
-    let sound = c .before .before .before .before .before .before .before .before .before .before .before .before .before .before .pre in
-    refused-first (ForestCause (a .n) (a .prefix .now) (a .classes .now) (a .parents .now) ∷ []) (At0 13 (NotUniversal (a .n) (a .prefix .now) (a .x .0) ⊎ NotDeeper (a .n) (a .prefix .now) (a .x .0) (a .y .0)) ∷ []) (c .before .number .given .1)
-    (rows-judged levels universals (a .prefix .now) (a .classes .now) (a .parents .now) (tables-agree sound table) (c .before .before .before .check-rows .result) (c .before .before .before .check-rows .ensures))
+    let sound = c .before .before .before .before .before .before .before .before .before .before .before .before .before .before .before .pre in
+    refused-first (ForestCause (a .n) (a .prefix .now) (a .classes .now) (a .parents .now) (a .counts .now) ∷ []) (At0 13 (NotUniversal (a .n) (a .prefix .now) (a .x .0) ⊎ NotDeeper (a .n) (a .prefix .now) (a .x .0) (a .y .0)) ∷ []) (c .before .number .given .1)
+    (c .before .before .before .check-forest .ensures)
 
 returns-2 : tie.Need-returns-2
 returns-2 c =
-    let a = c .before .before .before .before .before .before .before .before .before .before .before .before .before .before .before .before .before .before .before .before .before .before .args in
+    let a = c .before .before .before .before .before .before .before .before .before .before .before .before .before .before .before .before .before .before .before .before .before .before .before .args in
     let levels = c .before .before .before .before .before .before .before .before .before .before .before .before .before .before .before .before .fill-levels .last .1 .0 in
     let universals = c .before .before .before .before .before .before .before .before .before .before .before .before .before .before .before .before .fill-levels .last .1 .1 .0 in
     let table = c .before .before .before .before .before .before .before .before .before .before .before .before .before .before .before .before .fill-levels .ensures in
-    let sound = c .before .before .before .before .before .before .before .before .before .before .before .before .before .before .before .before .before .before .before .before .before .before .pre in
-    let accepted = subst (Judged (RowsCause (tabled (a .n) levels universals) (a .classes .now) (a .parents .now) ∷ [])) (c .before .before .before .before .before .before .before .before .before .enum-told .given .1) (c .before .before .before .before .before .before .before .before .before .before .before .check-rows .ensures) in
-    let judged = rows-judged levels universals (a .prefix .now) (a .classes .now) (a .parents .now) (tables-agree sound table) Accepted accepted in
-    let formed = rows-formed (a .n) levels universals (a .classes .now) (a .parents .now) accepted in
+    let sound = c .before .before .before .before .before .before .before .before .before .before .before .before .before .before .before .before .before .before .before .before .before .before .before .pre in
+    let accepted = subst (Judged (ForestCause (a .n) (a .prefix .now) (a .classes .now) (a .parents .now) (a .counts .now) ∷ [])) (c .before .before .before .before .before .before .before .before .before .enum-told .given .1) (c .before .before .before .before .before .before .before .before .before .before .before .check-forest .ensures) in
+    let formed = tabled-formed sound table (a .classes .now) (a .parents .now) (accepted .0) in
     let found = sound-found sound table (a .classes .now) (a .parents .now) (a .x .0) formed (sym (c .before .before .before .before .before .before .before .universal-at .ensures) ∙ c .before .before .before .before .before .before .if1 .taken) (subst (Finds (tabled (a .n) levels universals) (rowsOf (a .n) (a .classes .now) (a .parents .now)) (a .x .0) (a .y .0)) (c .before .class .given .1) (c .before .before .before .find-entry .ensures)) in
-    ((judged .0, (at0-none 13 (⊎-elim (sound-universal sound table (a .classes .now) (a .parents .now) (a .x .0) (c .before .before .before .before .before .before .before .universal-at .ensures) (c .before .before .before .before .before .before .if1 .taken)) (found .0)), tt)), found .1)
+    ((accepted .0, (at0-none 13 (⊎-elim (sound-universal sound table (a .classes .now) (a .parents .now) (a .x .0) (c .before .before .before .before .before .before .before .universal-at .ensures) (c .before .before .before .before .before .before .if1 .taken)) (found .0)), tt)), found .1)
 
 returns-3 : tie.Need-returns-3
 returns-3 c =
-    let a = c .before .before .before .before .before .before .before .before .before .before .before .before .before .before .before .before .before .before .before .before .before .args in
+    let a = c .before .before .before .before .before .before .before .before .before .before .before .before .before .before .before .before .before .before .before .before .before .before .args in
     let levels = c .before .before .before .before .before .before .before .before .before .before .before .before .before .before .before .fill-levels .last .1 .0 in
     let universals = c .before .before .before .before .before .before .before .before .before .before .before .before .before .before .before .fill-levels .last .1 .1 .0 in
     let table = c .before .before .before .before .before .before .before .before .before .before .before .before .before .before .before .fill-levels .ensures in
-    let sound = c .before .before .before .before .before .before .before .before .before .before .before .before .before .before .before .before .before .before .before .before .before .pre in
-    let accepted = subst (Judged (RowsCause (tabled (a .n) levels universals) (a .classes .now) (a .parents .now) ∷ [])) (c .before .before .before .before .before .before .before .before .enum-told .given .1) (c .before .before .before .before .before .before .before .before .before .before .check-rows .ensures) in
-    let judged = rows-judged levels universals (a .prefix .now) (a .classes .now) (a .parents .now) (tables-agree sound table) Accepted accepted in
-    let formed = rows-formed (a .n) levels universals (a .classes .now) (a .parents .now) accepted in
-    inr (judged .0, inl (at0-first 13 (inr (sound-nowhere sound table (a .classes .now) (a .parents .now) (a .x .0) (a .y .0) formed (sym (c .before .before .before .before .before .before .universal-at .ensures) ∙ c .before .before .before .before .before .if1 .taken) (subst (Finds (tabled (a .n) levels universals) (rowsOf (a .n) (a .classes .now) (a .parents .now)) (a .x .0) (a .y .0)) (c .enum-told2 .given .1) (c .before .before .find-entry .ensures))))))
+    let sound = c .before .before .before .before .before .before .before .before .before .before .before .before .before .before .before .before .before .before .before .before .before .before .pre in
+    let accepted = subst (Judged (ForestCause (a .n) (a .prefix .now) (a .classes .now) (a .parents .now) (a .counts .now) ∷ [])) (c .before .before .before .before .before .before .before .before .enum-told .given .1) (c .before .before .before .before .before .before .before .before .before .before .check-forest .ensures) in
+    let formed = tabled-formed sound table (a .classes .now) (a .parents .now) (accepted .0) in
+    inr (accepted .0, inl (at0-first 13 (inr (sound-nowhere sound table (a .classes .now) (a .parents .now) (a .x .0) (a .y .0) formed (sym (c .before .before .before .before .before .before .universal-at .ensures) ∙ c .before .before .before .before .before .if1 .taken) (subst (Finds (tabled (a .n) levels universals) (rowsOf (a .n) (a .classes .now) (a .parents .now)) (a .x .0) (a .y .0)) (c .enum-told2 .given .1) (c .before .before .find-entry .ensures))))))
 
 returns-4 : tie.Need-returns-4
 returns-4 c =
-    let a = c .before .before .before .before .before .before .before .before .before .before .before .before .before .before .before .before .args in
+    let a = c .before .before .before .before .before .before .before .before .before .before .before .before .before .before .before .before .before .args in
     let levels = c .before .before .before .before .before .before .before .before .before .before .fill-levels .last .1 .0 in
     let universals = c .before .before .before .before .before .before .before .before .before .before .fill-levels .last .1 .1 .0 in
     let table = c .before .before .before .before .before .before .before .before .before .before .fill-levels .ensures in
-    let sound = c .before .before .before .before .before .before .before .before .before .before .before .before .before .before .before .before .pre in
-    let accepted = subst (Judged (RowsCause (tabled (a .n) levels universals) (a .classes .now) (a .parents .now) ∷ [])) (c .before .before .before .enum-told .given .1) (c .before .before .before .before .before .check-rows .ensures) in
-    let judged = rows-judged levels universals (a .prefix .now) (a .classes .now) (a .parents .now) (tables-agree sound table) Accepted accepted in
-    let formed = rows-formed (a .n) levels universals (a .classes .now) (a .parents .now) accepted in
-    inr (judged .0, inl (at0-first 13 (inl (sound-not-universal sound table (a .classes .now) (a .parents .now) (a .x .0) (c .before .universal-at .ensures) (c .if1 .left)))))
+    let sound = c .before .before .before .before .before .before .before .before .before .before .before .before .before .before .before .before .before .pre in
+    let accepted = subst (Judged (ForestCause (a .n) (a .prefix .now) (a .classes .now) (a .parents .now) (a .counts .now) ∷ [])) (c .before .before .before .enum-told .given .1) (c .before .before .before .before .before .check-forest .ensures) in
+    let formed = tabled-formed sound table (a .classes .now) (a .parents .now) (accepted .0) in
+    inr (accepted .0, inl (at0-first 13 (inl (sound-not-universal sound table (a .classes .now) (a .parents .now) (a .x .0) (c .before .universal-at .ensures) (c .if1 .left)))))
 
 pub sound-entry-spec : {M : Type 1} → statement M
 sound-entry-spec =
@@ -117,9 +110,9 @@ sound-entry-spec =
     slice-aggregate-fill-levels
     slice-aggregate-fill-levels-2
     fill-levels-requires
-    slice-aggregate-check-rows
-    slice-aggregate-check-rows-2
-    check-rows-requires
+    slice-aggregate-check-forest
+    slice-aggregate-check-forest-2
+    check-forest-requires
     enum-known-number
     enum-told
     slice-aggregate-universal-at

@@ -1,28 +1,45 @@
 -- `listing::list_formula` meets its contract.
-use mathlib.Core.Path.{subst}
-use lib.ListN.{replicate}
+use mathlib.Core.Path.{_≡_, subst}
+use mathlib.Core.List.{List}
+use Prim.Native.Nat.{ℕ}
+use lib.IntN.{ℤ}
 use Rattle.terms.specs.Refusals.{NoneOf}
+use Rattle.terms.specs.declared.Filled.{Filled}
+use Rattle.terms.specs.declared.Filled.the-variants.{Count}
 use Rattle.formula.specs.Causes.{checkOrder}
+use Rattle.connection.specs.Tables.{WellFormed}
 use Rattle.connection.proofs.Growth.{forest-is}
+use Rattle.forest.specs.Formula.{variables}
 use Rattle.forest.proofs.Agreeing.{lawful}
 use Rattle.formula.proofs.Sound.{sound-check, sound-clauses}
 use Rattle.sets.proofs.AllSets.{sound-closed}
-use Rattle.growth.specs.Grown.{Builds}
+use Rattle.growth.specs.Grown.{Standing, tableOf, Builds}
 use borrow.Author.Needs.{needs}
 use Rattle.listing.proofs.list_formula.Statement.{statement}
 use Rattle.listing.proofs.list_formula.Tie as tie
 
-slice-aggregate-build : tie.Need-slice-aggregate-build
-slice-aggregate-build c = search needs
+-- Where build counts, it has no cause of check's refusals, and its rows are well formed.
+ready : {n : ℕ} {es : List ℕ} {ls : List ℤ} {s s′ : Standing} {k : ℕ} (answer : Filled) → answer ≡ Count k → Builds n es ls s s′ answer
+    → NoneOf (checkOrder n es ls) × WellFormed (variables n es) (tableOf (variables n es) s′)
+ready {n} {es} {ls} {s} {s′} answer is built =
+    let b = subst (Builds n es ls s s′) is built in
+    let all = b .judged in
+    ((all .0, (all .1 .0, (all .1 .1 .0, (all .1 .1 .1 .0, tt)))), forest-is (lawful n es) .0 (b .leaves .1 .forest) .formed)
 
-slice-aggregate-build-2 : tie.Need-slice-aggregate-build-2
-slice-aggregate-build-2 c = search needs
+slice-aggregate-build-tallied : tie.Need-slice-aggregate-build-tallied
+slice-aggregate-build-tallied c = search needs
 
-build-requires : tie.Need-build-requires
-build-requires c κs = search needs
+slice-aggregate-build-tallied-2 : tie.Need-slice-aggregate-build-tallied-2
+slice-aggregate-build-tallied-2 c = search needs
 
-enum-known-number : tie.Need-enum-known-number
-enum-known-number c = search needs
+slice-aggregate-build-tallied-3 : tie.Need-slice-aggregate-build-tallied-3
+slice-aggregate-build-tallied-3 c = search needs
+
+build-tallied-requires : tie.Need-build-tallied-requires
+build-tallied-requires c κs = search needs
+
+enum-known-answer : tie.Need-enum-known-answer
+enum-known-answer c = search needs
 
 print-refusal-requires : tie.Need-print-refusal-requires
 print-refusal-requires c κs = search needs
@@ -38,11 +55,8 @@ slice-aggregate-list-forest-2 c = search needs
 
 list-forest-requires : tie.Need-list-forest-requires
 list-forest-requires c κs =
-    let a = c .before .before .before .before .before .before .before .before .before .before .args in
-    let b = subst (Builds (a .n) (a .prefix .now) (a .clauses .now) (replicate 4096 0) (replicate 4096 0) (c .before .before .before .before .before .before .build .last .1 .1 .1 .0) (c .before .before .before .before .before .before .build .last .1 .1 .1 .1 .0)) (c .before .before .enum-told .given .1) (c .before .before .before .before .before .before .build .ensures) in
-    let all = b .judged in
-    let none : NoneOf (checkOrder (a .n) (a .prefix .now) (a .clauses .now)) = (all .0, (all .1 .0, (all .1 .1 .0, (all .1 .1 .1 .0, tt)))) in
-    (sound-check none, sound-clauses none, sound-closed none, forest-is (lawful (a .n) (a .prefix .now)) .0 (b .leaves .1 .forest) .formed)
+    let (none, formed) = ready _ (c .before .before .enum-told .given .1) (c .before .before .before .before .before .before .before .build-tallied .ensures) in
+    (sound-check none, sound-clauses none, sound-closed none, formed)
 
 returns : tie.Need-returns
 returns c = search needs
@@ -54,10 +68,11 @@ pub list-formula-spec : {M : Type 1} → statement M
 list-formula-spec =
     tie.close
     (tie.spec
-    slice-aggregate-build
-    slice-aggregate-build-2
-    build-requires
-    enum-known-number
+    slice-aggregate-build-tallied
+    slice-aggregate-build-tallied-2
+    slice-aggregate-build-tallied-3
+    build-tallied-requires
+    enum-known-answer
     print-refusal-requires
     enum-told
     slice-aggregate-list-forest

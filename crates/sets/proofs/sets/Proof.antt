@@ -23,22 +23,22 @@ enum-told c = search needs
 
 sound-sets-requires : tie.Need-sound-sets-requires
 sound-sets-requires c κs =
-    let a = c .before .before .before .before .before .before .before .before .args in
+    let a = c .before .before .before .before .before .before .before .before .before .args in
     let none = subst (Judged (checkOrder (a .n) (a .prefix .now) (a .clauses .now))) (c .before .enum-told .given .1) (c .before .before .before .check .ensures) in
     (sound-check none, sound-clauses none, sound-closed none)
 
 returns : tie.Need-returns
 returns c =
-    let a = c .before .before .before .before .before .before .before .before .args in
-    (refused-first (checkOrder (a .n) (a .prefix .now) (a .clauses .now)) (ForestCause (a .n) (a .prefix .now) (a .classes .now) (a .parents .now) ∷ At0 14 (SetsTooLong (a .n) (a .prefix .now) (a .clauses .now) (a .classes .now) (a .parents .now) (a .out .now)) ∷ []) (c .before .number .given .1) (c .before .before .before .check .ensures), refl)
+    let a = c .before .before .before .before .before .before .before .before .before .args in
+    (refused-first (checkOrder (a .n) (a .prefix .now) (a .clauses .now)) (ForestCause (a .n) (a .prefix .now) (a .classes .now) (a .parents .now) (a .counts .now) ∷ At0 14 (SetsTooLong (a .n) (a .prefix .now) (a .clauses .now) (a .classes .now) (a .parents .now) (a .out .now)) ∷ []) (c .before .number .given .1) (c .before .before .before .check .ensures), refl)
 
 same-length : tie.Need-same-length
 same-length c = search needs
 
 returns-2 : tie.Need-returns-2
 returns-2 c =
-    let a = c .before .before .before .before .before .before .before .before .before .before .before .args in
-    filling-then (checkOrder (a .n) (a .prefix .now) (a .clauses .now)) (ForestCause (a .n) (a .prefix .now) (a .classes .now) (a .parents .now) ∷ At0 14 (SetsTooLong (a .n) (a .prefix .now) (a .clauses .now) (a .classes .now) (a .parents .now) (a .out .now)) ∷ []) (AllSets (a .n) (a .prefix .now) (a .clauses .now) (a .classes .now) (a .parents .now)) (a .out .now) (c .before .before .sound-sets .last .1 .1 .1 .1 .1 .0) (c .before .before .before .before .enum-told .given .1) (c .before .before .before .before .before .before .check .ensures) (c .before .before .sound-sets .result) (c .before .before .sound-sets .ensures)
+    let a = c .before .before .before .before .before .before .before .before .before .before .before .before .args in
+    filling-then (checkOrder (a .n) (a .prefix .now) (a .clauses .now)) (ForestCause (a .n) (a .prefix .now) (a .classes .now) (a .parents .now) (a .counts .now) ∷ At0 14 (SetsTooLong (a .n) (a .prefix .now) (a .clauses .now) (a .classes .now) (a .parents .now) (a .out .now)) ∷ []) (AllSets (a .n) (a .prefix .now) (a .clauses .now) (a .classes .now) (a .parents .now)) (a .out .now) (c .before .before .sound-sets .last .1 .1 .1 .1 .1 .1 .0) (c .before .before .before .before .enum-told .given .1) (c .before .before .before .before .before .before .check .ensures) (c .before .before .sound-sets .result) (c .before .before .sound-sets .ensures)
 
 pub sets-spec : {M : Type 1} → statement M
 sets-spec =

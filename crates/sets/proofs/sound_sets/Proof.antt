@@ -3,14 +3,11 @@ use mathlib.Core.Path.{refl, subst, _∙_}
 use mathlib.Core.Bool.{Bool, false}
 use mathlib.Core.List.{[], _∷_}
 use lib.ListN.{length-replicate}
-use Rattle.terms.specs.declared.Verdict.the-variants.{Accepted}
 use Rattle.terms.specs.Refusals.{At0, Judged}
 use Rattle.terms.proofs.Verdicts.{refused-first}
-use Rattle.forest.specs.Formula.{tabled}
-use Rattle.forest.specs.Causes.{RowsCause, ForestCause}
+use Rattle.forest.specs.Causes.{ForestCause}
 use Rattle.sets.specs.Sets.{SetsTooLong}
-use Rattle.forest.proofs.Agreeing.{tables-agree, rows-judged}
-use Rattle.forest.proofs.Entered.{rows-formed}
+use Rattle.forest.proofs.Entered.{tabled-formed}
 use Rattle.sets.proofs.AllSets.{sets-agree, fills-filling}
 use borrow.Author.Needs.{needs}
 use Rattle.sets.proofs.sound_sets.Statement.{statement}
@@ -25,14 +22,14 @@ slice-aggregate-fill-levels-2 c = search needs
 fill-levels-requires : tie.Need-fill-levels-requires
 fill-levels-requires c κs = search needs
 
-slice-aggregate-check-rows : tie.Need-slice-aggregate-check-rows
-slice-aggregate-check-rows c = search needs
+slice-aggregate-check-forest : tie.Need-slice-aggregate-check-forest
+slice-aggregate-check-forest c = search needs
 
-slice-aggregate-check-rows-2 : tie.Need-slice-aggregate-check-rows-2
-slice-aggregate-check-rows-2 c = search needs
+slice-aggregate-check-forest-2 : tie.Need-slice-aggregate-check-forest-2
+slice-aggregate-check-forest-2 c = search needs
 
-check-rows-requires : tie.Need-check-rows-requires
-check-rows-requires c κs = search needs
+check-forest-requires : tie.Need-check-forest-requires
+check-forest-requires c κs = search needs
 
 enum-known-number : tie.Need-enum-known-number
 enum-known-number c = search needs
@@ -48,32 +45,31 @@ slice-aggregate-list-sets-2 c = search needs
 
 list-sets-requires : tie.Need-list-sets-requires
 list-sets-requires c κs =
-    let a = c .before .before .before .before .before .before .before .before .before .before .before .before .before .before .before .before .before .args in
+    let a = c .before .before .before .before .before .before .before .before .before .before .before .before .before .before .before .before .before .before .args in
     let levels = c .before .before .before .before .before .before .before .before .before .before .fill-levels .last .1 .0 in
     let universals = c .before .before .before .before .before .before .before .before .before .before .fill-levels .last .1 .1 .0 in
-    (c .before .before .before .before .before .before .before .before .before .before .before .before .before .before .before .before .before .pre .0 .few, c .before .before .before .before .before .before .before .before .before .before .fill-levels .kept .1 .1 .0 ∙ length-replicate {A = Bool} 4097 false, c .before .before .before .before .before .before .before .before .before .before .before .before .before .before .before .before .before .pre .1, c .before .before .before .before .before .before .before .before .before .before .before .before .before .before .before .before .before .pre .2, rows-formed (a .n) levels universals (a .classes .now) (a .parents .now) (subst (Judged (RowsCause (tabled (a .n) levels universals) (a .classes .now) (a .parents .now) ∷ [])) (c .before .before .before .enum-told .given .1) (c .before .before .before .before .before .check-rows .ensures)))
+    (c .before .before .before .before .before .before .before .before .before .before .before .before .before .before .before .before .before .before .pre .0 .few, c .before .before .before .before .before .before .before .before .before .before .fill-levels .kept .1 .1 .0 ∙ length-replicate {A = Bool} 4097 false, c .before .before .before .before .before .before .before .before .before .before .before .before .before .before .before .before .before .before .pre .1, c .before .before .before .before .before .before .before .before .before .before .before .before .before .before .before .before .before .before .pre .2, tabled-formed (c .before .before .before .before .before .before .before .before .before .before .before .before .before .before .before .before .before .before .pre .0) (c .before .before .before .before .before .before .before .before .before .before .fill-levels .ensures) (a .classes .now) (a .parents .now) ((subst (Judged (ForestCause (a .n) (a .prefix .now) (a .classes .now) (a .parents .now) (a .counts .now) ∷ [])) (c .before .before .before .enum-told .given .1) (c .before .before .before .before .before .check-forest .ensures)) .0))
 
 returns : tie.Need-returns
 returns c =
-    let a = c .before .before .before .before .before .before .before .before .before .before .before .before .before .before .before .args in
+    let a = c .before .before .before .before .before .before .before .before .before .before .before .before .before .before .before .before .args in
     let levels = c .before .before .before .before .before .before .before .before .fill-levels .last .1 .0 in
     let universals = c .before .before .before .before .before .before .before .before .fill-levels .last .1 .1 .0 in
-    let judged = rows-judged levels universals (a .prefix .now) (a .classes .now) (a .parents .now) (tables-agree (c .before .before .before .before .before .before .before .before .before .before .before .before .before .before .before .pre .0) (c .before .before .before .before .before .before .before .before .fill-levels .ensures)) (c .before .before .before .check-rows .result) (c .before .before .before .check-rows .ensures) in
-    (refused-first (ForestCause (a .n) (a .prefix .now) (a .classes .now) (a .parents .now) ∷ []) (At0 14 (SetsTooLong (a .n) (a .prefix .now) (a .clauses .now) (a .classes .now) (a .parents .now) (a .out .now)) ∷ []) (c .before .number .given .1) judged, refl)
+    let judged = (c .before .before .before .check-forest .ensures) in
+    (refused-first (ForestCause (a .n) (a .prefix .now) (a .classes .now) (a .parents .now) (a .counts .now) ∷ []) (At0 14 (SetsTooLong (a .n) (a .prefix .now) (a .clauses .now) (a .classes .now) (a .parents .now) (a .out .now)) ∷ []) (c .before .number .given .1) judged, refl)
 
 same-length : tie.Need-same-length
 same-length c = search needs
 
 returns-2 : tie.Need-returns-2
 returns-2 c =
-    let a = c .before .before .before .before .before .before .before .before .before .before .before .before .before .before .before .before .before .before .before .before .args in
+    let a = c .before .before .before .before .before .before .before .before .before .before .before .before .before .before .before .before .before .before .before .before .before .args in
     let levels = c .before .before .before .before .before .before .before .before .before .before .before .before .before .fill-levels .last .1 .0 in
     let universals = c .before .before .before .before .before .before .before .before .before .before .before .before .before .fill-levels .last .1 .1 .0 in
     let table = c .before .before .before .before .before .before .before .before .before .before .before .before .before .fill-levels .ensures in
-    let accepted = subst (Judged (RowsCause (tabled (a .n) levels universals) (a .classes .now) (a .parents .now) ∷ [])) (c .before .before .before .before .before .before .enum-told .given .1) (c .before .before .before .before .before .before .before .before .check-rows .ensures) in
-    let judged = rows-judged levels universals (a .prefix .now) (a .classes .now) (a .parents .now) (tables-agree (c .before .before .before .before .before .before .before .before .before .before .before .before .before .before .before .before .before .before .before .before .pre .0) table) Accepted accepted in
-    let formed = rows-formed (a .n) levels universals (a .classes .now) (a .parents .now) accepted in
-    fills-filling (a .n) (a .prefix .now) (a .clauses .now) (a .classes .now) (a .parents .now) (a .out .now) (c .before .before .list-sets .last .1 .1 .1 .1 .1 .1 .0) (sets-agree (c .before .before .before .before .before .before .before .before .before .before .before .before .before .before .before .before .before .before .before .before .pre .0) table (a .clauses .now) (a .classes .now) (a .parents .now) formed) (judged .0) (c .before .before .list-sets .result) (c .before .before .list-sets .ensures)
+    let accepted = subst (Judged (ForestCause (a .n) (a .prefix .now) (a .classes .now) (a .parents .now) (a .counts .now) ∷ [])) (c .before .before .before .before .before .before .enum-told .given .1) (c .before .before .before .before .before .before .before .before .check-forest .ensures) in
+    let formed = tabled-formed (c .before .before .before .before .before .before .before .before .before .before .before .before .before .before .before .before .before .before .before .before .before .pre .0) table (a .classes .now) (a .parents .now) (accepted .0) in
+    fills-filling (a .n) (a .prefix .now) (a .clauses .now) (a .classes .now) (a .parents .now) (a .counts .now) (a .out .now) (c .before .before .list-sets .last .1 .1 .1 .1 .1 .1 .0) (sets-agree (c .before .before .before .before .before .before .before .before .before .before .before .before .before .before .before .before .before .before .before .before .before .pre .0) table (a .clauses .now) (a .classes .now) (a .parents .now) formed) (accepted .0) (c .before .before .list-sets .result) (c .before .before .list-sets .ensures)
 
 pub sound-sets-spec : {M : Type 1} → statement M
 sound-sets-spec =
@@ -82,9 +78,9 @@ sound-sets-spec =
     slice-aggregate-fill-levels
     slice-aggregate-fill-levels-2
     fill-levels-requires
-    slice-aggregate-check-rows
-    slice-aggregate-check-rows-2
-    check-rows-requires
+    slice-aggregate-check-forest
+    slice-aggregate-check-forest-2
+    check-forest-requires
     enum-known-number
     enum-told
     slice-aggregate-list-sets

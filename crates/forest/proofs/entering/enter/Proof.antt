@@ -21,14 +21,14 @@ enum-told c = search needs
 
 sound-enter-requires : tie.Need-sound-enter-requires
 sound-enter-requires c κs =
-    let a = c .before .before .before .before .before .before .before .before .before .before .args in
+    let a = c .before .before .before .before .before .before .before .before .before .before .before .args in
     let none = subst (Judged (checkOrder (a .n) (a .prefix .now) (a .clauses .now))) (c .before .before .enum-told .given .1) (c .before .before .before .before .check .ensures) in
-    (sound-check none, c .before .before .before .before .before .before .before .before .before .before .pre .0, c .before .before .before .before .before .before .before .before .before .before .pre .1, sound-clauses none)
+    (sound-check none, c .before .before .before .before .before .before .before .before .before .before .before .pre .0, c .before .before .before .before .before .before .before .before .before .before .before .pre .1, sound-clauses none)
 
 returns : tie.Need-returns
 returns c =
-    let a = c .before .before .before .before .before .before .before .before .before .args in
-    (refused-first (checkOrder (a .n) (a .prefix .now) (a .clauses .now)) (ForestCause (a .n) (a .prefix .now) (a .classes .now) (a .parents .now) ∷ At0 13 (NotUniversal (a .n) (a .prefix .now) (a .x .0)) ∷ []) (c .before .number .given .1) (c .before .before .before .check .ensures), tt)
+    let a = c .before .before .before .before .before .before .before .before .before .before .args in
+    (refused-first (checkOrder (a .n) (a .prefix .now) (a .clauses .now)) (ForestCause (a .n) (a .prefix .now) (a .classes .now) (a .parents .now) (a .counts .now) ∷ At0 13 (NotUniversal (a .n) (a .prefix .now) (a .x .0)) ∷ []) (c .before .number .given .1) (c .before .before .before .check .ensures), tt)
 
 same-length : tie.Need-same-length
 same-length c = search needs
@@ -38,8 +38,8 @@ same-length-2 c = search needs
 
 returns-2 : tie.Need-returns-2
 returns-2 c =
-    let a = c .before .before .before .before .before .before .before .before .before .before .before .before .before .before .before .args in
-    (accepted-then (checkOrder (a .n) (a .prefix .now) (a .clauses .now)) (ForestCause (a .n) (a .prefix .now) (a .classes .now) (a .parents .now) ∷ At0 13 (NotUniversal (a .n) (a .prefix .now) (a .x .0)) ∷ []) (c .before .before .before .before .sound-enter .result) (c .before .before .before .before .before .before .before .enum-told .given .1) (c .before .before .before .before .before .before .before .before .before .check .ensures) (c .before .before .before .before .sound-enter .ensures .0), c .before .before .before .before .sound-enter .ensures .1)
+    let a = c .before .before .before .before .before .before .before .before .before .before .before .before .before .before .before .before .args in
+    (accepted-then (checkOrder (a .n) (a .prefix .now) (a .clauses .now)) (ForestCause (a .n) (a .prefix .now) (a .classes .now) (a .parents .now) (a .counts .now) ∷ At0 13 (NotUniversal (a .n) (a .prefix .now) (a .x .0)) ∷ []) (c .before .before .before .before .sound-enter .result) (c .before .before .before .before .before .before .before .enum-told .given .1) (c .before .before .before .before .before .before .before .before .before .check .ensures) (c .before .before .before .before .sound-enter .ensures .0), c .before .before .before .before .sound-enter .ensures .1)
 
 pub enter-spec : {M : Type 1} → statement M
 enter-spec =

@@ -3,13 +3,10 @@ use mathlib.Core.Path.{sym, subst, _∙_}
 use mathlib.Core.List.{[], _∷_}
 use mathlib.Core.Logic.{inl, inr}
 use native.Mathlib.Omega.{arith}
-use Rattle.terms.specs.declared.Verdict.the-variants.{Accepted}
 use Rattle.terms.specs.Refusals.{At0, Judged}
 use Rattle.terms.proofs.Verdicts.{at0-first, at0-none, refused-first}
-use Rattle.forest.specs.Formula.{tabled}
-use Rattle.forest.specs.Causes.{RowsCause, ForestCause, NotUniversal}
-use Rattle.forest.proofs.Agreeing.{tables-agree, rows-judged}
-use Rattle.forest.proofs.Entered.{rows-formed, sound-enters, sound-universal, sound-not-universal}
+use Rattle.forest.specs.Causes.{ForestCause, NotUniversal}
+use Rattle.forest.proofs.Entered.{tabled-formed, sound-enters, sound-universal, sound-not-universal}
 use borrow.Author.Needs.{needs}
 use Rattle.forest.proofs.entering.sound_enter.Statement.{statement}
 use Rattle.forest.proofs.entering.sound_enter.Tie as tie
@@ -23,14 +20,14 @@ slice-aggregate-fill-levels-2 c = search needs
 fill-levels-requires : tie.Need-fill-levels-requires
 fill-levels-requires c κs = search needs
 
-slice-aggregate-check-rows : tie.Need-slice-aggregate-check-rows
-slice-aggregate-check-rows c = search needs
+slice-aggregate-check-forest : tie.Need-slice-aggregate-check-forest
+slice-aggregate-check-forest c = search needs
 
-slice-aggregate-check-rows-2 : tie.Need-slice-aggregate-check-rows-2
-slice-aggregate-check-rows-2 c = search needs
+slice-aggregate-check-forest-2 : tie.Need-slice-aggregate-check-forest-2
+slice-aggregate-check-forest-2 c = search needs
 
-check-rows-requires : tie.Need-check-rows-requires
-check-rows-requires c κs = search needs
+check-forest-requires : tie.Need-check-forest-requires
+check-forest-requires c κs = search needs
 
 enum-known-number : tie.Need-enum-known-number
 enum-known-number c = search needs
@@ -58,23 +55,21 @@ slice-aggregate-fill-tops-2 c = search needs
 
 fill-tops-requires : tie.Need-fill-tops-requires
 fill-tops-requires c κs =
-    let a = c .before .before .before .before .before .before .before .before .before .before .before .before .before .before .before .before .before .before .before .before .before .before .before .args in
-    let levels = c .before .before .before .before .before .before .before .before .before .before .before .before .before .before .before .fill-levels .last .1 .0 in
-    let universals = c .before .before .before .before .before .before .before .before .before .before .before .before .before .before .before .fill-levels .last .1 .1 .0 in
-    let few = c .before .before .before .before .before .before .before .before .before .before .before .before .before .before .before .before .before .before .before .before .before .before .before .pre .0 .few in
-    let long = c .before .before .before .before .before .before .before .before .before .before .before .before .before .before .before .before .before .before .before .before .before .before .before .pre .1 in
-    (rows-formed (a .n) levels universals (a .classes .now) (a .parents .now) (subst (Judged (RowsCause (tabled (a .n) levels universals) (a .classes .now) (a .parents .now) ∷ [])) (c .before .before .before .before .before .before .before .before .enum-told .given .1) (c .before .before .before .before .before .before .before .before .before .before .check-rows .ensures)), omega arith)
+    let a = c .before .before .before .before .before .before .before .before .before .before .before .before .before .before .before .before .before .before .before .before .before .before .before .before .args in
+    let few = c .before .before .before .before .before .before .before .before .before .before .before .before .before .before .before .before .before .before .before .before .before .before .before .before .pre .0 .few in
+    let long = c .before .before .before .before .before .before .before .before .before .before .before .before .before .before .before .before .before .before .before .before .before .before .before .before .pre .1 in
+    (tabled-formed (c .before .before .before .before .before .before .before .before .before .before .before .before .before .before .before .before .before .before .before .before .before .before .before .before .pre .0) (c .before .before .before .before .before .before .before .before .before .before .before .before .before .before .before .fill-levels .ensures) (a .classes .now) (a .parents .now) ((subst (Judged (ForestCause (a .n) (a .prefix .now) (a .classes .now) (a .parents .now) (a .counts .now) ∷ [])) (c .before .before .before .before .before .before .before .before .enum-told .given .1) (c .before .before .before .before .before .before .before .before .before .before .check-forest .ensures)) .0), omega arith)
 
 flag-entries-requires : tie.Need-flag-entries-requires
-flag-entries-requires c κs = c .before .before .before .before .before .before .before .before .before .before .before .before .before .before .before .before .before .before .before .before .before .before .before .before .before .before .before .before .pre .3
+flag-entries-requires c κs = c .before .before .before .before .before .before .before .before .before .before .before .before .before .before .before .before .before .before .before .before .before .before .before .before .before .before .before .before .before .pre .3
 
 returns : tie.Need-returns
 returns c =
-    let a = c .before .before .before .before .before .before .before .before .before .before .before .before .before .before .before .before .args in
+    let a = c .before .before .before .before .before .before .before .before .before .before .before .before .before .before .before .before .before .args in
     let levels = c .before .before .before .before .before .before .before .before .fill-levels .last .1 .0 in
     let universals = c .before .before .before .before .before .before .before .before .fill-levels .last .1 .1 .0 in
-    let judged = rows-judged levels universals (a .prefix .now) (a .classes .now) (a .parents .now) (tables-agree (c .before .before .before .before .before .before .before .before .before .before .before .before .before .before .before .before .pre .0) (c .before .before .before .before .before .before .before .before .fill-levels .ensures)) (c .before .before .before .check-rows .result) (c .before .before .before .check-rows .ensures) in
-    (refused-first (ForestCause (a .n) (a .prefix .now) (a .classes .now) (a .parents .now) ∷ []) (At0 13 (NotUniversal (a .n) (a .prefix .now) (a .x .0)) ∷ []) (c .before .number .given .1) judged, tt)
+    let judged = (c .before .before .before .check-forest .ensures) in
+    (refused-first (ForestCause (a .n) (a .prefix .now) (a .classes .now) (a .parents .now) (a .counts .now) ∷ []) (At0 13 (NotUniversal (a .n) (a .prefix .now) (a .x .0)) ∷ []) (c .before .number .given .1) judged, tt)
 
 same-length : tie.Need-same-length
 same-length c = search needs
@@ -84,25 +79,23 @@ same-length-2 c = search needs
 
 returns-2 : tie.Need-returns-2
 returns-2 c =
-    let a = c .before .before .before .before .before .before .before .before .before .before .before .before .before .before .before .before .before .before .before .before .before .before .before .before .before .before .before .before .before .before .before .args in
+    let a = c .before .before .before .before .before .before .before .before .before .before .before .before .before .before .before .before .before .before .before .before .before .before .before .before .before .before .before .before .before .before .before .before .args in
     let levels = c .before .before .before .before .before .before .before .before .before .before .before .before .before .before .before .before .before .before .before .before .before .before .before .fill-levels .last .1 .0 in
     let universals = c .before .before .before .before .before .before .before .before .before .before .before .before .before .before .before .before .before .before .before .before .before .before .before .fill-levels .last .1 .1 .0 in
     let table = c .before .before .before .before .before .before .before .before .before .before .before .before .before .before .before .before .before .before .before .before .before .before .before .fill-levels .ensures in
-    let accepted = subst (Judged (RowsCause (tabled (a .n) levels universals) (a .classes .now) (a .parents .now) ∷ [])) (c .before .before .before .before .before .before .before .before .before .before .before .before .before .before .before .before .enum-told .given .1) (c .before .before .before .before .before .before .before .before .before .before .before .before .before .before .before .before .before .before .check-rows .ensures) in
-    let judged = rows-judged levels universals (a .prefix .now) (a .classes .now) (a .parents .now) (tables-agree (c .before .before .before .before .before .before .before .before .before .before .before .before .before .before .before .before .before .before .before .before .before .before .before .before .before .before .before .before .before .before .before .pre .0) table) Accepted accepted in (
-      (judged .0, (at0-none 13 (sound-universal (c .before .before .before .before .before .before .before .before .before .before .before .before .before .before .before .before .before .before .before .before .before .before .before .before .before .before .before .before .before .before .before .pre .0) table (a .classes .now) (a .parents .now) (a .x .0) (c .before .before .before .before .before .before .before .before .before .before .before .before .before .before .universal-at .ensures) (c .before .before .before .before .before .before .before .before .before .before .before .before .before .if1 .taken)), tt)),
-      sound-enters (c .before .before .before .before .before .before .before .before .before .before .before .before .before .before .before .before .before .before .before .before .before .before .before .before .before .before .before .before .before .before .before .pre .0) table (a .classes .now) (a .parents .now) (a .x .0) (c .before .before .before .before .before .before .before .before .before .before .before .level-at .result .0) (c .before .before .before .before .before .before .before .fill-tops .last .1 .1 .1 .1 .1 .1 .0) (rows-formed (a .n) levels universals (a .classes .now) (a .parents .now) accepted) (sym (c .before .before .before .before .before .before .before .before .before .before .before .before .before .before .universal-at .ensures) ∙ c .before .before .before .before .before .before .before .before .before .before .before .before .before .if1 .taken) (c .before .before .before .before .before .before .before .before .before .before .before .level-at .ensures) (c .before .before .before .before .before .before .before .fill-tops .ensures) (c .before .before .flag-entries .ensures),
+    let accepted = subst (Judged (ForestCause (a .n) (a .prefix .now) (a .classes .now) (a .parents .now) (a .counts .now) ∷ [])) (c .before .before .before .before .before .before .before .before .before .before .before .before .before .before .before .before .enum-told .given .1) (c .before .before .before .before .before .before .before .before .before .before .before .before .before .before .before .before .before .before .check-forest .ensures) in (
+      (accepted .0, (at0-none 13 (sound-universal (c .before .before .before .before .before .before .before .before .before .before .before .before .before .before .before .before .before .before .before .before .before .before .before .before .before .before .before .before .before .before .before .before .pre .0) table (a .classes .now) (a .parents .now) (a .x .0) (c .before .before .before .before .before .before .before .before .before .before .before .before .before .before .universal-at .ensures) (c .before .before .before .before .before .before .before .before .before .before .before .before .before .if1 .taken)), tt)),
+      sound-enters (c .before .before .before .before .before .before .before .before .before .before .before .before .before .before .before .before .before .before .before .before .before .before .before .before .before .before .before .before .before .before .before .before .pre .0) table (a .classes .now) (a .parents .now) (a .x .0) (c .before .before .before .before .before .before .before .before .before .before .before .level-at .result .0) (c .before .before .before .before .before .before .before .fill-tops .last .1 .1 .1 .1 .1 .1 .0) (tabled-formed (c .before .before .before .before .before .before .before .before .before .before .before .before .before .before .before .before .before .before .before .before .before .before .before .before .before .before .before .before .before .before .before .before .pre .0) table (a .classes .now) (a .parents .now) (accepted .0)) (sym (c .before .before .before .before .before .before .before .before .before .before .before .before .before .before .universal-at .ensures) ∙ c .before .before .before .before .before .before .before .before .before .before .before .before .before .if1 .taken) (c .before .before .before .before .before .before .before .before .before .before .before .level-at .ensures) (c .before .before .before .before .before .before .before .fill-tops .ensures) (c .before .before .flag-entries .ensures),
     )
 
 returns-3 : tie.Need-returns-3
 returns-3 c =
-    let a = c .before .before .before .before .before .before .before .before .before .before .before .before .before .before .before .before .before .before .args in
+    let a = c .before .before .before .before .before .before .before .before .before .before .before .before .before .before .before .before .before .before .before .args in
     let levels = c .before .before .before .before .before .before .before .before .before .before .fill-levels .last .1 .0 in
     let universals = c .before .before .before .before .before .before .before .before .before .before .fill-levels .last .1 .1 .0 in
     let table = c .before .before .before .before .before .before .before .before .before .before .fill-levels .ensures in
-    let accepted = subst (Judged (RowsCause (tabled (a .n) levels universals) (a .classes .now) (a .parents .now) ∷ [])) (c .before .before .before .enum-told .given .1) (c .before .before .before .before .before .check-rows .ensures) in
-    let judged = rows-judged levels universals (a .prefix .now) (a .classes .now) (a .parents .now) (tables-agree (c .before .before .before .before .before .before .before .before .before .before .before .before .before .before .before .before .before .before .pre .0) table) Accepted accepted in
-    (inr (judged .0, inl (at0-first 13 (sound-not-universal (c .before .before .before .before .before .before .before .before .before .before .before .before .before .before .before .before .before .before .pre .0) table (a .classes .now) (a .parents .now) (a .x .0) (c .before .universal-at .ensures) (c .if1 .left)))), tt)
+    let accepted = subst (Judged (ForestCause (a .n) (a .prefix .now) (a .classes .now) (a .parents .now) (a .counts .now) ∷ [])) (c .before .before .before .enum-told .given .1) (c .before .before .before .before .before .check-forest .ensures) in
+    (inr (accepted .0, inl (at0-first 13 (sound-not-universal (c .before .before .before .before .before .before .before .before .before .before .before .before .before .before .before .before .before .before .before .pre .0) table (a .classes .now) (a .parents .now) (a .x .0) (c .before .universal-at .ensures) (c .if1 .left)))), tt)
 
 pub sound-enter-spec : {M : Type 1} → statement M
 sound-enter-spec =
@@ -111,9 +104,9 @@ sound-enter-spec =
     slice-aggregate-fill-levels
     slice-aggregate-fill-levels-2
     fill-levels-requires
-    slice-aggregate-check-rows
-    slice-aggregate-check-rows-2
-    check-rows-requires
+    slice-aggregate-check-forest
+    slice-aggregate-check-forest-2
+    check-forest-requires
     enum-known-number
     enum-told
     slice-aggregate-universal-at

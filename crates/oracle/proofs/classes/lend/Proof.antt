@@ -7,10 +7,10 @@ use Rattle.oracle.proofs.classes.lend.Statement.{statement}
 use Rattle.oracle.proofs.classes.lend.Tie as tie
 
 abbrev Inv-loop : tie.InvT-loop
-Inv-loop n facts classes₀ parents₀ v₀ classes parents v = (length classes ≡ length classes₀) × (length parents ≡ length parents₀)
+Inv-loop n facts classes₀ parents₀ counts₀ v₀ classes parents counts v = (length classes ≡ length classes₀) × (length parents ≡ length parents₀) × (length counts ≡ length counts₀)
 
 abbrev μ-loop : tie.MeasureT-loop
-μ-loop n facts classes₀ parents₀ v₀ classes parents v = n - v
+μ-loop n facts classes₀ parents₀ counts₀ v₀ classes parents counts v = n - v
 
 loop-holds : tie.Need-loop-holds Inv-loop μ-loop
 loop-holds c = search needs
@@ -30,6 +30,12 @@ parent-of-requires c κs = search needs
 put-number-requires-2 : tie.Need-put-number-requires-2 Inv-loop μ-loop
 put-number-requires-2 c κs = search needs
 
+count-of-requires : tie.Need-count-of-requires Inv-loop μ-loop
+count-of-requires c κs = search needs
+
+put-number-requires-3 : tie.Need-put-number-requires-3 Inv-loop μ-loop
+put-number-requires-3 c κs = search needs
+
 loop-less : tie.Need-loop-less Inv-loop μ-loop
 loop-less c = search needs
 
@@ -41,6 +47,9 @@ same-length c = search needs
 
 same-length-2 : tie.Need-same-length-2 Inv-loop μ-loop
 same-length-2 c = search needs
+
+same-length-3 : tie.Need-same-length-3 Inv-loop μ-loop
+same-length-3 c = search needs
 
 returns : tie.Need-returns Inv-loop μ-loop
 returns c = search needs
@@ -57,8 +66,11 @@ lend-spec =
     put-number-requires
     parent-of-requires
     put-number-requires-2
+    count-of-requires
+    put-number-requires-3
     loop-less
     loop-again
     same-length
     same-length-2
+    same-length-3
     returns)

@@ -1,0 +1,4 @@
+// The calls that ask, on generated formulas: each answer held against the search.
+
+pub mod lists;
+pub mod points;

@@ -1,0 +1,74 @@
+-- `forest::set_size` meets its contract.
+use Prim.Native.Nat.{ℕ}
+use mathlib.Core.Path.{sym, subst}
+use mathlib.Core.Bool.{false}
+use lib.ListN.{replicate, length-replicate}
+use Rattle.terms.specs.Refusals.{NoneOf, Judged}
+use Rattle.formula.proofs.Sound.{sound-check}
+use Rattle.connection.specs.Tables.{lent}
+use Rattle.forest.specs.Formula.{variables, Shares}
+use Rattle.forest.specs.Causes.{readOrder}
+use Rattle.forest.specs.Answers.{Size}
+use Rattle.forest.specs.Search.{Enters}
+use Rattle.forest.proofs.Entered.{fresh}
+use Rattle.forest.proofs.Listings.{counts-small, entries-sized}
+use borrow.Author.Needs.{needs}
+use Rattle.forest.proofs.set_size.Statement.{statement}
+use Rattle.forest.proofs.set_size.Tie as tie
+
+slice-aggregate-enter : tie.Need-slice-aggregate-enter
+slice-aggregate-enter c = search needs
+
+slice-aggregate-enter-2 : tie.Need-slice-aggregate-enter-2
+slice-aggregate-enter-2 c = search needs
+
+enter-requires : tie.Need-enter-requires
+enter-requires c κs = (length-replicate {A = ℕ} 4096 0, fresh)
+
+enum-known-number : tie.Need-enum-known-number
+enum-known-number c = search needs
+
+enum-told : tie.Need-enum-told
+enum-told c = search needs
+
+slice-aggregate-sum-flagged : tie.Need-slice-aggregate-sum-flagged
+slice-aggregate-sum-flagged c = search needs
+
+-- nothing is refused before the sum
+none-refused : (c : tie.After-enum-told) → NoneOf (readOrder (c .before .before .before .before .before .before .before .before .before .before .before .args .n) (c .before .before .before .before .before .before .before .before .before .before .before .args .prefix .now) (c .before .before .before .before .before .before .before .before .before .before .before .args .clauses .now) (c .before .before .before .before .before .before .before .before .before .before .before .args .classes .now) (c .before .before .before .before .before .before .before .before .before .before .before .args .parents .now) (c .before .before .before .before .before .before .before .before .before .before .before .args .counts .now) (c .before .before .before .before .before .before .before .before .before .before .before .args .x .0))
+none-refused c =
+    let a = c .before .before .before .before .before .before .before .before .before .before .before .args in
+    subst (Judged (readOrder (a .n) (a .prefix .now) (a .clauses .now) (a .classes .now) (a .parents .now) (a .counts .now) (a .x .0))) (c .enum-told .given .1) (c .before .before .before .before .enter .ensures .0)
+
+sum-flagged-requires : tie.Need-sum-flagged-requires
+sum-flagged-requires c κs =
+    let none = none-refused (c .before) in
+    (sound-check (none .0, (none .1 .0, (none .1 .1 .0, (none .1 .1 .1 .0, tt)))) .few, counts-small (c .before .before .before .before .before .before .before .before .before .before .before .before .args .x .0) none)
+
+returns : tie.Need-returns
+returns c =
+    let a = c .before .before .before .before .before .before .before .before .before .before .before .before .args in
+    subst (Judged (readOrder (a .n) (a .prefix .now) (a .clauses .now) (a .classes .now) (a .parents .now) (a .counts .now) (a .x .0))) (c .before .number .given .1) (c .before .before .before .before .before .enter .ensures .0)
+
+returns-2 : tie.Need-returns-2
+returns-2 c =
+    let a = c .before .before .before .before .before .before .before .before .before .before .before .before .before .args in
+    let tops = c .before .before .before .before .before .before .enter .last .1 .1 .1 .1 .1 .1 .1 .0 in
+    let entered = c .before .before .before .before .before .before .enter .last .1 .1 .1 .1 .1 .1 .1 .1 .0 in
+    let none = none-refused (c .before .before) in
+    let enters = subst (Enters (variables (a .n) (a .prefix .now)) (lent (variables (a .n) (a .prefix .now)) (a .classes .now) (a .parents .now)) (Shares (a .clauses .now)) (a .x .0) tops (replicate 4097 false) entered) (c .before .before .enum-told .given .1) (c .before .before .before .before .before .before .enter .ensures .1) in
+    (none, subst (Size (a .n) (a .prefix .now) (a .clauses .now) (a .classes .now) (a .parents .now) (a .counts .now) (a .x .0)) (sym (c .sum-flagged .ensures)) (entries-sized (a .x .0) none tops fresh enters))
+
+pub set-size-spec : {M : Type 1} → statement M
+set-size-spec =
+    tie.close
+    (tie.spec
+    slice-aggregate-enter
+    slice-aggregate-enter-2
+    enter-requires
+    enum-known-number
+    enum-told
+    slice-aggregate-sum-flagged
+    sum-flagged-requires
+    returns
+    returns-2)

@@ -1,0 +1,89 @@
+-- `growth::building::grow` meets its contract.
+use Prim.Native.Nat.{ℕ}
+use mathlib.Core.Path.{_∙_}
+use lib.ListN.{length-replicate}
+use Rattle.loose.proofs.Steps.{class-falls, parent-inside}
+use Rattle.growth.proofs.Exact.{equal-formula, grown, depth-none}
+use borrow.Author.Needs.{needs}
+use Rattle.growth.proofs.building.grow.Statement.{statement}
+use Rattle.growth.proofs.building.grow.Tie as tie
+
+slice-aggregate-fill-depths : tie.Need-slice-aggregate-fill-depths
+slice-aggregate-fill-depths c = search needs
+
+fill-depths-requires : tie.Need-fill-depths-requires
+fill-depths-requires c κs = search needs
+
+slice-aggregate-singles : tie.Need-slice-aggregate-singles
+slice-aggregate-singles c = search needs
+
+slice-aggregate-singles-2 : tie.Need-slice-aggregate-singles-2
+slice-aggregate-singles-2 c = search needs
+
+slice-aggregate-singles-3 : tie.Need-slice-aggregate-singles-3
+slice-aggregate-singles-3 c = search needs
+
+singles-requires : tie.Need-singles-requires
+singles-requires c κs = (c .before .before .before .before .fill-depths .ensures .size, length-replicate {A = ℕ} 4097 0, length-replicate {A = ℕ} 4097 0, depth-none (c .before .before .before .before .fill-depths .ensures))
+
+slice-aggregate-put-all : tie.Need-slice-aggregate-put-all
+slice-aggregate-put-all c = search needs
+
+slice-aggregate-put-all-2 : tie.Need-slice-aggregate-put-all-2
+slice-aggregate-put-all-2 c = search needs
+
+slice-aggregate-put-all-3 : tie.Need-slice-aggregate-put-all-3
+slice-aggregate-put-all-3 c = search needs
+
+put-all-requires : tie.Need-put-all-requires
+put-all-requires c κs = search needs
+
+slice-aggregate-settle : tie.Need-slice-aggregate-settle
+slice-aggregate-settle c = search needs
+
+settle-requires : tie.Need-settle-requires
+settle-requires c κs = let g = c .before .before .before .put-all .ensures .0 .growing in (g .sizes .1, class-falls g)
+
+slice-aggregate-write-out : tie.Need-slice-aggregate-write-out
+slice-aggregate-write-out c = search needs
+
+slice-aggregate-write-out-2 : tie.Need-slice-aggregate-write-out-2
+slice-aggregate-write-out-2 c = search needs
+
+write-out-requires : tie.Need-write-out-requires
+write-out-requires c κs = let g = c .before .before .before .before .before .before .before .before .before .put-all .ensures .0 .growing in let pre = c .before .before .before .before .before .before .before .before .before .before .before .before .before .before .before .before .before .before .before .before .before .before .before .before .before .pre in ((c .before .before .before .before .before .settle .kept .0 ∙ g .sizes .1, g .sizes .2, parent-inside g), (pre .0 .few, pre .2, pre .3))
+
+same-length : tie.Need-same-length
+same-length c = search needs
+
+same-length-2 : tie.Need-same-length-2
+same-length-2 c = search needs
+
+returns : tie.Need-returns
+returns c =
+    let (h, all) = c .before .before .before .before .before .before .before .before .before .before .before .before .before .before .put-all .ensures in
+    let d = c .before .before .before .before .before .before .before .before .before .before .before .before .before .before .before .before .before .before .before .before .before .before .before .before .before .fill-depths .ensures in
+    (grown d (h .growing) (equal-formula d (h .equal)) (c .before .before .before .before .before .before .before .before .before .before .settle .ensures) (c .before .before .before .before .write-out .ensures), all)
+
+pub grow-spec : {M : Type 1} → statement M
+grow-spec =
+    tie.close
+    (tie.spec
+    slice-aggregate-fill-depths
+    fill-depths-requires
+    slice-aggregate-singles
+    slice-aggregate-singles-2
+    slice-aggregate-singles-3
+    singles-requires
+    slice-aggregate-put-all
+    slice-aggregate-put-all-2
+    slice-aggregate-put-all-3
+    put-all-requires
+    slice-aggregate-settle
+    settle-requires
+    slice-aggregate-write-out
+    slice-aggregate-write-out-2
+    write-out-requires
+    same-length
+    same-length-2
+    returns)

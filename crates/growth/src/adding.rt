@@ -1,0 +1,130 @@
+// A clause added to lent tables: they and the tally are judged before the first write, the clause is put in, and the counts and the tally follow.
+
+use crate::Tallied;
+use crate::Tally;
+use crate::counted;
+use crate::counts::recount;
+use crate::refused;
+use crate::tallying::disagrees;
+use crate::tallying::take;
+use crate::tallying::take_census;
+use forest::tables::check_forest;
+use formula::levels::fill_levels;
+use loose::clause::put_one;
+use loose::depths::fill_depths;
+use loose::rows::load;
+use loose::rows::settle;
+use loose::rows::write_out;
+use terms::Verdict;
+ghost use Prim.Native.Nat.{_≤_};
+ghost use mathlib.Core.Path.{_≡_};
+ghost use mathlib.Core.List.{[], _∷_};
+ghost use lib.ListN.{length};
+ghost use Rattle.terms.specs.Answers.{verdictOf};
+ghost use Rattle.terms.specs.Refusals.{Judged};
+ghost use Rattle.formula.specs.Levels.{SoundPrefix};
+ghost use Rattle.formula.specs.Lookup.{InRows};
+ghost use Rattle.connection.specs.Tables.{lent};
+ghost use Rattle.connection.specs.Counts.{how-many, names};
+ghost use Rattle.forest.specs.Causes.{ForestCause};
+ghost use Rattle.forest.specs.Counting.{FormedBy};
+ghost use Rattle.forest.specs.Formula.{variables};
+ghost use Rattle.growth.specs.Grown.{standing, TallyCause, Extended, AddLeaves};
+ghost use Rattle.growth.specs.Rows.{Room, Rowed, Recounted};
+
+// Adds a clause, once the prefix and the clause are accepted.
+pub fn add_sound(
+    n: u32,
+    prefix: &[u32],
+    classes: &mut [u32],
+    parents: &mut [u32],
+    counts: &mut [u32],
+    tally: Tally,
+    clause: &[i32],
+) -> Tallied
+    requires { ⌜ SoundPrefix n (now prefix) × InRows (now clause) ⌝ }
+    ensures judged { λ r. ⌜ Judged (ForestCause n (now (prefix .entry)) (now (classes .entry)) (now (parents .entry)) (now (counts .entry)) ∷ TallyCause (variables n (now (prefix .entry))) (standing (now (classes .entry)) (now (parents .entry)) (now (counts .entry)) tally) ∷ []) (verdictOf (r .answer)) ⌝ }
+    ensures leaves { λ r. ⌜ AddLeaves (variables n (now (prefix .entry))) (standing (now (classes .entry)) (now (parents .entry)) (now (counts .entry)) tally) (now (clause .entry)) (standing (now (classes .exit)) (now (parents .exit)) (now (counts .exit)) (r .tally)) (r .answer) ⌝ }
+{
+    match tables_verdict(n, prefix, classes, parents, counts) {
+        Verdict::Refused(number, place) => refused(number, place, tally),
+        Verdict::Accepted => add_formed(n, prefix, classes, parents, counts, tally, clause),
+    }
+}
+
+// Whether the lent tables are well formed, by an accepted prefix.
+fn tables_verdict(
+    n: u32,
+    prefix: &[u32],
+    classes: &[u32],
+    parents: &[u32],
+    counts: &[u32],
+) -> Verdict
+    requires { ⌜ SoundPrefix n (now prefix) ⌝ }
+    ensures { λ r. ⌜ Judged (ForestCause n (now (prefix .entry)) (now (classes .entry)) (now (parents .entry)) (now (counts .entry)) ∷ []) r ⌝ }
+{
+    let mut levels = [0u32; 4097];
+    let mut universals = [false; 4097];
+    fill_levels(prefix, &mut levels, &mut universals);
+    check_forest(n, prefix, &levels, &universals, classes, parents, counts)
+}
+
+// Adds a clause to well-formed tables: all that is left to refuse is the tally.
+fn add_formed(
+    n: u32,
+    prefix: &[u32],
+    classes: &mut [u32],
+    parents: &mut [u32],
+    counts: &mut [u32],
+    tally: Tally,
+    clause: &[i32],
+) -> Tallied
+    requires { ⌜ SoundPrefix n (now prefix) × InRows (now clause) × Room n (now classes) (now parents) (now counts) × FormedBy n (now prefix) (now classes) (now parents) ⌝ }
+    ensures judged { λ r. ⌜ Judged (TallyCause (variables n (now (prefix .entry))) (standing (now (classes .entry)) (now (parents .entry)) (now (counts .entry)) tally) ∷ []) (verdictOf (r .answer)) ⌝ }
+    ensures leaves { λ r. ⌜ AddLeaves (variables n (now (prefix .entry))) (standing (now (classes .entry)) (now (parents .entry)) (now (counts .entry)) tally) (now (clause .entry)) (standing (now (classes .exit)) (now (parents .exit)) (now (counts .exit)) (r .tally)) (r .answer) ⌝ }
+{
+    let seen = take_census(n, classes);
+    if disagrees(tally, seen) {
+        return refused(18, 0, tally);
+    }
+    let left = extend(n, prefix, classes, parents, counts, clause);
+    let taken = take(tally, left);
+    counted(n, taken)
+}
+
+// Puts the clause into well-formed tables, and the counts after it; gives how many class names are left.
+fn extend(
+    n: u32,
+    prefix: &[u32],
+    classes: &mut [u32],
+    parents: &mut [u32],
+    counts: &mut [u32],
+    clause: &[i32],
+) -> u32
+    requires { ⌜ SoundPrefix n (now prefix) × InRows (now clause) × Room n (now classes) (now parents) (now counts) × FormedBy n (now prefix) (now classes) (now parents) ⌝ }
+    ensures { λ r. ⌜ Rowed (variables n (now (prefix .entry))) (Extended (variables n (now (prefix .entry))) (lent (variables n (now (prefix .entry))) (now (classes .entry)) (now (parents .entry))) (now (clause .entry))) (now (classes .entry)) (now (parents .entry)) (now (classes .exit)) (now (parents .exit)) ⌝ }
+    ensures { λ r. ⌜ Recounted n (now (prefix .entry)) (now (classes .exit)) (now (parents .exit)) (now (counts .entry)) (now (counts .exit)) ⌝ }
+    ensures { λ r. ⌜ r ≡ how-many (names (variables n (now (prefix .entry))) (lent (variables n (now (prefix .entry))) (now (classes .exit)) (now (parents .exit)))) n ⌝ }
+{
+    put_in(n, prefix, classes, parents, clause);
+    recount(n, prefix, classes, parents, counts);
+    let seen = take_census(n, classes);
+    seen.names
+}
+
+// Well-formed tables are loose rows already: the clause is put in, and the exact rows are written back.
+fn put_in(n: u32, prefix: &[u32], classes: &mut [u32], parents: &mut [u32], clause: &[i32])
+    requires { ⌜ SoundPrefix n (now prefix) × InRows (now clause) × (n ≤ length (now classes)) × (n ≤ length (now parents)) ⌝ }
+    requires { ⌜ FormedBy n (now prefix) (now classes) (now parents) ⌝ }
+    ensures { λ r. ⌜ Rowed (variables n (now (prefix .entry))) (Extended (variables n (now (prefix .entry))) (lent (variables n (now (prefix .entry))) (now (classes .entry)) (now (parents .entry))) (now (clause .entry))) (now (classes .entry)) (now (parents .entry)) (now (classes .exit)) (now (parents .exit)) ⌝ }
+{
+    let mut depths = [0u32; 4097];
+    let mut loose = [0u32; 4097];
+    let mut ups = [0u32; 4097];
+    fill_depths(n, prefix, &mut depths);
+    load(n, classes, &mut loose);
+    load(n, parents, &mut ups);
+    put_one(&depths, &mut loose, &mut ups, clause);
+    settle(&mut loose);
+    write_out(n, &loose, &ups, classes, parents);
+}

@@ -1,0 +1,77 @@
+// The forest of an accepted formula: loose rows of no clause, every clause put in, the exact rows written out, and their counts and tally.
+
+use crate::Tally;
+use crate::counts::recount;
+use crate::tallying::take_census;
+use loose::depths::fill_depths;
+use loose::rows::put_all;
+use loose::rows::settle;
+use loose::rows::singles;
+use loose::rows::write_out;
+ghost use Prim.Native.Nat.{_≤_};
+ghost use mathlib.Core.Path.{_≡_};
+ghost use lib.ListN.{length};
+ghost use Rattle.formula.specs.Levels.{SoundPrefix};
+ghost use Rattle.formula.specs.Lookup.{SoundClauses};
+ghost use Rattle.forest.specs.Formula.{variables, Shares};
+ghost use Rattle.forest.specs.Search.{Tells};
+ghost use Rattle.growth.specs.Grown.{standing, many, TallyOf};
+ghost use Rattle.growth.specs.Rows.{Room, Rowed, Recounted};
+
+// Whether every lent table has n rows.
+pub fn has_room(n: u32, classes: &[u32], parents: &[u32], counts: &[u32]) -> bool
+    ensures { λ r. ⌜ Tells r (Room n (now (classes .entry)) (now (parents .entry)) (now (counts .entry))) ⌝ }
+{
+    let count = n as usize;
+    if classes.len() < count {
+        return false;
+    }
+    if parents.len() < count {
+        return false;
+    }
+    if counts.len() < count {
+        return false;
+    }
+    true
+}
+
+// The forest with its counts, and the tally of the list.
+pub fn build_sound(
+    n: u32,
+    prefix: &[u32],
+    clauses: &[i32],
+    classes: &mut [u32],
+    parents: &mut [u32],
+    counts: &mut [u32],
+) -> Tally
+    requires { ⌜ SoundPrefix n (now prefix) × SoundClauses (now clauses) × Room n (now classes) (now parents) (now counts) ⌝ }
+    ensures { λ r. ⌜ Rowed (variables n (now (prefix .entry))) (Shares (now (clauses .entry))) (now (classes .entry)) (now (parents .entry)) (now (classes .exit)) (now (parents .exit)) ⌝ }
+    ensures { λ r. ⌜ Recounted n (now (prefix .entry)) (now (classes .exit)) (now (parents .exit)) (now (counts .entry)) (now (counts .exit)) ⌝ }
+    ensures { λ r. ⌜ TallyOf (variables n (now (prefix .entry))) (many (now (clauses .entry))) (standing (now (classes .exit)) (now (parents .exit)) (now (counts .exit)) r) ⌝ }
+{
+    let taken = grow(n, prefix, clauses, classes, parents);
+    recount(n, prefix, classes, parents, counts);
+    let seen = take_census(n, classes);
+    Tally {
+        clauses: taken,
+        merges: seen.existentials - seen.names,
+        classes: seen.names,
+    }
+}
+
+// The rows of classes and parents, and how many clauses there are.
+fn grow(n: u32, prefix: &[u32], clauses: &[i32], classes: &mut [u32], parents: &mut [u32]) -> u32
+    requires { ⌜ SoundPrefix n (now prefix) × SoundClauses (now clauses) × (n ≤ length (now classes)) × (n ≤ length (now parents)) ⌝ }
+    ensures { λ r. ⌜ Rowed (variables n (now (prefix .entry))) (Shares (now (clauses .entry))) (now (classes .entry)) (now (parents .entry)) (now (classes .exit)) (now (parents .exit)) ⌝ }
+    ensures { λ r. ⌜ r ≡ many (now (clauses .entry)) ⌝ }
+{
+    let mut depths = [0u32; 4097];
+    let mut loose = [0u32; 4097];
+    let mut ups = [0u32; 4097];
+    fill_depths(n, prefix, &mut depths);
+    singles(&depths, &mut loose, &mut ups);
+    let taken = put_all(&depths, &mut loose, &mut ups, clauses);
+    settle(&mut loose);
+    write_out(n, &loose, &ups, classes, parents);
+    taken
+}

@@ -1,0 +1,341 @@
+-- The passes over the rows: what each knows at row v.
+use Prim.Native.Nat.{ℕ, suc, _+_, _-_, _≤_, _<_}
+use mathlib.Core.Path.{_≡_, refl, sym, _∙_, ap, subst}
+use mathlib.Core.Bool.{Bool, true, false, cond, not, _&&_}
+use mathlib.Core.List.{List, [], _∷_, _++_, map, map-append, append-assoc, append-nil, List·Memᴰ·not-nil}
+use mathlib.Core.Logic.{_≢_, by-cases}
+use native.Mathlib.Decide.{ℕ-discrete, decLt}
+use native.Mathlib.Numerals.{add-one}
+use native.Mathlib.Omega.{arith}
+use borrow.Author.Tests.{le-ltb, lt-ltb, lt-leb, le-leb}
+use lib.Dec.{ltb, leb, eqb}
+use lib.IntN.{ℤ}
+use lib.ListN.{length, getD, take, drop, set, length-set, length-append, drop-of-length-le, List·getD-eq-default}
+use lib.Seq.{getD-set-same, getD-set-other, set-getD}
+use Rattle.terms.proofs.Common.{below-suc}
+use Rattle.formula.specs.Levels.{SoundPrefix, Levelled}
+use Rattle.formula.specs.Lookup.{NextZero}
+use Rattle.formula.specs.Meaning.{blocks, clauses, isZero, names, saidOf, freeLevel, firstMark, level, isUniversal, isExistential, connected}
+use Rattle.formula.specs.Tables.{cut, push}
+use Rattle.formula.proofs.Lookups.{clauses-closed, clauses-unclosed}
+use Rattle.forest.specs.Formula.{joined}
+use Rattle.connection.specs.Reach.{Variables, From, Joined, Reach, here}
+use Rattle.connection.specs.Tables.{row}
+use Rattle.connection.proofs.Reach.{joined-sym}
+use Rattle.connection.proofs.Rows.{row-out}
+use Rattle.connection.proofs.Represent.{Link, to-class, to-parent}
+use Rattle.loose.specs.Loose.{Loose, Kept, table, ranked, Grew}
+use Rattle.loose.specs.Past.{Past}
+use Rattle.loose.specs.Rows.{depthOf, Depths, Holds, Settled, Written}
+use Rattle.loose.proofs.Inside.{inside-links, equal-trans, equal-snoc, equal-added}
+use Rattle.loose.proofs.Ways.{kept-none, kept-trans, halved-row}
+
+-- A table holds no more lists than it has entries ...
+cut-length : {A : Type 0} (isNought : A → Bool) (xs : List A) → length (cut isNought xs) ≤ length xs
+unfolding cut
+cut-length isNought [] = omega arith
+cut-length {A} isNought (x ∷ xs) = go (isNought x) (cut-length isNought xs)
+  where
+    pushed : (cs : List (List A)) → length (push x cs) ≡ length cs
+    pushed [] = refl
+    pushed (c ∷ cs) = refl
+
+    go : (b : Bool) → length (cut isNought xs) ≤ length xs → length (cond b ([] ∷ cut isNought xs) (push x (cut isNought xs))) ≤ suc (length xs)
+    go true h = omega arith
+    go false h = omega (arith, pushed (cut isNought xs))
+
+pub many-most : (ls : List ℤ) → length (clauses ls) ≤ length ls
+unfolding clauses
+many-most ls = cut-length _ ls
+
+-- ... and a level is at most the number of blocks, or 1.
+said-most : (bs : List (List ℕ)) (k found v : ℕ) → found ≤ k + length bs → saidOf (λ number mark. number) bs k found v ≤ k + length bs
+said-most [] k found v h = h
+said-most (b ∷ bs) k found v h = omega (arith, said-most bs (suc k) (cond (names b v) k found) v (go (names b v)))
+  where
+    go : (t : Bool) → cond t k found ≤ suc k + length bs
+    go true = omega arith
+    go false = omega arith
+
+pub level-most : (es : List ℕ) (v : ℕ) → level es v ≤ 1 + length es
+unfolding level freeLevel blocks
+level-most es v =
+    let most = said-most (cut isZero es) 1 (cond (eqb (firstMark (cut isZero es)) 1) 1 0) v (go (eqb (firstMark (cut isZero es)) 1)) in omega (arith, cut-length isZero es)
+  where
+    go : (t : Bool) → cond t 1 0 ≤ 1 + length (cut isZero es)
+    go true = omega arith
+    go false = omega arith
+
+-- The rows before v have their depths.
+pub record Ranking (n : ℕ) (levels : List ℕ) (universals : List Bool) (depths : List ℕ) (v : ℕ) : Type 0 where
+  pub size : length depths ≡ 4097
+  pub few : v ≤ 4097
+  pub rows : (u : ℕ) → u < v → getD depths u 0 ≡ depthOf n u (getD levels u 0) (getD universals u false)
+
+pub rank-none : {n : ℕ} {levels : List ℕ} {universals : List Bool} {depths : List ℕ} → length depths ≡ 4097 → Ranking n levels universals depths 0
+rank-none size = record { size = size; few = omega arith; rows = λ u l. absurd (omega arith) }
+
+pub rank-one : {n : ℕ} {levels : List ℕ} {universals : List Bool} {depths : List ℕ} {v : ℕ} (d : ℕ) → Ranking n levels universals depths v → v < 4097
+    → d ≡ depthOf n v (getD levels v 0) (getD universals v false) → Ranking n levels universals (set depths v d) (v + 1)
+rank-one {n} {levels} {universals} {depths} {v} d r more is =
+    rw (add-one v)
+    record {
+      size = length-set depths v d ∙ r .size;
+      few = more;
+      rows = below-suc (λ u. getD (set depths v d) u 0 ≡ depthOf n u (getD levels u 0) (getD universals u false)) v (λ u l. getD-set-other depths v u d 0 (λ e. omega arith) ∙ r .rows u l)
+          (getD-set-same depths v d 0 (omega (arith, r .size)) ∙ is);
+    }
+
+-- Depths from levels and quantifiers.
+pub levels-most : {n : ℕ} {es levels : List ℕ} {universals : List Bool} → SoundPrefix n es → Levelled es levels universals → (v : ℕ) → getD levels v 0 ≤ 8193
+levels-most {es = es} {levels = levels} sound l v = by-cases (decLt v 4097)
+    (λ h. omega (arith, l .level-is v (omega arith), level-most es v, sound .short))
+    (λ h. omega (arith, List·getD-eq-default levels 0 {n = v} (omega (arith, l .sizes .0))))
+
+pub depths-are : {n : ℕ} {es levels depths : List ℕ} {universals : List Bool} → SoundPrefix n es → Levelled es levels universals → length depths ≡ 4097
+    → ((v : ℕ) → v < 4097 → getD depths v 0 ≡ depthOf n v (getD levels v 0) (getD universals v false)) → Depths n es depths
+unfolding isExistential
+depths-are {n} {es} {levels} {depths} {universals} sound l size is = record { size = size; depth-is = λ v. by-cases (decLt v 4097) (small v) (large v) }
+  where
+    small : (v : ℕ) → v < 4097 → getD depths v 0 ≡ cond (leb 1 v && leb v n && not (isUniversal es v)) (level es v + 1) 0
+    small v h = is v h ∙ ap (λ (k : ℕ). depthOf n v k (getD universals v false)) (l .level-is v (omega arith)) ∙ ap (depthOf n v (level es v)) (l .universal-is v (omega arith))
+
+    large : (v : ℕ) → ¬ (v < 4097) → getD depths v 0 ≡ cond (leb 1 v && leb v n && not (isUniversal es v)) (level es v + 1) 0
+    large v h = List·getD-eq-default depths 0 {n = v} (omega arith)
+        ∙ sym (rw (le-leb 1 v (omega arith), lt-leb v n (omega (arith, sound .few))))
+
+-- The rows before v are those of no clause.
+pub record Single (depths C P : List ℕ) (v : ℕ) : Type 0 where
+  pub sizes : (length C ≡ 4097) × (length P ≡ 4097)
+  pub few : v ≤ 4097
+  pub class : (u : ℕ) → u < v → getD C u 0 ≡ cond (ltb 0 (getD depths u 0)) u 0
+  pub parent : (u : ℕ) → u < v → getD P u 0 ≡ 0
+
+module _ {depths C P : List ℕ} {v : ℕ} (s : Single depths C P v) (more : v < 4097) where
+  single-row : (w : ℕ) → w ≡ cond (ltb 0 (getD depths v 0)) v 0 → Single depths (set C v w) (set P v 0) (v + 1)
+  single-row w is =
+      rw (add-one v)
+      record {
+        sizes = (length-set C v w ∙ s .sizes .0, length-set P v 0 ∙ s .sizes .1);
+        few = more;
+        class = below-suc (λ u. getD (set C v w) u 0 ≡ cond (ltb 0 (getD depths u 0)) u 0) v (λ u l. getD-set-other C v u w 0 (λ e. omega arith) ∙ s .class u l)
+            (getD-set-same C v w 0 (omega (arith, s .sizes .0)) ∙ is);
+        parent = below-suc (λ u. getD (set P v 0) u 0 ≡ 0) v (λ u l. getD-set-other P v u 0 0 (λ e. omega arith) ∙ s .parent u l) (getD-set-same P v 0 0 (omega (arith, s .sizes .1)));
+      }
+
+  pub single-universal : getD depths v 0 ≡ 0 → Single depths (set C v 0) (set P v 0) (v + 1)
+  single-universal e = single-row 0 (rw (le-ltb 0 (getD depths v 0) (omega arith)))
+
+  pub single-existential : getD depths v 0 ≢ 0 → Single depths (set C v v) (set P v 0) (v + 1)
+  single-existential n = single-row v (rw (lt-ltb 0 (getD depths v 0) (omega arith)))
+
+pub single-none : {depths C P : List ℕ} → length C ≡ 4097 → length P ≡ 4097 → Single depths C P 0
+single-none c p = record { sizes = (c, p); few = omega arith; class = λ u l. absurd (omega arith); parent = λ u l. absurd (omega arith) }
+
+module _ {depths C P : List ℕ} {v : ℕ} (size : length depths ≡ 4097) (none : getD depths 0 0 ≡ 0) (s : Single depths C P v) (all : 4097 ≤ v) where
+  abbrev X : Variables
+  X = ranked depths
+
+  row-class : (u : ℕ) → getD C u 0 ≡ cond (ltb 0 (getD depths u 0)) u 0
+  row-class u = by-cases (decLt u 4097) (λ l. s .class u (omega arith))
+      (λ l. List·getD-eq-default C 0 {n = u} (omega (arith, s .sizes .0)) ∙ sym (rw (le-ltb 0 (getD depths u 0) (omega (arith, List·getD-eq-default depths 0 {n = u} (omega arith))))))
+
+  row-parent : (u : ℕ) → getD P u 0 ≡ 0
+  row-parent u = by-cases (decLt u 4097) (λ l. s .parent u (omega arith)) (λ l. List·getD-eq-default P 0 {n = u} (omega (arith, s .sizes .1)))
+
+  own : (u : ℕ) → X .ex u ≡ true → getD C u 0 ≡ u
+  own u ex = row-class u ∙ ap (λ (b : Bool). cond b u 0) ex
+
+  -- They stand for no clause.
+  pub single-holds : Holds depths C P []
+  single-holds = record {
+    growing = record {
+      sizes = (size, s .sizes .0, s .sizes .1);
+      none = none;
+      loose = record {
+        universal = λ u e. (row-class u ∙ ap (λ (b : Bool). cond b u 0) e, row-parent u);
+        class = λ u ex. record { most = omega (arith, own u ex); existential = ap (X .ex) (own u ex) ∙ ex; block = ap (X .lev) (own u ex) };
+        parent = λ u n. absurd (n (row-parent u));
+      };
+    };
+    equal = record {
+      there = record { does = λ i a b fa fb j. absurd (List·Memᴰ·not-nil (j .listed)) };
+      back = inside-links joined-sym links;
+    };
+  }
+    where
+      links : (i u z : ℕ) → From X i u → From X i z → Link X (table C P) u z → Reach (Joined []) (From X i) u z
+      links i u z fu fz (to-class ex e) = subst (λ (w : ℕ). Reach (Joined []) (From X i) u w) (sym (own u ex) ∙ e) here
+      links i u z fu fz (to-parent n e) = absurd (n (row-parent u))
+
+-- The rows before v are read.
+pub record Loading (n : ℕ) (rows T : List ℕ) (v : ℕ) : Type 0 where
+  pub size : length T ≡ 4097
+  pub few : v ≤ 4097
+  pub read : (u : ℕ) → u < v → getD T u 0 ≡ row n rows u
+
+pub load-none : {n : ℕ} {rows T : List ℕ} → length T ≡ 4097 → Loading n rows T 0
+load-none size = record { size = size; few = omega arith; read = λ u l. absurd (omega arith) }
+
+pub load-one : {n : ℕ} {rows T : List ℕ} {v : ℕ} (w : ℕ) → Loading n rows T v → v < 4097 → w ≡ row n rows v → Loading n rows (set T v w) (v + 1)
+load-one {n} {rows} {T} {v} w s more is =
+    rw (add-one v)
+    record {
+      size = length-set T v w ∙ s .size;
+      few = more;
+      read = below-suc (λ u. getD (set T v w) u 0 ≡ row n rows u) v (λ u l. getD-set-other T v u w 0 (λ e. omega arith) ∙ s .read u l) (getD-set-same T v w 0 (omega (arith, s .size)) ∙ is);
+    }
+
+pub load-all : {n : ℕ} {rows T : List ℕ} {v : ℕ} → n ≤ 4096 → Loading n rows T v → 4097 ≤ v → (u : ℕ) → getD T u 0 ≡ row n rows u
+load-all {n} {rows} {T} few s all u = by-cases (decLt u 4097) (λ l. s .read u (omega arith))
+    (λ l. List·getD-eq-default T 0 {n = u} (omega (arith, s .size)) ∙ sym (row-out n u rows (λ h. omega arith)))
+
+-- The clauses before entry `start` are put in.
+pub record PutSome (depths : List ℕ) (ls : List ℤ) (C P : List ℕ) (start taken : ℕ) : Type 0 where
+  pub within : start ≤ length ls
+  pub few : taken ≤ start
+  pub done : List (List ℤ)
+  pub number : taken ≡ length done
+  pub split : clauses ls ≡ done ++ clauses (drop start ls)
+  pub holds : Holds depths C P (map connected done)
+
+pub put-none : {depths C P : List ℕ} (ls : List ℤ) → Holds depths C P [] → PutSome depths ls C P 0 0
+put-none ls h = record { within = omega arith; few = omega arith; done = []; number = refl; split = refl; holds = h }
+
+-- One clause more.
+holds-more : {depths C P C′ P′ : List ℕ} {cs : List (List ℕ)} {clause : List ℕ} → Holds depths C P cs → Grew depths C P clause C′ P′ → Holds depths C′ P′ (cs ++ (clause ∷ []))
+holds-more h g = record { growing = g .growing; equal = equal-trans equal-snoc (equal-trans (equal-added (h .equal)) (g .equal)) }
+
+module _ {depths : List ℕ} {ls : List ℤ} {C P : List ℕ} {start taken : ℕ} (s : PutSome depths ls C P start taken) where
+  pub put-clause : {C′ P′ : List ℕ} (z : ℕ) → NextZero ls start z → z < length ls → Grew depths C P (connected (take (z - start) (drop start ls))) C′ P′ → PutSome depths ls C′ P′ (z + 1) (taken + 1)
+  put-clause {C′} {P′} z next l g =
+      let clause = take (z - start) (drop start ls) in
+      record {
+        within = omega arith;
+        few = omega (arith, s .few, next .from);
+        done = s .done ++ (clause ∷ []);
+        number = let more = length-append (s .done) (clause ∷ []) in omega (arith, s .number);
+        split = s .split ∙ ap (λ cs. s .done ++ cs) (clauses-closed ls start z next l) ∙ sym (append-assoc (s .done) (clause ∷ []) (clauses (drop (z + 1) ls)));
+        holds = rw (map-append connected (s .done) (clause ∷ [])) (holds-more (s .holds) g);
+      }
+
+  put-end : clauses (drop start ls) ≡ [] → Holds depths C P (joined ls) × (taken ≡ length (clauses ls))
+  unfolding joined
+  put-end none =
+      let all = s .split ∙ ap (λ cs. s .done ++ cs) none ∙ append-nil (s .done) in
+      (rw all (s .holds), s .number ∙ sym (ap length all))
+
+  -- The table ends, with or without an open clause.
+  pub put-over : length ls ≤ start → Holds depths C P (joined ls) × (taken ≡ length (clauses ls))
+  unfolding clauses cut
+  put-over done = put-end (ap clauses (drop-of-length-le ls done))
+
+  pub put-open : (z : ℕ) → NextZero ls start z → length ls ≤ z → Holds depths C P (joined ls) × (taken ≡ length (clauses ls))
+  put-open z next l = put-end (clauses-unclosed ls start z next l)
+
+-- The class rows before v name their classes.
+pub record Settling (C₀ C : List ℕ) (v : ℕ) : Type 0 where
+  pub size : length C ≡ 4097
+  pub few : v ≤ 4097
+  pub falls : (u : ℕ) → getD C u 0 ≤ u
+  pub names : (u : ℕ) → u < v → getD C (getD C u 0) 0 ≡ getD C u 0
+  pub kept : (X : Variables) (P : List ℕ) → X .ex 0 ≡ false → Loose X (table C₀ P) → Kept X (table C₀ P) (table C P)
+
+pub settle-none : {C : List ℕ} → length C ≡ 4097 → ((u : ℕ) → getD C u 0 ≤ u) → Settling C C 0
+settle-none size falls = record { size = size; few = omega arith; falls = falls; names = λ u l. absurd (omega arith); kept = λ X P none loose. kept-none loose }
+
+module _ {C₀ C : List ℕ} {v : ℕ} (s : Settling C₀ C v) where
+  pub settle-one : v < 4097 → Settling C₀ (set C v (getD C (getD C v 0) 0)) (v + 1)
+  settle-one more =
+      rw (add-one v)
+      record { size = length-set C v x ∙ s .size; few = more; falls = falls; names = below-suc (λ u. getD D (getD D u 0) 0 ≡ getD D u 0) v before at-v; kept = kept }
+    where
+      x : ℕ
+      x = getD C (getD C v 0) 0
+
+      D : List ℕ
+      D = set C v x
+
+      new : getD D v 0 ≡ x
+      new = getD-set-same C v x 0 (omega (arith, s .size))
+
+      old : (u : ℕ) → u ≢ v → getD D u 0 ≡ getD C u 0
+      old u d = getD-set-other C v u x 0 d
+
+      least : x ≤ v
+      least = omega (arith, s .falls v, s .falls (getD C v 0))
+
+      falls : (u : ℕ) → getD D u 0 ≤ u
+      falls u = by-cases (ℕ-discrete u v) (λ e. subst (λ (w : ℕ). getD D w 0 ≤ w) (sym e) (omega (arith, new, least))) (λ d. omega (arith, old u d, s .falls u))
+
+      before : (u : ℕ) → u < v → getD D (getD D u 0) 0 ≡ getD D u 0
+      before u l =
+          let e = old u (λ q. omega arith) in
+          ap (λ (w : ℕ). getD D w 0) e ∙ old (getD C u 0) (λ q. omega (arith, s .falls u)) ∙ s .names u l ∙ sym e
+
+      at-v : getD D (getD D v 0) 0 ≡ getD D v 0
+      at-v = by-cases (ℕ-discrete (getD C v 0) v)
+          (λ e. let q : x ≡ v = ap (λ (w : ℕ). getD C w 0) e ∙ e in ap (λ (w : ℕ). getD D w 0) (new ∙ q))
+          (λ d. let below : getD C v 0 < v = omega (arith, s .falls v) in
+          ap (λ (w : ℕ). getD D w 0) new ∙ old x (λ q. omega (arith, s .falls (getD C v 0))) ∙ s .names (getD C v 0) below ∙ sym new)
+
+      kept : (X : Variables) (P : List ℕ) → X .ex 0 ≡ false → Loose X (table C₀ P) → Kept X (table C₀ P) (table D P)
+      kept X P none loose = kept-trans k (by-cases (ℕ-discrete x (getD C v 0)) stays (go (X .ex v) refl))
+        where
+          k : Kept X (table C₀ P) (table C P)
+          k = s .kept X P none loose
+
+          stays : x ≡ getD C v 0 → Kept X (table C P) (table D P)
+          stays e = subst (λ (E : List ℕ). Kept X (table C P) (table E P)) (sym (ap (set C v) e ∙ set-getD C v 0)) (kept-none (k .loose))
+
+          go : (b : Bool) → X .ex v ≡ b → x ≢ getD C v 0 → Kept X (table C P) (table D P)
+          go true ex d = halved-row X C P v (k .loose) ex (λ e. d (ap (λ (w : ℕ). getD C w 0) e)) (omega (arith, s .size))
+          go false ex d = absurd (d (ap (λ (w : ℕ). getD C w 0) (k .loose .universal v ex .0) ∙ k .loose .universal 0 none .0 ∙ sym (k .loose .universal v ex .0)))
+
+  pub settled : 4097 ≤ v → Settled C₀ C
+  settled all = record { names = λ u. by-cases (decLt u 4097) (λ l. s .names u (omega arith)) beyond; kept = s .kept }
+    where
+      beyond : {u : ℕ} → ¬ (u < 4097) → getD C (getD C u 0) 0 ≡ getD C u 0
+      beyond {u} l =
+          let e : getD C u 0 ≡ 0 = List·getD-eq-default C 0 {n = u} (omega (arith, s .size)) in
+          let z : getD C 0 0 ≡ 0 = omega (arith, s .falls 0) in
+          ap (λ (w : ℕ). getD C w 0) e ∙ z ∙ sym e
+
+-- The rows before v are written out.
+pub record Writing (n : ℕ) (C P D₀ D U₀ U : List ℕ) (v : ℕ) : Type 0 where
+  pub few : v ≤ n
+  pub past : Past v D₀ D × Past v U₀ U
+  pub class : (u : ℕ) → u < v → getD D u 0 ≡ getD C (u + 1) 0
+  pub parent : (u : ℕ) → u < v → getD U u 0 ≡ getD C (getD P (u + 1) 0) 0
+
+pub write-none : (n : ℕ) (C P D U : List ℕ) → Writing n C P D D U U 0
+write-none n C P D U = record {
+  few = omega arith;
+  past = (record { size = refl; stays = λ u l. refl }, record { size = refl; stays = λ u l. refl });
+  class = λ u l. absurd (omega arith);
+  parent = λ u l. absurd (omega arith);
+}
+
+module _ {n : ℕ} {C P D₀ D U₀ U : List ℕ} {v : ℕ} (w : Writing n C P D₀ D U₀ U v) where
+  pub write-one : (x y : ℕ) → v < n → n ≤ length D₀ → n ≤ length U₀ → x ≡ getD C (v + 1) 0 → y ≡ getD C (getD P (v + 1) 0) 0 → Writing n C P D₀ (set D v x) U₀ (set U v y) (v + 1)
+  write-one x y more in-d in-u is-x is-y =
+      rw (add-one v)
+      record {
+        few = more;
+        past = (
+          record { size = length-set D v x ∙ w .past .0 .size; stays = λ u l. getD-set-other D v u x 0 (λ e. omega arith) ∙ w .past .0 .stays u (omega arith) },
+          record { size = length-set U v y ∙ w .past .1 .size; stays = λ u l. getD-set-other U v u y 0 (λ e. omega arith) ∙ w .past .1 .stays u (omega arith) },
+        );
+        class = below-suc (λ u. getD (set D v x) u 0 ≡ getD C (u + 1) 0) v (λ u l. getD-set-other D v u x 0 (λ e. omega arith) ∙ w .class u l)
+            (getD-set-same D v x 0 (omega (arith, w .past .0 .size)) ∙ is-x);
+        parent = below-suc (λ u. getD (set U v y) u 0 ≡ getD C (getD P (u + 1) 0) 0) v (λ u l. getD-set-other U v u y 0 (λ e. omega arith) ∙ w .parent u l)
+            (getD-set-same U v y 0 (omega (arith, w .past .1 .size)) ∙ is-y);
+      }
+
+  pub written : n ≤ v → Written n C P D₀ D U₀ U
+  written done = let e : v ≡ n = omega (arith, w .few) in
+      record {
+        past = (record { size = w .past .0 .size; stays = λ u l. w .past .0 .stays u (omega arith) }, record { size = w .past .1 .size; stays = λ u l. w .past .1 .stays u (omega arith) });
+        class = λ u l. w .class u (omega arith);
+        parent = λ u l. w .parent u (omega arith);
+      }

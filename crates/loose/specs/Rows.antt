@@ -1,0 +1,37 @@
+-- The tables that loose rows are worked in, from the depths of the variables to the rows that are written: what each pass makes of them.
+use Prim.Native.Nat.{ℕ, _+_, _<_}
+use mathlib.Core.Path.{_≡_}
+use mathlib.Core.Bool.{Bool, false, cond, not, _&&_}
+use mathlib.Core.List.{List}
+use lib.Dec.{leb}
+use lib.ListN.{length, getD}
+use Rattle.connection.specs.Reach.{Variables, Joined}
+use Rattle.connection.proofs.Represent.{Linked}
+use Rattle.formula.specs.Meaning.{level, isExistential}
+use Rattle.loose.specs.Past.{Past}
+use Rattle.loose.specs.Loose.{Equal, Loose, Kept, table, ranked, Growing}
+
+-- The depth of v: its level plus one, if it is an existential of 1 to n, and else 0.
+abbrev pub depthOf : ℕ → ℕ → ℕ → Bool → ℕ
+depthOf n v level universal = cond (leb 1 v && leb v n && not universal) (level + 1) 0
+
+-- The table of the depths of a formula's variables.
+pub record Depths (n : ℕ) (es : List ℕ) (depths : List ℕ) : Type 0 where
+  pub size : length depths ≡ 4097
+  pub depth-is : (v : ℕ) → getD depths v 0 ≡ cond (isExistential n es v) (level es v + 1) 0
+
+-- The rows stand for the clauses.
+pub record Holds (depths classes parents : List ℕ) (clauses : List (List ℕ)) : Type 0 where
+  pub growing : Growing depths classes parents
+  pub equal : Equal (ranked depths) (Joined clauses) (Linked (ranked depths) (table classes parents))
+
+-- Every class row names its class.
+pub record Settled (classes classes′ : List ℕ) : Type 0 where
+  pub names : (v : ℕ) → getD classes′ (getD classes′ v 0) 0 ≡ getD classes′ v 0
+  pub kept : (X : Variables) (parents : List ℕ) → X .ex 0 ≡ false → Loose X (table classes parents) → Kept X (table classes parents) (table classes′ parents)
+
+-- The rows of 1 to n are written out: for each variable its class row, and the class of its parent.
+pub record Written (n : ℕ) (classes parents : List ℕ) (rows rows′ ups ups′ : List ℕ) : Type 0 where
+  pub past : Past n rows rows′ × Past n ups ups′
+  pub class : (u : ℕ) → u < n → getD rows′ u 0 ≡ getD classes (u + 1) 0
+  pub parent : (u : ℕ) → u < n → getD ups′ u 0 ≡ getD classes (getD parents (u + 1) 0) 0
