@@ -1,4 +1,4 @@
-/* The eleven calls, each wrapped so that every byte that was lent is compared. */
+/* The fourteen calls, each wrapped so that every byte that was lent is compared. */
 #include "agree.h"
 #include "calls.h"
 #include "lend.h"
@@ -139,28 +139,26 @@ struct verdict call_entry_point(const struct formula *f, const struct forest *w,
     return settle(number);
 }
 
-/* The two calls that list variables of x have the same parameters. */
-typedef uint32_t (*listing)(uint32_t, const uint32_t *, size_t, const int32_t *, size_t, const uint32_t *, size_t,
-                            const uint32_t *, size_t, const uint32_t *, size_t, uint32_t, uint32_t *, size_t, uint32_t *, uint32_t *);
+/* The table and the cell of a call that lists variables; the cell of one that gives a size. */
+static uint32_t *list_table, *count_cell;
 
-static struct verdict call_listing(listing call, const struct formula *f, const struct forest *w, uint32_t x,
-                                   uint32_t *out, size_t out_len, uint32_t *count)
+static void lend_listing(const struct formula *f, const struct forest *w, const uint32_t *out, size_t out_len)
 {
-    uint32_t *table, *cell, number;
-
     lend_begin();
     lend_prefix(f);
     lend_clauses(f);
     lend_forest(w);
-    table = lend(out, out_len * sizeof *out);
-    cell = lend_cell();
+    list_table = lend(out, out_len * sizeof *out);
+    count_cell = lend_cell();
     lend_place();
-    number = call(lent.n, lent.prefix, lent.prefix_len, lent.clauses, lent.clauses_len, rows.classes, rows.classes_len,
-                  rows.parents, rows.parents_len, rows.counts, rows.counts_len, x, table, out_len, cell, place);
+}
+
+static struct verdict settle_listing(uint32_t number, uint32_t *out, size_t out_len, uint32_t *count)
+{
     if (number == 0) {
-        take(count, cell, sizeof *count);
+        take(count, count_cell, sizeof *count);
         if (within(*count, out_len))
-            take(out, table, *count * sizeof *out);
+            take(out, list_table, *count * sizeof *out);
     }
     return settle(number);
 }
@@ -168,51 +166,92 @@ static struct verdict call_listing(listing call, const struct formula *f, const 
 struct verdict call_entry_points(const struct formula *f, const struct forest *w, uint32_t x,
                                  uint32_t *out, size_t out_len, uint32_t *count)
 {
-    return call_listing(snow_entry_points, f, w, x, out, out_len, count);
+    uint32_t number;
+
+    lend_listing(f, w, out, out_len);
+    number = snow_entry_points(lent.n, lent.prefix, lent.prefix_len, lent.clauses, lent.clauses_len, rows.classes, rows.classes_len,
+                               rows.parents, rows.parents_len, rows.counts, rows.counts_len, x, list_table, out_len, count_cell, place);
+    return settle_listing(number, out, out_len, count);
 }
 
 struct verdict call_set(const struct formula *f, const struct forest *w, uint32_t x,
                         uint32_t *out, size_t out_len, uint32_t *count)
 {
-    return call_listing(snow_set, f, w, x, out, out_len, count);
-}
+    uint32_t number;
 
-struct verdict call_size(const struct formula *f, const struct forest *w, uint32_t x, uint32_t *size)
-{
-    uint32_t *cell, number;
-
-    lend_begin();
-    lend_prefix(f);
-    lend_clauses(f);
-    lend_forest(w);
-    cell = lend_cell();
-    lend_place();
-    number = snow_size(lent.n, lent.prefix, lent.prefix_len, lent.clauses, lent.clauses_len, rows.classes, rows.classes_len,
-                       rows.parents, rows.parents_len, rows.counts, rows.counts_len, x, cell, place);
-    if (number == 0)
-        take(size, cell, sizeof *size);
-    return settle(number);
+    lend_listing(f, w, out, out_len);
+    number = snow_set(lent.n, lent.prefix, lent.prefix_len, lent.clauses, lent.clauses_len, rows.classes, rows.classes_len,
+                      rows.parents, rows.parents_len, rows.counts, rows.counts_len, x, list_table, out_len, count_cell, place);
+    return settle_listing(number, out, out_len, count);
 }
 
 struct verdict call_sets(const struct formula *f, const struct forest *w, uint32_t *out, size_t out_len, uint32_t *count)
 {
-    uint32_t *table, *cell, number;
+    uint32_t number;
 
+    lend_listing(f, w, out, out_len);
+    number = snow_sets(lent.n, lent.prefix, lent.prefix_len, lent.clauses, lent.clauses_len, rows.classes, rows.classes_len,
+                       rows.parents, rows.parents_len, rows.counts, rows.counts_len, list_table, out_len, count_cell, place);
+    return settle_listing(number, out, out_len, count);
+}
+
+struct verdict call_entry_points_by(uint32_t scheme, const struct formula *f, const struct forest *w, uint32_t x,
+                                    uint32_t *out, size_t out_len, uint32_t *count)
+{
+    uint32_t number;
+
+    lend_listing(f, w, out, out_len);
+    number = snow_entry_points_by(scheme, lent.n, lent.prefix, lent.prefix_len, lent.clauses, lent.clauses_len, rows.classes, rows.classes_len,
+                                  rows.parents, rows.parents_len, rows.counts, rows.counts_len, x, list_table, out_len, count_cell, place);
+    return settle_listing(number, out, out_len, count);
+}
+
+struct verdict call_set_by(uint32_t scheme, const struct formula *f, const struct forest *w, uint32_t x,
+                           uint32_t *out, size_t out_len, uint32_t *count)
+{
+    uint32_t number;
+
+    lend_listing(f, w, out, out_len);
+    number = snow_set_by(scheme, lent.n, lent.prefix, lent.prefix_len, lent.clauses, lent.clauses_len, rows.classes, rows.classes_len,
+                         rows.parents, rows.parents_len, rows.counts, rows.counts_len, x, list_table, out_len, count_cell, place);
+    return settle_listing(number, out, out_len, count);
+}
+
+static void lend_sizing(const struct formula *f, const struct forest *w)
+{
     lend_begin();
     lend_prefix(f);
     lend_clauses(f);
     lend_forest(w);
-    table = lend(out, out_len * sizeof *out);
-    cell = lend_cell();
+    count_cell = lend_cell();
     lend_place();
-    number = snow_sets(lent.n, lent.prefix, lent.prefix_len, lent.clauses, lent.clauses_len, rows.classes, rows.classes_len,
-                       rows.parents, rows.parents_len, rows.counts, rows.counts_len, table, out_len, cell, place);
-    if (number == 0) {
-        take(count, cell, sizeof *count);
-        if (within(*count, out_len))
-            take(out, table, *count * sizeof *out);
-    }
+}
+
+static struct verdict settle_sizing(uint32_t number, uint32_t *size)
+{
+    if (number == 0)
+        take(size, count_cell, sizeof *size);
     return settle(number);
+}
+
+struct verdict call_size(const struct formula *f, const struct forest *w, uint32_t x, uint32_t *size)
+{
+    uint32_t number;
+
+    lend_sizing(f, w);
+    number = snow_size(lent.n, lent.prefix, lent.prefix_len, lent.clauses, lent.clauses_len, rows.classes, rows.classes_len,
+                       rows.parents, rows.parents_len, rows.counts, rows.counts_len, x, count_cell, place);
+    return settle_sizing(number, size);
+}
+
+struct verdict call_size_by(uint32_t scheme, const struct formula *f, const struct forest *w, uint32_t x, uint32_t *size)
+{
+    uint32_t number;
+
+    lend_sizing(f, w);
+    number = snow_size_by(scheme, lent.n, lent.prefix, lent.prefix_len, lent.clauses, lent.clauses_len, rows.classes, rows.classes_len,
+                          rows.parents, rows.parents_len, rows.counts, rows.counts_len, x, count_cell, place);
+    return settle_sizing(number, size);
 }
 
 struct verdict call_add(const struct formula *f, struct forest *w, const int32_t *clause, size_t clause_len)

@@ -1,5 +1,5 @@
 /*
- * The eleven calls, each wrapped so that every use of it in the test also
+ * The fourteen calls, each wrapped so that every use of it in the test also
  * compares every byte that was lent: on a refusal only *place may change, on
  * acceptance *place may not, nor anything past what was written. Answers are
  * handed out on acceptance only.
@@ -45,6 +45,11 @@ struct verdict call_entry_points(const struct formula *f, const struct forest *w
 struct verdict call_set(const struct formula *f, const struct forest *w, uint32_t x,
                         uint32_t *out, size_t out_len, uint32_t *count);
 struct verdict call_size(const struct formula *f, const struct forest *w, uint32_t x, uint32_t *size);
+struct verdict call_entry_points_by(uint32_t scheme, const struct formula *f, const struct forest *w, uint32_t x,
+                                    uint32_t *out, size_t out_len, uint32_t *count);
+struct verdict call_set_by(uint32_t scheme, const struct formula *f, const struct forest *w, uint32_t x,
+                           uint32_t *out, size_t out_len, uint32_t *count);
+struct verdict call_size_by(uint32_t scheme, const struct formula *f, const struct forest *w, uint32_t x, uint32_t *size);
 struct verdict call_sets(const struct formula *f, const struct forest *w, uint32_t *out, size_t out_len, uint32_t *count);
 struct verdict call_add(const struct formula *f, struct forest *w, const int32_t *clause, size_t clause_len);
 struct verdict call_read(const uint8_t *text, size_t text_len, uint32_t *n,

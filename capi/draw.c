@@ -89,6 +89,19 @@ void draw_formula(struct drawn *d)
     draw_clauses(d, n, count, longest);
 }
 
+void draw_signs(struct drawn *d)
+{
+    uint32_t x, times;
+
+    for (x = 1; x <= d->f.n; x++) {
+        for (times = judge_universal(&d->f, x) ? draw(6) : 0; times > 0; times--) {
+            d->clauses[d->f.clauses_len++] = draw(2) ? (int32_t)x : -(int32_t)x;
+            d->clauses[d->f.clauses_len++] = draw_literal(d->f.n);
+            d->clauses[d->f.clauses_len++] = 0;
+        }
+    }
+}
+
 /* A value that is likely to be wrong somewhere. */
 static uint32_t odd_value(uint32_t n)
 {

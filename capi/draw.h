@@ -26,6 +26,9 @@ void draw_clauses(struct drawn *d, uint32_t n, uint32_t count, uint32_t longest)
 int32_t draw_literal(uint32_t n);
 void draw_formula(struct drawn *d);
 
+/* Up to five short clauses more for each universal of a drawn formula, in drawn signs, so that strict sets have members. */
+void draw_signs(struct drawn *d);
+
 /* Damages a formula in one place, or n. */
 void damage_formula(struct drawn *d);
 

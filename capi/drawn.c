@@ -136,43 +136,105 @@ static void compare_entry(const struct formula *f, const struct forest *rows, in
     agree(entry == expected && rises == passed, "the entry point and its rises, by the search");
 }
 
-/* What x's entry points or its set must be, ascending. */
-static uint32_t expected_list(const struct forest *rows, int own, int of_set, uint32_t x, uint32_t *list)
+/* What x's entry points or its set must be by a scheme, ascending. */
+static uint32_t expected_list(const struct forest *rows, int own, int of_set, enum snow_scheme scheme, uint32_t x, uint32_t *list)
 {
     uint32_t v, count = 0;
 
     for (v = 1; v <= world.n; v++) {
-        int in = !of_set ? search_lent_entry_point(&world, rows, x, v)
-               : own ? search_in_set(&world, x, v)
-               : search_lent_in_set(&world, rows, x, v);
+        int in = !of_set ? search_lent_entry_point(&world, rows, scheme, x, v)
+               : own ? search_in_set(&world, scheme, x, v)
+               : search_lent_in_set(&world, rows, scheme, x, v);
         if (in)
             list[count++] = v;
     }
     return count;
 }
 
-static void compare_list(const struct formula *f, const struct forest *rows, int own, int of_set, uint32_t x)
+/* Asks for x's entry points, its set, or its size: by a scheme, or by the call that names none. */
+static struct verdict ask_list(const struct formula *f, const struct forest *rows, int of_set, const struct scheme *by, uint32_t x,
+                               uint32_t *out, size_t out_len, uint32_t *count)
+{
+    if (by == NULL)
+        return (of_set ? call_set : call_entry_points)(f, rows, x, out, out_len, count);
+    return (of_set ? call_set_by : call_entry_points_by)(by->number, f, rows, x, out, out_len, count);
+}
+
+static struct verdict ask_size(const struct formula *f, const struct forest *rows, const struct scheme *by, uint32_t x, uint32_t *size)
+{
+    return by == NULL ? call_size(f, rows, x, size) : call_size_by(by->number, f, rows, x, size);
+}
+
+static void compare_list(const struct formula *f, const struct forest *rows, int own, int of_set, const struct scheme *by, uint32_t x)
 {
     uint32_t list[SMALL], got[SMALL + 4], count = 0, size = 0, length;
     const char *what = of_set ? "set" : "entry points";
-    struct verdict (*call)(const struct formula *, const struct forest *, uint32_t, uint32_t *, size_t, uint32_t *)
-        = of_set ? call_set : call_entry_points;
 
     memset(got, 0x5A, sizeof got);
     if (!judge_universal(f, x)) {
-        expect_refused(call(f, rows, x, got, SMALL, &count), 13, 0, what);
-        expect_refused(call_size(f, rows, x, &size), 13, 0, "size");
+        expect_refused(ask_list(f, rows, of_set, by, x, got, SMALL, &count), 13, 0, what);
+        expect_refused(ask_size(f, rows, by, x, &size), 13, 0, "size");
         return;
     }
-    length = expected_list(rows, own, of_set, x, list);
-    expect_accepted(call(f, rows, x, got, length + draw(4), &count), what);
+    length = expected_list(rows, own, of_set, by == NULL ? SNOW_STANDARD : by->means, x, list);
+    expect_accepted(ask_list(f, rows, of_set, by, x, got, length + draw(4), &count), what);
     agree(count == length && memcmp(got, list, length * sizeof *list) == 0, "the list is the searched one");
     if (length > 0)
-        expect_refused(call(f, rows, x, got, length - 1, &count), 14, 0, what);
+        expect_refused(ask_list(f, rows, of_set, by, x, got, length - 1, &count), 14, 0, what);
     if (!of_set)
         return;
-    expect_accepted(call_size(f, rows, x, &size), "size");
+    expect_accepted(ask_size(f, rows, by, x, &size), "size");
     agree(size == length, "the size is the length of the searched set");
+}
+
+/* Whether clauses have x in both signs. */
+static int both_signs(const struct formula *f, uint32_t x)
+{
+    int positive = 0, negative = 0;
+    size_t e;
+
+    for (e = 0; e < f->clauses_len; e++) {
+        positive |= f->clauses[e] == (int32_t)x;
+        negative |= f->clauses[e] == -(int32_t)x;
+    }
+    return positive && negative;
+}
+
+static const struct scheme strict = { SNOW_STRICT, SNOW_STRICT };
+
+/* How many strict lists were seen that are not empty and shorter than the standard one. */
+static uint32_t shorter_seen;
+
+/* What the universal x has by the strict scheme it has by the standard one; and nothing where it has one sign only. */
+static void compare_strict(const struct formula *f, const struct forest *rows, int of_set, uint32_t x)
+{
+    uint32_t all[SMALL] = { 0 }, some[SMALL] = { 0 }, count = 0, fewer = 0, k, at = 0, within = 0;
+
+    ask_list(f, rows, of_set, NULL, x, all, SMALL, &count);
+    ask_list(f, rows, of_set, &strict, x, some, SMALL, &fewer);
+    for (k = 0; k < fewer; k++) {
+        while (at < count && all[at] != some[k])
+            at++;
+        within += at < count;
+    }
+    agree(within == fewer, "the strict list lies within the standard one");
+    agree(fewer == 0 || both_signs(f, x), "it is empty where x has one sign only");
+    shorter_seen += fewer > 0 && fewer < count;
+}
+
+/* Every list of x: by the calls that name no scheme, by the strict one, and by a scheme number that is drawn. */
+static void compare_lists(const struct formula *f, const struct forest *rows, int own, uint32_t x)
+{
+    const struct scheme *drawn = &schemes[draw(SCHEMES)];
+    int of_set;
+
+    for (of_set = 0; of_set <= 1; of_set++) {
+        compare_list(f, rows, own, of_set, NULL, x);
+        compare_list(f, rows, own, of_set, &strict, x);
+        compare_list(f, rows, own, of_set, drawn, x);
+        if (judge_universal(f, x))
+            compare_strict(f, rows, of_set, x);
+    }
 }
 
 /* All sets: the searched ones, one after the other. */
@@ -185,7 +247,7 @@ static void compare_sets(const struct formula *f, const struct forest *rows, int
         if (!judge_universal(f, x))
             continue;
         list[length] = x;
-        list[length + 1] = expected_list(rows, own, 1, x, list + length + 2);
+        list[length + 1] = expected_list(rows, own, 1, SNOW_STANDARD, x, list + length + 2);
         length += 2 + list[length + 1];
     }
     memset(got, 0x5A, sizeof got);
@@ -201,8 +263,7 @@ static void compare_answers(const struct formula *f, const struct forest *rows, 
     uint32_t x, y;
 
     for (x = 0; x <= f->n + 1; x++) {
-        compare_list(f, rows, own, 0, x);
-        compare_list(f, rows, own, 1, x);
+        compare_lists(f, rows, own, x);
         for (y = 0; y <= f->n + 1; y++)
             if (judge_universal(f, x) || y == x)
                 compare_entry(f, rows, own, x, y);
@@ -272,6 +333,7 @@ static void compare_damaged_forest(const struct formula *f, struct forest *rows)
     expect_verdict(call_entry_point(f, rows, x, y, &entry, &rises), judged, "entry point, bad forest");
     expect_verdict(call_entry_points(f, rows, x, out, SMALL, &count), judged, "entry points, bad forest");
     expect_verdict(call_set(f, rows, x, out, SMALL, &count), judged, "set, bad forest");
+    expect_by(f, rows, x, 9, judged, "by a scheme, bad forest");
     expect_verdict(call_sets(f, rows, out, SMALL, &count), judged, "all sets, bad forest");
     expect_verdict(call_add(f, rows, NULL, 0), judged, "add, bad forest");
 }
@@ -289,6 +351,7 @@ static void compare_refused(const struct formula *f)
     expect_verdict(call_entry_points(f, &rows, 1, out, 4, &count), all, "entry points");
     expect_verdict(call_set(f, &rows, 1, out, 4, &count), all, "set");
     expect_verdict(call_size(f, &rows, 1, &size), all, "size");
+    expect_by(f, &rows, 1, 4, all, "by a scheme");
     expect_verdict(call_sets(f, &rows, out, 4, &count), all, "all sets");
     if (prefix.number == 0)
         return;
@@ -374,6 +437,15 @@ void test_drawn(void)
         draw_formula(&d);
         compare(&d.f);
     }
+    group("random formulas, universals in both signs");
+    for (round = 0; round < ROUNDS; round++) {
+        about("formula", round);
+        draw_formula(&d);
+        draw_signs(&d);
+        compare(&d.f);
+    }
+    about("shorter strict lists", shorter_seen);
+    agree(shorter_seen > 200, "strict lists that are not empty and shorter than the standard ones were seen");
     group("random formulas, damaged");
     for (round = 0; round < 4 * ROUNDS; round++) {
         about("formula", round);

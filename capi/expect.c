@@ -9,6 +9,17 @@ static const int32_t a_clauses[] = { 3, 4, 7, 0, -4, 8, 0, 6, 9, 0, 5, 9, 0, 1, 
 
 const struct formula formula_a = { 9, a_prefix, LEN(a_prefix), a_clauses, LEN(a_clauses) };
 
+const struct scheme schemes[SCHEMES] = {
+    { SNOW_STANDARD, SNOW_STANDARD },
+    { SNOW_STRICT, SNOW_STRICT },
+    { 0, SNOW_STANDARD },
+    { 3, SNOW_STANDARD },
+    /* 2 in their lower bits */
+    { 0x102, SNOW_STANDARD },
+    { 0x80000002, SNOW_STANDARD },
+    { 0xFFFFFFFF, SNOW_STANDARD },
+};
+
 struct forest forest_a(void)
 {
     static const uint32_t a_classes[ROWS] = { 1, 2, 0, 4, 5, 0, 7, 8, 9, 0xFFFFFFFF, 77, 0 };
@@ -36,6 +47,26 @@ void expect_accepted(struct verdict v, const char *call)
 void expect_refused(struct verdict v, uint32_t number, uint32_t place, const char *call)
 {
     agree(v.number == number && v.place == place, call);
+}
+
+void expect_by(const struct formula *f, const struct forest *w, uint32_t x, size_t room, struct verdict expected, const char *what)
+{
+    uint32_t out[9] = { 0 }, count, size;
+    size_t k;
+
+    for (k = 0; k < LEN(schemes); k++) {
+        expect_verdict(call_entry_points_by(schemes[k].number, f, w, x, out, room, &count), expected, what);
+        expect_verdict(call_set_by(schemes[k].number, f, w, x, out, room, &count), expected, what);
+        expect_verdict(call_size_by(schemes[k].number, f, w, x, &size), expected, what);
+    }
+}
+
+void expect_refused_by(const struct formula *f, const struct forest *w, uint32_t x, size_t room, uint32_t number, uint32_t place,
+                       const char *what)
+{
+    struct verdict expected = { number, place };
+
+    expect_by(f, w, x, room, expected, what);
 }
 
 void expect_tally(const struct forest *w, uint32_t clauses, uint32_t merges, uint32_t classes, const char *what)

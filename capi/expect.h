@@ -14,9 +14,24 @@ enum { ROWS = 12 };  /* rows of its forest tables, which are longer than n */
 /* The forest of A, as tables of ROWS rows, the last three filled with what no call may touch; and its tally. */
 struct forest forest_a(void);
 
+/* Scheme numbers that C may lend, and the scheme that each means: only SNOW_STRICT is the strict one. */
+struct scheme {
+    uint32_t number;
+    enum snow_scheme means;
+};
+
+enum { SCHEMES = 7 };
+extern const struct scheme schemes[SCHEMES];
+
 void expect_accepted(struct verdict v, const char *call);
 void expect_refused(struct verdict v, uint32_t number, uint32_t place, const char *call);
 void expect_verdict(struct verdict v, struct verdict expected, const char *call);
+
+/* Entry points, set and size of x, by every one of these numbers; `room` entries are lent for a list, nine at most. */
+void expect_by(const struct formula *f, const struct forest *w, uint32_t x, size_t room, struct verdict expected, const char *what);
+void expect_refused_by(const struct formula *f, const struct forest *w, uint32_t x, size_t room, uint32_t number, uint32_t place,
+                       const char *what);
+
 void expect_tally(const struct forest *w, uint32_t clauses, uint32_t merges, uint32_t classes, const char *what);
 void expect_rows(const uint32_t *rows, const uint32_t *expected, size_t count, const char *what);
 

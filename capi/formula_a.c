@@ -74,7 +74,7 @@ static void sets(void)
     }
 }
 
-/* A with one clause more, in a table of its own. */
+/* A with one clause more, in a table of its own; or with several, of which all but the last have their 0. */
 static struct formula with_clause(const int32_t *clause, size_t length)
 {
     static int32_t clauses[32];
@@ -86,6 +86,64 @@ static struct formula with_clause(const int32_t *clause, size_t length)
     f.clauses = clauses;
     f.clauses_len = formula_a.clauses_len + length + 1;
     return f;
+}
+
+/* What a universal has by a scheme: its entry points and its set. */
+struct answer {
+    uint32_t entry_count, entries[9];
+    uint32_t size, set[9];
+};
+
+/* By A's forest, a scheme number gives this answer, in tables of just that length; one entry less is too little. */
+static void has_by(uint32_t scheme, const struct formula *f, uint32_t x, const struct answer *a, const char *what)
+{
+    struct forest w = forest_a();
+    uint32_t out[9], count = 99, size = 99;
+
+    memset(out, 0x5A, sizeof out);
+    expect_accepted(call_entry_points_by(scheme, f, &w, x, out, a->entry_count, &count), what);
+    agree(count == a->entry_count, what);
+    expect_rows(out, a->entries, a->entry_count, what);
+    expect_accepted(call_set_by(scheme, f, &w, x, out, a->size, &count), what);
+    agree(count == a->size, what);
+    expect_rows(out, a->set, a->size, what);
+    expect_accepted(call_size_by(scheme, f, &w, x, &size), what);
+    agree(size == a->size, what);
+    if (a->entry_count > 0)
+        expect_refused(call_entry_points_by(scheme, f, &w, x, out, a->entry_count - 1, &count), 14, 0, what);
+    if (a->size > 0)
+        expect_refused(call_set_by(scheme, f, &w, x, out, a->size - 1, &count), 14, 0, what);
+}
+
+/* By every scheme number x has one of two answers. */
+static void has_either(const struct formula *f, uint32_t x, const struct answer *standard, const struct answer *strict, const char *what)
+{
+    size_t k;
+
+    for (k = 0; k < LEN(schemes); k++) {
+        about("scheme", schemes[k].number);
+        has_by(schemes[k].number, f, x, schemes[k].means == SNOW_STRICT ? strict : standard, what);
+    }
+}
+
+/* Both schemes on A, where 3 and 6 have one sign only, and on A with clauses that leave its forest as it is. */
+static void by_schemes(void)
+{
+    static const int32_t both[] = { -3, 8 }, apart[] = { -3, 5 }, some[] = { 3, 5, 0, -3, 8 }, always_true[] = { 3, -3, 8 };
+    static const struct answer none = { 0, { 0 }, 0, { 0 } }, four = { 1, { 4 }, 3, { 4, 7, 8 } }, nine = { 1, { 9 }, 1, { 9 } };
+    static const struct answer four_five = { 2, { 4, 5 }, 5, { 4, 5, 7, 8, 9 } };
+    struct formula f;
+
+    has_either(&formula_a, 3, &four, &none, "3 in one sign only");
+    has_either(&formula_a, 6, &nine, &none, "6 in one sign only");
+    f = with_clause(both, 2);
+    has_either(&f, 3, &four, &four, "both signs have the entry point");
+    f = with_clause(apart, 2);
+    has_either(&f, 3, &four_five, &none, "each sign has an entry point of its own");
+    f = with_clause(some, 5);
+    has_either(&f, 3, &four_five, &four, "both signs have one entry point of two");
+    f = with_clause(always_true, 3);
+    has_either(&f, 3, &four, &none, "an always-true clause has 3 in neither sign");
 }
 
 /* A forest of nine rows, with the merges and classes of its tally. */
@@ -218,6 +276,7 @@ static void empty(void)
         expect_refused(call_entry_points(&nothing, &w, 1, NULL, 0, &count), 13, 0, "entry points");
         expect_refused(call_set(&nothing, &w, 1, NULL, 0, &count), 13, 0, "set");
         expect_refused(call_size(&nothing, &w, 1, &size), 13, 0, "size");
+        expect_refused_by(&nothing, &w, 1, 0, 13, 0, "by a scheme");
         count = 99;
         expect_accepted(call_sets(&nothing, &w, NULL, 0, &count), "all sets");
         agree(count == 0, "there are none");
@@ -226,7 +285,7 @@ static void empty(void)
         expect_accepted(call_read((const uint8_t *)text, sizeof text - 1, &n, NULL, 0, &prefix_count, NULL, 0, &clauses_count), "read");
         agree(n == 0 && prefix_count == 0 && clauses_count == 0, "the counts");
         expect_refused(call_read(NULL, 0, &n, NULL, 0, &prefix_count, NULL, 0, &clauses_count), 16, 0, "read the empty text");
-        call_check(&nothing);  /* an odd number of calls, so that the next round has the other pointer */
+        /* 12 calls and 21 by a scheme: an odd number, so that the next round has the other pointer */
     }
 }
 
@@ -248,6 +307,8 @@ static void empty_sets(void)
         size = 99;
         expect_accepted(call_size(&f, &w, 2, &size), "size");
         agree(size == 0, "its size");
+        expect_accepted(call_set_by(SNOW_STRICT, &f, &w, 2, NULL, 0, &count), "strict set");
+        agree(count == 0, "it is empty");
         expect_accepted(call_entry_points(&f, &w, 2, NULL, 0, &count), "entry points");
         agree(count == 0, "there are none");
         expect_accepted(call_sets(&f, &w, out, 2, &count), "all sets");
@@ -262,6 +323,8 @@ void test_formula_a(void)
     group("formula A: sets and entry points");
     sets();
     entry_points();
+    group("formula A: answers by a scheme");
+    by_schemes();
     group("formula A: add");
     additions();
     group("formula A: clause, write, read");

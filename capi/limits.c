@@ -64,6 +64,7 @@ static void every_call(const struct formula *f, uint32_t number, uint32_t place)
     expect_refused(call_entry_points(f, &w, 1, out, 1, &count), number, place, "entry points");
     expect_refused(call_set(f, &w, 1, out, 1, &count), number, place, "set");
     expect_refused(call_size(f, &w, 1, &size), number, place, "size");
+    expect_refused_by(f, &w, 1, 1, number, place, "by a scheme");
     expect_refused(call_sets(f, &w, out, 1, &count), number, place, "all sets");
     expect_refused(call_write(f, text, 64, &count), number, place, "write");
 }
@@ -111,19 +112,44 @@ static void joined_forest(const struct forest *w, const char *what)
     expect_tally(w, 1, SIDE / 2 * (SIDE - 1), SIDE / 2, what);
 }
 
-/* All existentials of blocks deeper than b, ascending. */
-static void joined_set(const struct formula *f, uint32_t x)
+/* Whether the set that was written is all existentials of blocks deeper than that of x, ascending. */
+static int all_deeper(uint32_t x, uint32_t count)
 {
-    struct forest w = forest(SNOW_MOST_VARIABLES);
-    uint32_t count = 0, size = 0, v, listed = 0, wrong = 0;
+    uint32_t v, listed = 0, wrong = 0;
 
-    expect_accepted(call_set(f, &w, x, out, SNOW_MOST_VARIABLES, &count), "set");
     for (v = x; v <= SNOW_MOST_VARIABLES; v++)
         if (joined_class(v) != 0)
             wrong += out[listed++] != v;
-    agree(count == listed && wrong == 0, "the set is all that is deeper");
+    return count == listed && wrong == 0;
+}
+
+static void joined_set(const struct formula *f, uint32_t x)
+{
+    struct forest w = forest(SNOW_MOST_VARIABLES);
+    uint32_t count = 0, size = 0;
+
+    expect_accepted(call_set(f, &w, x, out, SNOW_MOST_VARIABLES, &count), "set");
+    agree(all_deeper(x, count), "the set is all that is deeper");
     expect_accepted(call_size(f, &w, x, &size), "size");
-    agree(size == listed, "its size");
+    agree(size == count, "its size");
+}
+
+/* The strict set of x with both clauses of f, one in each sign, and with the first alone. */
+static void joined_strict_set(const struct formula *f, uint32_t x)
+{
+    struct forest w = forest(SNOW_MOST_VARIABLES);
+    struct formula first = *f;
+    uint32_t count = 0, size = 0;
+
+    expect_accepted(call_set_by(SNOW_STRICT, f, &w, x, out, SNOW_MOST_VARIABLES, &count), "strict set");
+    agree(all_deeper(x, count), "the strict set is all that is deeper");
+    expect_accepted(call_size_by(SNOW_STRICT, f, &w, x, &size), "strict size");
+    agree(size == count, "its size");
+    first.clauses_len = f->clauses_len / 2;
+    expect_accepted(call_set_by(SNOW_STRICT, &first, &w, x, out, 0, &count), "strict set, one sign only");
+    agree(count == 0, "it is empty");
+    expect_accepted(call_size_by(SNOW_STRICT, &first, &w, x, &size), "strict size, one sign only");
+    agree(size == 0, "it is 0");
 }
 
 /* All sets into the large table, of which so many entries are lent. */
@@ -190,6 +216,26 @@ static void largest(void)
     agree(start == 0 && length == SNOW_MOST_CLAUSES - 1, "where it stands");
     expect_refused(call_clause(&f, 1, &start, &length), 13, 0, "clause 1");
     expect_refused(call_write(&f, text, sizeof text, &count), 15, SNOW_MOST_TEXT, "write");
+}
+
+/* Two clauses with all variables, each in a sign of its own, and the forest of both: that of either. */
+static void largest_strict(void)
+{
+    struct formula f = formula(SNOW_MOST_VARIABLES, fill_prefix(SIDE, SIDE), 2 * (SNOW_MOST_VARIABLES + 1));
+    struct forest w = forest(SNOW_MOST_VARIABLES);
+    uint32_t count = 0;
+    int32_t k;
+
+    for (k = 0; k <= SNOW_MOST_VARIABLES; k++) {
+        clauses[k] = k < SNOW_MOST_VARIABLES ? k + 1 : 0;
+        clauses[SNOW_MOST_VARIABLES + 1 + k] = -clauses[k];
+    }
+    expect_accepted(call_build(&f, &w, &count), "build");
+    joined_strict_set(&f, SIDE + 1);
+    joined_strict_set(&f, 31 * SIDE + 7);
+    joined_strict_set(&f, SNOW_MOST_VARIABLES);
+    expect_accepted(call_entry_points_by(SNOW_STRICT, &f, &w, SIDE + 1, out, 1, &count), "strict entry points");
+    agree(count == 1 && out[0] == 2 * SIDE + 1, "one entry point");
 }
 
 /* An added clause of 16,384 literals, and one of 16,385. */
@@ -326,6 +372,7 @@ void test_limits(void)
 {
     group("limits: the largest formula");
     largest();
+    largest_strict();
     largest_added();
     group("limits: one past each");
     past();

@@ -37,6 +37,7 @@ static void formula_calls(const struct formula *f, uint32_t number, uint32_t pla
     expect_refused(call_entry_points(f, &w, 3, out, 9, &count), number, place, "entry points");
     expect_refused(call_set(f, &w, 3, out, 9, &count), number, place, "set");
     expect_refused(call_size(f, &w, 3, &size), number, place, "size");
+    expect_refused_by(f, &w, 3, 9, number, place, "by a scheme");
     expect_refused(call_sets(f, &w, out, 9, &count), number, place, "all sets");
     expect_refused(call_write(f, text, sizeof text, &count), number, place, "write");
     expect_refused(call_write(f, text, 0, &count), number, place, "write, before 14");
@@ -45,6 +46,7 @@ static void formula_calls(const struct formula *f, uint32_t number, uint32_t pla
     expect_refused(call_entry_points(f, &w, 1, out, 0, &count), number, place, "entry points, before 12");
     expect_refused(call_set(f, &w, 1, out, 0, &count), number, place, "set, before 12");
     expect_refused(call_size(f, &w, 1, &size), number, place, "size, before 12");
+    expect_refused_by(f, &w, 1, 0, number, place, "by a scheme, before 12");
     expect_refused(call_sets(f, &w, out, 0, &count), number, place, "all sets, before 12");
 }
 
@@ -215,6 +217,8 @@ static void refused_rows(struct forest *w, uint32_t place)
     expect_refused(call_set(&formula_a, w, 4, out, 0, &count), 12, place, "set, before 13");
     expect_refused(call_size(&formula_a, w, 3, &size), 12, place, "size");
     expect_refused(call_size(&formula_a, w, 4, &size), 12, place, "size, before 13");
+    expect_refused_by(&formula_a, w, 3, 9, 12, place, "by a scheme");
+    expect_refused_by(&formula_a, w, 4, 0, 12, place, "by a scheme, before 13");
     expect_refused(call_sets(&formula_a, w, out, 9, &count), 12, place, "all sets");
     expect_refused(call_sets(&formula_a, w, out, 0, &count), 12, place, "all sets, before 14");
     expect_refused(call_add(&formula_a, w, clause, 2), 12, place, "add");
@@ -361,6 +365,8 @@ static void askings(void)
         expect_refused(call_set(&formula_a, &w, not_universal[k], out, 0, &count), 13, 0, "set, before 14");
         expect_refused(call_size(&formula_a, &w, not_universal[k], &size), 13, 0, "size");
         expect_refused(call_entry_points(&formula_a, &w, not_universal[k], out, 9, &count), 13, 0, "entry points");
+        expect_refused_by(&formula_a, &w, not_universal[k], 9, 13, 0, "by a scheme");
+        expect_refused_by(&formula_a, &w, not_universal[k], 0, 13, 0, "by a scheme, before 14");
         expect_refused(call_entry_point(&formula_a, &w, not_universal[k], 8, &entry, &rises), 13, 0, "entry point");
     }
     for (k = 0; k < LEN(not_deeper_than_6); k++) {

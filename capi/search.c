@@ -39,9 +39,12 @@ void search_join(struct world *w, const int32_t *clause, size_t clause_len)
 
     if (always_true(clause, clause_len))
         return;
-    for (i = 0; i < clause_len; i++)
-        for (k = 0; k < clause_len; k++)
+    for (i = 0; i < clause_len; i++) {
+        for (k = 0; k < clause_len; k++) {
             w->together[variable(clause[i])][variable(clause[k])] = 1;
+            w->beside[clause[i] < 0][variable(clause[i])][variable(clause[k])] = 1;
+        }
+    }
 }
 
 void search_clauses(struct world *w, const struct formula *f)
@@ -196,8 +199,21 @@ uint32_t search_classes(const struct world *w)
     return count;
 }
 
-int search_in_set(const struct world *w, uint32_t x, uint32_t y)
+/* y is reached from x at the level of its block, first through a clause that has x in one sign: 0 for x itself, 1 for its negation. */
+static int reached_through(const struct world *w, int sign, uint32_t x, uint32_t y)
 {
+    uint32_t z, i = w->block[x];
+
+    for (z = 1; z <= w->n; z++)
+        if (w->beside[sign][x][z] && w->existential[z] && w->block[z] >= i && w->reach[i][z][y])
+            return 1;
+    return 0;
+}
+
+int search_in_set(const struct world *w, enum snow_scheme scheme, uint32_t x, uint32_t y)
+{
+    if (scheme == SNOW_STRICT)
+        return reached_through(w, 0, x, y) && reached_through(w, 1, x, y);
     return w->existential[y] && w->reach[w->block[x]][x][y];
 }
 
@@ -234,24 +250,32 @@ uint32_t search_lent_entry(const struct world *w, const struct forest *rows, uin
     return c;
 }
 
-int search_lent_entry_point(const struct world *w, const struct forest *rows, uint32_t x, uint32_t e)
+/* e is the entry point of x for some y of those given, one flag for each. */
+static int entry_for_some(const struct world *w, const struct forest *rows, const unsigned char *given, uint32_t x, uint32_t e)
 {
     uint32_t y, rises;
 
     for (y = 1; y <= w->n; y++)
-        if (w->together[x][y] && search_deeper(w, x, y) && search_lent_entry(w, rows, x, y, &rises) == e)
+        if (given[y] && search_deeper(w, x, y) && search_lent_entry(w, rows, x, y, &rises) == e)
             return 1;
     return 0;
 }
 
-int search_lent_in_set(const struct world *w, const struct forest *rows, uint32_t x, uint32_t y)
+int search_lent_entry_point(const struct world *w, const struct forest *rows, enum snow_scheme scheme, uint32_t x, uint32_t e)
+{
+    if (scheme == SNOW_STRICT)
+        return entry_for_some(w, rows, w->beside[0][x], x, e) && entry_for_some(w, rows, w->beside[1][x], x, e);
+    return entry_for_some(w, rows, w->together[x], x, e);
+}
+
+int search_lent_in_set(const struct world *w, const struct forest *rows, enum snow_scheme scheme, uint32_t x, uint32_t y)
 {
     uint32_t c;
 
     if (!w->existential[y])
         return 0;
     for (c = rows->classes[y - 1]; c != 0; c = rows->parents[c - 1])
-        if (search_lent_entry_point(w, rows, x, c))
+        if (search_lent_entry_point(w, rows, scheme, x, c))
             return 1;
     return 0;
 }

@@ -1,7 +1,8 @@
 /*
  * An independent slow search, written from the definitions of reach, class,
- * parent, count, entry point and set, for small formulas that are accepted.
- * Nothing here is clever: reach is a closure, all else is looked up in it.
+ * parent, count, entry point and set by either scheme, for small formulas that
+ * are accepted. Nothing here is clever: reach is a closure, all else is looked
+ * up in it.
  */
 #ifndef SEARCH_H
 #define SEARCH_H
@@ -16,6 +17,8 @@ struct world {
     uint32_t block[SMALL + 1];
     unsigned char existential[SMALL + 1];
     unsigned char together[SMALL + 1][SMALL + 1];
+    /* beside[0][v][y]: y is in a clause with v; beside[1][v][y]: in one with the negation of v */
+    unsigned char beside[2][SMALL + 1][SMALL + 1];
     /* reach[i][v][y]: v reaches y at level i; search_close fills it */
     unsigned char reach[SNOW_MOST_BLOCKS + 1][SMALL + 1][SMALL + 1];
 };
@@ -46,8 +49,8 @@ uint32_t search_count(const struct world *w, uint32_t v);
 uint32_t search_existentials(const struct world *w);
 uint32_t search_classes(const struct world *w);
 
-/* Whether y is in the set of the universal x. */
-int search_in_set(const struct world *w, uint32_t x, uint32_t y);
+/* Whether y is in the set of the universal x by a scheme. */
+int search_in_set(const struct world *w, enum snow_scheme scheme, uint32_t x, uint32_t y);
 
 /* Whether y is existential and deeper than x. */
 int search_deeper(const struct world *w, uint32_t x, uint32_t y);
@@ -58,8 +61,8 @@ uint32_t search_entry(const struct world *w, uint32_t x, uint32_t y, uint32_t *r
 /* The same by lent tables, which need not be the formula's. */
 uint32_t search_lent_entry(const struct world *w, const struct forest *rows, uint32_t x, uint32_t y, uint32_t *rises);
 
-/* Whether e is an entry point of x, and y in the set of x, by lent tables and the clauses of the world. */
-int search_lent_entry_point(const struct world *w, const struct forest *rows, uint32_t x, uint32_t e);
-int search_lent_in_set(const struct world *w, const struct forest *rows, uint32_t x, uint32_t y);
+/* Whether e is an entry point of x, and y in the set of x, by a scheme, lent tables and the clauses of the world. */
+int search_lent_entry_point(const struct world *w, const struct forest *rows, enum snow_scheme scheme, uint32_t x, uint32_t e);
+int search_lent_in_set(const struct world *w, const struct forest *rows, enum snow_scheme scheme, uint32_t x, uint32_t y);
 
 #endif

@@ -65,6 +65,21 @@
  * Of A: 5 clauses, 0 merges, 7 classes.
  *
  *
+ * THE SCHEMES
+ *
+ * Two answers to what depends on a universal x. By the standard scheme it is
+ * what is reached from the clauses that have x, in either sign. By the strict
+ * scheme it is what is reached both from a clause with x and from a clause
+ * with its negation: the strict set lies within the standard one, and is
+ * empty where x has one sign only.
+ *
+ * scheme    SNOW_STANDARD or SNOW_STRICT, for the calls that end in _by. No
+ *           number is refused: every one but SNOW_STRICT means the standard
+ *           scheme, so that a wrong number never loses a dependency.
+ *
+ * The calls that take no scheme mean the standard one.
+ *
+ *
  * WHAT A CALL GIVES
  *
  * Each call returns 0 if it accepts, else the number of the refusal. On a
@@ -150,6 +165,14 @@ extern "C" {
  * The most clauses that a tally takes: at so many, snow_add refuses it as 18.
  */
 #define SNOW_MOST_TAKEN 65535
+
+/*
+ * The schemes that a call ending in _by may be asked for.
+ */
+enum snow_scheme {
+    SNOW_STANDARD = 1,
+    SNOW_STRICT = 2
+};
 
 /*
  * The tally beside a forest.
@@ -269,8 +292,69 @@ uint32_t snow_size(uint32_t n, const uint32_t *prefix, size_t prefix_len,
                    uint32_t x, uint32_t *size, uint32_t *place);
 
 /*
- * Sets of all universals: for each universal, ascending, its number, the
- * count of its set, and its set ascending, one after the other. *count says
+ * Entry points of the universal x by a scheme. By the strict one: those that
+ * are entry points both for an existential deeper than x in a clause with x
+ * and for one in a clause with its negation. By the standard one: what
+ * snow_entry_points gives. Written ascending into out; *count says how many.
+ *
+ * Of A, strict: none for x = 3, since no clause has -3. With the clauses 3 5
+ * and -3 8 behind those of A, which leave its forest as it is: 4 for x = 3,
+ * where the standard ones are 4 5.
+ *
+ * Refuses 1 to 13, and 14 where out has fewer than *count entries; n of them
+ * always suffice.
+ */
+uint32_t snow_entry_points_by(uint32_t scheme, uint32_t n,
+                              const uint32_t *prefix, size_t prefix_len,
+                              const int32_t *clauses, size_t clauses_len,
+                              const uint32_t *classes, size_t classes_len,
+                              const uint32_t *parents, size_t parents_len,
+                              const uint32_t *counts, size_t counts_len,
+                              uint32_t x, uint32_t *out, size_t out_len,
+                              uint32_t *count, uint32_t *place);
+
+/*
+ * Set of the universal x by a scheme: the members of every class at or below
+ * its entry points by that scheme. With the forest of the formula the strict
+ * set has the existentials reached from x, as for snow_set, by a first step in
+ * a clause with x and also by a first step in a clause with its negation. By
+ * the standard scheme: what snow_set gives. Written ascending into out; *count
+ * says how many.
+ *
+ * Of A, strict: none for x = 3; with those two clauses 4 7 8, where the
+ * standard set is 4 5 7 8 9.
+ *
+ * Refuses 1 to 13, and 14 where out has fewer than *count entries; n of them
+ * always suffice.
+ */
+uint32_t snow_set_by(uint32_t scheme, uint32_t n,
+                     const uint32_t *prefix, size_t prefix_len,
+                     const int32_t *clauses, size_t clauses_len,
+                     const uint32_t *classes, size_t classes_len,
+                     const uint32_t *parents, size_t parents_len,
+                     const uint32_t *counts, size_t counts_len,
+                     uint32_t x, uint32_t *out, size_t out_len,
+                     uint32_t *count, uint32_t *place);
+
+/*
+ * Size of the set of the universal x by a scheme: what snow_set_by gives as
+ * *count, without the list.
+ *
+ * Of A, strict: 0 for x = 3; with those two clauses 3.
+ *
+ * Refuses 1 to 13.
+ */
+uint32_t snow_size_by(uint32_t scheme, uint32_t n,
+                      const uint32_t *prefix, size_t prefix_len,
+                      const int32_t *clauses, size_t clauses_len,
+                      const uint32_t *classes, size_t classes_len,
+                      const uint32_t *parents, size_t parents_len,
+                      const uint32_t *counts, size_t counts_len,
+                      uint32_t x, uint32_t *size, uint32_t *place);
+
+/*
+ * Standard sets of all universals: for each universal, ascending, its number,
+ * the count of its set, and its set ascending, one after the other. *count says
  * how many entries all that is. What was lent is looked through once, so that
  * this is much faster than snow_set for one universal after the other.
  *
@@ -297,8 +381,8 @@ uint32_t snow_sets(uint32_t n, const uint32_t *prefix, size_t prefix_len,
  * the formula with the clause behind its last one. An always-true clause
  * changes nothing but the number of clauses taken.
  *
- * snow_entry_points, snow_set, snow_size and snow_sets take the clause table
- * too: append the clause there as well, with its 0.
+ * snow_entry_points, snow_set, snow_size, the same by a scheme, and snow_sets
+ * take the clause table too: append the clause there as well, with its 0.
  *
  * Of A: adding 7 -9 gives classes 1 2 0 4 4 0 7 8 7, parents
  * 0 0 0 1 0 0 4 4 0, counts 6 1 0 5 0 0 2 1 0, and a tally of 6 clauses,

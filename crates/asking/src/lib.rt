@@ -2,3 +2,4 @@
 
 pub mod lists;
 pub mod points;
+pub mod strict;

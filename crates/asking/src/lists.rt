@@ -1,8 +1,9 @@
-// The set of x, its size and the entry points of x, held against the search.
+// The set of x, its size and the entry points of x, by either scheme, held against the search.
 
 use oracle::classes::lend;
 use oracle::tables::is_universal;
 use oracle::tables::pair_at;
+use oracle::totals::count_pairs;
 use score::Score;
 use score::library::Call;
 use score::library::ask;
@@ -14,19 +15,6 @@ use score::rows::row_at;
 use score::rows::untouched;
 use std::num::wrapping_add_u32;
 use std::num::wrapping_add_usize;
-
-// How many variables are flagged in the row of x.
-fn count_of(n: u32, pairs: &[bool], x: u32) -> u32 {
-    let mut count = 0;
-    let mut y: u32 = 0;
-    while y < n {
-        y += 1;
-        if pair_at(pairs, x, y) {
-            count = wrapping_add_u32(count, 1);
-        }
-    }
-    count
-}
 
 // Whether rows list the variables that are flagged in the row of x, ascending, and nothing after them.
 fn lists(n: u32, pairs: &[bool], x: u32, rows: &[u32]) -> bool {
@@ -48,6 +36,7 @@ fn lists(n: u32, pairs: &[bool], x: u32, rows: &[u32]) -> bool {
 fn holds(call: Call, n: u32, pairs: &[bool], x: u32, rows: &[u32]) -> bool {
     match call {
         Call::Sizes => untouched(rows, 0),
+        Call::StrictSizes => untouched(rows, 0),
         _ => lists(n, pairs, x, rows),
     }
 }
@@ -79,7 +68,7 @@ fn list_case(
         &mut out,
     );
     if is_universal(n, facts, x) {
-        let count = count_of(n, pairs, x);
+        let count = count_pairs(n, pairs, x);
         score.count(gives(answer, count) && holds(call, n, pairs, x, &out))
     } else {
         score.count(refuses(answer, 13, 0) && untouched(&out, 0))
@@ -134,7 +123,7 @@ fn room_case(
     pairs: &[bool],
     x: u32,
 ) -> Score {
-    let count = count_of(n, pairs, x);
+    let count = count_pairs(n, pairs, x);
     let mut out = [UNTOUCHED; 80];
     let answer = ask_within(
         call,
@@ -247,6 +236,7 @@ pub fn listing_cases(
 // The size of the set of x, which takes no output, by the forest of the search.
 pub fn size_cases(
     score: Score,
+    call: Call,
     n: u32,
     prefix: &[u32],
     clauses: &[i32],
@@ -259,7 +249,7 @@ pub fn size_cases(
     lend(n, facts, &mut classes, &mut parents, &mut counts);
     list_cases(
         score,
-        Call::Sizes,
+        call,
         n,
         prefix,
         clauses,

@@ -10,7 +10,8 @@ use Rattle.terms.specs.declared.Verdict.{Verdict}
 use Rattle.terms.specs.declared.Verdict.the-variants.{Accepted, Refused}
 use Rattle.terms.specs.Refusals.{Causes, FirstOf, NoneOf, Judged}
 use Rattle.forest.specs.declared.EntryAnswer.{EntryAnswer}
-use Rattle.forest.specs.Answers.{Entry, EntryAnswered, Size, Sized}
+use Rattle.forest.specs.declared.Scheme.{Scheme}
+use Rattle.forest.specs.Answers.{Entry, EntryAnswered, SizeBy, SizedBy}
 use Rattle.forest.specs.Causes.{entryOrder, readOrder, listOrder}
 use Rattle.forest.specs.Listed.{Listing, Filling}
 use Rattle.connection.specs.Listed.{Listed}
@@ -62,7 +63,7 @@ module _ (order : List Causes) (L : List ℕ → Type 0) (out out′ : List ℕ)
       → Told order (Front L out out′ count′) ((count′ ≡ count) × (out′ ≡ out)) returned place place′
   tell-filling {answer} laid filling = tell-said order (Front L out out′) (out′ ≡ out) laid (filling-said answer filling) (λ q r. (q, r))
 
--- What is listed for x, and its size: what is answered for a number is told for an equal one.
+-- What is listed for x, and its size by a scheme: what is answered for a number is told for an equal one.
 module _ (n : ℕ) (es : List ℕ) (ls : List ℤ) (classes parents counts : List ℕ) where
   pub fits-listing : (P : ℕ → ℕ → Type 0) (out out′ : List ℕ) (answer : Filled) (x : ℕ) → Listing (listOrder n es ls classes parents counts x (P x) out) (P x) out out′ answer → Fits answer
   fits-listing P out out′ answer x = fits-filling (listOrder n es ls classes parents counts x (P x) out) (Listed (P x)) out out′ answer (small-list n es ls classes parents counts x (P x) out)
@@ -74,18 +75,29 @@ module _ (n : ℕ) (es : List ℕ) (ls : List ℤ) (classes parents counts : Lis
       tell-filling (listOrder n es ls classes parents counts x′ (P x′) out) (Listed (P x′)) out out′ laid
       (subst (λ (v : ℕ). Listing (listOrder n es ls classes parents counts v (P v) out) (P v) out out′ answer) q listing)
 
-  sized-said : (answer : Filled) (x : ℕ) → Sized n es ls classes parents counts x answer → Says (readOrder n es ls classes parents counts x) (Size n es ls classes parents counts x) (Unit {0}) answer
-  sized-said (Count size) x sized = sized
-  sized-said (Filled.Refused number at) x sized = (sized, tt)
+  -- and by a scheme, for an equal one too
+  pub tell-listing-by : (P : Scheme → ℕ → ℕ → Type 0) (out out′ : List ℕ) {answer : Filled} {s s′ : Scheme} {x x′ count count′ place place′ returned : ℕ} → s ≡ s′ → x ≡ x′ → Laid answer count count′ place place′ returned
+      → Listing (listOrder n es ls classes parents counts x (P s x) out) (P s x) out out′ answer
+      → Told (listOrder n es ls classes parents counts x′ (P s′ x′) out) (Written (P s′ x′) out out′ count′) ((count′ ≡ count) × (out′ ≡ out)) returned place place′
+  tell-listing-by P out out′ {answer} {s} {s′} {x} p q laid listing =
+      tell-listing (P s′) out out′ q laid (subst (λ (t : Scheme). Listing (listOrder n es ls classes parents counts x (P t x) out) (P t x) out out′ answer) p listing)
 
-  pub fits-sized : (answer : Filled) (x : ℕ) → Sized n es ls classes parents counts x answer → Fits answer
-  fits-sized answer x sized = fits-said (readOrder n es ls classes parents counts x) (Size n es ls classes parents counts x) (Unit {0}) answer (small-read n es ls classes parents counts x) (sized-said answer x sized)
+  sized-said : (s : Scheme) (answer : Filled) (x : ℕ) → SizedBy s n es ls classes parents counts x answer → Says (readOrder n es ls classes parents counts x) (SizeBy s n es ls classes parents counts x) (Unit {0}) answer
+  sized-said s (Count size) x sized = sized
+  sized-said s (Filled.Refused number at) x sized = (sized, tt)
 
-  pub tell-sized : {answer : Filled} {x x′ size size′ place place′ returned : ℕ} → x ≡ x′ → Laid answer size size′ place place′ returned → Sized n es ls classes parents counts x answer
-      → Told (readOrder n es ls classes parents counts x′) (Size n es ls classes parents counts x′ size′) (size′ ≡ size) returned place place′
-  tell-sized {answer} {x} {x′} q laid sized =
-      tell-said (readOrder n es ls classes parents counts x′) (Size n es ls classes parents counts x′) (Unit {0}) laid
-      (sized-said answer x′ (subst (λ (v : ℕ). Sized n es ls classes parents counts v answer) q sized)) (λ r _. r)
+  pub fits-sized : (s : Scheme) (answer : Filled) (x : ℕ) → SizedBy s n es ls classes parents counts x answer → Fits answer
+  fits-sized s answer x sized = fits-said (readOrder n es ls classes parents counts x) (SizeBy s n es ls classes parents counts x) (Unit {0}) answer (small-read n es ls classes parents counts x) (sized-said s answer x sized)
+
+  pub tell-sized : (s : Scheme) {answer : Filled} {x x′ size size′ place place′ returned : ℕ} → x ≡ x′ → Laid answer size size′ place place′ returned → SizedBy s n es ls classes parents counts x answer
+      → Told (readOrder n es ls classes parents counts x′) (SizeBy s n es ls classes parents counts x′ size′) (size′ ≡ size) returned place place′
+  tell-sized s {answer} {x} {x′} q laid sized =
+      tell-said (readOrder n es ls classes parents counts x′) (SizeBy s n es ls classes parents counts x′) (Unit {0}) laid
+      (sized-said s answer x′ (subst (λ (v : ℕ). SizedBy s n es ls classes parents counts v answer) q sized)) (λ r _. r)
+
+  pub tell-sized-by : {answer : Filled} {s s′ : Scheme} {x x′ size size′ place place′ returned : ℕ} → s ≡ s′ → x ≡ x′ → Laid answer size size′ place place′ returned → SizedBy s n es ls classes parents counts x answer
+      → Told (readOrder n es ls classes parents counts x′) (SizeBy s′ n es ls classes parents counts x′ size′) (size′ ≡ size) returned place place′
+  tell-sized-by {answer} {s} {s′} {x} p q laid sized = tell-sized s′ q laid (subst (λ (t : Scheme). SizedBy t n es ls classes parents counts x answer) p sized)
 
 -- The entry point: what is answered for two numbers is told for equal ones.
 module _ (n : ℕ) (es classes parents counts : List ℕ) {x x′ y y′ : ℕ} (q : x ≡ x′) (r : y ≡ y′) (answer : EntryAnswer) (said : EntryAnswered n es classes parents counts x y answer) where

@@ -1,7 +1,9 @@
--- What a call tells C: the number that it returns, and each cell and table afterwards (include/snowcoddle.h, "What a call gives").
+-- What a call tells C: the number that it returns, and each cell and table afterwards (include/snowcoddle.h, "What a call gives"); and which scheme C asks for.
 use Prim.Native.Nat.{ℕ}
 use mathlib.Core.Path.{_≡_}
+use mathlib.Core.Bool.{cond}
 use mathlib.Core.List.{List, [], _∷_}
+use lib.Dec.{eqb}
 use lib.IntN.{ℤ}
 use lib.ListN.{length, getD}
 use lib.Seq.{sets}
@@ -9,6 +11,8 @@ use Rattle.terms.specs.Refusals.{Causes, FirstOf, NoneOf}
 use Rattle.formula.specs.Meaning.{clauses}
 use Rattle.formula.specs.Lookup.{beginOf}
 use Rattle.connection.specs.Listed.{Listed}
+use Rattle.forest.specs.declared.Scheme.{Scheme}
+use Rattle.forest.specs.declared.Scheme.the-variants.{Standard, Strict}
 use Rattle.growth.specs.declared.Tally.{Tally}
 use Rattle.growth.specs.Grown.{Standing, standing}
 
@@ -40,3 +44,7 @@ tallyIn cells = record { clauses = getD cells 0 0; merges = getD cells 1 0; clas
 -- forest tables and a tally afterwards, of which S holds, with the tally in its cells
 abbrev pub Left : (Standing → Type 0) → List ℕ → List ℕ → List ℕ → List ℕ → List ℕ → Type 0
 Left S classes parents counts cells cells′ = (tally : Tally) × S (standing classes parents counts tally) × (cells′ ≡ sets cells 0 (cellsOf tally))
+
+-- the scheme that a number asks for: 2 the strict one, every other number the standard one
+unfoldable pub schemeOf : ℕ → Scheme
+schemeOf number = cond (eqb number 2) Strict Standard

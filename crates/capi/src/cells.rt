@@ -1,11 +1,13 @@
-// Answers laid out for a C caller: the number that is returned, the cell of a count and the cell `place`, and a tally in three cells, as its struct has it.
+// Answers laid out for a C caller: the number that is returned, the cell of a count and the cell `place`, and a tally in three cells, as its struct has it;
+// and what a C caller lends by a number.
 
+use forest::Scheme;
 use growth::Tallied;
 use growth::Tally;
 use terms::Filled;
 ghost use mathlib.Core.Path.{_≡_};
 ghost use Rattle.capi.specs.Cells.{Fits, Laid, TallyLaid};
-ghost use Rattle.capi.specs.Told.{tallyIn};
+ghost use Rattle.capi.specs.Told.{tallyIn, schemeOf};
 
 // An answer with a count: accepted, it goes into its cell; refused, the place goes into its own.
 pub fn lay(answer: Filled, count: &mut u32, place: &mut u32) -> u32
@@ -45,5 +47,16 @@ pub fn lay_tally(told: Tallied, cells: &mut [u32; 3])
         cells[0] = tally.clauses;
         cells[1] = tally.merges;
         cells[2] = tally.classes;
+    }
+}
+
+// The scheme that a number asks for.
+pub fn scheme_in(number: u32) -> Scheme
+    ensures { λ r. ⌜ r ≡ schemeOf number ⌝ }
+{
+    if number == 2 {
+        Scheme::Strict
+    } else {
+        Scheme::Standard
     }
 }

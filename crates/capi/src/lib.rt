@@ -5,6 +5,7 @@ mod cells;
 
 use cells::lay;
 use cells::lay_tally;
+use cells::scheme_in;
 use cells::tally_in;
 use forest::EntryAnswer;
 use formula::clauses::Found;
@@ -15,14 +16,14 @@ use terms::Verdict;
 ghost use mathlib.Core.Path.{_≡_};
 ghost use Rattle.formula.specs.Causes.{checkOrder, clauseOrder};
 ghost use Rattle.forest.specs.Causes.{entryOrder, readOrder as sizeOrder, listOrder};
-ghost use Rattle.forest.specs.Answers.{Entry, Entries, Members, Size};
+ghost use Rattle.forest.specs.Answers.{Entry, Entries, EntriesBy, Members, MembersBy, Size, SizeBy};
 ghost use Rattle.forest.specs.Formula.{variables, Shares};
 ghost use Rattle.sets.specs.Sets.{AllSets, setsOrder};
 ghost use Rattle.growth.specs.Grown.{standing, tableOf, many, buildOrder, addOrder, Extended, Grown, TallyOf, Took};
 ghost use Rattle.qdimacs.specs.Reading.{ReadInto, readOrder};
 ghost use Rattle.qdimacs.specs.Stored.{Stored, tablesOrder};
 ghost use Rattle.qdimacs.specs.Writing.{textOf};
-ghost use Rattle.capi.specs.Told.{Told, Clause, Front, Written, tallyIn, Left};
+ghost use Rattle.capi.specs.Told.{Told, Clause, Front, Written, tallyIn, Left, schemeOf};
 
 // Check: whether a formula keeps every rule.
 #[no_mangle]
@@ -199,6 +200,97 @@ pub extern "C" fn snow_size(
     ensures { λ r. ⌜ Told (sizeOrder n (now (prefix .entry)) (now (clauses .entry)) (now (classes .entry)) (now (parents .entry)) (now (counts .entry)) x) (Size n (now (prefix .entry)) (now (clauses .entry)) (now (classes .entry)) (now (parents .entry)) (now (counts .entry)) x (now (size .exit))) (now (size .exit) ≡ now (size .entry)) r (now (place .entry)) (now (place .exit)) ⌝ }
 {
     let answer = forest::set_size(
+        n,
+        prefix,
+        clauses,
+        classes,
+        parents,
+        counts,
+        Variable::new(x),
+    );
+    lay(answer, size, place)
+}
+
+// The entry points of x by the scheme that a number asks for, ascending, with their count.
+#[no_mangle]
+pub extern "C" fn snow_entry_points_by(
+    scheme: u32,
+    n: u32,
+    prefix: &[u32],
+    clauses: &[i32],
+    classes: &[u32],
+    parents: &[u32],
+    counts: &[u32],
+    x: u32,
+    out: &mut [u32],
+    count: &mut u32,
+    place: &mut u32,
+) -> u32
+    ensures { λ r. ⌜ Told (listOrder n (now (prefix .entry)) (now (clauses .entry)) (now (classes .entry)) (now (parents .entry)) (now (counts .entry)) x (EntriesBy (schemeOf scheme) n (now (prefix .entry)) (now (clauses .entry)) (now (classes .entry)) (now (parents .entry)) x) (now (out .entry))) (Written (EntriesBy (schemeOf scheme) n (now (prefix .entry)) (now (clauses .entry)) (now (classes .entry)) (now (parents .entry)) x) (now (out .entry)) (now (out .exit)) (now (count .exit))) ((now (count .exit) ≡ now (count .entry)) × (now (out .exit) ≡ now (out .entry))) r (now (place .entry)) (now (place .exit)) ⌝ }
+{
+    let answer = forest::entry_points_by(
+        scheme_in(scheme),
+        n,
+        prefix,
+        clauses,
+        classes,
+        parents,
+        counts,
+        Variable::new(x),
+        out,
+    );
+    lay(answer, count, place)
+}
+
+// The set of x by the scheme that a number asks for, ascending, with the count of its members.
+#[no_mangle]
+pub extern "C" fn snow_set_by(
+    scheme: u32,
+    n: u32,
+    prefix: &[u32],
+    clauses: &[i32],
+    classes: &[u32],
+    parents: &[u32],
+    counts: &[u32],
+    x: u32,
+    out: &mut [u32],
+    count: &mut u32,
+    place: &mut u32,
+) -> u32
+    ensures { λ r. ⌜ Told (listOrder n (now (prefix .entry)) (now (clauses .entry)) (now (classes .entry)) (now (parents .entry)) (now (counts .entry)) x (MembersBy (schemeOf scheme) n (now (prefix .entry)) (now (clauses .entry)) (now (classes .entry)) (now (parents .entry)) x) (now (out .entry))) (Written (MembersBy (schemeOf scheme) n (now (prefix .entry)) (now (clauses .entry)) (now (classes .entry)) (now (parents .entry)) x) (now (out .entry)) (now (out .exit)) (now (count .exit))) ((now (count .exit) ≡ now (count .entry)) × (now (out .exit) ≡ now (out .entry))) r (now (place .entry)) (now (place .exit)) ⌝ }
+{
+    let answer = forest::set_by(
+        scheme_in(scheme),
+        n,
+        prefix,
+        clauses,
+        classes,
+        parents,
+        counts,
+        Variable::new(x),
+        out,
+    );
+    lay(answer, count, place)
+}
+
+// The size of that set.
+#[no_mangle]
+pub extern "C" fn snow_size_by(
+    scheme: u32,
+    n: u32,
+    prefix: &[u32],
+    clauses: &[i32],
+    classes: &[u32],
+    parents: &[u32],
+    counts: &[u32],
+    x: u32,
+    size: &mut u32,
+    place: &mut u32,
+) -> u32
+    ensures { λ r. ⌜ Told (sizeOrder n (now (prefix .entry)) (now (clauses .entry)) (now (classes .entry)) (now (parents .entry)) (now (counts .entry)) x) (SizeBy (schemeOf scheme) n (now (prefix .entry)) (now (clauses .entry)) (now (classes .entry)) (now (parents .entry)) (now (counts .entry)) x (now (size .exit))) (now (size .exit) ≡ now (size .entry)) r (now (place .entry)) (now (place .exit)) ⌝ }
+{
+    let answer = forest::size_by(
+        scheme_in(scheme),
         n,
         prefix,
         clauses,

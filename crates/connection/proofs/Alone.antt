@@ -39,6 +39,14 @@ module _ {X : Variables} {J : ℕ → ℕ → Type 0} {C : List ℕ} {x : ℕ} (
     λ d. record { existential = d .existential; reached = reach-along (λ a b. before) (d .reached) },
   )
 
+  -- What follows from x by any first steps that are joins stays, where the steps do: the premise speaks of the set by all joins.
+  pub alone-follows : {S S′ : ℕ → ℕ → Type 0} {y : ℕ} → ((z : ℕ) → S x z → J x z) → ((z : ℕ) → S x z ↔ S′ x z)
+      → Follows S J (From X (X .lev x)) x y ↔ Follows S′ (Added J C) (From X (X .lev x)) x y
+  alone-follows {S} {S′} {y} starts same = (
+    λ f. record { first = f .first; starts = same (f .first) .0 (f .starts); allowed = f .allowed; onward = reach-along (λ a b. before) (f .onward) },
+    λ f. let s = same (f .first) .1 (f .starts) in record { first = f .first; starts = s; allowed = f .allowed; onward = alone-reach (reach-one (starts (f .first) s) (f .allowed)) (f .onward) },
+  )
+
 module _ {X : Variables} {J : ℕ → ℕ → Type 0} {C : List ℕ} {W W′ : Table} {x : ℕ}
     (lawful : Lawful X) (rep : Represents X J W) (fused : Fused X W C W′) (u : Universal X x) (alone : LeavesAlone X J C x) where
   -- The two tables are well formed.
@@ -134,33 +142,16 @@ module _ {X : Variables} {J : ℕ → ℕ → Type 0} {C : List ℕ} {W W′ : T
           let same = entry-one formed′ (alone-ends d old) h in
           subst₂ (EntryPoint X W x y) (same .0) (same .1) old
 
-  -- The entry points of x stay, by any first steps that are joins.
-  pub alone-entries : {S : ℕ → ℕ → Type 0} {e : ℕ} → ((z : ℕ) → S x z → J x z) → EntryPointOf X W S x e ↔ EntryPointOf X W′ (Added S C) x e
-  alone-entries {S} {e} starts = (there, λ o. back o (o .shares))
+  -- The entry points of x stay, by any first steps that are joins, where the steps do.
+  pub alone-entries : {S S′ : ℕ → ℕ → Type 0} {e : ℕ} → ((z : ℕ) → S x z → J x z) → ((z : ℕ) → S x z ↔ S′ x z) → EntryPointOf X W S x e ↔ EntryPointOf X W′ S′ x e
+  alone-entries {S} {S′} {e} starts same = (
+    λ o. record { for = o .for; shares = same (o .for) .0 (o .shares); existential = o .existential; deeper = o .deeper; rises = o .rises; entry = alone-entry (in-set (o .shares) (o .existential) (o .deeper)) .0 (o .entry) },
+    λ o. let s = same (o .for) .1 (o .shares) in
+        record { for = o .for; shares = s; existential = o .existential; deeper = o .deeper; rises = o .rises; entry = alone-entry (in-set s (o .existential) (o .deeper)) .1 (o .entry) },
+  )
     where
       in-set : {y : ℕ} → S x y → X .ex y ≡ true → X .lev x < X .lev y → Depends X J x y
       in-set {y} s ex l = record { existential = ex; reached = reach-one (starts y s) (allow ex (omega arith)) }
-
-      there : EntryPointOf X W S x e → EntryPointOf X W′ (Added S C) x e
-      there o = record {
-        for = o .for;
-        shares = before (o .shares);
-        existential = o .existential;
-        deeper = o .deeper;
-        rises = o .rises;
-        entry = alone-entry (in-set (o .shares) (o .existential) (o .deeper)) .0 (o .entry);
-      }
-
-      back : (o : EntryPointOf X W′ (Added S C) x e) → Added S C x (o .for) → EntryPointOf X W S x e
-      back o (before s) = record {
-        for = o .for;
-        shares = s;
-        existential = o .existential;
-        deeper = o .deeper;
-        rises = o .rises;
-        entry = alone-entry (in-set s (o .existential) (o .deeper)) .1 (o .entry);
-      }
-      back o (added l m) = absurd (alone .itself l)
 
 -- The same of lists: the clause stands last in the longer one.
 pub set-stays : {X : Variables} {cs : List (List ℕ)} {C : List ℕ} {x y : ℕ} → LeavesAlone X (Joined cs) C x
@@ -173,14 +164,28 @@ set-stays {X} {cs} {C} {x} {y} alone = (
     longer : Depends X (Added (Joined cs) C) x y → Depends X (Joined (cs ++ (C ∷ []))) x y
     longer d = record { existential = d .existential; reached = reach-along (λ a b. joined-added a b .1) (d .reached) }
 
--- Entry points by more first steps are more.
-entries-along : {X : Variables} {W : Table} {S T : ℕ → ℕ → Type 0} {x e : ℕ} → ((z : ℕ) → S x z → T x z) → EntryPointOf X W S x e → EntryPointOf X W T x e
-entries-along more o = record { for = o .for; shares = more (o .for) (o .shares); existential = o .existential; deeper = o .deeper; rises = o .rises; entry = o .entry }
+-- Where the clause has no x, the clauses that have x are those of the shorter list.
+joined-stay : {X : Variables} {cs : List (List ℕ)} {C : List ℕ} {x : ℕ} → LeavesAlone X (Joined cs) C x → (z : ℕ) → Joined cs x z ↔ Joined (cs ++ (C ∷ [])) x z
+joined-stay {X} {cs} {C} {x} alone z = (λ j. joined-added x z .1 (before j), λ j. go (joined-added x z .0 j))
+  where
+    go : Added (Joined cs) C x z → Joined cs x z
+    go (before j) = j
+    go (added l r) = absurd (alone .itself l)
+
+module _ {X : Variables} {cs : List (List ℕ)} {C : List ℕ} {x : ℕ} (alone : LeavesAlone X (Joined cs) C x) {S S′ : ℕ → ℕ → Type 0} (starts : (z : ℕ) → S x z → Joined cs x z) (same : (z : ℕ) → S x z ↔ S′ x z) where
+  -- What follows by any first steps stays with them ...
+  pub follows-stay : {y : ℕ} → Follows S (Joined cs) (From X (X .lev x)) x y ↔ Follows S′ (Joined (cs ++ (C ∷ []))) (From X (X .lev x)) x y
+  follows-stay = (λ f. along (λ a b. joined-added a b .1) (alone-follows alone starts same .0 f), λ f. alone-follows alone starts same .1 (along (λ a b. joined-added a b .0) f))
+    where
+      along : {J K : ℕ → ℕ → Type 0} {y : ℕ} → ((a b : ℕ) → J a b → K a b) → Follows S′ J (From X (X .lev x)) x y → Follows S′ K (From X (X .lev x)) x y
+      along more f = record { first = f .first; starts = f .starts; allowed = f .allowed; onward = reach-along more (f .onward) }
+
+  -- ... and so do the entry points, by the forests of the two lists.
+  pub steps-stay : {W W′ : Table} {e : ℕ} → Lawful X → Forest X (Joined cs) W → Forest X (Joined (cs ++ (C ∷ []))) W′ → Universal X x → EntryPointOf X W S x e ↔ EntryPointOf X W′ S′ x e
+  steps-stay lawful f g u = alone-entries lawful (forest-is lawful .0 f) (forest-fused lawful f g) u alone starts same
 
 -- The entry points of x by the forest of the longer list are those by the forest of the shorter one.
 pub entries-stay : {X : Variables} {cs : List (List ℕ)} {C : List ℕ} {W W′ : Table} {x e : ℕ} → Lawful X
     → Forest X (Joined cs) W → Forest X (Joined (cs ++ (C ∷ []))) W′ → Universal X x → LeavesAlone X (Joined cs) C x
     → EntryPointOf X W (Joined cs) x e ↔ EntryPointOf X W′ (Joined (cs ++ (C ∷ []))) x e
-entries-stay {x = x} lawful f g u alone =
-    let same = alone-entries lawful (forest-is lawful .0 f) (forest-fused lawful f g) u alone (λ z s. s) in
-    (λ o. entries-along (λ z. joined-added x z .1) (same .0 o), λ o. same .1 (entries-along (λ z. joined-added x z .0) o))
+entries-stay lawful f g u alone = steps-stay alone (λ z j. j) (joined-stay alone) lawful f g u

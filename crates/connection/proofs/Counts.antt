@@ -9,7 +9,7 @@ use lib.ListN.{length}
 use lib.Dec.{eqb}
 use borrow.Author.Tests.{eqb-true, eq-eqb}
 use Rattle.connection.specs.Reach.{Variables, Lawful}
-use Rattle.connection.specs.Tables.{Table, ClassName, WellFormed, EntryPointOf, Member}
+use Rattle.connection.specs.Tables.{Table, ClassName, WellFormed, EntryPointOf, MemberBy}
 use Rattle.connection.specs.Listed.{Ascending, Listed}
 use Rattle.connection.specs.Counts.{Numbered, Within, CountRow, Counted, sum, how-many, names}
 use Rattle.connection.specs.Passing.{RowsCount}
@@ -111,15 +111,15 @@ module _ {X : Variables} {W : Table} (formed : WellFormed X W) where
     pub sum-most : Lawful X → (entries : List ℕ) → Ascending entries → ((e : ℕ) → List·Memᴰ e entries → EntryPointOf X W S x e) → sum counts entries ≤ X .count
     sum-most lawful entries up points = numbered-most (λ v u. lawful .within v (u .within .existential)) (under-sum entries up points)
 
-    -- The sum over all entry points of x is the number of members ...
-    pub size-numbered : {entries : List ℕ} → Listed (EntryPointOf X W S x) entries → Numbered (Member X W S x) (sum counts entries)
-    size-numbered {entries} l = numbered-same
+    -- The sum over those entry points of x that P takes is the number of members by them ...
+    pub size-numbered : {P : ℕ → Type 0} {entries : List ℕ} → ((e : ℕ) → P e → EntryPointOf X W S x e) → Listed P entries → Numbered (MemberBy X W P) (sum counts entries)
+    size-numbered {entries = entries} points l = numbered-same
         (λ v. (
           λ u. record { existential = u .within .existential; entry = u .entry; entered = l .each (u .entry) (u .listed); rises = _; below = u .within .above },
           λ m. record { entry = m .entry; listed = l .all (m .entry) (m .entered); within = record { existential = m .existential; rises = m .rises; above = m .below } },
         ))
-        (under-sum entries (l .ascending) (l .each))
+        (under-sum entries (l .ascending) (λ e m. points e (l .each e m)))
 
     -- ... and so the length of the list.
-    pub size-is-length : {entries set : List ℕ} → Listed (EntryPointOf X W S x) entries → Listed (Member X W S x) set → sum counts entries ≡ length set
-    size-is-length {set = set} l m = numbered-one (size-numbered l) (record { list = set; listed = m; size = refl })
+    pub size-is-length : {P : ℕ → Type 0} {entries set : List ℕ} → ((e : ℕ) → P e → EntryPointOf X W S x e) → Listed P entries → Listed (MemberBy X W P) set → sum counts entries ≡ length set
+    size-is-length {set = set} points l m = numbered-one (size-numbered points l) (record { list = set; listed = m; size = refl })

@@ -22,6 +22,8 @@ pub mod Growth
 pub mod Sets
 -- Theorem (e): demand 3, second sentence.
 pub mod Alone
+-- The same of strict sets.
+pub mod Strict
 -- Ascending lists, and counting.
 pub mod Listed
 pub mod Numbered

@@ -6,7 +6,7 @@ use mathlib.Core.List.{List}
 use mathlib.Core.Logic.{_↔_, Iff·trans}
 use native.Mathlib.Omega.{arith}
 use Rattle.connection.specs.Reach.{Variables, Lawful, Universal, From, Joined, Depends, Follows}
-use Rattle.connection.specs.Tables.{Table, ClassName, WellFormed, Above, start, rise, top, Climbed, climb, EntryPoint, EntryPointOf, Member}
+use Rattle.connection.specs.Tables.{Table, ClassName, WellFormed, Above, start, rise, top, Climbed, climb, EntryPoint, EntryPointOf, MemberBy, Member}
 use Rattle.connection.specs.Forest.{Forest, ClassAbove, AtOrAbove, at, over, EntryClass}
 use Rattle.connection.specs.Growth.{Represents}
 use Rattle.connection.proofs.Reach.{reach-mono, reach-level, reach-ends, allow, from-less, depends-follows}
@@ -19,26 +19,31 @@ use Rattle.connection.proofs.Growth.{forest-is}
 pub from-deeper : {X : Variables} {x v : ℕ} → Universal X x → From X (X .lev x) v → From X (suc (X .lev x)) v
 from-deeper {v = v} u f = record { existential = f .existential; deep = let n = u .alone v (f .existential) in omega (arith, f .deep) }
 
+-- Entry points by more first steps are more.
+pub entries-along : {X : Variables} {W : Table} {S T : ℕ → ℕ → Type 0} {x e : ℕ} → ((z : ℕ) → S x z → T x z) → EntryPointOf X W S x e → EntryPointOf X W T x e
+entries-along more o = record { for = o .for; shares = more (o .for) (o .shares); existential = o .existential; deeper = o .deeper; rises = o .rises; entry = o .entry }
+
 -- What is in the set of x is deeper than x.
 pub depends-deeper : {X : Variables} {J : ℕ → ℕ → Type 0} {x y : ℕ} → Universal X x → Depends X J x y → From X (suc (X .lev x)) y
 depends-deeper u d = let f = depends-follows u .0 d in from-deeper u (reach-ends (f .allowed) (f .onward))
 
 module _ {X : Variables} {W : Table} (formed : WellFormed X W) where
-  -- The climb from the class of a member ends at the entry point that it is a member by.
-  member-ends : {S : ℕ → ℕ → Type 0} {x y : ℕ} (m : Member X W S x y) → Ends X W (suc (X .lev x)) (W .cls y) (m .entry) (m .rises)
-  member-ends m = let e = entry-ends formed .0 (m .entered .entry) in record { above = m .below; deep = e .deep; stop = e .stop }
+  -- Members by some of the entry points of x.
+  module _ {P : ℕ → Type 0} {S : ℕ → ℕ → Type 0} {x : ℕ} (points : (e : ℕ) → P e → EntryPointOf X W S x e) where
+    -- The climb from the class of a member ends at the entry point that it is a member by.
+    member-ends : {y : ℕ} (m : MemberBy X W P y) → Ends X W (suc (X .lev x)) (W .cls y) (m .entry) (m .rises)
+    member-ends m = let e = entry-ends formed .0 (points (m .entry) (m .entered) .entry) in record { above = m .below; deep = e .deep; stop = e .stop }
 
-  -- So a member is deeper than x ...
-  pub member-deeper : {S : ℕ → ℕ → Type 0} {x y : ℕ} → Member X W S x y → From X (suc (X .lev x)) y
-  member-deeper {y = y} m = allow (m .existential) (omega (arith, above-falls formed (m .below), member-ends m .deep, formed .right y .class (m .existential) .block))
+    -- So a member is deeper than x ...
+    pub member-deeper : {y : ℕ} → MemberBy X W P y → From X (suc (X .lev x)) y
+    member-deeper {y} m = allow (m .existential) (omega (arith, above-falls formed (m .below), member-ends m .deep, formed .right y .class (m .existential) .block))
 
-  -- ... and an existential y deeper than x is a member exactly if the entry point of x for y is an entry point of x.
-  pub member-climb : {S : ℕ → ℕ → Type 0} {x y : ℕ} → X .ex y ≡ true → X .lev x < X .lev y
-      → Member X W S x y ↔ EntryPointOf X W S x (climb X W (suc (X .lev x)) (W .cls y) 0 .top)
-  member-climb {S} {x} {y} ex l = (
-    λ m. subst (EntryPointOf X W S x) (sym (ap (λ (c : Climbed). c .top) (climb-ends formed (member-ends m) 0))) (m .entered),
-    λ o. record { existential = ex; entry = climb X W (suc (X .lev x)) (W .cls y) 0 .top; entered = o; rises = climb X W (suc (X .lev x)) (W .cls y) 0 .rises; below = climb-entry formed y ex l .above },
-  )
+    -- ... and an existential y deeper than x is a member exactly if the entry point of x for y is one of them.
+    pub member-climb : {y : ℕ} → X .ex y ≡ true → X .lev x < X .lev y → MemberBy X W P y ↔ P (climb X W (suc (X .lev x)) (W .cls y) 0 .top)
+    member-climb {y} ex l = (
+      λ m. subst P (sym (ap (λ (c : Climbed). c .top) (climb-ends formed (member-ends m) 0))) (m .entered),
+      λ o. record { existential = ex; entry = climb X W (suc (X .lev x)) (W .cls y) 0 .top; entered = o; rises = climb X W (suc (X .lev x)) (W .cls y) 0 .rises; below = climb-entry formed y ex l .above },
+    )
 
 module _ {X : Variables} {J : ℕ → ℕ → Type 0} {W : Table} (rep : Represents X J W) where
   -- What follows from x, first along S and then along J, are the members by S.
@@ -67,13 +72,13 @@ module _ {X : Variables} {J : ℕ → ℕ → Type 0} {W : Table} (rep : Represe
           let z = o .for in
           let ez = entry-ends (rep .formed) .0 (o .entry) in
           let fz : From X (suc (X .lev x)) z = allow (o .existential) (o .deeper) in
-          let fy = member-deeper (rep .formed) m in
+          let fy = member-deeper (rep .formed) (λ e o. o) m in
           record {
             first = z;
             starts = o .shares;
             allowed = from-less (omega arith) fz;
             onward = reach-level (omega arith)
-                (rep .tops (suc (X .lev x)) z y fz fy .1 (top-ends (rep .formed) z ez ∙ sym (top-ends (rep .formed) y (member-ends (rep .formed) m))));
+                (rep .tops (suc (X .lev x)) z y fz fy .1 (top-ends (rep .formed) z ez ∙ sym (top-ends (rep .formed) y (member-ends (rep .formed) (λ e o. o) m))));
           }
 
   -- Demand 2, for whatever joins the table represents.

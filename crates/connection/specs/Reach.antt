@@ -1,4 +1,4 @@
--- Steps, reach and the set of a variable: document 000, definitions 4.1 and 4.4, and document 01, "Connection".
+-- Steps, reach, and the standard and the strict set of a variable: document 000, definitions 4.1 and 4.4, document 01, "Connection", and document 002, definition 5.2.
 use Prim.Native.Nat.{ℕ, _≤_}
 use mathlib.Core.Path.{_≡_}
 use mathlib.Core.Bool.{Bool, true, false}
@@ -48,3 +48,8 @@ pub record Follows (S J : ℕ → ℕ → Type 0) (E : ℕ → Type 0) (x y : �
   pub starts : S x first
   pub allowed : E first
   pub onward : Reach J E first y
+
+-- The strict set of a universal x: all that is reached both first through a clause with x and first through a clause with its negation, and on from
+-- there as ever (document 002, definition 5.2). S true x z says that some clause has x and z, S false x z that some clause has the negation of x, and z.
+pub record StrictlyDepends (X : Variables) (S : Bool → ℕ → ℕ → Type 0) (J : ℕ → ℕ → Type 0) (x y : ℕ) : Type 0 where
+  pub by : (sign : Bool) → Follows (S sign) J (From X (X .lev x)) x y

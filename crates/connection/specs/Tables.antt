@@ -1,7 +1,7 @@
 -- Forest tables, by themselves: well formed, the chain of parents, the climb, entry points, members (document 01, "Forest tables").
 use Prim.Native.Nat.{ℕ, zero, suc, _+_, _≤_, _<_}
 use mathlib.Core.Path.{_≡_}
-use mathlib.Core.Bool.{true, false, cond, _||_}
+use mathlib.Core.Bool.{Bool, true, false, cond, _||_}
 use mathlib.Core.List.{List, [], _∷_, _++_}
 use mathlib.Core.Logic.{_≢_}
 use lib.ListN.{getD}
@@ -69,13 +69,24 @@ pub record EntryPointOf (X : Variables) (W : Table) (S : ℕ → ℕ → Type 0)
   pub rises : ℕ
   pub entry : EntryPoint X W x for e rises
 
--- y is in the set of x by the tables as lent: a member of a class at or below an entry point of x.
-pub record Member (X : Variables) (W : Table) (S : ℕ → ℕ → Type 0) (x y : ℕ) : Type 0 where
+-- e is a strict entry point of x: both signs have it (S says which share a clause with the literal of x of a sign).
+pub record StrictEntryOf (X : Variables) (W : Table) (S : Bool → ℕ → ℕ → Type 0) (x e : ℕ) : Type 0 where
+  pub by : (sign : Bool) → EntryPointOf X W (S sign) x e
+
+-- y is a member of a class at or below one that is an entry, by P.
+pub record MemberBy (X : Variables) (W : Table) (P : ℕ → Type 0) (y : ℕ) : Type 0 where
   pub existential : X .ex y ≡ true
   pub entry : ℕ
-  pub entered : EntryPointOf X W S x entry
+  pub entered : P entry
   pub rises : ℕ
   pub below : Above W entry (W .cls y) rises
+
+-- y is in the set of x by the tables as lent: a member of a class at or below an entry point of x; and in its strict set likewise.
+abbrev pub Member : Variables → Table → (ℕ → ℕ → Type 0) → ℕ → ℕ → Type 0
+Member X W S x = MemberBy X W (EntryPointOf X W S x)
+
+abbrev pub StrictMember : Variables → Table → (Bool → ℕ → ℕ → Type 0) → ℕ → ℕ → Type 0
+StrictMember X W S x = MemberBy X W (StrictEntryOf X W S x)
 
 -- What a search gives: where it ended and the number of rises.
 pub record Climbed : Type 0 where

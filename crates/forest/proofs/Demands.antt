@@ -3,7 +3,7 @@ use Prim.Native.Nat.{ℕ, suc, _+_, _≤_}
 use mathlib.Core.Path.{_≡_, refl, sym, ap, ap₂, _∙_}
 use mathlib.Core.Bool.{Bool, true, false, cond, not}
 use mathlib.Core.List.{List, [], _∷_}
-use mathlib.Core.Logic.{_≢_, inl, inr, _↔_}
+use mathlib.Core.Logic.{_≢_, inl, inr, _↔_, Iff·symm}
 use native.Mathlib.Omega.{arith}
 use borrow.Author.Tests.{eqb-true, not-true}
 use lib.Dec.{eqb}
@@ -18,7 +18,7 @@ use Rattle.terms.specs.declared.Variable.{Variable}
 use Rattle.terms.proofs.Common.{clash}
 use Rattle.terms.proofs.Verdicts.{judged-unique}
 use Rattle.formula.specs.Meaning.{blocks, markOf, names, saidOf, firstMark, freeLevel, level, isUniversal, isExistential}
-use Rattle.connection.specs.Reach.{Universal, Depends}
+use Rattle.connection.specs.Reach.{Universal}
 use Rattle.connection.specs.Tables.{row, lent}
 use Rattle.connection.specs.Forest.{Forest, EntryClass}
 use Rattle.connection.specs.Listed.{Listed}
@@ -28,15 +28,18 @@ use Rattle.connection.proofs.Counts.{size-is-length}
 use Rattle.connection.proofs.Growth.{forest-is}
 use Rattle.connection.proofs.Listed.{listed-one}
 use Rattle.connection.proofs.Sets.{set-members, entry-class}
+use Rattle.connection.proofs.Strict.{strict-members}
 use Rattle.forest.specs.declared.EntryAnswer.{EntryAnswer}
 use Rattle.forest.specs.declared.EntryAnswer.the-variants.{At}
+use Rattle.forest.specs.declared.Scheme.{Scheme}
 use Rattle.forest.specs.Formula.{variables, universal, Shares}
 use Rattle.forest.specs.Causes.{ForestCause, entryOrder, readOrder, listOrder}
-use Rattle.forest.specs.Answers.{Members, EntryAnswered, SetListed, Sized}
+use Rattle.forest.specs.Answers.{MembersBy, DependsBy, EntryAnswered, SetListedBy, SizedBy}
 use Rattle.forest.specs.Listed.{Filling, Listing}
 use Rattle.forest.proofs.Readings.{flag-in, flag-within}
 use Rattle.forest.proofs.Formed.{forest-fine}
 use Rattle.forest.proofs.Agreeing.{lawful, none-formed, none-counted, universal-within}
+use Rattle.forest.proofs.Schemes.{scheme-points}
 
 -- What the blocks say of a variable, level and quantifier at once: nothing, or what the block at m says.
 data Said (bs : List (List ℕ)) (number free : ℕ) (un : Bool) (l : ℕ) (u : Bool) : Type 0 where
@@ -111,13 +114,18 @@ module _ (n : ℕ) (es : List ℕ) (ls : List ℤ) (classes parents counts : Lis
   not-refused P before none = not-false-true (universal n es x) (λ q. none .1 .1 .1 .1 .1 .0 13 0 (refl, refl, q))
 
   module _ (forest : Forest (variables n es) (Shares ls) (lent (variables n es) classes parents)) where
-    -- Demand 2: for the formula's own forest, what the set call writes where it is not refused is the standard dependency set.
-    pub set-is-dependencies : (before after : List ℕ) (count : ℕ)
-        → SetListed n es ls classes parents counts x before after (Count count)
-        → (list : List ℕ) × Listed (Depends (variables n es) (Shares ls) x) list × (count ≡ length list) × (after ≡ sets before 0 list)
-    set-is-dependencies before after count (none, written) =
-        let u = universal-alone n es x (not-refused (Members n es ls classes parents x) before none) in
-        (written .0, listed-as (λ y. let same = set-members {y = y} (lawful n es) forest u in (same .1, same .0)) (written .1), written .2, written .3)
+    -- By the forest, the set by either scheme is what depends on x by it.
+    members-depend : (scheme : Scheme) → Universal (variables n es) x → (y : ℕ) → MembersBy scheme n es ls classes parents x y ↔ DependsBy scheme n es ls x y
+    members-depend Scheme.Standard u y = Iff·symm (set-members (lawful n es) forest u)
+    members-depend Scheme.Strict u y = Iff·symm (strict-members (lawful n es) forest u)
+
+    -- Demand 2: for the formula's own forest, what the set call writes where it is not refused is the dependency set by the scheme asked for.
+    pub set-is-dependencies : (scheme : Scheme) (before after : List ℕ) (count : ℕ)
+        → SetListedBy scheme n es ls classes parents counts x before after (Count count)
+        → (list : List ℕ) × Listed (DependsBy scheme n es ls x) list × (count ≡ length list) × (after ≡ sets before 0 list)
+    set-is-dependencies scheme before after count (none, written) =
+        let u = universal-alone n es x (not-refused (MembersBy scheme n es ls classes parents x) before none) in
+        (written .0, listed-as (members-depend scheme u) (written .1), written .2, written .3)
 
     -- And what the entry point call answers is the class of definition 4.24, said by reach.
     pub entry-is-class : (y : ℕ) (class : Variable) (rises : ℕ)
@@ -157,9 +165,9 @@ module _ (n : ℕ) (es classes parents counts : List ℕ) (x y : ℕ) where
       let (k, p) = same-refusal (judged-unique (entryOrder n es classes parents counts x y) (Refused number place) (Refused number′ place′) first first′) in
       ap₂ EntryAnswer.Refused k p
 
--- The size call: what was lent settles its answer, and it is the count of what the set call lists.
-module _ (n : ℕ) (es : List ℕ) (ls : List ℤ) (classes parents counts : List ℕ) (x : ℕ) where
-  pub size-settled : (r r′ : Filled) → Sized n es ls classes parents counts x r → Sized n es ls classes parents counts x r′ → r ≡ r′
+-- The size call, by a scheme: what was lent settles its answer, and it is the count of what the set call lists.
+module _ (n : ℕ) (es : List ℕ) (ls : List ℤ) (classes parents counts : List ℕ) (x : ℕ) (scheme : Scheme) where
+  pub size-settled : (r r′ : Filled) → SizedBy scheme n es ls classes parents counts x r → SizedBy scheme n es ls classes parents counts x r′ → r ≡ r′
   size-settled (Filled.Count k) (Filled.Count k′) (none, a) (none′, b) = ap Count (a .2 ∙ ap (sum (row n counts)) (listed-one (a .0) (b .0) (a .1) (b .1)) ∙ sym (b .2))
   size-settled (Filled.Count k) (Filled.Refused number place) (none, a) first = absurd (accepted-or-refused (judged-unique (readOrder n es ls classes parents counts x) Accepted (Refused number place) none first))
   size-settled (Filled.Refused number place) (Filled.Count k) first (none, a) = absurd (accepted-or-refused (judged-unique (readOrder n es ls classes parents counts x) Accepted (Refused number place) none first))
@@ -167,7 +175,7 @@ module _ (n : ℕ) (es : List ℕ) (ls : List ℤ) (classes parents counts : Lis
       let (k, p) = same-refusal (judged-unique (readOrder n es ls classes parents counts x) (Refused number place) (Refused number′ place′) first first′) in
       ap₂ Filled.Refused k p
 
-  pub size-is-count : (size count : ℕ) (before after : List ℕ) → Sized n es ls classes parents counts x (Count size) → SetListed n es ls classes parents counts x before after (Count count) → size ≡ count
+  pub size-is-count : (size count : ℕ) (before after : List ℕ) → SizedBy scheme n es ls classes parents counts x (Count size) → SetListedBy scheme n es ls classes parents counts x before after (Count count) → size ≡ count
   size-is-count size count before after (none, a) (none′, b) =
       let forest = none .1 .1 .1 .1 .0 in
-      a .2 ∙ size-is-length (none-formed forest) (none-counted forest) (a .1) (b .1) ∙ sym (b .2)
+      a .2 ∙ size-is-length (none-formed forest) (none-counted forest) (scheme-points n es ls classes parents x scheme) (a .1) (b .1) ∙ sym (b .2)

@@ -8,22 +8,19 @@ use native.Mathlib.Decide.{decLt}
 use native.Mathlib.Omega.{arith}
 use lib.ListN.{getD, replicate, length-replicate, getD-replicate, List·getD-eq-default}
 use Rattle.terms.specs.Refusals.{None}
-use Rattle.terms.specs.declared.Verdict.the-variants.{Accepted}
 use Rattle.terms.proofs.Common.{clash}
 use Rattle.formula.specs.Meaning.{level, isExistential}
 use Rattle.formula.specs.Levels.{SoundPrefix, Levelled}
 use Rattle.connection.specs.Reach.{Variables, Lawful}
-use Rattle.connection.specs.Tables.{Table, row, lent, WellFormed, EntryPoint, EntryPointOf, Member, Climbed}
+use Rattle.connection.specs.Tables.{Table, row, lent, WellFormed, EntryPoint, EntryPointOf, MemberBy, Climbed}
 use Rattle.connection.proofs.Climb.{above-class, entry-one, entry-climb, entry-rises}
 use Rattle.connection.proofs.Sets.{member-deeper, member-climb}
 use Rattle.forest.specs.Formula.{variables, tabled, existentialIn, universalIn}
 use Rattle.forest.specs.Causes.{ForestCause, NotUniversal, NotDeeper}
 use Rattle.forest.specs.Answers.{Entry}
-use Rattle.forest.specs.Search.{rowsOf, Deeper, EntryRows, TopRows, Flagged, Via, Blank, Enters}
+use Rattle.forest.specs.Search.{rowsOf, Deeper, EntryRows, Flagged, Via, Blank}
 use Rattle.forest.proofs.Readings.{flag-within}
-use Rattle.forest.proofs.Climbing.{tops-entries}
-use Rattle.forest.proofs.Flags.{flag-as}
-use Rattle.forest.proofs.Agreeing.{Same, same-back, formed-same, deeper-same, entry-same, entry-row-same, tables-agree, level-agrees, universal-agrees, universal-within, lawful, none-formed}
+use Rattle.forest.proofs.Agreeing.{Same, same-back, formed-same, deeper-same, entry-same, tables-agree, level-agrees, universal-agrees, universal-within, none-formed}
 
 -- A new table of flags, and what is flagged in it.
 pub fresh : Blank (replicate 4097 false)
@@ -72,26 +69,26 @@ module _ {X : Variables} {W : Table} (law : Lawful X) (formed : WellFormed X W) 
             let (k, p) = rows v .found (o .existential, o .deeper) in
             record { for = v; holds = o .shares; is = entry-one formed p (o .entry) .0; some = λ z. let a = entry-within (o .existential) (o .entry) .0 in omega arith }
 
-    -- Those whose entry is an entry point of x are the set of x.
-    pub members-of : {S : ℕ → ℕ → Type 0} (entered : List Bool) → ((e : ℕ) → e ≤ X .count → (getD entered e false ≡ true) ↔ EntryPointOf X W S x e) → (y : ℕ) → (getD entered (row (X .count) tops y) false ≡ true) ↔ Member X W S x y
-    members-of {S} entered tells y = (there, back)
+    -- Those whose entry is one of some entry points of x are the members by these.
+    pub members-of : {P : ℕ → Type 0} {S : ℕ → ℕ → Type 0} → ((e : ℕ) → P e → EntryPointOf X W S x e) → (entered : List Bool) → ((e : ℕ) → e ≤ X .count → (getD entered e false ≡ true) ↔ P e) → (y : ℕ) → (getD entered (row (X .count) tops y) false ≡ true) ↔ MemberBy X W P y
+    members-of {P} {S} points entered tells y = (there, back)
       where
         -- no entry is no entry point
         some : getD entered (row (X .count) tops y) false ≡ true → row (X .count) tops y ≢ 0
-        some t z = let a = of-within (tells 0 (omega arith) .0 (ap (λ e. getD entered e false) (sym z) ∙ t)) .0 in omega arith
+        some t z = let a = of-within (points 0 (tells 0 (omega arith) .0 (ap (λ e. getD entered e false) (sym z) ∙ t))) .0 in omega arith
 
-        there : getD entered (row (X .count) tops y) false ≡ true → Member X W S x y
+        there : getD entered (row (X .count) tops y) false ≡ true → MemberBy X W P y
         there t =
             let (deep, found) = row-found y (some t) in
             let (k, p) = found in
             record { existential = deep .0; entry = row (X .count) tops y; entered = tells (row (X .count) tops y) (entry-within (deep .0) p .1) .0 t; rises = k; below = p .above }
 
-        back : Member X W S x y → getD entered (row (X .count) tops y) false ≡ true
+        back : MemberBy X W P y → getD entered (row (X .count) tops y) false ≡ true
         back m =
-            let f = member-deeper formed m in
+            let f = member-deeper formed points m in
             let (k, p) = rows y .found (f .existential, f .deep) in
             let top = ap (λ (c : Climbed). c .top) (entry-climb formed p) in
-            tells (row (X .count) tops y) (entry-within (f .existential) p .1) .1 (subst (EntryPointOf X W S x) top (member-climb formed (f .existential) (f .deep) .0 m))
+            tells (row (X .count) tops y) (entry-within (f .existential) p .1) .1 (subst P top (member-climb formed points (f .existential) (f .deep) .0 m))
 
 pub tabled-lawful : (n : ℕ) (levels : List ℕ) (universals : List Bool) → Lawful (tabled n levels universals)
 unfolding existentialIn
@@ -107,16 +104,6 @@ module _ {n : ℕ} {es levels : List ℕ} {universals : List Bool} (sound : Soun
 module _ {n : ℕ} {es levels : List ℕ} {universals : List Bool} (sound : SoundPrefix n es) (table : Levelled es levels universals) (classes parents : List ℕ) (x : ℕ) where
   pub own-level : universalIn n universals x ≡ true → getD levels x 0 ≡ level es x
   own-level u = level-agrees sound table x (universal-within n es x (sym (universal-agrees sound table x) ∙ u) .1)
-
-  -- The tops over the level of x, and the flags of those of variables that share a clause with x.
-  pub sound-enters : {S : ℕ → ℕ → Type 0} (floor : ℕ) (tops : List ℕ) {old new : List Bool} → WellFormed (tabled n levels universals) (rowsOf n classes parents) → universalIn n universals x ≡ true → floor ≡ getD levels x 0
-      → TopRows (tabled n levels universals) (rowsOf n classes parents) floor tops → Flagged (Via n tops (S x)) old new → Enters (variables n es) (lent (variables n es) classes parents) S x tops old new Accepted
-  unfolding lent
-  sound-enters {S} floor tops formed u low tops-are f =
-      let s = tables-agree sound table in
-      let own = own-level u in
-      let rows : EntryRows (variables n es) (lent (variables n es) classes parents) x tops = λ y. entry-row-same s formed own (tops-entries formed floor tops low tops-are y) in
-      (rows, flag-as f (entries-of (lawful n es) (formed-same s formed) tops rows))
 
   -- x universal by the level table is universal.
   pub sound-universal : {b : Bool} → b ≡ universalIn n universals x → b ≡ true → NotUniversal n es x → ⊥

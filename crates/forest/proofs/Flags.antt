@@ -1,8 +1,8 @@
 -- Tables of flags: one flag more, and the tops of the variables of clauses that are passed one after the other.
-use Prim.Native.Nat.{ℕ, zero, suc, _+_, _-_, _≤_, _<_}
+use Prim.Native.Nat.{ℕ, _+_, _-_, _≤_, _<_}
 use mathlib.Core.Path.{_≡_, refl, sym, ap, _∙_, subst}
 use mathlib.Core.Bool.{Bool, true, false, not-eq-not}
-use mathlib.Core.List.{List, [], _∷_, map, List·Memᴰ, List·Memᴰ·head, List·Memᴰ·tail, List·Memᴰ·not-nil, List·Memᴰ·cases-cons}
+use mathlib.Core.List.{List, [], _∷_, map, List·Memᴰ, List·Memᴰ·head, List·Memᴰ·tail, List·Memᴰ·not-nil, List·Memᴰ·cases-cons, Memᴰ·map, Memᴰ·of-map}
 use mathlib.Core.Logic.{_≢_, _⊎_, inl, inr, ⊎-elim, _↔_, by-cases}
 use native.Mathlib.Decide.{ℕ-discrete, decLt}
 use native.Mathlib.Omega.{arith}
@@ -18,8 +18,9 @@ use Rattle.formula.proofs.Signs.{connected-none, connected-all}
 use Rattle.connection.specs.Reach.{Joined}
 use Rattle.connection.proofs.Choice.{choice}
 use Rattle.connection.specs.Tables.{row}
-use Rattle.forest.specs.Formula.{joined, Shares}
-use Rattle.forest.specs.Search.{Has, Connects, Flagged, Via}
+use Rattle.forest.specs.Formula.{signed, joined, SharesBy}
+use Rattle.forest.specs.Search.{Has, HasLiteral, Connects, Flagged, Via}
+use Rattle.forest.proofs.Sides.{signed-variable, mem-at, one-sign}
 
 -- One flag.
 pub flag-set : (old : List Bool) (v : ℕ) → v < length old → Flagged (λ w. w ≡ v) old (set old v true)
@@ -66,7 +67,7 @@ next-one {ls} {s} {z} {y} a b =
 pub has-none : (ls : List ℤ) (start v : ℕ) → Has ls start start v → ⊥
 has-none ls start v h = let a = h .from in let b = h .before in omega arith
 
-pub has-more : (ls : List ℤ) (start i v : ℕ) → start ≤ i → (Has ls start i v ⊎ (v ≡ variableOf (literalAt ls i))) ↔ Has ls start (i + 1) v
+has-more : (ls : List ℤ) (start i v : ℕ) → start ≤ i → (Has ls start i v ⊎ (v ≡ variableOf (literalAt ls i))) ↔ Has ls start (i + 1) v
 has-more ls start i v low = (⊎-elim (λ h. record { place = h .place; from = h .from; before = let l = h .before in omega arith; is = h .is }) (λ q. record { place = i; from = low; before = omega arith; is = sym q }), back)
   where
     back : Has ls start (i + 1) v → Has ls start i v ⊎ (v ≡ variableOf (literalAt ls i))
@@ -86,39 +87,40 @@ has-front ls i end v some high is w = (⊎-elim (λ h. record { place = h .place
         by-cases (ℕ-discrete (h .place) (i - 1)) (λ q. inr (sym (h .is) ∙ ap (λ e. variableOf (literalAt ls e)) q ∙ sym is))
         (λ other. inl (record { place = h .place; from = let f = h .from in omega arith; before = h .before; is = h .is }))
 
--- The variables of the entries from start up to z, as a list.
-mem-map : {A : Type 0} (f : A → ℕ) (d : A) (v : ℕ) (l : List A) → List·Memᴰ v (map f l) ↔ ((i : ℕ) × (i < length l) × (f (getD l i d) ≡ v))
-mem-map f d v [] = (λ m. absurd (List·Memᴰ·not-nil m), λ h. absurd (let l = h .1 in omega arith))
-mem-map f d v (a ∷ l) =
-    (λ m. ⊎-elim (λ q. (0, omega arith, sym q)) (λ m′. let (i, less, q) = mem-map f d v l .0 m′ in (suc i, omega arith, q)) (List·Memᴰ·cases-cons m), λ h. back (h .0) (h .1) (h .2) (mem-map f d v l .1))
-  where
-    back : (i : ℕ) → i < suc (length l) → f (getD (a ∷ l) i d) ≡ v → ((i : ℕ) × (i < length l) × (f (getD l i d) ≡ v) → List·Memᴰ v (map f l)) → List·Memᴰ v (map f (a ∷ l))
-    back zero less q later = List·Memᴰ·head (sym q)
-    back (suc i) less q later = List·Memᴰ·tail (later (i, omega arith, q))
+-- The literals and the variables of the entries from start up to z, as lists.
+module _ (ls : List ℤ) (start z : ℕ) (from : start ≤ z) (to : z ≤ length ls) where
+  clause-size : length (take (z - start) (drop start ls)) ≡ z - start
+  clause-size = length-take-le (z - start) (drop start ls) (rw (length-drop start ls) (omega arith))
 
-clause-has : (ls : List ℤ) (start z v : ℕ) → start ≤ z → z ≤ length ls → List·Memᴰ v (map variableOf (take (z - start) (drop start ls))) ↔ Has ls start z v
-clause-has ls start z v from to = (there, back)
-  where
-    size : length (take (z - start) (drop start ls)) ≡ z - start
-    size = length-take-le (z - start) (drop start ls) (rw (length-drop start ls) (omega arith))
+  clause-entry : (i : ℕ) → i < z - start → getD (take (z - start) (drop start ls)) i (pos 0) ≡ literalAt ls (start + i)
+  clause-entry i l = getD-take (z - start) (drop start ls) i (pos 0) l ∙ getD-drop start ls i (pos 0)
 
-    entry : (i : ℕ) → i < z - start → getD (take (z - start) (drop start ls)) i (pos 0) ≡ literalAt ls (start + i)
-    entry i l = getD-take (z - start) (drop start ls) i (pos 0) l ∙ getD-drop start ls i (pos 0)
+  clause-literal : (literal : ℤ) → List·Memᴰ literal (take (z - start) (drop start ls)) ↔ HasLiteral ls start z literal
+  clause-literal literal = (there, back)
+    where
+      there : List·Memᴰ literal (take (z - start) (drop start ls)) → HasLiteral ls start z literal
+      there m =
+          let (i, l, q) = mem-at (pos 0) literal (take (z - start) (drop start ls)) .0 m in
+          let less : i < z - start = subst (λ k. i < k) clause-size l in
+          record { place = start + i; from = omega arith; before = omega arith; is = sym (clause-entry i less) ∙ q }
 
-    there : List·Memᴰ v (map variableOf (take (z - start) (drop start ls))) → Has ls start z v
-    there m =
-        let (i, l, q) = mem-map variableOf (pos 0) v (take (z - start) (drop start ls)) .0 m in
-        let less : i < z - start = subst (λ k. i < k) size l in
-        record { place = start + i; from = omega arith; before = omega arith; is = ap variableOf (sym (entry i less)) ∙ q }
+      back : HasLiteral ls start z literal → List·Memᴰ literal (take (z - start) (drop start ls))
+      back h =
+          let a = h .from in
+          let b = h .before in
+          let less : h .place - start < z - start = omega arith in
+          let there′ : start + (h .place - start) ≡ h .place = omega arith in
+          mem-at (pos 0) literal (take (z - start) (drop start ls)) .1
+          (h .place - start, subst (λ k. h .place - start < k) (sym clause-size) less, clause-entry (h .place - start) less ∙ ap (λ e. literalAt ls e) there′ ∙ h .is)
 
-    back : Has ls start z v → List·Memᴰ v (map variableOf (take (z - start) (drop start ls)))
-    back h =
-        let a = h .from in
-        let b = h .before in
-        let less : h .place - start < z - start = omega arith in
-        let there′ : start + (h .place - start) ≡ h .place = omega arith in
-        mem-map variableOf (pos 0) v (take (z - start) (drop start ls)) .1
-        (h .place - start, subst (λ k. h .place - start < k) (sym size) less, ap variableOf (entry (h .place - start) less) ∙ ap (λ e. variableOf (literalAt ls e)) there′ ∙ h .is)
+  clause-has : (v : ℕ) → List·Memᴰ v (map variableOf (take (z - start) (drop start ls))) ↔ Has ls start z v
+  clause-has v = (
+    λ m. let (literal, l, q) = Memᴰ·of-map variableOf (take (z - start) (drop start ls)) m in
+        let h = clause-literal literal .0 l in
+        record { place = h .place; from = h .from; before = h .before; is = ap variableOf (h .is) ∙ q },
+    λ h. subst (λ w. List·Memᴰ w (map variableOf (take (z - start) (drop start ls)))) (h .is)
+        (Memᴰ·map variableOf (clause-literal (literalAt ls (h .place)) .1 (record { place = h .place; from = h .from; before = h .before; is = refl }))),
+  )
 
 -- v shares one of the clauses from `start` on with x.
 abbrev pub Rest : List ℤ → ℕ → ℕ → ℕ → Type 0
@@ -134,7 +136,7 @@ joined-cons {c} {cs} {a} {b} = (λ j. go j (List·Memᴰ·cases-cons (j .listed)
 module _ (ls : List ℤ) (start z : ℕ) (from : start ≤ z) (to : z ≤ length ls) where
   -- A clause that is not always true connects the variables it has, and any other none.
   pub connects-all : alwaysTrue (take (z - start) (drop start ls)) ≡ false → (v : ℕ) → Connects ls start z v ↔ Has ls start z v
-  connects-all q v = subst (λ vs. List·Memᴰ v vs ↔ Has ls start z v) (sym (connected-all (take (z - start) (drop start ls)) q)) (clause-has ls start z v from to)
+  connects-all q v = subst (λ vs. List·Memᴰ v vs ↔ Has ls start z v) (sym (connected-all (take (z - start) (drop start ls)) q)) (clause-has ls start z from to v)
 
   connects-none : alwaysTrue (take (z - start) (drop start ls)) ≡ true → (v : ℕ) → Connects ls start z v → ⊥
   connects-none q v m = List·Memᴰ·not-nil (subst (λ vs. List·Memᴰ v vs) (connected-none (take (z - start) (drop start ls)) q) m)
@@ -147,9 +149,6 @@ module _ (ls : List ℤ) (start z : ℕ) (from : start ≤ z) (to : z ≤ length
   pub connects-open : (v : ℕ) → Connects ls start z v → alwaysTrue (take (z - start) (drop start ls)) ≡ false
   connects-open v m = not-eq-not {b = false} .0 (λ t. connects-none t v m)
 
-  connects-other : (v w : ℕ) → Has ls start z w → Connects ls start z v → Connects ls start z w
-  connects-other v w h m = choice {A = Bool} (λ _. Connects ls start z w) (alwaysTrue (take (z - start) (drop start ls))) {x = true} {y = true} (λ t. absurd (connects-none t v m)) (λ f. connects-all f w .1 h)
-
 module _ (ls : List ℤ) (x start z : ℕ) (next : NextZero ls start z) (closed : z < length ls) where
   -- The clauses from `start` on are the one up to the next 0, and those after it.
   pub rest-split : (v : ℕ) → Rest ls x start v ↔ ((Connects ls start z x × Connects ls start z v) ⊎ Rest ls x (z + 1) v)
@@ -157,6 +156,34 @@ module _ (ls : List ℤ) (x start z : ℕ) (next : NextZero ls start z) (closed 
   rest-split v =
       let cut : joined (drop start ls) ≡ connected (take (z - start) (drop start ls)) ∷ joined (drop (z + 1) ls) = ap (map connected) (clauses-closed ls start z next closed) in
       (λ j. joined-cons .0 (subst (λ cs. Joined cs x v) cut j), λ s. subst (λ cs. Joined cs x v) (sym cut) (joined-cons .1 s))
+
+-- The same of the clauses that have the literal of x with a sign.
+module _ (ls : List ℤ) (sign : Bool) (x start z : ℕ) (next : NextZero ls start z) (closed : z < length ls) where
+  signed-split : (v : ℕ) → SharesBy (drop start ls) sign x v ↔ ((HasLiteral ls start z (signed sign x) × Connects ls start z v) ⊎ SharesBy (drop (z + 1) ls) sign x v)
+  signed-split v = (there, back)
+    where
+      cut : clauses (drop start ls) ≡ take (z - start) (drop start ls) ∷ clauses (drop (z + 1) ls)
+      cut = clauses-closed ls start z next closed
+
+      has : List·Memᴰ (signed sign x) (take (z - start) (drop start ls)) ↔ HasLiteral ls start z (signed sign x)
+      has = clause-literal ls start z (next .from) (omega arith) (signed sign x)
+
+      there : SharesBy (drop start ls) sign x v → (HasLiteral ls start z (signed sign x) × Connects ls start z v) ⊎ SharesBy (drop (z + 1) ls) sign x v
+      there s =
+          ⊎-elim (λ q. inl (has .0 (subst (List·Memᴰ (signed sign x)) q (s .literal)), subst (λ c. List·Memᴰ v (connected c)) q (s .connects)))
+          (λ later. inr (record { clause = s .clause; listed = later; literal = s .literal; connects = s .connects }))
+          (List·Memᴰ·cases-cons (subst (List·Memᴰ (s .clause)) cut (s .listed)))
+
+      back : (HasLiteral ls start z (signed sign x) × Connects ls start z v) ⊎ SharesBy (drop (z + 1) ls) sign x v → SharesBy (drop start ls) sign x v
+      back = ⊎-elim (λ h. record { clause = take (z - start) (drop start ls); listed = subst (List·Memᴰ (take (z - start) (drop start ls))) (sym cut) (List·Memᴰ·head refl); literal = has .1 (h .0); connects = h .1 })
+          (λ s. record { clause = s .clause; listed = subst (List·Memᴰ (s .clause)) (sym cut) (List·Memᴰ·tail (s .listed)); literal = s .literal; connects = s .connects })
+
+-- A clause that connects anything has x in one sign only.
+pub sides-apart : (ls : List ℤ) (x start z : ℕ) → NextZero ls start z → z < length ls → (v : ℕ) → HasLiteral ls start z (signed true x) → HasLiteral ls start z (signed false x) → Connects ls start z v → ⊥
+sides-apart ls x start z next closed v p q c =
+    let literal = clause-literal ls start z (next .from) (omega arith) in
+    let some : x ≢ 0 = λ zero′. next .literals (p .place) (p .from) (p .before) (ap variableOf (p .is) ∙ signed-variable true x ∙ zero′) in
+    one-sign (take (z - start) (drop start ls)) x v some (literal (signed true x) .1 p) (literal (signed false x) .1 q) c
 
 -- The tops of those variables of which P holds: nothing more where P holds of nothing more, and those of two together.
 pub via-as : {n : ℕ} {tops : List ℕ} {P Q : ℕ → Type 0} {e : ℕ} → ((v : ℕ) → P v → Q v) → Via n tops P e → Via n tops Q e
@@ -193,45 +220,42 @@ module _ (n : ℕ) (tops : List ℕ) {P Q : ℕ → Type 0} (v top : ℕ) (more 
       flag-as (flag-then f g)
       (λ e. (⊎-elim (tops-before e) (λ q. record { for = v; holds = more v .0 (inr refl); is = sym above ∙ sym q; some = λ z. some (sym q ∙ z) }), tops-more e))
 
--- What is flagged, and what is to come, are the flags at first and the tops of all that share a clause with x.
-pub record Sharing (n : ℕ) (tops : List ℕ) (ls : List ℤ) (x : ℕ) (old new : List Bool) (start : ℕ) : Type 0 where
+-- What is flagged, and what is to come, are the flags at first and the tops of all that share a clause with the literal of x.
+pub record Sharing (n : ℕ) (tops : List ℕ) (ls : List ℤ) (sign : Bool) (x : ℕ) (old new : List Bool) (start : ℕ) : Type 0 where
   pub size : length new ≡ length old
-  pub flags : (e : ℕ) → e < length old → ((getD new e false ≡ true) ⊎ Via n tops (Rest ls x start) e) ↔ ((getD old e false ≡ true) ⊎ Via n tops (Shares ls x) e)
+  pub flags : (e : ℕ) → e < length old → ((getD new e false ≡ true) ⊎ Via n tops (SharesBy (drop start ls) sign x) e) ↔ ((getD old e false ≡ true) ⊎ Via n tops (SharesBy ls sign x) e)
 
-pub share-none : (n : ℕ) (tops : List ℕ) (ls : List ℤ) (x : ℕ) (old : List Bool) → Sharing n tops ls x old old 0
-share-none n tops ls x old = record { size = refl; flags = λ v l. (λ s. s, λ s. s) }
+pub share-none : (n : ℕ) (tops : List ℕ) (ls : List ℤ) (sign : Bool) (x : ℕ) (old : List Bool) → Sharing n tops ls sign x old old 0
+share-none n tops ls sign x old = record { size = refl; flags = λ v l. (λ s. s, λ s. s) }
 
-module _ {n : ℕ} {tops : List ℕ} {ls : List ℤ} {x : ℕ} {old new : List Bool} {start : ℕ} (s : Sharing n tops ls x old new start) where
-  -- A clause that has x: the tops of the variables that it connects are flagged.
-  pub share-has : {next : List Bool} (z : ℕ) → NextZero ls start z → z < length ls → Has ls start z x → Flagged (Via n tops (Connects ls start z)) new next → Sharing n tops ls x old next (z + 1)
+module _ {n : ℕ} {tops : List ℕ} {ls : List ℤ} {sign : Bool} {x : ℕ} {old new : List Bool} {start : ℕ} (s : Sharing n tops ls sign x old new start) where
+  -- A clause that has the literal: the tops of the variables that it connects are flagged.
+  pub share-has : {next : List Bool} (z : ℕ) → NextZero ls start z → z < length ls → HasLiteral ls start z (signed sign x) → Flagged (Via n tops (Connects ls start z)) new next → Sharing n tops ls sign x old next (z + 1)
   share-has z closes less here f =
       record {
         size = f .size ∙ s .size;
         flags = λ e l.
             let m = s .flags e l in
             let k = f .flags e (let q = s .size in omega arith) in
-            let split : (v : ℕ) → Rest ls x start v ↔ ((Connects ls start z x × Connects ls start z v) ⊎ Rest ls x (z + 1) v) = rest-split ls x start z closes less in
-            let with-x : (v : ℕ) → Connects ls start z v → Connects ls start z x = λ v h. connects-other ls start z (closes .from) (omega arith) v x here h in (
-              ⊎-elim (λ t. ⊎-elim (λ o. m .0 (inl o)) (λ h. m .0 (inr (via-as (λ v h′. split v .1 (inl (with-x v h′, h′))) h))) (k .0 t)) (λ r. m .0 (inr (via-as (λ v r′. split v .1 (inr r′)) r))),
+            let split = signed-split ls sign x start z closes less in (
+              ⊎-elim (λ t. ⊎-elim (λ o. m .0 (inl o)) (λ h. m .0 (inr (via-as (λ v h′. split v .1 (inl (here, h′))) h))) (k .0 t)) (λ r. m .0 (inr (via-as (λ v r′. split v .1 (inr r′)) r))),
               λ t. ⊎-elim (λ o. inl (k .1 (inl o))) (λ r. ⊎-elim (λ h. inl (k .1 (inr (via-as (λ v b. b .1) h)))) inr (via-or (via-as (λ v r′. split v .0 r′) r))) (m .1 t),
             );
       }
 
-  -- A clause that does not: nothing is.
-  pub share-not : (z : ℕ) → NextZero ls start z → z < length ls → (Has ls start z x → ⊥) → Sharing n tops ls x old new (z + 1)
+  -- A clause that does not, or that connects nothing: nothing is.
+  pub share-not : (z : ℕ) → NextZero ls start z → z < length ls → ((v : ℕ) → HasLiteral ls start z (signed sign x) → Connects ls start z v → ⊥) → Sharing n tops ls sign x old new (z + 1)
   share-not z closes less none =
       record {
         size = s .size;
         flags = λ e l.
             let m = s .flags e l in
-            let split : (v : ℕ) → Rest ls x start v ↔ ((Connects ls start z x × Connects ls start z v) ⊎ Rest ls x (z + 1) v) = rest-split ls x start z closes less in
-            let without-x : Connects ls start z x → ⊥ = λ h. none (connects-has ls start z (closes .from) (omega arith) x h) in (
+            let split = signed-split ls sign x start z closes less in (
               ⊎-elim (λ o. m .0 (inl o)) (λ r. m .0 (inr (via-as (λ v r′. split v .1 (inr r′)) r))),
-              λ t. ⊎-elim inl (λ r. inr (via-as (λ v r′. ⊎-elim (λ h. absurd (without-x (h .0))) (λ later. later) (split v .0 r′)) r)) (m .1 t),
+              λ t. ⊎-elim inl (λ r. inr (via-as (λ v r′. ⊎-elim (λ h. absurd (none v (h .0) (h .1))) (λ later. later) (split v .0 r′)) r)) (m .1 t),
             );
       }
 
   -- No clause is left.
-  pub share-all : clauses (drop start ls) ≡ [] → Flagged (Via n tops (Shares ls x)) old new
-  unfolding joined
-  share-all none = record { size = s .size; flags = λ e l. (λ t. s .flags e l .0 (inl t), λ t. ⊎-elim (λ o. o) (λ r. absurd (List·Memᴰ·not-nil (subst (λ cs. List·Memᴰ (r .holds .clause) (map connected cs)) none (r .holds .listed)))) (s .flags e l .1 t)) }
+  pub share-all : clauses (drop start ls) ≡ [] → Flagged (Via n tops (SharesBy ls sign x)) old new
+  share-all none = record { size = s .size; flags = λ e l. (λ t. s .flags e l .0 (inl t), λ t. ⊎-elim (λ o. o) (λ r. absurd (List·Memᴰ·not-nil (subst (List·Memᴰ (r .holds .clause)) none (r .holds .listed)))) (s .flags e l .1 t)) }

@@ -3,9 +3,13 @@ pub mod Formed
 pub mod Climbing
 pub mod Tops
 pub mod Picked
+pub mod Sides
 pub mod Flags
 pub mod Agreeing
 pub mod Counting
 pub mod Entered
+pub mod Schemes
 pub mod Listings
 pub mod Demands
+pub mod Strict
+pub mod Sample

@@ -7,12 +7,15 @@ use Rattle.terms.specs.Refusals.{Causes, FirstOf, NoneOf}
 use Rattle.terms.specs.declared.Filled.{Filled}
 use Rattle.terms.specs.declared.Filled.the-variants.{Count}
 use Rattle.formula.specs.Meaning.{level}
-use Rattle.connection.specs.Tables.{row, lent, EntryPoint, EntryPointOf, Member}
+use Rattle.connection.specs.Reach.{Depends, StrictlyDepends}
+use Rattle.connection.specs.Tables.{row, lent, EntryPoint, EntryPointOf, StrictEntryOf, MemberBy}
 use Rattle.connection.specs.Listed.{Listed}
 use Rattle.connection.specs.Counts.{sum}
 use Rattle.forest.specs.declared.EntryAnswer.{EntryAnswer}
 use Rattle.forest.specs.declared.EntryAnswer.the-variants.{At, Refused}
-use Rattle.forest.specs.Formula.{variables, Shares}
+use Rattle.forest.specs.declared.Scheme.{Scheme}
+use Rattle.forest.specs.declared.Scheme.the-variants.{Standard, Strict}
+use Rattle.forest.specs.Formula.{variables, Shares, SharesBy}
 use Rattle.forest.specs.Causes.{entryOrder, readOrder, listOrder}
 use Rattle.forest.specs.Listed.{Listing}
 
@@ -25,30 +28,56 @@ Answered order P (Refused number place) = FirstOf order number place
 abbrev pub Entry : ℕ → List ℕ → List ℕ → List ℕ → ℕ → ℕ → ℕ → ℕ → Type 0
 Entry n es classes parents x y e rises = EntryPoint (variables n es) (lent (variables n es) classes parents) x y e rises × (rises ≤ level es y)
 
--- the entry points of x, by the lent tables
+-- the entry points of x by a scheme, by the lent tables: for the strict scheme those that both signs have
+abbrev pub EntriesBy : Scheme → ℕ → List ℕ → List ℤ → List ℕ → List ℕ → ℕ → ℕ → Type 0
+EntriesBy Standard n es ls classes parents x = EntryPointOf (variables n es) (lent (variables n es) classes parents) (Shares ls) x
+EntriesBy Strict n es ls classes parents x = StrictEntryOf (variables n es) (lent (variables n es) classes parents) (SharesBy ls) x
+
+-- the set of x by a scheme, by the lent tables: the members of every class at or below its entry points
+abbrev pub MembersBy : Scheme → ℕ → List ℕ → List ℤ → List ℕ → List ℕ → ℕ → ℕ → Type 0
+MembersBy scheme n es ls classes parents x = MemberBy (variables n es) (lent (variables n es) classes parents) (EntriesBy scheme n es ls classes parents x)
+
+-- the size of that set: the sum of the counts of its entry points
+abbrev pub SizeBy : Scheme → ℕ → List ℕ → List ℤ → List ℕ → List ℕ → List ℕ → ℕ → ℕ → Type 0
+SizeBy scheme n es ls classes parents counts x size = (entries : List ℕ) × Listed (EntriesBy scheme n es ls classes parents x) entries × (size ≡ sum (row n counts) entries)
+
+-- what a set by a scheme is on the formula's own forest (demand 2): all that depends on x, by reach
+abbrev pub DependsBy : Scheme → ℕ → List ℕ → List ℤ → ℕ → ℕ → Type 0
+DependsBy Standard n es ls x = Depends (variables n es) (Shares ls) x
+DependsBy Strict n es ls x = StrictlyDepends (variables n es) (SharesBy ls) (Shares ls) x
+
+-- entry points, set and size by the standard scheme
 abbrev pub Entries : ℕ → List ℕ → List ℤ → List ℕ → List ℕ → ℕ → ℕ → Type 0
-Entries n es ls classes parents x = EntryPointOf (variables n es) (lent (variables n es) classes parents) (Shares ls) x
+Entries n es ls classes parents x = EntriesBy Standard n es ls classes parents x
 
--- the set of x, by the lent tables
 abbrev pub Members : ℕ → List ℕ → List ℤ → List ℕ → List ℕ → ℕ → ℕ → Type 0
-Members n es ls classes parents x = Member (variables n es) (lent (variables n es) classes parents) (Shares ls) x
+Members n es ls classes parents x = MembersBy Standard n es ls classes parents x
 
--- the size of the set of x, by the lent tables: the sum of the counts of its entry points
 abbrev pub Size : ℕ → List ℕ → List ℤ → List ℕ → List ℕ → List ℕ → ℕ → ℕ → Type 0
-Size n es ls classes parents counts x size = (entries : List ℕ) × Listed (Entries n es ls classes parents x) entries × (size ≡ sum (row n counts) entries)
+Size n es ls classes parents counts x = SizeBy Standard n es ls classes parents counts x
 
 -- What each of the calls promises: its refusals in their order, its answer, and what it leaves in the lent output.
 abbrev pub EntryAnswered : ℕ → List ℕ → List ℕ → List ℕ → List ℕ → ℕ → ℕ → EntryAnswer → Type 0
 EntryAnswered n es classes parents counts x y = Answered (entryOrder n es classes parents counts x y) (Entry n es classes parents x y)
 
+abbrev pub EntriesListedBy : Scheme → ℕ → List ℕ → List ℤ → List ℕ → List ℕ → List ℕ → ℕ → List ℕ → List ℕ → Filled → Type 0
+EntriesListedBy scheme n es ls classes parents counts x before =
+    Listing (listOrder n es ls classes parents counts x (EntriesBy scheme n es ls classes parents x) before) (EntriesBy scheme n es ls classes parents x) before
+
+abbrev pub SetListedBy : Scheme → ℕ → List ℕ → List ℤ → List ℕ → List ℕ → List ℕ → ℕ → List ℕ → List ℕ → Filled → Type 0
+SetListedBy scheme n es ls classes parents counts x before =
+    Listing (listOrder n es ls classes parents counts x (MembersBy scheme n es ls classes parents x) before) (MembersBy scheme n es ls classes parents x) before
+
+abbrev pub SizedBy : Scheme → ℕ → List ℕ → List ℤ → List ℕ → List ℕ → List ℕ → ℕ → Filled → Type 0
+SizedBy scheme n es ls classes parents counts x (Count size) = NoneOf (readOrder n es ls classes parents counts x) × SizeBy scheme n es ls classes parents counts x size
+SizedBy scheme n es ls classes parents counts x (Filled.Refused number place) = FirstOf (readOrder n es ls classes parents counts x) number place
+
+-- A call that names no scheme means the standard one.
 abbrev pub EntriesListed : ℕ → List ℕ → List ℤ → List ℕ → List ℕ → List ℕ → ℕ → List ℕ → List ℕ → Filled → Type 0
-EntriesListed n es ls classes parents counts x before =
-    Listing (listOrder n es ls classes parents counts x (Entries n es ls classes parents x) before) (Entries n es ls classes parents x) before
+EntriesListed n es ls classes parents counts x = EntriesListedBy Standard n es ls classes parents counts x
 
 abbrev pub SetListed : ℕ → List ℕ → List ℤ → List ℕ → List ℕ → List ℕ → ℕ → List ℕ → List ℕ → Filled → Type 0
-SetListed n es ls classes parents counts x before =
-    Listing (listOrder n es ls classes parents counts x (Members n es ls classes parents x) before) (Members n es ls classes parents x) before
+SetListed n es ls classes parents counts x = SetListedBy Standard n es ls classes parents counts x
 
 abbrev pub Sized : ℕ → List ℕ → List ℤ → List ℕ → List ℕ → List ℕ → ℕ → Filled → Type 0
-Sized n es ls classes parents counts x (Count size) = NoneOf (readOrder n es ls classes parents counts x) × Size n es ls classes parents counts x size
-Sized n es ls classes parents counts x (Filled.Refused number place) = FirstOf (readOrder n es ls classes parents counts x) number place
+Sized n es ls classes parents counts x = SizedBy Standard n es ls classes parents counts x

@@ -1,9 +1,9 @@
--- A lent formula as the theory of connection takes it: its variables, and the joins of its clauses; and the same variables as the level table has them.
+-- A lent formula as the theory of connection takes it: its variables, the joins of its clauses, and those of a variable by its sign; and the same variables as the level table has them.
 use Prim.Native.Nat.{ℕ}
-use mathlib.Core.Bool.{Bool, false, not, _&&_}
-use mathlib.Core.List.{List, map}
+use mathlib.Core.Bool.{Bool, true, false, not, _&&_}
+use mathlib.Core.List.{List, map, List·Memᴰ}
 use lib.Dec.{leb}
-use lib.IntN.{ℤ}
+use lib.IntN.{ℤ, pos, negℤ}
 use lib.ListN.{getD}
 use Rattle.formula.specs.Meaning.{level, isUniversal, isExistential, clauses, connected}
 use Rattle.connection.specs.Reach.{Variables, Joined}
@@ -23,6 +23,18 @@ joined ls = map connected (clauses ls)
 -- two variables share a clause that connects
 abbrev pub Shares : List ℤ → ℕ → ℕ → Type 0
 Shares ls = Joined (joined ls)
+
+-- the literal of a variable with a sign: the variable itself, or its negation
+unfoldable pub signed : Bool → ℕ → ℤ
+signed true x = pos x
+signed false x = negℤ (pos x)
+
+-- some clause that connects y has the literal of x with the sign
+pub record SharesBy (ls : List ℤ) (sign : Bool) (x y : ℕ) : Type 0 where
+  pub clause : List ℤ
+  pub listed : List·Memᴰ clause (clauses ls)
+  pub literal : List·Memᴰ (signed sign x) clause
+  pub connects : List·Memᴰ y (connected clause)
 
 -- What the level table says, row v for variable v: existential, universal, and the variables as a whole.
 unfoldable pub existentialIn : ℕ → List Bool → ℕ → Bool

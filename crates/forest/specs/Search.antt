@@ -1,7 +1,7 @@
 -- What the inner functions find in lent rows, by the level table. What a reader must believe of the calls is in Causes, Answers and Listed.
 use Prim.Native.Nat.{ℕ, zero, suc, _+_, _-_, _≤_, _<_}
 use mathlib.Core.Path.{_≡_}
-use mathlib.Core.Bool.{Bool, true, false, cond}
+use mathlib.Core.Bool.{Bool, true, false, cond, _&&_, _||_}
 use mathlib.Core.List.{List, [], _∷_, _++_, List·Memᴰ}
 use mathlib.Core.Logic.{_⊎_, _≢_, _↔_}
 use lib.IntN.{ℤ}
@@ -15,13 +15,17 @@ use Rattle.terms.specs.declared.Filled.the-variants.{Count, Refused}
 use Rattle.formula.specs.Meaning.{connected}
 use Rattle.formula.specs.Tables.{literalAt}
 use Rattle.connection.specs.Reach.{Variables}
-use Rattle.connection.specs.Tables.{Table, row, lent, Above, EntryPoint, EntryPointOf}
+use Rattle.connection.specs.Tables.{Table, row, lent, Above, EntryPoint}
 use Rattle.forest.specs.declared.listing.Asked.{Asked}
 use Rattle.forest.specs.declared.listing.Asked.the-variants.{Points, Set}
+use Rattle.forest.specs.declared.marks.Side.{Side}
+use Rattle.forest.specs.declared.marks.Side.the-variants.{Neither, Positive, Negative}
+use Rattle.forest.specs.declared.Scheme.{Scheme}
+use Rattle.forest.specs.declared.Scheme.the-variants.{Standard, Strict}
 use Rattle.forest.specs.declared.search.Found.{Found}
 use Rattle.forest.specs.declared.search.Found.the-variants.{At, Nowhere}
 use Rattle.forest.specs.Formula.{tabled}
-use Rattle.forest.specs.Answers.{Entries, Members}
+use Rattle.forest.specs.Answers.{EntriesBy, MembersBy}
 
 -- a flag tells whether P holds
 abbrev pub Tells : Bool → Type 0 → Type 0
@@ -107,6 +111,19 @@ pub record Has (ls : List ℤ) (start end v : ℕ) : Type 0 where
   pub before : place < end
   pub is : variableOf (literalAt ls place) ≡ v
 
+-- the entries from start up to end have the literal
+pub record HasLiteral (ls : List ℤ) (start end : ℕ) (literal : ℤ) : Type 0 where
+  pub place : ℕ
+  pub from : start ≤ place
+  pub before : place < end
+  pub is : literalAt ls place ≡ literal
+
+-- a side says of which sign P holds
+abbrev pub Sided : Side → (Bool → Type 0) → Type 0
+Sided Neither P = (sign : Bool) → P sign → ⊥
+Sided Positive P = P true
+Sided Negative P = P false
+
 -- s is the last entry up to p with none but literals from it up to p, p not counted
 pub record LastZero (ls : List ℤ) (p s : ℕ) : Type 0 where
   pub most : s ≤ p
@@ -121,6 +138,20 @@ Connects ls start end v = List·Memᴰ v (connected (take (end - start) (drop st
 pub record Flagged (P : ℕ → Type 0) (old new : List Bool) : Type 0 where
   pub size : length new ≡ length old
   pub flags : (v : ℕ) → v < length old → (getD new v false ≡ true) ↔ ((getD old v false ≡ true) ⊎ P v)
+
+-- what a scheme takes: what holds of either sign, or what holds of both; and the same of flags
+abbrev pub Takes : Scheme → (Bool → Type 0) → Type 0
+Takes Standard P = P true ⊎ P false
+Takes Strict P = P true × P false
+
+unfoldable pub taking : Scheme → Bool → Bool → Bool
+taking Standard a b = a || b
+taking Strict a b = a && b
+
+-- a table of flags is what a scheme takes of two
+pub record Taken (scheme : Scheme) (flags others new : List Bool) : Type 0 where
+  pub size : length new ≡ length flags
+  pub flags-are : (v : ℕ) → v < length flags → getD new v false ≡ taking scheme (getD flags v false) (getD others v false)
 
 -- e is the top of a variable of which P holds
 pub record Via (n : ℕ) (tops : List ℕ) (P : ℕ → Type 0) (e : ℕ) : Type 0 where
@@ -143,15 +174,15 @@ picked f (suc m) = picked f m ++ cond (f (suc m)) (suc m ∷ []) []
 abbrev pub NoneUpto : (ℕ → Bool) → ℕ → Type 0
 NoneUpto f from = (v : ℕ) → 1 ≤ v → v ≤ from → f v ≡ false
 
--- what is asked for, by the lent tables
-abbrev pub Wanted : Asked → ℕ → List ℕ → List ℤ → List ℕ → List ℕ → ℕ → ℕ → Type 0
-Wanted Points n es ls classes parents x = Entries n es ls classes parents x
-Wanted Set n es ls classes parents x = Members n es ls classes parents x
+-- what is asked for, by a scheme and by the lent tables
+abbrev pub Wanted : Scheme → Asked → ℕ → List ℕ → List ℤ → List ℕ → List ℕ → ℕ → ℕ → Type 0
+Wanted scheme Points n es ls classes parents x = EntriesBy scheme n es ls classes parents x
+Wanted scheme Set n es ls classes parents x = MembersBy scheme n es ls classes parents x
 
--- where a call is not refused: the entry of every variable, and the entry points flagged
-abbrev pub Enters : Variables → Table → (ℕ → ℕ → Type 0) → ℕ → List ℕ → List Bool → List Bool → Verdict → Type 0
-Enters X W S x tops old new Accepted = EntryRows X W x tops × Flagged (EntryPointOf X W S x) old new
-Enters X W S x tops old new (Verdict.Refused number place) = Unit {0}
+-- where a call is not refused: the entry of every variable, and the entry points, by P, flagged
+abbrev pub Enters : Variables → Table → (ℕ → Type 0) → ℕ → List ℕ → List Bool → List Bool → Verdict → Type 0
+Enters X W P x tops old new Accepted = EntryRows X W x tops × Flagged P old new
+Enters X W P x tops old new (Verdict.Refused number place) = Unit {0}
 
 -- a table of flags with none set
 pub record Blank (flags : List Bool) : Type 0 where

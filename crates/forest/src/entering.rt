@@ -1,5 +1,6 @@
-// What the two calls that list share: every refusal but 14, and then the entry of each variable and the entry points of x.
+// What the calls for entry points, sets and sizes share: every refusal but 14, and then the entry of each variable and the entry points of x.
 
+use crate::Scheme;
 use crate::marks::flag_entries;
 use crate::rows::level_at;
 use crate::rows::universal_at;
@@ -15,12 +16,14 @@ ghost use Rattle.terms.specs.Refusals.{At0, Judged};
 ghost use Rattle.formula.specs.Levels.{SoundPrefix};
 ghost use Rattle.formula.specs.Lookup.{SoundClauses};
 ghost use Rattle.connection.specs.Tables.{lent};
-ghost use Rattle.forest.specs.Formula.{variables, Shares};
+ghost use Rattle.forest.specs.Formula.{variables};
 ghost use Rattle.forest.specs.Causes.{ForestCause, NotUniversal, readOrder};
+ghost use Rattle.forest.specs.Answers.{EntriesBy};
 ghost use Rattle.forest.specs.Search.{Enters, Blank};
 
-// Refusals 1 to 13, and where there is none the rows `tops` with the entry point of x for each variable, and the flags of all entry points of x.
+// Refusals 1 to 13, and where there is none the rows `tops` with the entry point of x for each variable, and the flags of all entry points of x by the scheme.
 pub fn enter(
+    scheme: Scheme,
     n: u32,
     prefix: &[u32],
     clauses: &[i32],
@@ -33,11 +36,12 @@ pub fn enter(
 ) -> Verdict
     requires { ⌜ (length (now tops) ≡ 4096) × Blank (now entered) ⌝ }
     ensures { λ r. ⌜ Judged (readOrder n (now (prefix .entry)) (now (clauses .entry)) (now (classes .entry)) (now (parents .entry)) (now (counts .entry)) (x .0)) r ⌝ }
-    ensures { λ r. ⌜ Enters (variables n (now (prefix .entry))) (lent (variables n (now (prefix .entry))) (now (classes .entry)) (now (parents .entry))) (Shares (now (clauses .entry))) (x .0) (now (tops .exit)) (now (entered .entry)) (now (entered .exit)) r ⌝ }
+    ensures { λ r. ⌜ Enters (variables n (now (prefix .entry))) (lent (variables n (now (prefix .entry))) (now (classes .entry)) (now (parents .entry))) (EntriesBy scheme n (now (prefix .entry)) (now (clauses .entry)) (now (classes .entry)) (now (parents .entry)) (x .0)) (x .0) (now (tops .exit)) (now (entered .entry)) (now (entered .exit)) r ⌝ }
 {
     match formula::check(n, prefix, clauses) {
         Verdict::Refused(number, place) => Verdict::Refused(number, place),
         Verdict::Accepted => sound_enter(
+            scheme,
             n,
             prefix,
             clauses,
@@ -53,6 +57,7 @@ pub fn enter(
 
 // The same, once the formula is accepted.
 fn sound_enter(
+    scheme: Scheme,
     n: u32,
     prefix: &[u32],
     clauses: &[i32],
@@ -65,7 +70,7 @@ fn sound_enter(
 ) -> Verdict
     requires { ⌜ SoundPrefix n (now prefix) × (length (now tops) ≡ 4096) × Blank (now entered) × SoundClauses (now clauses) ⌝ }
     ensures { λ r. ⌜ Judged (ForestCause n (now (prefix .entry)) (now (classes .entry)) (now (parents .entry)) (now (counts .entry)) ∷ At0 13 (NotUniversal n (now (prefix .entry)) (x .0)) ∷ []) r ⌝ }
-    ensures { λ r. ⌜ Enters (variables n (now (prefix .entry))) (lent (variables n (now (prefix .entry))) (now (classes .entry)) (now (parents .entry))) (Shares (now (clauses .entry))) (x .0) (now (tops .exit)) (now (entered .entry)) (now (entered .exit)) r ⌝ }
+    ensures { λ r. ⌜ Enters (variables n (now (prefix .entry))) (lent (variables n (now (prefix .entry))) (now (classes .entry)) (now (parents .entry))) (EntriesBy scheme n (now (prefix .entry)) (now (clauses .entry)) (now (classes .entry)) (now (parents .entry)) (x .0)) (x .0) (now (tops .exit)) (now (entered .entry)) (now (entered .exit)) r ⌝ }
 {
     let mut levels = [0u32; 4097];
     let mut universals = [false; 4097];
@@ -76,7 +81,7 @@ fn sound_enter(
             if universal_at(n, &universals, x) {
                 let floor = level_at(&levels, x);
                 fill_tops(n, &levels, &universals, classes, parents, floor, tops);
-                flag_entries(n, clauses, x, tops, entered);
+                flag_entries(scheme, n, clauses, x, tops, entered);
                 Verdict::Accepted
             } else {
                 Verdict::Refused(13, 0)

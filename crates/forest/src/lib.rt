@@ -1,4 +1,4 @@
-// Lent forest tables: the entry point of x for y, the entry points of x, the set of x and its size.
+// Lent forest tables: the entry point of x for y, the entry points of x, the set of x and its size, by the standard scheme or the strict one.
 
 pub mod counts;
 mod entering;
@@ -26,7 +26,7 @@ ghost use mathlib.Core.Logic.{_⊎_};
 ghost use Rattle.terms.specs.Refusals.{At0};
 ghost use Rattle.formula.specs.Levels.{SoundPrefix};
 ghost use Rattle.forest.specs.Causes.{ForestCause, NotUniversal, NotDeeper, listOrder};
-ghost use Rattle.forest.specs.Answers.{Answered, Entry, EntryAnswered, EntriesListed, SetListed, Sized};
+ghost use Rattle.forest.specs.Answers.{Answered, Entry, EntryAnswered, EntriesListedBy, SetListedBy, SizedBy, EntriesListed, SetListed, Sized};
 ghost use Rattle.forest.specs.Listed.{Listing};
 ghost use Rattle.forest.specs.Search.{Wanted};
 
@@ -35,6 +35,13 @@ pub enum EntryAnswer {
     At(Variable, u32),
     // the number of the refusal, and its place
     Refused(u32, usize),
+}
+
+// Which dependencies are asked for: the standard ones, reached from clauses that have x in either sign, or the strict ones, reached both from
+// clauses with x and from clauses with its negation.
+pub enum Scheme {
+    Standard,
+    Strict,
 }
 
 // The entry point of x for y, and the number of rises from the class of y up to it.
@@ -68,7 +75,8 @@ pub fn entry_points(
 ) -> Filled
     ensures { λ r. ⌜ EntriesListed n (now (prefix .entry)) (now (clauses .entry)) (now (classes .entry)) (now (parents .entry)) (now (counts .entry)) (x .0) (now (out .entry)) (now (out .exit)) r ⌝ }
 {
-    list_asked(
+    entry_points_by(
+        Scheme::Standard,
         n,
         prefix,
         clauses,
@@ -76,7 +84,6 @@ pub fn entry_points(
         parents,
         counts,
         x,
-        Asked::Points,
         out,
     )
 }
@@ -94,7 +101,8 @@ pub fn set_of(
 ) -> Filled
     ensures { λ r. ⌜ SetListed n (now (prefix .entry)) (now (clauses .entry)) (now (classes .entry)) (now (parents .entry)) (now (counts .entry)) (x .0) (now (out .entry)) (now (out .exit)) r ⌝ }
 {
-    list_asked(
+    set_by(
+        Scheme::Standard,
         n,
         prefix,
         clauses,
@@ -102,7 +110,6 @@ pub fn set_of(
         parents,
         counts,
         x,
-        Asked::Set,
         out,
     )
 }
@@ -119,9 +126,91 @@ pub fn set_size(
 ) -> Filled
     ensures { λ r. ⌜ Sized n (now (prefix .entry)) (now (clauses .entry)) (now (classes .entry)) (now (parents .entry)) (now (counts .entry)) (x .0) r ⌝ }
 {
+    size_by(
+        Scheme::Standard,
+        n,
+        prefix,
+        clauses,
+        classes,
+        parents,
+        counts,
+        x,
+    )
+}
+
+// The entry points of x by a scheme, written ascending into `out`, with their count.
+pub fn entry_points_by(
+    scheme: Scheme,
+    n: u32,
+    prefix: &[u32],
+    clauses: &[i32],
+    classes: &[u32],
+    parents: &[u32],
+    counts: &[u32],
+    x: Variable,
+    out: &mut [u32],
+) -> Filled
+    ensures { λ r. ⌜ EntriesListedBy scheme n (now (prefix .entry)) (now (clauses .entry)) (now (classes .entry)) (now (parents .entry)) (now (counts .entry)) (x .0) (now (out .entry)) (now (out .exit)) r ⌝ }
+{
+    list_asked(
+        scheme,
+        n,
+        prefix,
+        clauses,
+        classes,
+        parents,
+        counts,
+        x,
+        Asked::Points,
+        out,
+    )
+}
+
+// The set of x by a scheme, written ascending into `out`, with the count of its members.
+pub fn set_by(
+    scheme: Scheme,
+    n: u32,
+    prefix: &[u32],
+    clauses: &[i32],
+    classes: &[u32],
+    parents: &[u32],
+    counts: &[u32],
+    x: Variable,
+    out: &mut [u32],
+) -> Filled
+    ensures { λ r. ⌜ SetListedBy scheme n (now (prefix .entry)) (now (clauses .entry)) (now (classes .entry)) (now (parents .entry)) (now (counts .entry)) (x .0) (now (out .entry)) (now (out .exit)) r ⌝ }
+{
+    list_asked(
+        scheme,
+        n,
+        prefix,
+        clauses,
+        classes,
+        parents,
+        counts,
+        x,
+        Asked::Set,
+        out,
+    )
+}
+
+// The size of the set of x by a scheme, by the counts of its entry points.
+pub fn size_by(
+    scheme: Scheme,
+    n: u32,
+    prefix: &[u32],
+    clauses: &[i32],
+    classes: &[u32],
+    parents: &[u32],
+    counts: &[u32],
+    x: Variable,
+) -> Filled
+    ensures { λ r. ⌜ SizedBy scheme n (now (prefix .entry)) (now (clauses .entry)) (now (classes .entry)) (now (parents .entry)) (now (counts .entry)) (x .0) r ⌝ }
+{
     let mut tops = [0u32; 4096];
     let mut entered = [false; 4097];
     match enter(
+        scheme,
         n,
         prefix,
         clauses,
@@ -139,6 +228,7 @@ pub fn set_size(
 
 // What the two that list do: the entry points of x are flagged, and what is asked for is listed by the flags.
 fn list_asked(
+    scheme: Scheme,
     n: u32,
     prefix: &[u32],
     clauses: &[i32],
@@ -149,11 +239,12 @@ fn list_asked(
     asked: Asked,
     out: &mut [u32],
 ) -> Filled
-    ensures { λ r. ⌜ Listing (listOrder n (now (prefix .entry)) (now (clauses .entry)) (now (classes .entry)) (now (parents .entry)) (now (counts .entry)) (x .0) (Wanted asked n (now (prefix .entry)) (now (clauses .entry)) (now (classes .entry)) (now (parents .entry)) (x .0)) (now (out .entry))) (Wanted asked n (now (prefix .entry)) (now (clauses .entry)) (now (classes .entry)) (now (parents .entry)) (x .0)) (now (out .entry)) (now (out .exit)) r ⌝ }
+    ensures { λ r. ⌜ Listing (listOrder n (now (prefix .entry)) (now (clauses .entry)) (now (classes .entry)) (now (parents .entry)) (now (counts .entry)) (x .0) (Wanted scheme asked n (now (prefix .entry)) (now (clauses .entry)) (now (classes .entry)) (now (parents .entry)) (x .0)) (now (out .entry))) (Wanted scheme asked n (now (prefix .entry)) (now (clauses .entry)) (now (classes .entry)) (now (parents .entry)) (x .0)) (now (out .entry)) (now (out .exit)) r ⌝ }
 {
     let mut tops = [0u32; 4096];
     let mut entered = [false; 4097];
     match enter(
+        scheme,
         n,
         prefix,
         clauses,

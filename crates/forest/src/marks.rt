@@ -1,26 +1,63 @@
-// Flags of the entry points of x, found clause by clause.
+// Flags of the entry points of x, found clause by clause, by either sign of x or by both.
 
+use crate::Scheme;
 use crate::rows::row_of;
+use formula::clauses::literal_at;
 use formula::clauses::variable_at;
 use formula::truth::always_true;
+use terms::Literal;
 use terms::Variable;
 ghost use Prim.Native.Nat.{ℕ, _+_, _<_};
 ghost use mathlib.Core.Path.{_≡_};
+ghost use mathlib.Core.Bool.{true, false};
 ghost use lib.ListN.{length};
+ghost use Rattle.terms.specs.Literals.{variableOf};
 ghost use Rattle.formula.specs.Lookup.{NextZero, SoundClauses, Stamps};
-ghost use Rattle.forest.specs.Formula.{Shares};
-ghost use Rattle.forest.specs.Search.{Tells, Has, LastZero, Connects, Flagged, Via};
+ghost use Rattle.forest.specs.Formula.{signed, SharesBy};
+ghost use Rattle.forest.specs.Search.{Has, HasLiteral, Sided, LastZero, Connects, Flagged, Takes, taking, Taken, Via, Blank};
 
-// What one scan finds of a clause: the entry of its 0, the end of the table where there is none, and whether it has x.
-pub struct Scan {
-    pub end: usize,
-    pub has: bool,
+// In which sign a clause has x. One that is not always true has it in one sign only.
+pub enum Side {
+    Neither,
+    Positive,
+    Negative,
 }
 
-// Flags the tops of the variables that share a clause with x.
-pub fn flag_entries(n: u32, clauses: &[i32], x: Variable, tops: &[u32], flags: &mut [bool])
+// What one scan finds of a clause: the entry of its 0, the end of the table where there is none, and in which sign it has x.
+pub struct Scan {
+    pub end: usize,
+    pub side: Side,
+}
+
+// Flags the tops of the variables that share a clause with x, by a scheme: with x in either sign, or those that both signs have.
+pub fn flag_entries(
+    scheme: Scheme,
+    n: u32,
+    clauses: &[i32],
+    x: Variable,
+    tops: &[u32],
+    flags: &mut [bool],
+)
+    requires { ⌜ SoundClauses (now clauses) × Blank (now flags) ⌝ }
+    ensures { λ r. ⌜ Flagged (λ e. Takes scheme (λ sign. Via n (now (tops .entry)) (SharesBy (now (clauses .entry)) sign (x .0)) e)) (now (flags .entry)) (now (flags .exit)) ⌝ }
+{
+    let mut negative = [false; 4097];
+    flag_signs(n, clauses, x, tops, flags, &mut negative);
+    take_flags(scheme, flags, &negative);
+}
+
+// Flags the tops of the variables that share a clause with x, in a table for each sign that x has there.
+fn flag_signs(
+    n: u32,
+    clauses: &[i32],
+    x: Variable,
+    tops: &[u32],
+    positive: &mut [bool],
+    negative: &mut [bool],
+)
     requires { ⌜ SoundClauses (now clauses) ⌝ }
-    ensures { λ r. ⌜ Flagged (Via n (now (tops .entry)) (Shares (now (clauses .entry)) (x .0))) (now (flags .entry)) (now (flags .exit)) ⌝ }
+    ensures { λ r. ⌜ Flagged (Via n (now (tops .entry)) (SharesBy (now (clauses .entry)) true (x .0))) (now (positive .entry)) (now (positive .exit)) ⌝ }
+    ensures { λ r. ⌜ Flagged (Via n (now (tops .entry)) (SharesBy (now (clauses .entry)) false (x .0))) (now (negative .entry)) (now (negative .exit)) ⌝ }
 {
     let mut seen = [0u16; 8194];
     let mut start = 0;
@@ -30,34 +67,53 @@ pub fn flag_entries(n: u32, clauses: &[i32], x: Variable, tops: &[u32], flags: &
         if clauses.len() <= end {
             return;
         }
-        if scan.has {
-            flag_clause(n, clauses, start, end, tops, flags, &mut seen);
-            start = end + 1;
-        } else {
-            start = end + 1;
+        let side = scan.side;
+        match side {
+            Side::Neither => {
+                start = end + 1;
+            }
+            Side::Positive => {
+                flag_clause(n, clauses, start, end, tops, positive, &mut seen);
+                start = end + 1;
+            }
+            Side::Negative => {
+                flag_clause(n, clauses, start, end, tops, negative, &mut seen);
+                start = end + 1;
+            }
         }
     }
 }
 
-// Where the clause from `start` on ends, and whether it has the variable x.
+// Where the clause from `start` on ends, and in which sign it has the variable x.
 fn scan_clause(clauses: &[i32], start: usize, x: Variable) -> Scan
-    ensures { λ r. ⌜ NextZero (now (clauses .entry)) start (r .end) × Tells (r .has) (Has (now (clauses .entry)) start (r .end) (x .0)) ⌝ }
+    ensures { λ r. ⌜ NextZero (now (clauses .entry)) start (r .end) × Sided (r .side) (λ sign. HasLiteral (now (clauses .entry)) start (r .end) (signed sign (x .0))) ⌝ }
 {
-    let mut has = false;
+    let mut side = Side::Neither;
     let mut i = start;
     while i < clauses.len() {
-        let variable = variable_at(clauses, i);
+        let literal = literal_at(clauses, i);
+        let variable = literal.variable();
         if variable.0 == 0 {
-            return Scan { end: i, has };
+            return Scan { end: i, side };
         }
         if variable.0 == x.0 {
-            has = true;
+            side = side_of(literal);
             i += 1;
         } else {
             i += 1;
         }
     }
-    Scan { end: i, has }
+    Scan { end: i, side }
+}
+
+// The sign of a literal.
+fn side_of(literal: Literal) -> Side
+    ensures { λ r. ⌜ Sided r (λ sign. literal .0 ≡ signed sign (variableOf (literal .0))) ⌝ }
+{
+    if literal.0 < 0 {
+        return Side::Negative;
+    }
+    Side::Positive
 }
 
 // Flags the tops of the variables that the clause from start up to end connects: none where it is always true, which `seen` is for telling.
@@ -128,5 +184,27 @@ fn flag(flags: &mut [bool], v: Variable)
     let at = v.0 as usize;
     if at < flags.len() {
         flags[at] = true;
+    }
+}
+
+// Makes the flags those that a scheme takes of them and of others: those of either table, or those of both.
+fn take_flags(scheme: Scheme, flags: &mut [bool], others: &[bool])
+    requires { ⌜ length (now flags) ≡ length (now others) ⌝ }
+    ensures { λ r. ⌜ Taken scheme (now (flags .entry)) (now (others .entry)) (now (flags .exit)) ⌝ }
+{
+    let mut i = 0;
+    while i < flags.len() {
+        flags[i] = takes(scheme, flags[i], others[i]);
+        i += 1;
+    }
+}
+
+// What a scheme takes of two flags.
+fn takes(scheme: Scheme, flag: bool, other: bool) -> bool
+    ensures { λ r. ⌜ r ≡ taking scheme flag other ⌝ }
+{
+    match scheme {
+        Scheme::Standard => flag || other,
+        Scheme::Strict => flag && other,
     }
 }

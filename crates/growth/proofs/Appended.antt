@@ -67,7 +67,7 @@ module _ {n : ℕ} {es : List ℕ} {ls clause : List ℤ} (accepted : NoneOf (ch
   some-variable e l z = first .1 .1 .1 .0 10 e (AddedCause.outside refl l (inl z))
 
   -- The clauses of the longer table are those of the table and the clause, which is one more ...
-  clauses-last : clauses (withLast ls clause) ≡ clauses ls ++ (clause ∷ [])
+  pub clauses-last : clauses (withLast ls clause) ≡ clauses ls ++ (clause ∷ [])
   unfolding clauses nought
   clauses-last = cut-append ls (clause ++ (pos 0 ∷ [])) closed ∙ ap (λ cs. cut nought ls ++ cs) (cut-one clause some-variable)
 

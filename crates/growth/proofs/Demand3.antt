@@ -115,18 +115,18 @@ module _ (n : ℕ) (es : List ℕ) where
             (represents-forest (represents-reach reach (represents-itself (lawful n es) formed)))
 
   -- The forest of a table's joins with a clause added, where the table is the forest of a list, is that of the longer list.
-  extends : {cs : List (List ℕ)} (clause : List ℕ) {W W′ : Table} → Forest X (Joined cs) W → Forest X (Joined (joins X W ++ (clause ∷ []))) W′ → Forest X (Joined (cs ++ (clause ∷ []))) W′
+  pub extends : {cs : List (List ℕ)} (clause : List ℕ) {W W′ : Table} → Forest X (Joined cs) W → Forest X (Joined (joins X W ++ (clause ∷ []))) W′ → Forest X (Joined (cs ++ (clause ∷ []))) W′
   extends clause f g = let well = forest-is (lawful n es) .0 f .formed in forest-grows (lawful n es) f (forest-fused (lawful n es) (represents-forest (represents-itself (lawful n es) well)) g)
 
   module _ {ls clause : List ℤ} {s s′ s″ : Standing} {k m : ℕ} (built : Builds n es ls s s′ (Count k)) (added : Adds n es s′ clause s″ (Count m)) where
-    accepted : NoneOf (checkOrder n es ls)
+    pub accepted : NoneOf (checkOrder n es ls)
     accepted = check-of s (built .judged)
 
-    first : NoneOf (clauseFirst n es clause)
+    pub first : NoneOf (clauseFirst n es clause)
     first = clause-of s′ (added .judged)
 
     -- What add leaves is the forest of the longer list ...
-    added-forest : Forest X (Shares (withLast ls clause)) (tableOf X s″)
+    pub added-forest : Forest X (Shares (withLast ls clause)) (tableOf X s″)
     added-forest = subst (λ (ds : List (List ℕ)). Forest X (Joined ds) (tableOf X s″)) (sym (joined-last accepted first)) (extends (connected clause) (built .leaves .1 .forest) (added .leaves .1 .forest))
 
     -- ... with its counts, and the tally is that of the longer list.

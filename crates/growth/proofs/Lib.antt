@@ -9,4 +9,5 @@ pub mod Accepted
 pub mod Appended
 pub mod Tight
 pub mod Demand3
+pub mod StrictDemand
 pub mod Thin

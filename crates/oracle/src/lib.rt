@@ -6,6 +6,7 @@ pub mod joins;
 pub mod levels;
 pub mod reach;
 pub mod sets;
+pub mod strict;
 pub mod tables;
 pub mod totals;
 pub mod truth;

@@ -1,4 +1,5 @@
-// Clauses that are always true, which connect nothing: for each variable, a walk for either sign.
+// Clauses that are always true, which connect nothing, and the signs that a variable has in the others: for each variable, a walk for
+// either sign.
 
 // Whether the clause from `start` on has v, or its negation.
 fn has_sign(clauses: &[i32], start: usize, v: u32, negated: bool) -> bool {
@@ -17,7 +18,7 @@ fn has_sign(clauses: &[i32], start: usize, v: u32, negated: bool) -> bool {
 }
 
 // Whether a literal is v, or its negation: the complement of -v is v - 1.
-fn is_signed(literal: i32, v: u32, negated: bool) -> bool {
+pub fn is_signed(literal: i32, v: u32, negated: bool) -> bool {
     if v == 0 {
         return false;
     }
@@ -61,4 +62,23 @@ fn keep_entry(n: u32, clauses: &[i32], start: usize, i: usize, kept: &mut [i32])
     if i < clauses.len() && i < kept.len() && !is_true(n, clauses, start) {
         kept[i] = clauses[i];
     }
+}
+
+// Whether some clause has v, or its negation.
+fn occurs(clauses: &[i32], v: u32, negated: bool) -> bool {
+    let mut i = 0;
+    while i < clauses.len() {
+        if is_signed(clauses[i], v, negated) {
+            return true;
+        }
+        i += 1;
+    }
+    false
+}
+
+// Whether the clauses that are not always true have both v and its negation.
+pub fn has_both_signs(n: u32, clauses: &[i32], v: u32) -> bool {
+    let mut kept = [0i32; 1024];
+    keep_clauses(n, clauses, &mut kept);
+    occurs(&kept, v, false) && occurs(&kept, v, true)
 }

@@ -20,7 +20,7 @@ use score::rows::entry_says;
 use score::rows::fills;
 use score::rows::untouched;
 
-// A case of one of the three calls about x, on the forest of A as lent and with an output of so many rows. The set of 3 has three
+// A case of one of the calls about x, on the forest of A as lent and with an output of so many rows. The set of 3 has three
 // members and one entry point. Where the call refuses, every row stays.
 fn list_case(
     score: Score,
@@ -54,16 +54,17 @@ fn list_case(
     score.count(fills(answer, count_of(call), number, place) && kept)
 }
 
-// What a call counts for 3.
+// What a call counts for 3, which has one sign only, and so nothing by the strict scheme.
 fn count_of(call: Call) -> u32 {
     match call {
         Call::Sets => 3,
         Call::Entries => 1,
         Call::Sizes => 3,
+        _ => 0,
     }
 }
 
-// Every case of the set, of the entry points and of the size.
+// Every case of the set, of the entry points and of the size, with no scheme named.
 pub fn list_cases() -> Score {
     let sets = list_cases_of(Score::new(), Call::Sets);
     let entries = list_cases_of(sets, Call::Entries);
@@ -71,7 +72,14 @@ pub fn list_cases() -> Score {
     list_cases_of(rooms, Call::Sizes)
 }
 
-// Every case that is one of all three.
+// Every case of the same three by the strict scheme.
+pub fn strict_cases() -> Score {
+    let sets = list_cases_of(Score::new(), Call::StrictSets);
+    let entries = list_cases_of(sets, Call::StrictEntries);
+    list_cases_of(entries, Call::StrictSizes)
+}
+
+// Every case that is one of all of them.
 fn list_cases_of(score: Score, call: Call) -> Score {
     let asked = list_asked_cases(score, call);
     let rows = list_row_cases(asked, call);

@@ -4,3 +4,4 @@ pub mod asking;
 pub mod checking;
 pub mod limits;
 pub mod numbering;
+pub mod strict;

@@ -4,10 +4,15 @@ use crate::generate::write_formula;
 use crate::literals::variable_of;
 use crate::parts::literals;
 use crate::parts::numbers;
+use oracle::fill_search;
 use oracle::joins::is_of;
 use oracle::levels::blocks_of;
 use oracle::levels::ends_universal;
 use oracle::levels::is_free;
+use oracle::sets::fill_sets;
+use oracle::strict::fill_strict_sets;
+use oracle::tables::is_universal;
+use oracle::totals::count_pairs;
 use std::num::wrapping_add_u32;
 
 // A shape that a formula may have.
@@ -20,6 +25,7 @@ pub enum Trait {
     EmptyClause,
     RepeatedLiteral,
     ComplementaryLiterals,
+    NarrowedSet,
 }
 
 // Whether one of the variables 1 to n is in no block.
@@ -79,6 +85,31 @@ fn has_pair(n: u32, clauses: &[i32], complement: bool) -> bool {
     false
 }
 
+// Whether the strict set of a universal is smaller than its standard set, and not empty.
+fn is_narrowed(n: u32, facts: &[u32], standard: &[bool], strict: &[bool]) -> bool {
+    let mut x: u32 = 0;
+    while x < n {
+        x += 1;
+        let count = count_pairs(n, strict, x);
+        if is_universal(n, facts, x) && 0 < count && count < count_pairs(n, standard, x) {
+            return true;
+        }
+    }
+    false
+}
+
+// Whether a formula has such a universal, by the search.
+fn has_narrowed(n: u32, prefix: &[u32], clauses: &[i32]) -> bool {
+    let mut facts = [0u32; 400];
+    let mut links = [false; 10368];
+    let mut standard = [false; 5184];
+    let mut strict = [false; 5184];
+    fill_search(n, prefix, clauses, &mut facts, &mut links);
+    fill_sets(n, &facts, &links, &mut standard);
+    fill_strict_sets(n, clauses, &facts, &links, &mut strict);
+    is_narrowed(n, &facts, &standard, &strict)
+}
+
 // Whether a formula has a shape.
 fn has(kind: Trait, n: u32, prefix: &[u32], clauses: &[i32]) -> bool {
     match kind {
@@ -90,6 +121,7 @@ fn has(kind: Trait, n: u32, prefix: &[u32], clauses: &[i32]) -> bool {
         Trait::EmptyClause => has_empty_clause(clauses),
         Trait::RepeatedLiteral => has_pair(n, clauses, false),
         Trait::ComplementaryLiterals => has_pair(n, clauses, true),
+        Trait::NarrowedSet => has_narrowed(n, prefix, clauses),
     }
 }
 

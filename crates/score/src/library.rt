@@ -1,6 +1,7 @@
 // The calls of the library, each behind a function that promises nothing, so that no comparison leans on a promise.
 
 use forest::EntryAnswer;
+use forest::Scheme;
 use growth::Tallied;
 use growth::Tally;
 use qdimacs::Output;
@@ -111,6 +112,76 @@ pub fn entry_points(
     )
 }
 
+pub fn set_by(
+    scheme: Scheme,
+    n: u32,
+    prefix: &[u32],
+    clauses: &[i32],
+    classes: &[u32],
+    parents: &[u32],
+    counts: &[u32],
+    x: u32,
+    out: &mut [u32],
+) -> Filled {
+    forest::set_by(
+        scheme,
+        n,
+        prefix,
+        clauses,
+        classes,
+        parents,
+        counts,
+        Variable::new(x),
+        out,
+    )
+}
+
+pub fn size_by(
+    scheme: Scheme,
+    n: u32,
+    prefix: &[u32],
+    clauses: &[i32],
+    classes: &[u32],
+    parents: &[u32],
+    counts: &[u32],
+    x: u32,
+) -> Filled {
+    forest::size_by(
+        scheme,
+        n,
+        prefix,
+        clauses,
+        classes,
+        parents,
+        counts,
+        Variable::new(x),
+    )
+}
+
+pub fn entry_points_by(
+    scheme: Scheme,
+    n: u32,
+    prefix: &[u32],
+    clauses: &[i32],
+    classes: &[u32],
+    parents: &[u32],
+    counts: &[u32],
+    x: u32,
+    out: &mut [u32],
+) -> Filled {
+    forest::entry_points_by(
+        scheme,
+        n,
+        prefix,
+        clauses,
+        classes,
+        parents,
+        counts,
+        Variable::new(x),
+        out,
+    )
+}
+
 pub fn entry_point(
     n: u32,
     prefix: &[u32],
@@ -139,14 +210,18 @@ pub fn write(n: u32, prefix: &[u32], clauses: &[i32], out: &mut [u8]) -> Output 
     qdimacs::write(n, prefix, clauses, out)
 }
 
-// One of the calls that answer a count for x: the two that list, and the size of the set.
+// One of the calls that answer a count for x: the two that list, and the size of the set, with no scheme named; and the same by the
+// strict scheme.
 pub enum Call {
     Sets,
     Entries,
     Sizes,
+    StrictSets,
+    StrictEntries,
+    StrictSizes,
 }
 
-// Asks the call about x; the size of the set takes no output.
+// Asks the call about x; the size of a set takes no output.
 pub fn ask(
     call: Call,
     n: u32,
@@ -162,6 +237,37 @@ pub fn ask(
         Call::Sets => set_of(n, prefix, clauses, classes, parents, counts, x, out),
         Call::Entries => entry_points(n, prefix, clauses, classes, parents, counts, x, out),
         Call::Sizes => set_size(n, prefix, clauses, classes, parents, counts, x),
+        _ => ask_strict(call, n, prefix, clauses, classes, parents, counts, x, out),
+    }
+}
+
+// Asks the call about x by the strict scheme.
+fn ask_strict(
+    call: Call,
+    n: u32,
+    prefix: &[u32],
+    clauses: &[i32],
+    classes: &[u32],
+    parents: &[u32],
+    counts: &[u32],
+    x: u32,
+    out: &mut [u32],
+) -> Filled {
+    let scheme = Scheme::Strict;
+    match call {
+        Call::StrictSets => set_by(scheme, n, prefix, clauses, classes, parents, counts, x, out),
+        Call::StrictEntries => entry_points_by(
+            scheme,
+            n,
+            prefix,
+            clauses,
+            classes,
+            parents,
+            counts,
+            x,
+            out,
+        ),
+        _ => size_by(scheme, n, prefix, clauses, classes, parents, counts, x),
     }
 }
 

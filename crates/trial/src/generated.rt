@@ -1,8 +1,13 @@
 // The families that run on generated formulas.
 
+use crate::strict::strict_crossed_cases;
+use crate::strict::strict_entries_cases;
+use crate::strict::strict_set_cases;
+use crate::strict::strict_size_cases;
 use asking::lists::listing_cases;
 use asking::lists::size_cases;
 use asking::points::point_cases;
+use asking::strict::strict_cases;
 use growing::adding::add_cases;
 use growing::building::build_cases;
 use growing::damage::changed_cases;
@@ -32,6 +37,11 @@ pub enum Family {
     Entries,
     Points,
     Crossed,
+    StrictSets,
+    StrictSizes,
+    StrictEntries,
+    StrictCrossed,
+    StrictWithin,
     Damaged,
     Changed,
     Tallies,
@@ -97,6 +107,11 @@ fn cases_on(
         Family::Entries => entries_cases(score, n, prefix, clauses, &facts, &links),
         Family::Points => entry_cases(score, n, prefix, &facts, &links),
         Family::Crossed => crossed_cases(score, n, prefix, alone, &facts, &links),
+        Family::StrictSets => strict_set_cases(score, n, prefix, clauses, &facts, &links),
+        Family::StrictSizes => strict_size_cases(score, n, prefix, clauses, &facts, &links),
+        Family::StrictEntries => strict_entries_cases(score, n, prefix, clauses, &facts, &links),
+        Family::StrictCrossed => strict_crossed_cases(score, n, prefix, longer, &facts, &links),
+        Family::StrictWithin => strict_cases(score, n, prefix, clauses, &facts),
         Family::Damaged => changed_cases(score, false, number, n, prefix, &facts),
         Family::Changed => changed_cases(score, true, number, n, prefix, &facts),
         Family::Tallies => tally_cases(score, n, prefix, clause, &facts),
@@ -129,7 +144,7 @@ fn set_size_cases(
 ) -> Score {
     let mut sets = [false; 5184];
     fill_sets(n, facts, links, &mut sets);
-    size_cases(score, n, prefix, clauses, facts, &sets)
+    size_cases(score, Call::Sizes, n, prefix, clauses, facts, &sets)
 }
 
 // The entry points of x, by the forest of the search.
@@ -163,7 +178,7 @@ fn crossed_cases(
     fill_members(n, facts, links, &entries, &mut sets);
     let t = listing_cases(score, Call::Entries, n, prefix, clauses, facts, &entries);
     let u = listing_cases(t, Call::Sets, n, prefix, clauses, facts, &sets);
-    size_cases(u, n, prefix, clauses, facts, &sets)
+    size_cases(u, Call::Sizes, n, prefix, clauses, facts, &sets)
 }
 
 // The entry point of x for y, by the forest of the search.

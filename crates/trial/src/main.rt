@@ -2,6 +2,7 @@
 
 mod generated;
 mod shapes;
+mod strict;
 
 use generated::Family;
 use samples::shapes::Trait;
@@ -16,6 +17,7 @@ fn main() {
     run_texts();
     print_shapes();
     run_searched();
+    run_strict();
     run_changed();
 }
 
@@ -28,8 +30,16 @@ fn run_rules() {
         rules::asking::list_cases(),
     );
     print_score(
+        b"refusals of strict set, size and entry points",
+        rules::asking::strict_cases(),
+    );
+    print_score(
         b"refusals of entry point for y",
         rules::asking::entry_cases(),
+    );
+    print_score(
+        b"strict sets, sizes and entry points written out",
+        rules::strict::strict_cases(),
     );
     print_score(b"calls at 4096 variables", rules::limits::limit_cases());
 }
@@ -71,6 +81,21 @@ fn run_searched() {
     );
 }
 
+// The families that hold the answers of the strict scheme against the search, and against the standard ones.
+fn run_strict() {
+    run_family(b"strict sets", Family::StrictSets);
+    run_family(b"strict sizes", Family::StrictSizes);
+    run_family(b"strict entry points", Family::StrictEntries);
+    run_family(
+        b"strict entry points, sets and sizes by rows of other clauses",
+        Family::StrictCrossed,
+    );
+    run_family(
+        b"strict within standard, and empty with one sign only",
+        Family::StrictWithin,
+    );
+}
+
 // The families that change rows and tallies, and the round trip of the text.
 fn run_changed() {
     run_family(b"forests with a row made wrong", Family::Damaged);
@@ -97,4 +122,8 @@ fn print_shapes() {
     print_shape(b"an empty clause", Trait::EmptyClause);
     print_shape(b"a repeated literal", Trait::RepeatedLiteral);
     print_shape(b"complementary literals", Trait::ComplementaryLiterals);
+    print_shape(
+        b"a strict set smaller than the standard one and not empty",
+        Trait::NarrowedSet,
+    );
 }

@@ -7,7 +7,8 @@ use lib.ListN.{length-replicate, replicate}
 use Rattle.terms.specs.Refusals.{At0, Judged}
 use Rattle.terms.proofs.Verdicts.{refused-first}
 use Rattle.connection.specs.Tables.{lent}
-use Rattle.forest.specs.Formula.{variables, Shares}
+use Rattle.forest.specs.Formula.{variables}
+use Rattle.forest.specs.Answers.{EntriesBy}
 use Rattle.forest.specs.Causes.{readOrder}
 use Rattle.forest.specs.Listed.{TooLong}
 use Rattle.forest.specs.Search.{pick, Wanted, Enters}
@@ -44,7 +45,7 @@ list-picked-requires c κs = search needs
 returns : tie.Need-returns
 returns c =
     let a = c .before .before .before .before .before .before .before .before .before .before .before .before .before .args in
-    (refused-first (readOrder (a .n) (a .prefix .now) (a .clauses .now) (a .classes .now) (a .parents .now) (a .counts .now) (a .x .0)) (At0 14 (TooLong (Wanted (a .asked) (a .n) (a .prefix .now) (a .clauses .now) (a .classes .now) (a .parents .now) (a .x .0)) (a .out .now)) ∷ []) (c .before .number .given .1) (c .before .before .before .before .before .enter .ensures .0), refl)
+    (refused-first (readOrder (a .n) (a .prefix .now) (a .clauses .now) (a .classes .now) (a .parents .now) (a .counts .now) (a .x .0)) (At0 14 (TooLong (Wanted (a .scheme) (a .asked) (a .n) (a .prefix .now) (a .clauses .now) (a .classes .now) (a .parents .now) (a .x .0)) (a .out .now)) ∷ []) (c .before .number .given .1) (c .before .before .before .before .before .enter .ensures .0), refl)
 
 same-length : tie.Need-same-length
 same-length c = search needs
@@ -52,11 +53,11 @@ same-length c = search needs
 returns-2 : tie.Need-returns-2
 returns-2 c =
     let a = c .before .before .before .before .before .before .before .before .before .before .before .before .before .before .before .before .before .before .args in
-    let tops = c .before .before .before .before .before .before .before .before .before .before .enter .last .1 .1 .1 .1 .1 .1 .1 .0 in
-    let entered = c .before .before .before .before .before .before .before .before .before .before .enter .last .1 .1 .1 .1 .1 .1 .1 .1 .0 in
+    let tops = c .before .before .before .before .before .before .before .before .before .before .enter .last .1 .1 .1 .1 .1 .1 .1 .1 .0 in
+    let entered = c .before .before .before .before .before .before .before .before .before .before .enter .last .1 .1 .1 .1 .1 .1 .1 .1 .1 .0 in
     let none = subst (Judged (readOrder (a .n) (a .prefix .now) (a .clauses .now) (a .classes .now) (a .parents .now) (a .counts .now) (a .x .0))) (c .before .before .before .before .before .before .enum-told .given .1) (c .before .before .before .before .before .before .before .before .before .before .enter .ensures .0) in
-    let enters = subst (Enters (variables (a .n) (a .prefix .now)) (lent (variables (a .n) (a .prefix .now)) (a .classes .now) (a .parents .now)) (Shares (a .clauses .now)) (a .x .0) tops (replicate 4097 false) entered) (c .before .before .before .before .before .before .enum-told .given .1) (c .before .before .before .before .before .before .before .before .before .before .enter .ensures .1) in
-    picks-listing (readOrder (a .n) (a .prefix .now) (a .clauses .now) (a .classes .now) (a .parents .now) (a .counts .now) (a .x .0)) (pick (a .asked) (a .n) entered tops) (a .n) (a .out .now) (c .before .before .list-picked .last .1 .1 .1 .1 .0) none (asked-listed (a .x .0) none tops fresh enters (a .asked)) (c .before .before .list-picked .result) (c .before .before .list-picked .ensures)
+    let enters = subst (Enters (variables (a .n) (a .prefix .now)) (lent (variables (a .n) (a .prefix .now)) (a .classes .now) (a .parents .now)) (EntriesBy (a .scheme) (a .n) (a .prefix .now) (a .clauses .now) (a .classes .now) (a .parents .now) (a .x .0)) (a .x .0) tops (replicate 4097 false) entered) (c .before .before .before .before .before .before .enum-told .given .1) (c .before .before .before .before .before .before .before .before .before .before .enter .ensures .1) in
+    picks-listing (readOrder (a .n) (a .prefix .now) (a .clauses .now) (a .classes .now) (a .parents .now) (a .counts .now) (a .x .0)) (pick (a .asked) (a .n) entered tops) (a .n) (a .out .now) (c .before .before .list-picked .last .1 .1 .1 .1 .0) none (asked-listed (a .x .0) none (a .scheme) tops fresh enters (a .asked)) (c .before .before .list-picked .result) (c .before .before .list-picked .ensures)
 
 pub list-asked-spec : {M : Type 1} → statement M
 list-asked-spec =

@@ -6,7 +6,8 @@ use native.Mathlib.Omega.{arith}
 use Rattle.terms.specs.Refusals.{At0, Judged}
 use Rattle.terms.proofs.Verdicts.{at0-first, at0-none, refused-first}
 use Rattle.forest.specs.Causes.{ForestCause, NotUniversal}
-use Rattle.forest.proofs.Entered.{tabled-formed, sound-enters, sound-universal, sound-not-universal}
+use Rattle.forest.proofs.Entered.{tabled-formed, sound-universal, sound-not-universal}
+use Rattle.forest.proofs.Schemes.{sound-enters}
 use borrow.Author.Needs.{needs}
 use Rattle.forest.proofs.entering.sound_enter.Statement.{statement}
 use Rattle.forest.proofs.entering.sound_enter.Tie as tie
@@ -61,7 +62,7 @@ fill-tops-requires c κs =
     (tabled-formed (c .before .before .before .before .before .before .before .before .before .before .before .before .before .before .before .before .before .before .before .before .before .before .before .before .pre .0) (c .before .before .before .before .before .before .before .before .before .before .before .before .before .before .before .fill-levels .ensures) (a .classes .now) (a .parents .now) ((subst (Judged (ForestCause (a .n) (a .prefix .now) (a .classes .now) (a .parents .now) (a .counts .now) ∷ [])) (c .before .before .before .before .before .before .before .before .enum-told .given .1) (c .before .before .before .before .before .before .before .before .before .before .check-forest .ensures)) .0), omega arith)
 
 flag-entries-requires : tie.Need-flag-entries-requires
-flag-entries-requires c κs = c .before .before .before .before .before .before .before .before .before .before .before .before .before .before .before .before .before .before .before .before .before .before .before .before .before .before .before .before .before .pre .3
+flag-entries-requires c κs = (c .before .before .before .before .before .before .before .before .before .before .before .before .before .before .before .before .before .before .before .before .before .before .before .before .before .before .before .before .before .pre .3, c .before .before .before .before .before .before .before .before .before .before .before .before .before .before .before .before .before .before .before .before .before .before .before .before .before .before .before .before .before .pre .2)
 
 returns : tie.Need-returns
 returns c =
@@ -85,7 +86,7 @@ returns-2 c =
     let table = c .before .before .before .before .before .before .before .before .before .before .before .before .before .before .before .before .before .before .before .before .before .before .before .fill-levels .ensures in
     let accepted = subst (Judged (ForestCause (a .n) (a .prefix .now) (a .classes .now) (a .parents .now) (a .counts .now) ∷ [])) (c .before .before .before .before .before .before .before .before .before .before .before .before .before .before .before .before .enum-told .given .1) (c .before .before .before .before .before .before .before .before .before .before .before .before .before .before .before .before .before .before .check-forest .ensures) in (
       (accepted .0, (at0-none 13 (sound-universal (c .before .before .before .before .before .before .before .before .before .before .before .before .before .before .before .before .before .before .before .before .before .before .before .before .before .before .before .before .before .before .before .before .pre .0) table (a .classes .now) (a .parents .now) (a .x .0) (c .before .before .before .before .before .before .before .before .before .before .before .before .before .before .universal-at .ensures) (c .before .before .before .before .before .before .before .before .before .before .before .before .before .if1 .taken)), tt)),
-      sound-enters (c .before .before .before .before .before .before .before .before .before .before .before .before .before .before .before .before .before .before .before .before .before .before .before .before .before .before .before .before .before .before .before .before .pre .0) table (a .classes .now) (a .parents .now) (a .x .0) (c .before .before .before .before .before .before .before .before .before .before .before .level-at .result .0) (c .before .before .before .before .before .before .before .fill-tops .last .1 .1 .1 .1 .1 .1 .0) (tabled-formed (c .before .before .before .before .before .before .before .before .before .before .before .before .before .before .before .before .before .before .before .before .before .before .before .before .before .before .before .before .before .before .before .before .pre .0) table (a .classes .now) (a .parents .now) (accepted .0)) (sym (c .before .before .before .before .before .before .before .before .before .before .before .before .before .before .universal-at .ensures) ∙ c .before .before .before .before .before .before .before .before .before .before .before .before .before .if1 .taken) (c .before .before .before .before .before .before .before .before .before .before .before .level-at .ensures) (c .before .before .before .before .before .before .before .fill-tops .ensures) (c .before .before .flag-entries .ensures),
+      sound-enters (c .before .before .before .before .before .before .before .before .before .before .before .before .before .before .before .before .before .before .before .before .before .before .before .before .before .before .before .before .before .before .before .before .pre .0) table (a .classes .now) (a .parents .now) (a .x .0) (a .scheme) (a .clauses .now) (c .before .before .before .before .before .before .before .before .before .before .before .level-at .result .0) (c .before .before .before .before .before .before .before .fill-tops .last .1 .1 .1 .1 .1 .1 .0) (tabled-formed (c .before .before .before .before .before .before .before .before .before .before .before .before .before .before .before .before .before .before .before .before .before .before .before .before .before .before .before .before .before .before .before .before .pre .0) table (a .classes .now) (a .parents .now) (accepted .0)) (sym (c .before .before .before .before .before .before .before .before .before .before .before .before .before .before .universal-at .ensures) ∙ c .before .before .before .before .before .before .before .before .before .before .before .before .before .if1 .taken) (c .before .before .before .before .before .before .before .before .before .before .before .level-at .ensures) (c .before .before .before .before .before .before .before .fill-tops .ensures) (c .before .before .flag-entries .ensures),
     )
 
 returns-3 : tie.Need-returns-3

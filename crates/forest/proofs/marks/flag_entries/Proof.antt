@@ -1,100 +1,41 @@
 -- `forest::marks::flag_entries` meets its contract.
-use Prim.Native.Nat.{_+_, _-_}
-use mathlib.Core.Path.{ap}
-use native.Mathlib.Omega.{arith}
+use mathlib.Core.Bool.{Bool}
 use borrow.Author.Needs.{needs}
-use lib.ListN.{length, drop-of-length-le}
-use Rattle.formula.specs.Lookup.{Stamps}
-use Rattle.formula.specs.Meaning.{clauses}
-use Rattle.formula.specs.Tables.{cut}
-use Rattle.formula.proofs.Lookups.{clauses-unclosed}
-use Rattle.formula.proofs.Signs.{stamps-more, stamps-none}
-use Rattle.forest.proofs.Readings.{told, told-not}
-use Rattle.forest.proofs.Flags.{Sharing, share-none, share-has, share-not, share-all}
+use Rattle.forest.specs.Formula.{SharesBy}
+use Rattle.forest.specs.Search.{Via}
+use Rattle.forest.proofs.Entered.{fresh}
+use Rattle.forest.proofs.Schemes.{taken-flags}
 use Rattle.forest.proofs.marks.flag_entries.Statement.{statement}
 use Rattle.forest.proofs.marks.flag_entries.Tie as tie
 
-abbrev Inv-loop : tie.InvT-loop
-Inv-loop n clauses x tops flags₀ seen₀ start₀ flags seen start = Sharing n tops clauses (x .0) flags₀ flags start × Stamps seen (start + 1)
+slice-aggregate-flag-signs : tie.Need-slice-aggregate-flag-signs
+slice-aggregate-flag-signs c = search needs
 
-abbrev μ-loop : tie.MeasureT-loop
-μ-loop n clauses x tops flags₀ seen₀ start₀ flags seen start = length clauses - start
+flag-signs-requires : tie.Need-flag-signs-requires
+flag-signs-requires c κs = search needs
 
-loop-holds : tie.Need-loop-holds Inv-loop μ-loop
-loop-holds c =
-    let a = c .before .before .args in
-    (share-none (a .n) (a .tops .now) (a .clauses .now) (a .x .0) (a .flags .now), stamps-none)
+slice-aggregate-take-flags : tie.Need-slice-aggregate-take-flags
+slice-aggregate-take-flags c = search needs
 
-scan-clause-requires : tie.Need-scan-clause-requires Inv-loop μ-loop
-scan-clause-requires c κs = search needs
+take-flags-requires : tie.Need-take-flags-requires
+take-flags-requires c κs = search needs
 
-same-length : tie.Need-same-length Inv-loop μ-loop
-same-length c =
-    c .before .before .before .loop .inv .0 .size
+same-length : tie.Need-same-length
+same-length c = search needs
 
-returns : tie.Need-returns Inv-loop μ-loop
+returns : tie.Need-returns
 returns c =
-    share-all (c .before .before .before .loop .inv .0) (clauses-unclosed (c .before .before .before .before .before .before .args .clauses .now) (c .before .before .before .loop .start) (c .before .scan-clause .result .end) (c .before .scan-clause .ensures .0) (c .if1 .taken))
-
-slice-aggregate-flag-clause : tie.Need-slice-aggregate-flag-clause Inv-loop μ-loop
-slice-aggregate-flag-clause c =
-    search needs
-
-flag-clause-requires : tie.Need-flag-clause-requires Inv-loop μ-loop
-flag-clause-requires c κs =
-    (c .before .before .before .before .before .before .before .before .before .pre, c .before .before .before .before .scan-clause .ensures .0, c .before .before .before .if1 .left, c .before .before .before .before .before .before .loop .inv .1)
-
-add-start : tie.Need-add-start Inv-loop μ-loop
-add-start c =
-    omega arith
-
-loop-less : tie.Need-loop-less Inv-loop μ-loop
-loop-less c =
-    let from = c .before .before .before .before .before .before .before .before .scan-clause .ensures .0 .from in let less = c .before .before .before .before .before .before .before .if1 .left in omega arith
-
-loop-again : tie.Need-loop-again Inv-loop μ-loop
-loop-again c =
-    let scan = c .before .before .before .before .before .before .before .before .scan-clause in
-    (share-has (c .before .before .before .before .before .before .before .before .before .before .loop .inv .0) (scan .result .end) (scan .ensures .0) (c .before .before .before .before .before .before .before .if1 .left) (told (scan .result .has) (c .before .before .before .before .before .before .if2 .taken) (scan .ensures .1)) (c .before .before .before .flag-clause .ensures .0), c .before .before .before .flag-clause .ensures .1)
-
-add-start-2 : tie.Need-add-start-2 Inv-loop μ-loop
-add-start-2 c =
-    omega arith
-
-loop-less-2 : tie.Need-loop-less-2 Inv-loop μ-loop
-loop-less-2 c =
-    let from = c .before .before .scan-clause .ensures .0 .from in let less = c .before .if1 .left in omega arith
-
-loop-again-2 : tie.Need-loop-again-2 Inv-loop μ-loop
-loop-again-2 c =
-    let scan = c .before .before .scan-clause in
-    (share-not (c .before .before .before .before .loop .inv .0) (scan .result .end) (scan .ensures .0) (c .before .if1 .left) (told-not (scan .result .has) (c .if2 .left) (scan .ensures .1)), stamps-more (c .before .before .before .before .loop .inv .1) (omega (arith, scan .ensures .0 .from)))
-
-same-length-2 : tie.Need-same-length-2 Inv-loop μ-loop
-same-length-2 c =
-    c .before .loop .inv .0 .size
-
-returns-2 : tie.Need-returns-2 Inv-loop μ-loop
-unfolding clauses cut
-returns-2 c = share-all (c .before .loop .inv .0) (ap clauses (drop-of-length-le (c .before .before .before .before .args .clauses .now) (c .loop-test .left)))
+    let a = c .before .before .before .before .before .before .before .before .before .before .before .before .before .args in
+    let signs = c .before .before .before .before .before .before .before .before .flag-signs in
+    taken-flags (λ (sign : Bool). Via (a .n) (a .tops .now) (SharesBy (a .clauses .now) sign (a .x .0))) (a .scheme) (c .before .before .before .before .before .before .before .before .before .before .before .before .before .pre .1) fresh (signs .ensures .0) (signs .ensures .1) (c .before .before .take-flags .ensures)
 
 pub flag-entries-spec : {M : Type 1} → statement M
 flag-entries-spec =
     tie.close
     (tie.spec
-    Inv-loop
-    μ-loop
-    loop-holds
-    scan-clause-requires
+    slice-aggregate-flag-signs
+    flag-signs-requires
+    slice-aggregate-take-flags
+    take-flags-requires
     same-length
-    returns
-    slice-aggregate-flag-clause
-    flag-clause-requires
-    add-start
-    loop-less
-    loop-again
-    add-start-2
-    loop-less-2
-    loop-again-2
-    same-length-2
-    returns-2)
+    returns)

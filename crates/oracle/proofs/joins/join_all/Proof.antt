@@ -7,10 +7,10 @@ use Rattle.oracle.proofs.joins.join_all.Statement.{statement}
 use Rattle.oracle.proofs.joins.join_all.Tie as tie
 
 abbrev Inv-loop : tie.InvT-loop
-Inv-loop n clauses pairs₀ at₀ pairs at = length pairs ≡ length pairs₀
+Inv-loop n clauses sign pairs₀ at₀ pairs at = length pairs ≡ length pairs₀
 
 abbrev μ-loop : tie.MeasureT-loop
-μ-loop n clauses pairs₀ at₀ pairs at = 5184 - at
+μ-loop n clauses sign pairs₀ at₀ pairs at = 5184 - at
 
 loop-holds : tie.Need-loop-holds Inv-loop μ-loop
 loop-holds c = search needs

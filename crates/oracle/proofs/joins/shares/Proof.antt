@@ -6,10 +6,10 @@ use Rattle.oracle.proofs.joins.shares.Statement.{statement}
 use Rattle.oracle.proofs.joins.shares.Tie as tie
 
 abbrev Inv-loop : tie.InvT-loop
-Inv-loop clauses v y state₀ i₀ state i = Unit {0}
+Inv-loop clauses v sign y state₀ i₀ state i = Unit {0}
 
 abbrev μ-loop : tie.MeasureT-loop
-μ-loop clauses v y state₀ i₀ state i = length clauses - i
+μ-loop clauses v sign y state₀ i₀ state i = length clauses - i
 
 loop-holds : tie.Need-loop-holds Inv-loop μ-loop
 loop-holds c = search needs

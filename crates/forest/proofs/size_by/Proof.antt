@@ -1,4 +1,4 @@
--- `forest::set_size` meets its contract.
+-- `forest::size_by` meets its contract.
 use Prim.Native.Nat.{ℕ}
 use mathlib.Core.Path.{sym, subst}
 use mathlib.Core.Bool.{false}
@@ -6,15 +6,15 @@ use lib.ListN.{replicate, length-replicate}
 use Rattle.terms.specs.Refusals.{NoneOf, Judged}
 use Rattle.formula.proofs.Sound.{sound-check}
 use Rattle.connection.specs.Tables.{lent}
-use Rattle.forest.specs.Formula.{variables, Shares}
+use Rattle.forest.specs.Formula.{variables}
 use Rattle.forest.specs.Causes.{readOrder}
-use Rattle.forest.specs.Answers.{Size}
+use Rattle.forest.specs.Answers.{EntriesBy, SizeBy}
 use Rattle.forest.specs.Search.{Enters}
 use Rattle.forest.proofs.Entered.{fresh}
 use Rattle.forest.proofs.Listings.{counts-small, entries-sized}
 use borrow.Author.Needs.{needs}
-use Rattle.forest.proofs.set_size.Statement.{statement}
-use Rattle.forest.proofs.set_size.Tie as tie
+use Rattle.forest.proofs.size_by.Statement.{statement}
+use Rattle.forest.proofs.size_by.Tie as tie
 
 slice-aggregate-enter : tie.Need-slice-aggregate-enter
 slice-aggregate-enter c = search needs
@@ -53,14 +53,14 @@ returns c =
 returns-2 : tie.Need-returns-2
 returns-2 c =
     let a = c .before .before .before .before .before .before .before .before .before .before .before .before .before .args in
-    let tops = c .before .before .before .before .before .before .enter .last .1 .1 .1 .1 .1 .1 .1 .0 in
-    let entered = c .before .before .before .before .before .before .enter .last .1 .1 .1 .1 .1 .1 .1 .1 .0 in
+    let tops = c .before .before .before .before .before .before .enter .last .1 .1 .1 .1 .1 .1 .1 .1 .0 in
+    let entered = c .before .before .before .before .before .before .enter .last .1 .1 .1 .1 .1 .1 .1 .1 .1 .0 in
     let none = none-refused (c .before .before) in
-    let enters = subst (Enters (variables (a .n) (a .prefix .now)) (lent (variables (a .n) (a .prefix .now)) (a .classes .now) (a .parents .now)) (Shares (a .clauses .now)) (a .x .0) tops (replicate 4097 false) entered) (c .before .before .enum-told .given .1) (c .before .before .before .before .before .before .enter .ensures .1) in
-    (none, subst (Size (a .n) (a .prefix .now) (a .clauses .now) (a .classes .now) (a .parents .now) (a .counts .now) (a .x .0)) (sym (c .sum-flagged .ensures)) (entries-sized (a .x .0) none tops fresh enters))
+    let enters = subst (Enters (variables (a .n) (a .prefix .now)) (lent (variables (a .n) (a .prefix .now)) (a .classes .now) (a .parents .now)) (EntriesBy (a .scheme) (a .n) (a .prefix .now) (a .clauses .now) (a .classes .now) (a .parents .now) (a .x .0)) (a .x .0) tops (replicate 4097 false) entered) (c .before .before .enum-told .given .1) (c .before .before .before .before .before .before .enter .ensures .1) in
+    (none, subst (SizeBy (a .scheme) (a .n) (a .prefix .now) (a .clauses .now) (a .classes .now) (a .parents .now) (a .counts .now) (a .x .0)) (sym (c .sum-flagged .ensures)) (entries-sized (a .x .0) none (a .scheme) tops fresh enters))
 
-pub set-size-spec : {M : Type 1} → statement M
-set-size-spec =
+pub size-by-spec : {M : Type 1} → statement M
+size-by-spec =
     tie.close
     (tie.spec
     slice-aggregate-enter

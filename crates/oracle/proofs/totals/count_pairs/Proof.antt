@@ -1,8 +1,8 @@
--- `asking::lists::count_of` is safe and ends.
+-- `oracle::totals::count_pairs` is safe and ends.
 use Prim.Native.Nat.{_-_}
 use borrow.Author.Needs.{needs}
-use Rattle.asking.proofs.lists.count_of.Statement.{statement}
-use Rattle.asking.proofs.lists.count_of.Tie as tie
+use Rattle.oracle.proofs.totals.count_pairs.Statement.{statement}
+use Rattle.oracle.proofs.totals.count_pairs.Tie as tie
 
 abbrev Inv-loop : tie.InvT-loop
 Inv-loop n pairs x count₀ y₀ count y = Unit {0}
@@ -37,8 +37,8 @@ loop-again-2 c = search needs
 returns : tie.Need-returns Inv-loop μ-loop
 returns c = search needs
 
-pub count-of-spec : {M : Type 1} → statement M
-count-of-spec =
+pub count-pairs-spec : {M : Type 1} → statement M
+count-pairs-spec =
     tie.close
     (tie.spec
     Inv-loop

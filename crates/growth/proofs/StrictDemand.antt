@@ -1,0 +1,52 @@
+-- Demand 3, second sentence, for strict sets and strict entry points; its premise speaks of the old standard set.
+use Prim.Native.Nat.{ℕ}
+use mathlib.Core.Path.{_≡_, sym, subst}
+use mathlib.Core.Bool.{Bool, true}
+use mathlib.Core.List.{List}
+use mathlib.Core.Logic.{_↔_, Iff·trans, Iff·symm}
+use lib.IntN.{ℤ}
+use Rattle.terms.specs.declared.Filled.the-variants.{Count}
+use Rattle.formula.specs.Meaning.{connected}
+use Rattle.forest.specs.declared.Scheme.the-variants.{Strict}
+use Rattle.forest.specs.Formula.{variables, universal, Shares, SharesBy}
+use Rattle.forest.specs.Answers.{EntriesBy, MembersBy, DependsBy}
+use Rattle.forest.proofs.Agreeing.{lawful}
+use Rattle.forest.proofs.Demands.{universal-alone}
+use Rattle.forest.proofs.Sides.{shares-some}
+use Rattle.forest.proofs.Strict.{shares-last}
+use Rattle.connection.specs.Reach.{Variables, Joined, StrictlyDepends}
+use Rattle.connection.specs.Growth.{LeavesAlone}
+use Rattle.connection.proofs.Strict.{strict-members, strict-stays, strict-entries-stay}
+use Rattle.growth.specs.Grown.{Standing, Builds, Adds, withLast}
+use Rattle.growth.proofs.Appended.{clauses-last, joined-last}
+use Rattle.growth.proofs.Demand3.{extends, accepted, first, added-forest}
+
+module _ (n : ℕ) (es : List ℕ) where
+  abbrev X : Variables
+  X = variables n es
+
+  module _ {ls clause : List ℤ} {s s′ s″ : Standing} {k m : ℕ} (built : Builds n es ls s s′ (Count k)) (added : Adds n es s′ clause s″ (Count m)) {x : ℕ} (alone : LeavesAlone X (Shares ls) (connected clause) x) where
+    starts : (sign : Bool) (z : ℕ) → SharesBy ls sign x z → Shares ls x z
+    starts sign z = shares-some sign
+
+    -- What shares a clause with a literal of x stays, since the clause has no x.
+    same : (sign : Bool) (z : ℕ) → SharesBy ls sign x z ↔ SharesBy (withLast ls clause) sign x z
+    same = shares-last clause (clauses-last (accepted n es built added) (first n es built added)) (alone .itself)
+
+    -- Where the clause has neither x nor any variable of its standard set, what depends on x strictly stays ...
+    pub adding-strictly : {y : ℕ} → DependsBy Strict n es ls x y ↔ DependsBy Strict n es (withLast ls clause) x y
+    adding-strictly {y} =
+        subst (λ (ds : List (List ℕ)). StrictlyDepends X (SharesBy ls) (Shares ls) x y ↔ StrictlyDepends X (SharesBy (withLast ls clause)) (Joined ds) x y)
+        (sym (joined-last (accepted n es built added) (first n es built added))) (strict-stays alone starts same)
+
+    module _ (u : universal n es x ≡ true) where
+      -- ... so does its strict set, by the tables and clauses before and after ...
+      pub adding-strict-set : {y : ℕ} → MembersBy Strict n es ls (s′ .classes) (s′ .parents) x y ↔ MembersBy Strict n es (withLast ls clause) (s″ .classes) (s″ .parents) x y
+      adding-strict-set =
+          let is = universal-alone n es x u in
+          Iff·trans (Iff·symm (strict-members (lawful n es) (built .leaves .1 .forest) is)) (Iff·trans adding-strictly (strict-members (lawful n es) (added-forest n es built added) is))
+
+      -- ... and so do its strict entry points.
+      pub adding-strict-entries : {e : ℕ} → EntriesBy Strict n es ls (s′ .classes) (s′ .parents) x e ↔ EntriesBy Strict n es (withLast ls clause) (s″ .classes) (s″ .parents) x e
+      adding-strict-entries =
+          strict-entries-stay alone starts same (lawful n es) (built .leaves .1 .forest) (extends n es (connected clause) (built .leaves .1 .forest) (added .leaves .1 .forest)) (universal-alone n es x u)
