@@ -9,10 +9,11 @@ use lib.ListN.{length}
 use Rattle.terms.specs.Refusals.{Causes, At0, FirstOf, NoneOf}
 use Rattle.formula.specs.Meaning.{clauses}
 use Rattle.formula.specs.Causes.{VariableCount, PrefixLong, ClausesLong, PrefixCause, ClauseCause, prefixOrder, checkOrder, clauseOrder}
-use Rattle.forest.specs.Causes.{ForestCause, short, bad-row, bad-count, NotUniversal, NotDeeper, entryOrder, readOrder, listOrder}
+use Rattle.tables.specs.Causes.{ForestCause, short, bad-row, bad-count}
+use Rattle.forest.specs.Causes.{NotUniversal, NotDeeper, entryOrder, readOrder, listOrder}
 use Rattle.forest.specs.Listed.{TooLong}
 use Rattle.sets.specs.Sets.{SetsTooLong, setsOrder}
-use Rattle.forest.specs.Formula.{variables}
+use Rattle.tables.specs.Formula.{variables}
 use Rattle.growth.specs.Grown.{Standing, classNames, existentials, AddedCause, TooShort, WrongTally, buildOrder, addOrder, clauseFirst}
 
 -- the places of an order's causes fit 32 bits, if each is the first one

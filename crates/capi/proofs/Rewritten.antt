@@ -8,7 +8,7 @@ use Rattle.terms.specs.declared.Filled.the-variants.{Count, Refused}
 use Rattle.terms.specs.Answers.{verdictOf}
 use Rattle.terms.specs.Refusals.{Causes, FirstOf, Judged}
 use Rattle.connection.specs.Reach.{Variables}
-use Rattle.forest.specs.Formula.{variables, Shares}
+use Rattle.tables.specs.Formula.{variables, Shares}
 use Rattle.growth.specs.declared.Tally.{Tally}
 use Rattle.growth.specs.Grown.{Standing, standing, tableOf, many, buildOrder, addOrder, Extended, Grown, TallyOf, Took, Leaves, Builds, Adds}
 use Rattle.capi.specs.Cells.{Fits, Laid, counted, placed, TallyLaid}

@@ -10,7 +10,7 @@ use Rattle.terms.specs.declared.Verdict.the-variants.{Accepted, Refused}
 use Rattle.terms.specs.declared.Filled.the-variants.{Count}
 use Rattle.terms.specs.Refusals.{Causes, NoneOf}
 use Rattle.terms.proofs.Verdicts.{judged-unique, first-or-none}
-use Rattle.forest.specs.Formula.{variables, Shares}
+use Rattle.tables.specs.Formula.{variables, Shares}
 use Rattle.growth.specs.Grown.{Standing, tableOf, many, buildOrder, addOrder, Extended, Grown, TallyOf, Took, Builds, Adds}
 use Rattle.growth.proofs.Tight.{build-tight, add-tight}
 use Rattle.capi.specs.Told.{Told, accepted, refused, cellsOf, Left}

@@ -17,7 +17,7 @@ ghost use mathlib.Core.Path.{_≡_};
 ghost use Rattle.formula.specs.Causes.{checkOrder, clauseOrder};
 ghost use Rattle.forest.specs.Causes.{entryOrder, readOrder as sizeOrder, listOrder};
 ghost use Rattle.forest.specs.Answers.{Entry, Entries, EntriesBy, Members, MembersBy, Size, SizeBy};
-ghost use Rattle.forest.specs.Formula.{variables, Shares};
+ghost use Rattle.tables.specs.Formula.{variables, Shares};
 ghost use Rattle.sets.specs.Sets.{AllSets, setsOrder};
 ghost use Rattle.growth.specs.Grown.{standing, tableOf, many, buildOrder, addOrder, Extended, Grown, TallyOf, Took};
 ghost use Rattle.qdimacs.specs.Reading.{ReadInto, readOrder};

@@ -38,12 +38,13 @@ use Rattle.connection.proofs.Search.{set-of-depends}
 use Rattle.connection.proofs.Sets.{set-members}
 use Rattle.forest.specs.declared.EntryAnswer.{EntryAnswer}
 use Rattle.forest.specs.declared.EntryAnswer.the-variants.{At}
-use Rattle.forest.specs.Formula.{variables, universal, joined, Shares}
-use Rattle.forest.specs.Causes.{ForestCause, listOrder}
+use Rattle.tables.specs.Formula.{variables, universal, joined, Shares}
+use Rattle.tables.specs.Causes.{ForestCause}
+use Rattle.forest.specs.Causes.{listOrder}
 use Rattle.forest.specs.Answers.{Members, EntryAnswered, SetListed}
-use Rattle.forest.proofs.Agreeing.{lawful}
+use Rattle.tables.proofs.Agreeing.{lawful}
 use Rattle.forest.proofs.Demands.{universal-alone, own-forest-fine, listing-settled, entry-settled}
-use Rattle.forest.proofs.Readings.{flag-within}
+use Rattle.tables.proofs.Readings.{flag-within}
 use Rattle.growth.specs.Grown.{Standing, tableOf, classNames, existentials, many, AddedCause, outside, WrongTally, clauseFirst, Extended, Grown, TallyOf, Took, Builds, Adds, withLast}
 use Rattle.loose.specs.Past.{Past}
 use Rattle.loose.proofs.Passes.{many-most}

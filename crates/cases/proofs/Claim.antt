@@ -9,7 +9,7 @@ use lib.ListN.{length}
 use Rattle.terms.specs.Refusals.{NoneOf}
 use Rattle.formula.specs.Causes.{checkOrder}
 use Rattle.connection.specs.Search.{set-of}
-use Rattle.forest.specs.Formula.{universal, joined}
+use Rattle.tables.specs.Formula.{universal, joined}
 use Rattle.growth.specs.Grown.{Standing, withLast}
 use Rattle.cases.specs.FormulaA.{prefixA, clausesA, standA, clause79, clause58, clause12}
 use Rattle.cases.specs.Cases.{longer, AddLeaves, SetIs, EntryIs, Cases}

@@ -16,7 +16,7 @@ use Rattle.connection.specs.Tables.{row, lent, climb-by, climb}
 use Rattle.connection.specs.Search.{has, meets, keep, put-back, find, see, spread, reached, is-from, sift, set-of}
 use Rattle.connection.specs.Fusing.{fill, classes-up, marks, goes-before, under, fuse-class, fuse-parent, table-of, rows-by, fuse-marks, fuse, fuse-all, singles, forest-of, count-of, counts-of}
 use Rattle.connection.specs.Counts.{how-many, names}
-use Rattle.forest.specs.Formula.{variables, universal, joined}
+use Rattle.tables.specs.Formula.{variables, universal, joined}
 use Rattle.growth.specs.Grown.{Standing, standing, tableOf, many, TallyOf, withLast}
 use Rattle.cases.specs.FormulaA.{prefixA, clausesA, tally, standA, stand79, stand12, stand-none, clause79, clause58, clause12}
 use Rattle.cases.specs.Cases.{longer}

@@ -9,8 +9,9 @@ use lib.ListN.{getD}
 use Rattle.connection.specs.Reach.{Variables}
 use Rattle.connection.specs.Tables.{Table, row, lent, WellFormed, Above, start, rise, EntryPoint}
 use Rattle.connection.proofs.Climb.{entry-ends}
-use Rattle.forest.specs.Formula.{tabled, existentialIn}
-use Rattle.forest.specs.Search.{rowsOf, parentTable, Falling, Searched, Climbs, TopRows, EntryRows}
+use Rattle.tables.specs.Formula.{tabled, existentialIn}
+use Rattle.tables.specs.Rows.{rowsOf}
+use Rattle.forest.specs.Search.{parentTable, Falling, Searched, Climbs, TopRows, EntryRows}
 
 module _ (n : ℕ) (levels parents : List ℕ) (floor c rises : ℕ) where
   -- A class with no parent deeper than the floor is where the climb ends.

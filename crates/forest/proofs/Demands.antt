@@ -32,13 +32,14 @@ use Rattle.connection.proofs.Strict.{strict-members}
 use Rattle.forest.specs.declared.EntryAnswer.{EntryAnswer}
 use Rattle.forest.specs.declared.EntryAnswer.the-variants.{At}
 use Rattle.forest.specs.declared.Scheme.{Scheme}
-use Rattle.forest.specs.Formula.{variables, universal, Shares}
-use Rattle.forest.specs.Causes.{ForestCause, entryOrder, readOrder, listOrder}
+use Rattle.tables.specs.Formula.{variables, universal, Shares}
+use Rattle.tables.specs.Causes.{ForestCause}
+use Rattle.forest.specs.Causes.{entryOrder, readOrder, listOrder}
 use Rattle.forest.specs.Answers.{MembersBy, DependsBy, EntryAnswered, SetListedBy, SizedBy}
 use Rattle.forest.specs.Listed.{Filling, Listing}
-use Rattle.forest.proofs.Readings.{flag-in, flag-within}
-use Rattle.forest.proofs.Formed.{forest-fine}
-use Rattle.forest.proofs.Agreeing.{lawful, none-formed, none-counted, universal-within}
+use Rattle.tables.proofs.Readings.{flag-in, flag-within}
+use Rattle.tables.proofs.Formed.{forest-fine}
+use Rattle.tables.proofs.Agreeing.{lawful, none-formed, none-counted, universal-within}
 use Rattle.forest.proofs.Schemes.{scheme-points}
 
 -- What the blocks say of a variable, level and quantifier at once: nothing, or what the block at m says.

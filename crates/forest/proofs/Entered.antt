@@ -15,12 +15,15 @@ use Rattle.connection.specs.Reach.{Variables, Lawful}
 use Rattle.connection.specs.Tables.{Table, row, lent, WellFormed, EntryPoint, EntryPointOf, MemberBy, Climbed}
 use Rattle.connection.proofs.Climb.{above-class, entry-one, entry-climb, entry-rises}
 use Rattle.connection.proofs.Sets.{member-deeper, member-climb}
-use Rattle.forest.specs.Formula.{variables, tabled, existentialIn, universalIn}
-use Rattle.forest.specs.Causes.{ForestCause, NotUniversal, NotDeeper}
+use Rattle.tables.specs.Formula.{variables, tabled, existentialIn, universalIn}
+use Rattle.tables.specs.Causes.{ForestCause}
+use Rattle.forest.specs.Causes.{NotUniversal, NotDeeper}
 use Rattle.forest.specs.Answers.{Entry}
-use Rattle.forest.specs.Search.{rowsOf, Deeper, EntryRows, Flagged, Via, Blank}
-use Rattle.forest.proofs.Readings.{flag-within}
-use Rattle.forest.proofs.Agreeing.{Same, same-back, formed-same, deeper-same, entry-same, tables-agree, level-agrees, universal-agrees, universal-within, none-formed}
+use Rattle.tables.specs.Rows.{rowsOf}
+use Rattle.forest.specs.Search.{Deeper, EntryRows, Flagged, Via, Blank}
+use Rattle.tables.proofs.Readings.{flag-within}
+use Rattle.tables.proofs.Agreeing.{Same, same-back, formed-same, tables-agree, level-agrees, universal-agrees, universal-within, none-formed}
+use Rattle.forest.proofs.Agreeing.{deeper-same, entry-same}
 
 -- A new table of flags, and what is flagged in it.
 pub fresh : Blank (replicate 4097 false)

@@ -18,7 +18,7 @@ use Rattle.formula.proofs.Signs.{connected-none, connected-all}
 use Rattle.connection.specs.Reach.{Joined}
 use Rattle.connection.proofs.Choice.{choice}
 use Rattle.connection.specs.Tables.{row}
-use Rattle.forest.specs.Formula.{signed, joined, SharesBy}
+use Rattle.tables.specs.Formula.{signed, joined, SharesBy}
 use Rattle.forest.specs.Search.{Has, HasLiteral, Connects, Flagged, Via}
 use Rattle.forest.proofs.Sides.{signed-variable, mem-at, one-sign}
 

@@ -1,12 +1,9 @@
-pub mod Readings
-pub mod Formed
 pub mod Climbing
 pub mod Tops
 pub mod Picked
 pub mod Sides
 pub mod Flags
 pub mod Agreeing
-pub mod Counting
 pub mod Entered
 pub mod Schemes
 pub mod Listings

@@ -20,7 +20,7 @@ use Rattle.connection.proofs.Counts.{count-most}
 use Rattle.connection.proofs.Listed.{listed-one}
 use Rattle.forest.specs.declared.EntryAnswer.{EntryAnswer}
 use Rattle.forest.specs.declared.Scheme.{Scheme}
-use Rattle.forest.specs.Formula.{variables}
+use Rattle.tables.specs.Formula.{variables}
 use Rattle.forest.specs.Causes.{readOrder}
 use Rattle.forest.specs.Answers.{Answered, EntriesBy, SizeBy}
 use Rattle.forest.specs.Listed.{TooLong, Listing}
@@ -28,7 +28,7 @@ use Rattle.forest.specs.declared.listing.Asked.{Asked}
 use Rattle.forest.specs.declared.listing.Asked.the-variants.{Points, Set}
 use Rattle.forest.specs.Search.{pick, picked, Wanted, Picks, EntryRows, Flagged, Enters, Blank}
 use Rattle.forest.proofs.Picked.{picked-listed}
-use Rattle.forest.proofs.Agreeing.{lawful, none-formed, none-counted}
+use Rattle.tables.proofs.Agreeing.{lawful, none-formed, none-counted}
 use Rattle.formula.proofs.Sound.{sound-check}
 use Rattle.forest.proofs.Entered.{flags-are, of-within, members-of}
 use Rattle.forest.proofs.Schemes.{scheme-points}

@@ -15,9 +15,9 @@ use Rattle.connection.specs.Reach.{Variables, From, Reach, here, Follows}
 use Rattle.connection.specs.Search.{has, meets, keep, put-back, find, see, spread, reached, reaches, is-from, sift, set-of}
 use Rattle.connection.proofs.Search.{reaches-true, reaches-false, from-test, set-of-depends}
 use Rattle.forest.specs.declared.Scheme.the-variants.{Standard, Strict}
-use Rattle.forest.specs.Formula.{variables, signed, joined, Shares, SharesBy}
+use Rattle.tables.specs.Formula.{variables, signed, joined, Shares, SharesBy}
 use Rattle.forest.specs.Answers.{DependsBy}
-use Rattle.forest.proofs.Agreeing.{lawful}
+use Rattle.tables.proofs.Agreeing.{lawful}
 
 abbrev es : List ℕ
 es = 2 ∷ 1 ∷ 0 ∷ 1 ∷ 2 ∷ 3 ∷ 4 ∷ 0 ∷ []

@@ -17,12 +17,14 @@ use Rattle.connection.proofs.Choice.{either, both, or-right}
 use Rattle.connection.proofs.Strict.{strict-entry-within}
 use Rattle.forest.specs.declared.Scheme.{Scheme}
 use Rattle.forest.specs.declared.Scheme.the-variants.{Standard, Strict}
-use Rattle.forest.specs.Formula.{variables, tabled, universalIn, Shares, SharesBy}
+use Rattle.tables.specs.Formula.{variables, tabled, universalIn, Shares, SharesBy}
 use Rattle.forest.specs.Answers.{EntriesBy}
-use Rattle.forest.specs.Search.{rowsOf, EntryRows, TopRows, Flagged, Takes, taking, Taken, Via, Blank, Enters}
+use Rattle.tables.specs.Rows.{rowsOf}
+use Rattle.forest.specs.Search.{EntryRows, TopRows, Flagged, Takes, taking, Taken, Via, Blank, Enters}
 use Rattle.forest.proofs.Climbing.{tops-entries}
 use Rattle.forest.proofs.Flags.{flag-as, via-as, via-or}
-use Rattle.forest.proofs.Agreeing.{formed-same, entry-row-same, tables-agree, lawful}
+use Rattle.tables.proofs.Agreeing.{formed-same, tables-agree, lawful}
+use Rattle.forest.proofs.Agreeing.{entry-row-same}
 use Rattle.forest.proofs.Entered.{flags-are, entries-of, own-level}
 use Rattle.forest.proofs.Sides.{shares-some, shares-signed}
 

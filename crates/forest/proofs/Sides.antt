@@ -19,7 +19,7 @@ use Rattle.formula.specs.Meaning.{clauses, opposite, alwaysTrue, connected}
 use Rattle.formula.proofs.Signs.{pair-true, connected-none, connected-all}
 use Rattle.formula.specs.Tables.{literalAt}
 use Rattle.forest.specs.declared.marks.Side.{Side}
-use Rattle.forest.specs.Formula.{signed, joined, Shares, SharesBy}
+use Rattle.tables.specs.Formula.{signed, joined, Shares, SharesBy}
 use Rattle.forest.specs.Search.{HasLiteral, Sided}
 
 -- The variable of a literal of x is x, and every literal is one of its variable.

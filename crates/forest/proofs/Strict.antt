@@ -14,7 +14,7 @@ use Rattle.connection.specs.Counts.{sum}
 use Rattle.connection.specs.Listed.{Listed}
 use Rattle.connection.proofs.Strict.{strict-member-within, one-sign-entry}
 use Rattle.forest.specs.declared.Scheme.the-variants.{Strict}
-use Rattle.forest.specs.Formula.{signed, SharesBy}
+use Rattle.tables.specs.Formula.{signed, SharesBy}
 use Rattle.forest.specs.Answers.{Members, EntriesBy, MembersBy, EntriesListedBy, SetListedBy, SizedBy}
 use Rattle.forest.proofs.Sides.{connected-open, shares-some, shares-x}
 

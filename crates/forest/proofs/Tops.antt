@@ -15,9 +15,9 @@ use Rattle.terms.proofs.Common.{below-suc, clash}
 use Rattle.connection.specs.Reach.{Variables, Lawful}
 use Rattle.connection.specs.Tables.{Table, row, WellFormed, Above, start, rise}
 use Rattle.connection.proofs.Climb.{above-class}
-use Rattle.forest.specs.Formula.{tabled, existentialIn}
+use Rattle.tables.specs.Formula.{tabled, existentialIn}
 use Rattle.forest.specs.Search.{Searched, TopRow, TopRows, TopsOver, TopsBelow}
-use Rattle.forest.proofs.Readings.{row-over, flag-none, flag-over}
+use Rattle.tables.proofs.Readings.{row-over, flag-none, flag-over, new-zero}
 
 module _ {X : Variables} {W : Table} {floor v : ℕ} where
   -- No top: not existential, or not deeper than the floor.
@@ -117,10 +117,6 @@ module _ {n : ℕ} (levels : List ℕ) (universals : List Bool) {W : Table} {flo
 
     pub topped-all : n ≤ passed → TopRows (tabled n levels universals) W floor tops
     topped-all done y = by-cases (decLe y n) (λ l. topped-below (passed + 1) refl y (omega arith)) (λ l. top-over tops y (omega arith))
-
--- In a new table all rows are 0.
-pub new-zero : (k v : ℕ) → getD (replicate {A = ℕ} k 0) v 0 ≡ 0
-new-zero k v = by-cases (decLt v k) (λ l. getD-replicate {A = ℕ} k v 0 0 l) (λ l. List·getD-eq-default (replicate {A = ℕ} k 0) 0 {n = v} (let q = length-replicate {A = ℕ} k 0 in omega arith))
 
 row-zero : (n k y : ℕ) → row n (replicate {A = ℕ} k 0) y ≡ 0
 unfolding row

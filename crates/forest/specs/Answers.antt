@@ -15,7 +15,7 @@ use Rattle.forest.specs.declared.EntryAnswer.{EntryAnswer}
 use Rattle.forest.specs.declared.EntryAnswer.the-variants.{At, Refused}
 use Rattle.forest.specs.declared.Scheme.{Scheme}
 use Rattle.forest.specs.declared.Scheme.the-variants.{Standard, Strict}
-use Rattle.forest.specs.Formula.{variables, Shares, SharesBy}
+use Rattle.tables.specs.Formula.{variables, Shares, SharesBy}
 use Rattle.forest.specs.Causes.{entryOrder, readOrder, listOrder}
 use Rattle.forest.specs.Listed.{Listing}
 

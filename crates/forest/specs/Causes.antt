@@ -1,28 +1,16 @@
--- The causes of refusals 12, 13 and 14 for calls that read a forest, as the table of document 01 has them, and the orders of these calls.
-use Prim.Native.Nat.{ℕ, _<_, _≤_}
+-- The causes of refusals 13 and 14 for calls that read a forest, as the table of document 01 has them, and the orders of these calls.
+use Prim.Native.Nat.{ℕ, _≤_}
 use mathlib.Core.Path.{_≡_}
 use mathlib.Core.Bool.{false}
 use mathlib.Core.List.{List, [], _∷_, _++_}
 use mathlib.Core.Logic.{_⊎_}
 use lib.IntN.{ℤ}
-use lib.ListN.{length}
 use Rattle.terms.specs.Refusals.{Causes, At0}
 use Rattle.formula.specs.Causes.{prefixOrder, checkOrder}
 use Rattle.formula.specs.Meaning.{level, isExistential}
-use Rattle.connection.specs.Tables.{row, lent, Row, WellFormed}
-use Rattle.connection.specs.Counts.{CountRow}
-use Rattle.forest.specs.Formula.{variables, universal}
+use Rattle.tables.specs.Formula.{universal}
+use Rattle.tables.specs.Causes.{ForestCause}
 use Rattle.forest.specs.Listed.{TooLong}
-
--- 12: forest tables lent as input not well formed
-pub data ForestCause (n : ℕ) (es classes parents counts : List ℕ) (number place : ℕ) : Type 0 where
-  -- shorter than n: place 0
-  short : number ≡ 12 → place ≡ 0 → (length classes < n) ⊎ (length parents < n) ⊎ (length counts < n) → ForestCause n es classes parents counts number place
-  -- else the variable of a bad row of class names or parents
-  bad-row : number ≡ 12 → 1 ≤ place → place ≤ n → (Row (variables n es) (lent (variables n es) classes parents) place → ⊥) → ForestCause n es classes parents counts number place
-  -- and once all of these are well formed, of a bad count
-  bad-count : number ≡ 12 → 1 ≤ place → place ≤ n → WellFormed (variables n es) (lent (variables n es) classes parents)
-      → (CountRow (variables n es) (lent (variables n es) classes parents) (row n counts) place → ⊥) → ForestCause n es classes parents counts number place
 
 -- 13: x not universal
 abbrev pub NotUniversal : ℕ → List ℕ → ℕ → Type 0

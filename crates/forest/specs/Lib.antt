@@ -1,6 +1,4 @@
-pub mod Formula
 pub mod Listed
 pub mod Causes
 pub mod Answers
 pub mod Search
-pub mod Counting

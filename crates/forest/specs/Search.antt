@@ -24,22 +24,8 @@ use Rattle.forest.specs.declared.Scheme.{Scheme}
 use Rattle.forest.specs.declared.Scheme.the-variants.{Standard, Strict}
 use Rattle.forest.specs.declared.search.Found.{Found}
 use Rattle.forest.specs.declared.search.Found.the-variants.{At, Nowhere}
-use Rattle.forest.specs.Formula.{tabled}
+use Rattle.tables.specs.Formula.{tabled}
 use Rattle.forest.specs.Answers.{EntriesBy, MembersBy}
-
--- a flag tells whether P holds
-abbrev pub Tells : Bool → Type 0 → Type 0
-Tells true P = P
-Tells false P = P → ⊥
-
--- the lent rows as a table
-abbrev pub rowsOf : ℕ → List ℕ → List ℕ → Table
-rowsOf n classes parents = lent (tabled n [] []) classes parents
-
--- bad is the first of 1 to n of which P does not hold, or 0 where it holds of all
-pub record FirstBad (P : ℕ → Type 0) (n bad : ℕ) : Type 0 where
-  pub right : (v : ℕ) → 1 ≤ v → v ≤ n → (bad ≢ 0 → v < bad) → P v
-  pub wrong : bad ≢ 0 → (bad ≤ n) × (P bad → ⊥)
 
 -- the parent rows alone, as a table
 abbrev pub parentTable : ℕ → List ℕ → Table

@@ -2,11 +2,11 @@
 
 use crate::Scheme;
 use crate::marks::flag_entries;
-use crate::rows::level_at;
-use crate::rows::universal_at;
 use crate::search::fill_tops;
-use crate::tables::check_forest;
 use formula::levels::fill_levels;
+use tables::checking::check_forest;
+use tables::rows::level_at;
+use tables::rows::universal_at;
 use terms::Variable;
 use terms::Verdict;
 ghost use mathlib.Core.Path.{_≡_};
@@ -16,8 +16,9 @@ ghost use Rattle.terms.specs.Refusals.{At0, Judged};
 ghost use Rattle.formula.specs.Levels.{SoundPrefix};
 ghost use Rattle.formula.specs.Lookup.{SoundClauses};
 ghost use Rattle.connection.specs.Tables.{lent};
-ghost use Rattle.forest.specs.Formula.{variables};
-ghost use Rattle.forest.specs.Causes.{ForestCause, NotUniversal, readOrder};
+ghost use Rattle.tables.specs.Formula.{variables};
+ghost use Rattle.tables.specs.Causes.{ForestCause};
+ghost use Rattle.forest.specs.Causes.{NotUniversal, readOrder};
 ghost use Rattle.forest.specs.Answers.{EntriesBy};
 ghost use Rattle.forest.specs.Search.{Enters, Blank};
 

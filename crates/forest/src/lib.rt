@@ -1,12 +1,9 @@
 // Lent forest tables: the entry point of x for y, the entry points of x, the set of x and its size, by the standard scheme or the strict one.
 
-pub mod counts;
 mod entering;
 pub mod listing;
 pub mod marks;
-pub mod rows;
 pub mod search;
-pub mod tables;
 
 use entering::enter;
 use formula::levels::fill_levels;
@@ -14,10 +11,10 @@ use formula::prefix::prefix_verdict;
 use listing::Asked;
 use listing::list_picked;
 use listing::sum_flagged;
-use rows::universal_at;
 use search::Found;
 use search::find_entry;
-use tables::check_forest;
+use tables::checking::check_forest;
+use tables::rows::universal_at;
 use terms::Filled;
 use terms::Variable;
 use terms::Verdict;
@@ -25,7 +22,8 @@ ghost use mathlib.Core.List.{[], _∷_};
 ghost use mathlib.Core.Logic.{_⊎_};
 ghost use Rattle.terms.specs.Refusals.{At0};
 ghost use Rattle.formula.specs.Levels.{SoundPrefix};
-ghost use Rattle.forest.specs.Causes.{ForestCause, NotUniversal, NotDeeper, listOrder};
+ghost use Rattle.tables.specs.Causes.{ForestCause};
+ghost use Rattle.forest.specs.Causes.{NotUniversal, NotDeeper, listOrder};
 ghost use Rattle.forest.specs.Answers.{Answered, Entry, EntryAnswered, EntriesListedBy, SetListedBy, SizedBy, EntriesListed, SetListed, Sized};
 ghost use Rattle.forest.specs.Listed.{Listing};
 ghost use Rattle.forest.specs.Search.{Wanted};

@@ -1,7 +1,7 @@
 // Numbers from 1 to n that are picked by their flags, written ascending into a lent table.
 
-use crate::rows::flag_at;
-use crate::rows::row_of;
+use tables::rows::flag_at;
+use tables::rows::row_of;
 use terms::Filled;
 use terms::Variable;
 ghost use Prim.Native.Nat.{ℕ, _+_, _≤_};
@@ -11,7 +11,8 @@ ghost use lib.ListN.{length, getD};
 ghost use lib.Seq.{sets};
 ghost use Rattle.connection.specs.Tables.{row};
 ghost use Rattle.connection.specs.Counts.{sum};
-ghost use Rattle.forest.specs.Search.{Tells, pick, picked, NoneUpto, Picks};
+ghost use Rattle.tables.specs.Rows.{Tells};
+ghost use Rattle.forest.specs.Search.{pick, picked, NoneUpto, Picks};
 
 // What is listed: the flagged entry points themselves, or the set, which is the variables with a flagged top.
 pub enum Asked {

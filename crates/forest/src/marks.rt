@@ -1,10 +1,10 @@
 // Flags of the entry points of x, found clause by clause, by either sign of x or by both.
 
 use crate::Scheme;
-use crate::rows::row_of;
 use formula::clauses::literal_at;
 use formula::clauses::variable_at;
 use formula::truth::always_true;
+use tables::rows::row_of;
 use terms::Literal;
 use terms::Variable;
 ghost use Prim.Native.Nat.{ℕ, _+_, _<_};
@@ -13,7 +13,7 @@ ghost use mathlib.Core.Bool.{true, false};
 ghost use lib.ListN.{length};
 ghost use Rattle.terms.specs.Literals.{variableOf};
 ghost use Rattle.formula.specs.Lookup.{NextZero, SoundClauses, Stamps};
-ghost use Rattle.forest.specs.Formula.{signed, SharesBy};
+ghost use Rattle.tables.specs.Formula.{signed, SharesBy};
 ghost use Rattle.forest.specs.Search.{Has, HasLiteral, Sided, LastZero, Connects, Flagged, Takes, taking, Taken, Via, Blank};
 
 // In which sign a clause has x. One that is not always true has it in one sign only.

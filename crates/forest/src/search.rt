@@ -1,16 +1,17 @@
 // The search for entry points: from the class of y, from parent to parent, while the next class is still deeper than x.
 
-use crate::rows::existential_at;
-use crate::rows::level_at;
-use crate::rows::row_of;
+use tables::rows::existential_at;
+use tables::rows::level_at;
+use tables::rows::row_of;
 use terms::Level;
 use terms::Variable;
 ghost use Prim.Native.Nat.{_+_, _≤_, _<_};
 ghost use mathlib.Core.Path.{_≡_};
 ghost use lib.ListN.{length, getD};
 ghost use Rattle.connection.specs.Tables.{WellFormed};
-ghost use Rattle.forest.specs.Formula.{tabled};
-ghost use Rattle.forest.specs.Search.{rowsOf, Falling, Climbs, Finds, TopRow, TopRows, Topless, TopsOver, TopsBelow};
+ghost use Rattle.tables.specs.Formula.{tabled};
+ghost use Rattle.tables.specs.Rows.{rowsOf};
+ghost use Rattle.forest.specs.Search.{Falling, Climbs, Finds, TopRow, TopRows, Topless, TopsOver, TopsBelow};
 
 // Where a climb ends, and how many classes it passed, the first not counted.
 pub struct End {

@@ -18,7 +18,7 @@ use Rattle.formula.specs.Causes.{checkOrder}
 use Rattle.formula.specs.Levels.{SoundPrefix}
 use Rattle.formula.specs.Tables.{literalAt}
 use Rattle.formula.proofs.Sound.{sound-prefix}
-use Rattle.forest.specs.Causes.{ForestCause}
+use Rattle.tables.specs.Causes.{ForestCause}
 use Rattle.growth.specs.Grown.{Standing, TooShort, buildOrder, AddedCause, outside, clauseFirst}
 use Rattle.growth.specs.Rows.{Room}
 use Rattle.formula.specs.Lookup.{InRows}

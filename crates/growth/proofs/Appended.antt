@@ -17,7 +17,7 @@ use Rattle.terms.proofs.Common.{clash}
 use Rattle.formula.specs.Causes.{ClauseCause, checkOrder}
 use Rattle.formula.specs.Meaning.{clauses, isZero, connected}
 use Rattle.formula.specs.Tables.{literalAt, cut, push, EndsInside}
-use Rattle.forest.specs.Formula.{joined}
+use Rattle.tables.specs.Formula.{joined}
 use Rattle.growth.specs.Grown.{many, AddedCause, clauseFirst, withLast}
 
 nought : ℤ → Bool

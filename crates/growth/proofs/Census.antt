@@ -12,9 +12,9 @@ use Rattle.connection.specs.Tables.{Table, row, lent, WellFormed}
 use Rattle.connection.specs.Counts.{how-many, names}
 use Rattle.connection.proofs.Numbered.{how-many-next}
 use Rattle.connection.proofs.Rows.{row-at}
-use Rattle.forest.specs.Counting.{ForClasses}
-use Rattle.forest.specs.Formula.{variables}
-use Rattle.forest.proofs.Agreeing.{lawful}
+use Rattle.tables.specs.Counting.{ForClasses}
+use Rattle.tables.specs.Formula.{variables}
+use Rattle.tables.proofs.Agreeing.{lawful}
 use Rattle.growth.specs.Rows.{CensusOf}
 
 pub census-none : (n : ℕ) (classes : List ℕ) → CensusOf n classes 0 0 0

@@ -19,10 +19,10 @@ use Rattle.formula.specs.Meaning.{clauses, connected, alwaysTrue}
 use Rattle.formula.specs.Tables.{cut}
 use Rattle.formula.proofs.Signs.{connected-none}
 use Rattle.formula.proofs.Sound.{sound-clauses}
-use Rattle.forest.specs.Causes.{ForestCause}
-use Rattle.forest.specs.Formula.{variables, universal, joined, Shares}
+use Rattle.tables.specs.Causes.{ForestCause}
+use Rattle.tables.specs.Formula.{variables, universal, joined, Shares}
 use Rattle.forest.specs.Answers.{Entries, Members}
-use Rattle.forest.proofs.Agreeing.{lawful, none-formed, none-counted}
+use Rattle.tables.proofs.Agreeing.{lawful, none-formed, none-counted}
 use Rattle.forest.proofs.Demands.{universal-alone}
 use Rattle.connection.specs.Reach.{Variables, Joined, Depends, From, Reach}
 use Rattle.connection.specs.Tables.{Table, WellFormed, joins, EntryPointOf}

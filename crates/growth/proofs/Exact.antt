@@ -11,8 +11,8 @@ use lib.Dec.{ltb}
 use lib.ListN.{getD}
 use Rattle.terms.proofs.Common.{clash}
 use Rattle.formula.specs.Meaning.{level, isExistential}
-use Rattle.forest.specs.Formula.{variables}
-use Rattle.forest.proofs.Agreeing.{lawful}
+use Rattle.tables.specs.Formula.{variables}
+use Rattle.tables.proofs.Agreeing.{lawful}
 use Rattle.connection.specs.Reach.{Variables, From, Reach}
 use Rattle.connection.specs.Tables.{Table, row, lent, ClassName, ClassRow, WellFormed}
 use Rattle.connection.specs.Growth.{Represents}

@@ -6,8 +6,8 @@ use native.Mathlib.Omega.{arith}
 use lib.IntN.{ℤ}
 use lib.ListN.{length, getD}
 use Rattle.formula.specs.Meaning.{connected}
-use Rattle.forest.specs.Formula.{variables}
-use Rattle.forest.proofs.Agreeing.{lawful}
+use Rattle.tables.specs.Formula.{variables}
+use Rattle.tables.proofs.Agreeing.{lawful}
 use Rattle.connection.specs.Reach.{Variables, Joined}
 use Rattle.connection.specs.Tables.{Table, row, lent, WellFormed, joins}
 use Rattle.connection.proofs.Reach.{reach-one}

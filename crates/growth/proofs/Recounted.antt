@@ -13,8 +13,8 @@ use Rattle.connection.specs.Reach.{Variables}
 use Rattle.connection.specs.Tables.{Table, row, lent}
 use Rattle.connection.specs.Counts.{Numbered, Within, Counted}
 use Rattle.connection.proofs.Rows.{row-at, row-out}
-use Rattle.forest.specs.Counting.{CountsOf}
-use Rattle.forest.proofs.Agreeing.{lawful}
+use Rattle.tables.specs.Counting.{CountsOf}
+use Rattle.tables.proofs.Agreeing.{lawful}
 use Rattle.growth.specs.Rows.{Copied, Recounted}
 
 pub copy-none : (n : ℕ) (table rows : List ℕ) → Copied n table rows 0 rows

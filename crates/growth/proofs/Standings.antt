@@ -10,9 +10,9 @@ use Rattle.terms.specs.declared.Filled.the-variants.{Count, Refused}
 use Rattle.terms.specs.declared.Verdict.{Verdict}
 use Rattle.connection.specs.Reach.{Variables, Joined}
 use Rattle.connection.proofs.Growth.{forest-is}
-use Rattle.forest.specs.Counting.{FormedBy}
-use Rattle.forest.specs.Formula.{variables}
-use Rattle.forest.proofs.Agreeing.{lawful}
+use Rattle.tables.specs.Counting.{FormedBy}
+use Rattle.tables.specs.Formula.{variables}
+use Rattle.tables.proofs.Agreeing.{lawful}
 use Rattle.growth.specs.declared.Tally.{Tally}
 use Rattle.growth.specs.Grown.{Standing, standing, Grown, TallyOf, Leaves}
 use Rattle.growth.specs.Rows.{Rowed, Recounted, CensusOf}

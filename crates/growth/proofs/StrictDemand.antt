@@ -8,9 +8,9 @@ use lib.IntN.{ℤ}
 use Rattle.terms.specs.declared.Filled.the-variants.{Count}
 use Rattle.formula.specs.Meaning.{connected}
 use Rattle.forest.specs.declared.Scheme.the-variants.{Strict}
-use Rattle.forest.specs.Formula.{variables, universal, Shares, SharesBy}
+use Rattle.tables.specs.Formula.{variables, universal, Shares, SharesBy}
 use Rattle.forest.specs.Answers.{EntriesBy, MembersBy, DependsBy}
-use Rattle.forest.proofs.Agreeing.{lawful}
+use Rattle.tables.proofs.Agreeing.{lawful}
 use Rattle.forest.proofs.Demands.{universal-alone}
 use Rattle.forest.proofs.Sides.{shares-some}
 use Rattle.forest.proofs.Strict.{shares-last}

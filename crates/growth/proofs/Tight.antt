@@ -19,8 +19,8 @@ use Rattle.connection.proofs.Reach.{joined-sym}
 use Rattle.connection.proofs.Rows.{rows-one, lent-one}
 use Rattle.connection.proofs.Growth.{forest-is}
 use Rattle.connection.proofs.Counts.{counts-one}
-use Rattle.forest.specs.Formula.{variables, joined}
-use Rattle.forest.proofs.Agreeing.{lawful}
+use Rattle.tables.specs.Formula.{variables, joined}
+use Rattle.tables.proofs.Agreeing.{lawful}
 use Rattle.growth.specs.declared.Tally.{Tally}
 use Rattle.growth.specs.Grown.{Standing, standing, tableOf, classNames, many, buildOrder, addOrder, Grown, TallyOf, Took, Leaves, Builds, Adds}
 

@@ -13,8 +13,8 @@ use Rattle.terms.specs.declared.Filled.the-variants.{Count, Refused}
 use Rattle.formula.specs.Causes.{prefixOrder, checkOrder}
 use Rattle.formula.specs.Meaning.{clauses, connected}
 use Rattle.formula.specs.Tables.{literalAt}
-use Rattle.forest.specs.Causes.{ForestCause}
-use Rattle.forest.specs.Formula.{variables, Shares}
+use Rattle.tables.specs.Causes.{ForestCause}
+use Rattle.tables.specs.Formula.{variables, Shares}
 use Rattle.connection.specs.Reach.{Variables, Joined}
 use Rattle.connection.specs.Tables.{Table, row, lent, joins}
 use Rattle.connection.specs.Forest.{Forest}

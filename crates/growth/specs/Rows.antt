@@ -7,8 +7,8 @@ use Rattle.connection.specs.Reach.{Variables}
 use Rattle.connection.specs.Tables.{row, lent}
 use Rattle.connection.specs.Forest.{Forest}
 use Rattle.connection.specs.Counts.{Counted, how-many, names}
-use Rattle.forest.specs.Formula.{variables}
-use Rattle.forest.specs.Counting.{ForClasses}
+use Rattle.tables.specs.Formula.{variables}
+use Rattle.tables.specs.Counting.{ForClasses}
 use Rattle.loose.specs.Past.{Past}
 
 -- The rows of classes and parents of 1 to n become the forest of the joins J; those past n stay.

@@ -13,8 +13,8 @@ ghost use mathlib.Core.Path.{_≡_};
 ghost use lib.ListN.{length};
 ghost use Rattle.formula.specs.Levels.{SoundPrefix};
 ghost use Rattle.formula.specs.Lookup.{SoundClauses};
-ghost use Rattle.forest.specs.Formula.{variables, Shares};
-ghost use Rattle.forest.specs.Search.{Tells};
+ghost use Rattle.tables.specs.Formula.{variables, Shares};
+ghost use Rattle.tables.specs.Rows.{Tells};
 ghost use Rattle.growth.specs.Grown.{standing, many, TallyOf};
 ghost use Rattle.growth.specs.Rows.{Room, Rowed, Recounted};
 

@@ -1,11 +1,11 @@
 // The counts of a grown forest, written into the lent rows.
 
-use forest::counts::fill_counts;
+use tables::counts::fill_counts;
 ghost use Prim.Native.Nat.{_+_, _≤_, _<_};
 ghost use mathlib.Core.Path.{_≡_};
 ghost use lib.ListN.{length};
 ghost use Rattle.formula.specs.Levels.{SoundPrefix};
-ghost use Rattle.forest.specs.Counting.{FormedBy};
+ghost use Rattle.tables.specs.Counting.{FormedBy};
 ghost use Rattle.growth.specs.Rows.{Copied, Recounted};
 
 // Writes the counts of well-formed rows into the lent table, rows of 1 to n.

@@ -4,7 +4,7 @@ use crate::Tally;
 ghost use Prim.Native.Nat.{_+_, _-_, _≤_, _<_};
 ghost use mathlib.Core.Path.{_≡_};
 ghost use lib.ListN.{length};
-ghost use Rattle.forest.specs.Search.{Tells};
+ghost use Rattle.tables.specs.Rows.{Tells};
 ghost use Rattle.growth.specs.Grown.{tallyClauses, WrongTally};
 ghost use Rattle.growth.specs.Rows.{CensusOf};
 

@@ -18,7 +18,7 @@ use Rattle.formula.specs.Lookup.{NextZero}
 use Rattle.formula.specs.Meaning.{blocks, clauses, isZero, names, saidOf, freeLevel, firstMark, level, isUniversal, isExistential, connected}
 use Rattle.formula.specs.Tables.{cut, push}
 use Rattle.formula.proofs.Lookups.{clauses-closed, clauses-unclosed}
-use Rattle.forest.specs.Formula.{joined}
+use Rattle.tables.specs.Formula.{joined}
 use Rattle.connection.specs.Reach.{Variables, From, Joined, Reach, here}
 use Rattle.connection.specs.Tables.{row}
 use Rattle.connection.proofs.Reach.{joined-sym}

@@ -1,15 +1,15 @@
 // Passes over the rows: the rows of no clause, exact class rows of loose ones, and the rows written out.
 
 use crate::clause::put;
-use forest::rows::row_of;
 use formula::clauses::next_zero;
+use tables::rows::row_of;
 use terms::Variable;
 ghost use Prim.Native.Nat.{ℕ, _≤_, _<_};
 ghost use mathlib.Core.Path.{_≡_};
 ghost use mathlib.Core.List.{[]};
 ghost use lib.ListN.{length, getD};
 ghost use Rattle.connection.specs.Tables.{row};
-ghost use Rattle.forest.specs.Formula.{joined};
+ghost use Rattle.tables.specs.Formula.{joined};
 ghost use Rattle.formula.specs.Lookup.{SoundClauses};
 ghost use Rattle.formula.specs.Meaning.{clauses as Meaning·clauses};
 ghost use Rattle.loose.specs.Rows.{Holds, Settled, Written};

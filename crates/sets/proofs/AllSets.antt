@@ -20,18 +20,20 @@ use Rattle.connection.specs.Reach.{Variables}
 use Rattle.connection.specs.Tables.{Table, lent, WellFormed, Member}
 use Rattle.connection.specs.Listed.{Listed}
 use Rattle.forest.specs.declared.listing.Asked.the-variants.{Set}
-use Rattle.forest.specs.Formula.{tabled, universal, universalIn, Shares}
-use Rattle.forest.specs.Causes.{ForestCause}
+use Rattle.tables.specs.Formula.{tabled, universal, universalIn, Shares}
+use Rattle.tables.specs.Causes.{ForestCause}
 use Rattle.forest.specs.Answers.{Members}
 use Rattle.forest.specs.Listed.{Filling}
-use Rattle.forest.specs.Search.{rowsOf, TopRows, Topless, Flagged, Via, pick, picked, NoneUpto}
+use Rattle.tables.specs.Rows.{rowsOf}
+use Rattle.forest.specs.Search.{TopRows, Topless, Flagged, Via, pick, picked, NoneUpto}
 use Rattle.sets.specs.Sets.{AllSets, SetsTooLong}
 use Rattle.sets.specs.Threads.{Closed, Together}
 use Rattle.sets.specs.Passed.{TabledSets, PutSet, RoomFor, RoomUpto, PutAll, Fills}
 use Rattle.forest.proofs.Climbing.{tops-entries}
 use Rattle.forest.proofs.Flags.{flag-as, via-as}
 use Rattle.sets.proofs.Followed.{together-shares}
-use Rattle.forest.proofs.Agreeing.{same-back, formed-same, member-same, tables-agree, universal-agrees}
+use Rattle.tables.proofs.Agreeing.{same-back, formed-same, tables-agree, universal-agrees}
+use Rattle.forest.proofs.Agreeing.{member-same}
 use Rattle.forest.proofs.Entered.{fresh, flags-are, entries-of, tabled-lawful, own-level}
 use Rattle.forest.proofs.Listings.{members-picked}
 use Rattle.sets.proofs.Records.{records-one, records-most, records-set, records-other, records-as, put-more}

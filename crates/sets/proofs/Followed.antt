@@ -13,7 +13,7 @@ use Rattle.formula.specs.Tables.{literalAt, cut}
 use Rattle.formula.specs.Meaning.{clauses, connected}
 use Rattle.formula.specs.Lookup.{NextZero}
 use Rattle.formula.proofs.Lookups.{clauses-unclosed}
-use Rattle.forest.specs.Formula.{joined, Shares}
+use Rattle.tables.specs.Formula.{joined, Shares}
 use Rattle.forest.specs.Search.{Has, LastZero, Connects, Flagged, Via}
 use Rattle.sets.specs.Threads.{Begins, first, after, Inside, Connecting, Beside, Together, On, Noted, Threaded, Closed}
 use Rattle.sets.proofs.Chains.{last-one, inside-between, on-some, on-here, on-later, on-cases}

@@ -7,9 +7,9 @@ use lib.ListN.{length}
 use lib.Seq.{sets}
 use Rattle.terms.specs.declared.Filled.{Filled}
 use Rattle.terms.specs.declared.Filled.the-variants.{Count}
-use Rattle.forest.specs.Formula.{universal}
+use Rattle.tables.specs.Formula.{universal}
 use Rattle.forest.specs.Answers.{Members, SetListed}
-use Rattle.forest.proofs.Agreeing.{universal-within}
+use Rattle.tables.proofs.Agreeing.{universal-within}
 use Rattle.connection.proofs.Listed.{listed-one}
 use Rattle.forest.proofs.Demands.{not-refused, filling-settled}
 use Rattle.sets.specs.Sets.{AllSets, setsOrder, SetsListed}

@@ -10,8 +10,9 @@ use Rattle.terms.specs.declared.Filled.{Filled}
 use Rattle.terms.specs.declared.Filled.the-variants.{Count, Refused}
 use Rattle.connection.specs.Tables.{WellFormed, Member}
 use Rattle.forest.specs.declared.listing.Asked.the-variants.{Set}
-use Rattle.forest.specs.Formula.{tabled, universalIn, Shares}
-use Rattle.forest.specs.Search.{rowsOf, Flagged, Via, pick, picked}
+use Rattle.tables.specs.Formula.{tabled, universalIn, Shares}
+use Rattle.tables.specs.Rows.{rowsOf}
+use Rattle.forest.specs.Search.{Flagged, Via, pick, picked}
 use Rattle.sets.specs.Sets.{Records}
 use Rattle.sets.specs.Threads.{Together, Threaded, Closed}
 

@@ -10,8 +10,8 @@ use Rattle.terms.specs.Refusals.{Causes, At0}
 use Rattle.terms.specs.declared.Filled.{Filled}
 use Rattle.formula.specs.Causes.{checkOrder}
 use Rattle.connection.specs.Listed.{Listed}
-use Rattle.forest.specs.Formula.{universal}
-use Rattle.forest.specs.Causes.{ForestCause}
+use Rattle.tables.specs.Formula.{universal}
+use Rattle.tables.specs.Causes.{ForestCause}
 use Rattle.forest.specs.Answers.{Members}
 use Rattle.forest.specs.Listed.{Filling}
 

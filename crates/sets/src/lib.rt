@@ -4,15 +4,15 @@ mod all_sets;
 pub mod threads;
 
 use all_sets::list_sets;
-use forest::tables::check_forest;
 use formula::levels::fill_levels;
+use tables::checking::check_forest;
 use terms::Filled;
 use terms::Verdict;
 ghost use mathlib.Core.List.{[], _∷_};
 ghost use Rattle.terms.specs.Refusals.{At0};
 ghost use Rattle.formula.specs.Levels.{SoundPrefix};
 ghost use Rattle.formula.specs.Lookup.{SoundClauses};
-ghost use Rattle.forest.specs.Causes.{ForestCause};
+ghost use Rattle.tables.specs.Causes.{ForestCause};
 ghost use Rattle.forest.specs.Listed.{Filling};
 ghost use Rattle.sets.specs.Sets.{AllSets, SetsTooLong, SetsListed};
 ghost use Rattle.sets.specs.Threads.{Closed};

@@ -3,10 +3,10 @@
 
 use forest::marks::flag_after;
 use forest::marks::flag_before;
-use forest::rows::flag_at;
 use formula::clauses::next_zero;
 use formula::clauses::variable_at;
 use formula::truth::always_true;
+use tables::rows::flag_at;
 use terms::Variable;
 ghost use Prim.Native.Nat.{ℕ, _+_, _≤_, _<_};
 ghost use mathlib.Core.Path.{_≡_};

@@ -27,15 +27,15 @@ fn run_rules() {
     print_score(b"clause", rules::numbering::clause_cases());
     print_score(
         b"refusals of set, size and entry points",
-        rules::asking::list_cases(),
+        rules::queries::list_cases(),
     );
     print_score(
         b"refusals of strict set, size and entry points",
-        rules::asking::strict_cases(),
+        rules::queries::strict_cases(),
     );
     print_score(
         b"refusals of entry point for y",
-        rules::asking::entry_cases(),
+        rules::queries::entry_cases(),
     );
     print_score(
         b"strict sets, sizes and entry points written out",

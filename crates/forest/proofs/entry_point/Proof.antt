@@ -6,7 +6,8 @@ use borrow.Author.Needs.{needs}
 use Rattle.terms.specs.Refusals.{At0, Judged}
 use Rattle.terms.proofs.Verdicts.{refused-first}
 use Rattle.forest.specs.Answers.{Entry}
-use Rattle.forest.specs.Causes.{ForestCause, NotUniversal, NotDeeper}
+use Rattle.tables.specs.Causes.{ForestCause}
+use Rattle.forest.specs.Causes.{NotUniversal, NotDeeper}
 use Rattle.formula.specs.Causes.{prefixOrder}
 use Rattle.formula.proofs.Sound.{sound-prefix}
 use Rattle.forest.proofs.Listings.{answered-then}

@@ -7,7 +7,7 @@ use lib.ListN.{length-replicate, replicate}
 use Rattle.terms.specs.Refusals.{At0, Judged}
 use Rattle.terms.proofs.Verdicts.{refused-first}
 use Rattle.connection.specs.Tables.{lent}
-use Rattle.forest.specs.Formula.{variables}
+use Rattle.tables.specs.Formula.{variables}
 use Rattle.forest.specs.Answers.{EntriesBy}
 use Rattle.forest.specs.Causes.{readOrder}
 use Rattle.forest.specs.Listed.{TooLong}

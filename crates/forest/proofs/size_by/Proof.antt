@@ -6,7 +6,7 @@ use lib.ListN.{replicate, length-replicate}
 use Rattle.terms.specs.Refusals.{NoneOf, Judged}
 use Rattle.formula.proofs.Sound.{sound-check}
 use Rattle.connection.specs.Tables.{lent}
-use Rattle.forest.specs.Formula.{variables}
+use Rattle.tables.specs.Formula.{variables}
 use Rattle.forest.specs.Causes.{readOrder}
 use Rattle.forest.specs.Answers.{EntriesBy, SizeBy}
 use Rattle.forest.specs.Search.{Enters}

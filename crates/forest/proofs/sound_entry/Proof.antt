@@ -5,9 +5,11 @@ use mathlib.Core.Logic.{_⊎_, inl, inr, ⊎-elim}
 use borrow.Author.Needs.{needs}
 use Rattle.terms.specs.Refusals.{At0, Judged}
 use Rattle.terms.proofs.Verdicts.{at0-first, at0-none, refused-first}
-use Rattle.forest.specs.Formula.{tabled}
-use Rattle.forest.specs.Causes.{ForestCause, NotUniversal, NotDeeper}
-use Rattle.forest.specs.Search.{rowsOf, Finds}
+use Rattle.tables.specs.Formula.{tabled}
+use Rattle.tables.specs.Causes.{ForestCause}
+use Rattle.forest.specs.Causes.{NotUniversal, NotDeeper}
+use Rattle.tables.specs.Rows.{rowsOf}
+use Rattle.forest.specs.Search.{Finds}
 use Rattle.forest.proofs.Entered.{tabled-formed, sound-universal, sound-not-universal, sound-found, sound-nowhere}
 use Rattle.forest.proofs.sound_entry.Statement.{statement}
 use Rattle.forest.proofs.sound_entry.Tie as tie

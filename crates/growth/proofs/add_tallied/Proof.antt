@@ -4,8 +4,8 @@ use mathlib.Core.List.{[], _∷_}
 use Rattle.terms.specs.Answers.{verdictOf}
 use Rattle.terms.specs.Refusals.{Judged}
 use Rattle.terms.proofs.Verdicts.{refused-first, accepted-then}
-use Rattle.forest.specs.Causes.{ForestCause}
-use Rattle.forest.specs.Formula.{variables}
+use Rattle.tables.specs.Causes.{ForestCause}
+use Rattle.tables.specs.Formula.{variables}
 use Rattle.growth.specs.Grown.{standing, tableOf, clauseFirst, TallyCause, addOrder, Extended, Took}
 use Rattle.growth.proofs.Accepted.{added-sound, added-rows}
 use Rattle.growth.proofs.Standings.{refusal}

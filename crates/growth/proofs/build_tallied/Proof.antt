@@ -4,8 +4,8 @@ use borrow.Author.Tests.{not-true, not-false}
 use Rattle.terms.specs.Refusals.{Judged}
 use Rattle.formula.specs.Causes.{checkOrder}
 use Rattle.formula.proofs.Sound.{sound-check, sound-clauses}
-use Rattle.forest.specs.Formula.{variables, Shares}
-use Rattle.forest.proofs.Readings.{told, told-not}
+use Rattle.tables.specs.Formula.{variables, Shares}
+use Rattle.tables.proofs.Readings.{told, told-not}
 use Rattle.growth.specs.Grown.{standing, many, buildOrder, TallyOf}
 use Rattle.growth.proofs.Accepted.{build-refused, build-short, build-accepted}
 use Rattle.growth.proofs.Standings.{rowed-grown, refusal, acceptance}

@@ -3,7 +3,7 @@ use mathlib.Core.Path.{_∙_}
 use mathlib.Core.Bool.{Bool, false}
 use lib.ListN.{length-replicate}
 use Rattle.connection.specs.Tables.{lent}
-use Rattle.forest.proofs.Agreeing.{same-back, formed-same, tables-agree}
+use Rattle.tables.proofs.Agreeing.{same-back, formed-same, tables-agree}
 use borrow.Author.Needs.{needs}
 use Rattle.listing.proofs.list_forest.Statement.{statement}
 use Rattle.listing.proofs.list_forest.Tie as tie

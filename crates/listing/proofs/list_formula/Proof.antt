@@ -9,8 +9,8 @@ use Rattle.terms.specs.declared.Filled.the-variants.{Count}
 use Rattle.formula.specs.Causes.{checkOrder}
 use Rattle.connection.specs.Tables.{WellFormed}
 use Rattle.connection.proofs.Growth.{forest-is}
-use Rattle.forest.specs.Formula.{variables}
-use Rattle.forest.proofs.Agreeing.{lawful}
+use Rattle.tables.specs.Formula.{variables}
+use Rattle.tables.proofs.Agreeing.{lawful}
 use Rattle.formula.proofs.Sound.{sound-check, sound-clauses}
 use Rattle.sets.proofs.AllSets.{sound-closed}
 use Rattle.growth.specs.Grown.{Standing, tableOf, Builds}

@@ -4,9 +4,10 @@ use mathlib.Core.Path.{_≡_, sym, _∙_}
 use mathlib.Core.Bool.{false}
 use native.Mathlib.Omega.{arith}
 use lib.ListN.{length, getD, length-replicate}
-use Rattle.forest.specs.Formula.{tabled, universalIn}
-use Rattle.forest.specs.Search.{rowsOf, TopsOver}
-use Rattle.forest.proofs.Readings.{flag-within}
+use Rattle.tables.specs.Formula.{tabled, universalIn}
+use Rattle.tables.specs.Rows.{rowsOf}
+use Rattle.forest.specs.Search.{TopsOver}
+use Rattle.tables.proofs.Readings.{flag-within}
 use Rattle.forest.proofs.Tops.{tops-over}
 use borrow.Author.Needs.{needs}
 use Rattle.listing.proofs.list_tied.Statement.{statement}

@@ -3,7 +3,7 @@ use Prim.Native.Nat.{ℕ}
 use mathlib.Core.Path.{_∙_}
 use native.Mathlib.Omega.{arith}
 use lib.ListN.{length-replicate}
-use Rattle.forest.proofs.Tops.{new-zero}
+use Rattle.tables.proofs.Readings.{new-zero}
 use borrow.Author.Needs.{needs}
 use Rattle.listing.proofs.list_universals.Statement.{statement}
 use Rattle.listing.proofs.list_universals.Tie as tie

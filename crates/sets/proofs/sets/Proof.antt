@@ -4,7 +4,7 @@ use mathlib.Core.List.{[], _∷_}
 use Rattle.terms.specs.Refusals.{At0, Judged}
 use Rattle.terms.proofs.Verdicts.{refused-first}
 use Rattle.formula.specs.Causes.{checkOrder}
-use Rattle.forest.specs.Causes.{ForestCause}
+use Rattle.tables.specs.Causes.{ForestCause}
 use Rattle.sets.specs.Sets.{AllSets, SetsTooLong}
 use Rattle.formula.proofs.Sound.{sound-check, sound-clauses}
 use Rattle.sets.proofs.AllSets.{filling-then, sound-closed}

@@ -5,7 +5,7 @@ use mathlib.Core.List.{[], _∷_}
 use lib.ListN.{length-replicate}
 use Rattle.terms.specs.Refusals.{At0, Judged}
 use Rattle.terms.proofs.Verdicts.{refused-first}
-use Rattle.forest.specs.Causes.{ForestCause}
+use Rattle.tables.specs.Causes.{ForestCause}
 use Rattle.sets.specs.Sets.{SetsTooLong}
 use Rattle.forest.proofs.Entered.{tabled-formed}
 use Rattle.sets.proofs.AllSets.{sets-agree, fills-filling}

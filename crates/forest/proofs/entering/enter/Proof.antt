@@ -5,7 +5,8 @@ use borrow.Author.Needs.{needs}
 use Rattle.terms.specs.Refusals.{At0, Judged}
 use Rattle.terms.proofs.Verdicts.{refused-first, accepted-then}
 use Rattle.formula.specs.Causes.{checkOrder}
-use Rattle.forest.specs.Causes.{ForestCause, NotUniversal}
+use Rattle.tables.specs.Causes.{ForestCause}
+use Rattle.forest.specs.Causes.{NotUniversal}
 use Rattle.formula.proofs.Sound.{sound-check, sound-clauses}
 use Rattle.forest.proofs.entering.enter.Statement.{statement}
 use Rattle.forest.proofs.entering.enter.Tie as tie

@@ -5,7 +5,8 @@ use mathlib.Core.Logic.{inl, inr}
 use native.Mathlib.Omega.{arith}
 use Rattle.terms.specs.Refusals.{At0, Judged}
 use Rattle.terms.proofs.Verdicts.{at0-first, at0-none, refused-first}
-use Rattle.forest.specs.Causes.{ForestCause, NotUniversal}
+use Rattle.tables.specs.Causes.{ForestCause}
+use Rattle.forest.specs.Causes.{NotUniversal}
 use Rattle.forest.proofs.Entered.{tabled-formed, sound-universal, sound-not-universal}
 use Rattle.forest.proofs.Schemes.{sound-enters}
 use borrow.Author.Needs.{needs}

@@ -5,7 +5,7 @@ use native.Mathlib.Omega.{arith}
 use borrow.Author.Tests.{not-true, not-false}
 use lib.ListN.{length}
 use Rattle.forest.specs.Search.{pick, picked}
-use Rattle.forest.proofs.Readings.{told, told-not}
+use Rattle.tables.proofs.Readings.{told, told-not}
 use Rattle.forest.proofs.Picked.{picked-most}
 use borrow.Author.Needs.{needs}
 use Rattle.forest.proofs.listing.list_picked.Statement.{statement}

@@ -1,7 +1,7 @@
 -- `forest::marks::flag_entries` meets its contract.
 use mathlib.Core.Bool.{Bool}
 use borrow.Author.Needs.{needs}
-use Rattle.forest.specs.Formula.{SharesBy}
+use Rattle.tables.specs.Formula.{SharesBy}
 use Rattle.forest.specs.Search.{Via}
 use Rattle.forest.proofs.Entered.{fresh}
 use Rattle.forest.proofs.Schemes.{taken-flags}

@@ -10,7 +10,7 @@ use Rattle.formula.specs.Meaning.{clauses}
 use Rattle.formula.specs.Tables.{cut}
 use Rattle.formula.proofs.Lookups.{clauses-unclosed}
 use Rattle.formula.proofs.Signs.{stamps-more, stamps-none}
-use Rattle.forest.specs.Formula.{signed}
+use Rattle.tables.specs.Formula.{signed}
 use Rattle.forest.specs.Search.{HasLiteral, Sided}
 use Rattle.forest.proofs.Flags.{Sharing, share-none, share-has, share-not, share-all, sides-apart}
 use Rattle.forest.proofs.marks.flag_signs.Statement.{statement}

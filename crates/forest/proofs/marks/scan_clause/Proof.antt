@@ -8,7 +8,7 @@ use borrow.Author.Needs.{needs}
 use lib.ListN.{length}
 use Rattle.terms.specs.Literals.{variableOf}
 use Rattle.formula.specs.Tables.{literalAt}
-use Rattle.forest.specs.Formula.{signed}
+use Rattle.tables.specs.Formula.{signed}
 use Rattle.forest.specs.Search.{HasLiteral, Sided}
 use Rattle.forest.proofs.Sides.{sided-none, sided-here, sided-past}
 use Rattle.forest.proofs.marks.scan_clause.Statement.{statement}

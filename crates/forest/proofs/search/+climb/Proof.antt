@@ -13,8 +13,8 @@ use Rattle.forest.proofs.search.+climb.Tie.{close}
 use Rattle.forest.proofs.search.climb.Reads as climb
 use Rattle.forest.proofs.search.climb.Kinds as climb-kinds
 use Rattle.forest.proofs.search.+climb.Lts-climb as climb-lts
-use Rattle.forest.proofs.rows.level_at.Reads as level-at-reads
-use Rattle.forest.proofs.rows.row_of.Reads as row-of-reads
+use Rattle.tables.proofs.rows.level_at.Reads as level-at-reads
+use Rattle.tables.proofs.rows.row_of.Reads as row-of-reads
 
 abbrev μ-climb : Measures 2 climb-kinds.ps ℕ
 μ-climb κs a = getD (a .1 .0 .now) (a .1 .1 .1 .1 .0 .0) 0

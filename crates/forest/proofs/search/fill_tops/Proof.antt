@@ -2,8 +2,8 @@
 use Prim.Native.Nat.{_-_}
 use native.Mathlib.Omega.{arith}
 use borrow.Author.Needs.{needs}
-use Rattle.forest.specs.Formula.{tabled}
-use Rattle.forest.specs.Search.{rowsOf}
+use Rattle.tables.specs.Formula.{tabled}
+use Rattle.tables.specs.Rows.{rowsOf}
 use Rattle.forest.proofs.Tops.{Topped, topped-none, topped-more, topped-below, topped-all}
 use Rattle.forest.proofs.search.fill_tops.Statement.{statement}
 use Rattle.forest.proofs.search.fill_tops.Tie as tie

@@ -6,8 +6,8 @@ use borrow.Author.Needs.{needs}
 use lib.ListN.{getD}
 use Rattle.terms.proofs.Common.{clash}
 use Rattle.connection.specs.Tables.{lent, EntryPoint}
-use Rattle.forest.specs.Formula.{tabled}
-use Rattle.forest.specs.Search.{rowsOf}
+use Rattle.tables.specs.Formula.{tabled}
+use Rattle.tables.specs.Rows.{rowsOf}
 use Rattle.forest.proofs.Climbing.{formed-falls, formed-block, searched-rows, searched-entry}
 use Rattle.forest.proofs.search.find_entry.Statement.{statement}
 use Rattle.forest.proofs.search.find_entry.Tie as tie

@@ -6,8 +6,9 @@ use borrow.Author.Tests.{not-true, not-false}
 use borrow.Author.Needs.{needs}
 use lib.ListN.{getD}
 use Rattle.connection.specs.Tables.{lent}
-use Rattle.forest.specs.Formula.{tabled}
-use Rattle.forest.specs.Search.{rowsOf, TopRow}
+use Rattle.tables.specs.Formula.{tabled}
+use Rattle.tables.specs.Rows.{rowsOf}
+use Rattle.forest.specs.Search.{TopRow}
 use Rattle.forest.proofs.Climbing.{formed-falls, searched-rows}
 use Rattle.forest.proofs.Tops.{top-universal, top-shallow, top-class, own-name, top-found, top-itself, top-parent}
 use Rattle.forest.proofs.Entered.{tabled-lawful}

@@ -4,9 +4,9 @@ use mathlib.Core.List.{[], _∷_}
 use native.Mathlib.Omega.{arith}
 use Rattle.formula.specs.Meaning.{connected}
 use Rattle.connection.proofs.Fewer.{fewer-added}
-use Rattle.forest.specs.Formula.{variables}
-use Rattle.forest.proofs.Agreeing.{lawful}
-use Rattle.forest.proofs.Readings.{told, told-not}
+use Rattle.tables.specs.Formula.{variables}
+use Rattle.tables.proofs.Agreeing.{lawful}
+use Rattle.tables.proofs.Readings.{told, told-not}
 use Rattle.growth.specs.Grown.{standing, tableOf, TallyCause, Extended, Took}
 use Rattle.growth.proofs.Standings.{rowed-grown, refusal, acceptance}
 use Rattle.growth.proofs.Tallies.{agrees-clauses, agrees-classes, agrees-sum, tally-refused, tally-accepted, took}

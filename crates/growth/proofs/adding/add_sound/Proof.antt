@@ -4,9 +4,9 @@ use mathlib.Core.List.{[], _∷_, _++_}
 use Rattle.terms.specs.Answers.{verdictOf}
 use Rattle.terms.specs.Refusals.{Judged}
 use Rattle.terms.proofs.Verdicts.{refused-first, accepted-then}
-use Rattle.forest.specs.Causes.{ForestCause}
-use Rattle.forest.specs.Formula.{variables}
-use Rattle.forest.proofs.Agreeing.{none-formed}
+use Rattle.tables.specs.Causes.{ForestCause}
+use Rattle.tables.specs.Formula.{variables}
+use Rattle.tables.proofs.Agreeing.{none-formed}
 use Rattle.growth.specs.Grown.{standing, tableOf, TallyCause, Extended, Took}
 use Rattle.growth.proofs.Accepted.{long-enough}
 use Rattle.growth.proofs.Standings.{refusal}

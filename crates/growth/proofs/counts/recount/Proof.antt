@@ -1,7 +1,7 @@
 -- `growth::counts::recount` meets its contract.
 use Prim.Native.Nat.{ℕ}
 use lib.ListN.{length-replicate}
-use Rattle.forest.proofs.Tops.{new-zero}
+use Rattle.tables.proofs.Readings.{new-zero}
 use Rattle.growth.proofs.Recounted.{recounted}
 use borrow.Author.Needs.{needs}
 use Rattle.growth.proofs.counts.recount.Statement.{statement}

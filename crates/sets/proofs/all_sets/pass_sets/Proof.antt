@@ -5,10 +5,11 @@ use mathlib.Core.Bool.{false}
 use native.Mathlib.Omega.{arith}
 use lib.ListN.{length, getD, length-replicate}
 use lib.Seq.{sets}
-use Rattle.forest.specs.Formula.{tabled, universalIn}
-use Rattle.forest.specs.Search.{rowsOf, TopsOver}
+use Rattle.tables.specs.Formula.{tabled, universalIn}
+use Rattle.tables.specs.Rows.{rowsOf}
+use Rattle.forest.specs.Search.{TopsOver}
 use Rattle.sets.specs.Passed.{TabledSets, PutAll}
-use Rattle.forest.proofs.Readings.{flag-within}
+use Rattle.tables.proofs.Readings.{flag-within}
 use Rattle.forest.proofs.Tops.{tops-over}
 use Rattle.sets.proofs.AllSets.{put-length, sets-small, put-room, put-next, put-other, put-none}
 use borrow.Author.Needs.{needs}

@@ -6,8 +6,8 @@ use native.Mathlib.Omega.{arith}
 use lib.ListN.{length}
 use Rattle.terms.proofs.Common.{clash}
 use Rattle.connection.specs.Tables.{Member}
-use Rattle.forest.specs.Formula.{tabled, universalIn, Shares}
-use Rattle.forest.specs.Search.{rowsOf}
+use Rattle.tables.specs.Formula.{tabled, universalIn, Shares}
+use Rattle.tables.specs.Rows.{rowsOf}
 use Rattle.sets.proofs.AllSets.{sets-within}
 use Rattle.sets.proofs.Records.{records-most, records-room}
 use borrow.Author.Needs.{needs}

@@ -1,0 +1,4 @@
+pub mod Readings
+pub mod Formed
+pub mod Agreeing
+pub mod Counting

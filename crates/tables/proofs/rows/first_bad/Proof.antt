@@ -1,0 +1,68 @@
+-- `tables::rows::first_bad` meets its contract.
+use Prim.Native.Nat.{_-_}
+use mathlib.Core.Path.{subst}
+use native.Mathlib.Omega.{arith}
+use borrow.Author.Needs.{needs}
+use borrow.Author.Tests.{not-true, not-false}
+use Rattle.connection.specs.Tables.{Row}
+use Rattle.tables.specs.Formula.{tabled}
+use Rattle.tables.specs.Rows.{rowsOf}
+use Rattle.tables.proofs.Readings.{told, told-not}
+use Rattle.tables.proofs.Formed.{Right, right-none, right-more, bad-here, bad-none}
+use Rattle.tables.proofs.rows.first_bad.Statement.{statement}
+use Rattle.tables.proofs.rows.first_bad.Tie as tie
+
+abbrev Inv-loop : tie.InvT-loop
+Inv-loop n levels universals classes parents passed₀ passed = Right (Row (tabled n levels universals) (rowsOf n classes parents)) n passed
+
+abbrev μ-loop : tie.MeasureT-loop
+μ-loop n levels universals classes parents passed₀ passed = n - passed
+
+loop-holds : tie.Need-loop-holds Inv-loop μ-loop
+loop-holds c = right-none _ _
+
+add-v : tie.Need-add-v Inv-loop μ-loop
+add-v c = search needs
+
+new-requires : tie.Need-new-requires Inv-loop μ-loop
+new-requires c κs = search needs
+
+row-is-right-requires : tie.Need-row-is-right-requires Inv-loop μ-loop
+row-is-right-requires c κs = search needs
+
+returns : tie.Need-returns Inv-loop μ-loop
+returns c =
+    let a = c .before .before .before .before .before .before .before .before .before .args in
+    bad-here (Row (tabled (a .n) (a .levels .now) (a .universals .now)) (rowsOf (a .n) (a .classes .now) (a .parents .now))) (a .n) (c .before .before .before .before .loop .inv) (c .before .before .before .loop-test .taken)
+    (subst (λ v. Row (tabled (a .n) (a .levels .now) (a .universals .now)) (rowsOf (a .n) (a .classes .now) (a .parents .now)) v → ⊥) (c .before .before .new .ensures)
+    (told-not (c .before .row-is-right .result) (not-true (c .before .row-is-right .result) (c .if1 .taken)) (c .before .row-is-right .ensures)))
+
+loop-less : tie.Need-loop-less Inv-loop μ-loop
+loop-less c = omega arith
+
+loop-again : tie.Need-loop-again Inv-loop μ-loop
+loop-again c =
+    let a = c .before .before .before .before .before .before .before .before .before .args in
+    right-more (Row (tabled (a .n) (a .levels .now) (a .universals .now)) (rowsOf (a .n) (a .classes .now) (a .parents .now))) (a .n) (c .before .before .before .before .loop .inv) (c .before .before .before .loop-test .taken)
+    (subst (Row (tabled (a .n) (a .levels .now) (a .universals .now)) (rowsOf (a .n) (a .classes .now) (a .parents .now))) (c .before .before .new .ensures)
+    (told (c .before .row-is-right .result) (not-false (c .before .row-is-right .result) (c .if1 .left)) (c .before .row-is-right .ensures)))
+
+returns-2 : tie.Need-returns-2 Inv-loop μ-loop
+returns-2 c =
+    let a = c .before .before .before .before .before .before .args in
+    bad-none (Row (tabled (a .n) (a .levels .now) (a .universals .now)) (rowsOf (a .n) (a .classes .now) (a .parents .now))) (a .n) (c .before .loop .inv) (c .loop-test .left)
+
+pub first-bad-spec : {M : Type 1} → statement M
+first-bad-spec =
+    tie.close
+    (tie.spec
+    Inv-loop
+    μ-loop
+    loop-holds
+    add-v
+    new-requires
+    row-is-right-requires
+    returns
+    loop-less
+    loop-again
+    returns-2)

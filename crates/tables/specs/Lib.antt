@@ -1,0 +1,4 @@
+pub mod Formula
+pub mod Causes
+pub mod Rows
+pub mod Counting

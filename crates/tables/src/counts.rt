@@ -1,0 +1,88 @@
+// The counts of a forest: for each class name the number of variables in its class and in all classes below it, 0 elsewhere. Each variable is
+// counted in its class; then the classes pass their counts up to their parents, the prefix from its end, so that a class has all of its own before.
+
+use crate::rows::row_of;
+use terms::Variable;
+ghost use Prim.Native.Nat.{ℕ, _≤_, _<_};
+ghost use mathlib.Core.Path.{_≡_};
+ghost use mathlib.Core.List.{List};
+ghost use lib.ListN.{length, getD};
+ghost use Rattle.formula.specs.Tables.{VariableAt};
+ghost use Rattle.formula.specs.Levels.{SoundPrefix};
+ghost use Rattle.connection.specs.Tables.{row, lent};
+ghost use Rattle.connection.specs.Passing.{Placed};
+ghost use Rattle.tables.specs.Formula.{variables};
+ghost use Rattle.tables.specs.Rows.{Tells};
+ghost use Rattle.tables.specs.Counting.{Counting, FormedBy, ForClasses, passedUp, CountsOf};
+
+// Fills a table, which is 0 throughout, with the counts of well-formed rows.
+pub fn fill_counts(n: u32, prefix: &[u32], classes: &[u32], parents: &[u32], counts: &mut [u32])
+    requires { ⌜ SoundPrefix n (now prefix) × FormedBy n (now prefix) (now classes) (now parents) × (length (now counts) ≡ 4097) × ((v : ℕ) → getD (now counts) v 0 ≡ 0) ⌝ }
+    ensures { λ r. ⌜ CountsOf n (now (prefix .entry)) (now (classes .entry)) (now (parents .entry)) (now (counts .exit)) ⌝ }
+{
+    count_members(n, classes, counts);
+    pass_all_up(n, prefix, parents, counts);
+}
+
+// Counts each variable in its class.
+fn count_members(n: u32, classes: &[u32], counts: &mut [u32])
+    requires { ⌜ (n ≤ 4096) × (length (now counts) ≡ 4097) × ((v : ℕ) → getD (now counts) v 0 ≡ 0) × ((es : List ℕ) × (parents : List ℕ) × FormedBy n es (now classes) parents) ⌝ }
+    ensures { λ r. ⌜ ForClasses n (now (classes .entry)) (λ es parents. Counting (Placed (variables n es) (lent (variables n es) (now (classes .entry)) parents) n) (now (counts .exit))) ⌝ }
+{
+    let mut passed: u32 = 0;
+    while passed < n {
+        let v = passed + 1;
+        let class = row_of(n, classes, Variable::new(v));
+        if class.0 == 0 {
+            passed = v;
+        } else {
+            let at = class.0 as usize;
+            counts[at] = counts[at] + 1;
+            passed = v;
+        }
+    }
+}
+
+// Passes the count of each class up to its parent, the deepest first.
+fn pass_all_up(n: u32, prefix: &[u32], parents: &[u32], counts: &mut [u32])
+    requires { ⌜ SoundPrefix n (now prefix) × ((classes : List ℕ) × FormedBy n (now prefix) classes (now parents) × Counting (Placed (variables n (now prefix)) (lent (variables n (now prefix)) classes (now parents)) n) (now counts)) ⌝ }
+    ensures { λ r. ⌜ ((classes : List ℕ) → FormedBy n (now (prefix .entry)) classes (now (parents .entry)) → Counting (Placed (variables n (now (prefix .entry))) (lent (variables n (now (prefix .entry))) classes (now (parents .entry))) n) (now (counts .entry)) → CountsOf n (now (prefix .entry)) classes (now (parents .entry)) (now (counts .exit))) ⌝ }
+{
+    let mut i = prefix.len();
+    while 0 < i {
+        i -= 1;
+        if names_at(prefix, i) {
+            pass_up(n, Variable::new(prefix[i]), parents, counts);
+        }
+    }
+}
+
+// Whether an entry of a prefix names a variable: it is no 0, and neither is the one before it.
+fn names_at(prefix: &[u32], i: usize) -> bool
+    requires { ⌜ i < length (now prefix) ⌝ }
+    ensures { λ r. ⌜ Tells r (VariableAt (now (prefix .entry)) i) ⌝ }
+{
+    if prefix[i] == 0 {
+        return false;
+    }
+    if i == 0 {
+        return false;
+    }
+    if prefix[i - 1] == 0 {
+        return false;
+    }
+    true
+}
+
+// Passes the count of w up to its parent, if it has one.
+fn pass_up(n: u32, w: Variable, parents: &[u32], counts: &mut [u32])
+    requires { ⌜ (w .0 < length (now counts)) × (row n (now parents) (w .0) < length (now counts)) × ((v : ℕ) → getD (now counts) v 0 ≤ 4096) ⌝ }
+    ensures { λ r. ⌜ now (counts .exit) ≡ passedUp (row n (now (parents .entry)) (w .0)) (w .0) (now (counts .entry)) ⌝ }
+{
+    let parent = row_of(n, parents, w);
+    if parent.0 == 0 {
+        return;
+    }
+    let at = parent.0 as usize;
+    counts[at] = counts[at] + counts[w.0 as usize];
+}
