@@ -15,13 +15,12 @@ use Rattle.connection.specs.Reach.{Variables, Lawful}
 use Rattle.connection.specs.Tables.{Table, row, lent, WellFormed, EntryPoint, EntryPointOf, MemberBy, Climbed}
 use Rattle.connection.proofs.Climb.{above-class, entry-one, entry-climb, entry-rises}
 use Rattle.connection.proofs.Sets.{member-deeper, member-climb}
-use Rattle.tables.specs.Formula.{variables, tabled, existentialIn, universalIn}
+use Rattle.tables.specs.Formula.{variables, tabled, universalIn}
 use Rattle.tables.specs.Causes.{ForestCause}
 use Rattle.forest.specs.Causes.{NotUniversal, NotDeeper}
 use Rattle.forest.specs.Answers.{Entry}
 use Rattle.tables.specs.Rows.{rowsOf}
 use Rattle.forest.specs.Search.{Deeper, EntryRows, Flagged, Via, Blank}
-use Rattle.tables.proofs.Readings.{flag-within}
 use Rattle.tables.proofs.Agreeing.{Same, same-back, formed-same, tables-agree, level-agrees, universal-agrees, universal-within, none-formed}
 use Rattle.forest.proofs.Agreeing.{deeper-same, entry-same}
 
@@ -92,10 +91,6 @@ module _ {X : Variables} {W : Table} (law : Lawful X) (formed : WellFormed X W) 
             let (k, p) = rows y .found (f .existential, f .deep) in
             let top = ap (λ (c : Climbed). c .top) (entry-climb formed p) in
             tells (row (X .count) tops y) (entry-within (f .existential) p .1) .1 (subst P top (member-climb formed points (f .existential) (f .deep) .0 m))
-
-pub tabled-lawful : (n : ℕ) (levels : List ℕ) (universals : List Bool) → Lawful (tabled n levels universals)
-unfolding existentialIn
-tabled-lawful n levels universals = record { within = λ v e. let (a, b, _) = flag-within n v (not (getD universals v false)) e in (a, b) }
 
 -- What the inner calls find by the level table, said of the formula.
 module _ {n : ℕ} {es levels : List ℕ} {universals : List Bool} (sound : SoundPrefix n es) (table : Levelled es levels universals) (classes parents : List ℕ) where

@@ -18,8 +18,9 @@ use Rattle.formula.proofs.Signs.{connected-none, connected-all}
 use Rattle.connection.specs.Reach.{Joined}
 use Rattle.connection.proofs.Choice.{choice}
 use Rattle.connection.specs.Tables.{row}
+use Rattle.forest.specs.declared.marks.Signs.{Signs}
 use Rattle.tables.specs.Formula.{signed, joined, SharesBy}
-use Rattle.forest.specs.Search.{Has, HasLiteral, Connects, Flagged, Via}
+use Rattle.forest.specs.Search.{Has, HasLiteral, By, Connects, Flagged, Via}
 use Rattle.forest.proofs.Sides.{signed-variable, mem-at, one-sign}
 
 -- One flag.
@@ -220,42 +221,69 @@ module _ (n : ℕ) (tops : List ℕ) {P Q : ℕ → Type 0} (v top : ℕ) (more 
       flag-as (flag-then f g)
       (λ e. (⊎-elim (tops-before e) (λ q. record { for = v; holds = more v .0 (inr refl); is = sym above ∙ sym q; some = λ z. some (sym q ∙ z) }), tops-more e))
 
--- What is flagged, and what is to come, are the flags at first and the tops of all that share a clause with the literal of x.
-pub record Sharing (n : ℕ) (tops : List ℕ) (ls : List ℤ) (sign : Bool) (x : ℕ) (old new : List Bool) (start : ℕ) : Type 0 where
+-- The clauses from `start` on that have x by some signs are the one up to the next 0, if it has, and those after it.
+signs-split : (ls : List ℤ) (signs : Signs) (x start z : ℕ) → NextZero ls start z → z < length ls → (v : ℕ)
+    → By signs (λ sign. SharesBy (drop start ls) sign x v) ↔ ((By signs (λ sign. HasLiteral ls start z (signed sign x)) × Connects ls start z v) ⊎ By signs (λ sign. SharesBy (drop (z + 1) ls) sign x v))
+signs-split ls Signs.Either x start z next closed v = (
+  ⊎-elim (λ a. ⊎-elim (λ h. inl (inl (h .0), h .1)) (λ r. inr (inl r)) (positive .0 a)) (λ b. ⊎-elim (λ h. inl (inr (h .0), h .1)) (λ r. inr (inr r)) (negative .0 b)),
+  ⊎-elim (λ h. ⊎-elim (λ a. inl (positive .1 (inl (a, h .1)))) (λ b. inr (negative .1 (inl (b, h .1)))) (h .0)) (⊎-elim (λ a. inl (positive .1 (inr a))) (λ b. inr (negative .1 (inr b)))),
+)
+  where
+    positive : SharesBy (drop start ls) true x v ↔ ((HasLiteral ls start z (signed true x) × Connects ls start z v) ⊎ SharesBy (drop (z + 1) ls) true x v)
+    positive = signed-split ls true x start z next closed v
+
+    negative : SharesBy (drop start ls) false x v ↔ ((HasLiteral ls start z (signed false x) × Connects ls start z v) ⊎ SharesBy (drop (z + 1) ls) false x v)
+    negative = signed-split ls false x start z next closed v
+signs-split ls Signs.Positive x start z next closed v = signed-split ls true x start z next closed v
+signs-split ls Signs.Negative x start z next closed v = signed-split ls false x start z next closed v
+
+signs-none : (ls : List ℤ) (signs : Signs) (x v : ℕ) → clauses ls ≡ [] → By signs (λ sign. SharesBy ls sign x v) → ⊥
+signs-none ls signs x v none = go signs
+  where
+    each : (sign : Bool) → SharesBy ls sign x v → ⊥
+    each sign s = List·Memᴰ·not-nil (subst (List·Memᴰ (s .clause)) none (s .listed))
+
+    go : (signs : Signs) → By signs (λ sign. SharesBy ls sign x v) → ⊥
+    go Signs.Either = ⊎-elim (each true) (each false)
+    go Signs.Positive = each true
+    go Signs.Negative = each false
+
+-- What is flagged, and what is to come, are the flags at first and the tops of all that share a clause with x by the signs.
+pub record Sharing (n : ℕ) (tops : List ℕ) (ls : List ℤ) (signs : Signs) (x : ℕ) (old new : List Bool) (start : ℕ) : Type 0 where
   pub size : length new ≡ length old
-  pub flags : (e : ℕ) → e < length old → ((getD new e false ≡ true) ⊎ Via n tops (SharesBy (drop start ls) sign x) e) ↔ ((getD old e false ≡ true) ⊎ Via n tops (SharesBy ls sign x) e)
+  pub flags : (e : ℕ) → e < length old → ((getD new e false ≡ true) ⊎ Via n tops (λ y. By signs (λ sign. SharesBy (drop start ls) sign x y)) e) ↔ ((getD old e false ≡ true) ⊎ Via n tops (λ y. By signs (λ sign. SharesBy ls sign x y)) e)
 
-pub share-none : (n : ℕ) (tops : List ℕ) (ls : List ℤ) (sign : Bool) (x : ℕ) (old : List Bool) → Sharing n tops ls sign x old old 0
-share-none n tops ls sign x old = record { size = refl; flags = λ v l. (λ s. s, λ s. s) }
+pub share-none : (n : ℕ) (tops : List ℕ) (ls : List ℤ) (signs : Signs) (x : ℕ) (old : List Bool) → Sharing n tops ls signs x old old 0
+share-none n tops ls signs x old = record { size = refl; flags = λ v l. (λ s. s, λ s. s) }
 
-module _ {n : ℕ} {tops : List ℕ} {ls : List ℤ} {sign : Bool} {x : ℕ} {old new : List Bool} {start : ℕ} (s : Sharing n tops ls sign x old new start) where
-  -- A clause that has the literal: the tops of the variables that it connects are flagged.
-  pub share-has : {next : List Bool} (z : ℕ) → NextZero ls start z → z < length ls → HasLiteral ls start z (signed sign x) → Flagged (Via n tops (Connects ls start z)) new next → Sharing n tops ls sign x old next (z + 1)
+module _ {n : ℕ} {tops : List ℕ} {ls : List ℤ} {signs : Signs} {x : ℕ} {old new : List Bool} {start : ℕ} (s : Sharing n tops ls signs x old new start) where
+  -- A clause that has x by the signs: the tops of the variables that it connects are flagged.
+  pub share-has : {next : List Bool} (z : ℕ) → NextZero ls start z → z < length ls → By signs (λ sign. HasLiteral ls start z (signed sign x)) → Flagged (Via n tops (Connects ls start z)) new next → Sharing n tops ls signs x old next (z + 1)
   share-has z closes less here f =
       record {
         size = f .size ∙ s .size;
         flags = λ e l.
             let m = s .flags e l in
             let k = f .flags e (let q = s .size in omega arith) in
-            let split = signed-split ls sign x start z closes less in (
+            let split = signs-split ls signs x start z closes less in (
               ⊎-elim (λ t. ⊎-elim (λ o. m .0 (inl o)) (λ h. m .0 (inr (via-as (λ v h′. split v .1 (inl (here, h′))) h))) (k .0 t)) (λ r. m .0 (inr (via-as (λ v r′. split v .1 (inr r′)) r))),
               λ t. ⊎-elim (λ o. inl (k .1 (inl o))) (λ r. ⊎-elim (λ h. inl (k .1 (inr (via-as (λ v b. b .1) h)))) inr (via-or (via-as (λ v r′. split v .0 r′) r))) (m .1 t),
             );
       }
 
   -- A clause that does not, or that connects nothing: nothing is.
-  pub share-not : (z : ℕ) → NextZero ls start z → z < length ls → ((v : ℕ) → HasLiteral ls start z (signed sign x) → Connects ls start z v → ⊥) → Sharing n tops ls sign x old new (z + 1)
+  pub share-not : (z : ℕ) → NextZero ls start z → z < length ls → ((v : ℕ) → By signs (λ sign. HasLiteral ls start z (signed sign x)) → Connects ls start z v → ⊥) → Sharing n tops ls signs x old new (z + 1)
   share-not z closes less none =
       record {
         size = s .size;
         flags = λ e l.
             let m = s .flags e l in
-            let split = signed-split ls sign x start z closes less in (
+            let split = signs-split ls signs x start z closes less in (
               ⊎-elim (λ o. m .0 (inl o)) (λ r. m .0 (inr (via-as (λ v r′. split v .1 (inr r′)) r))),
               λ t. ⊎-elim inl (λ r. inr (via-as (λ v r′. ⊎-elim (λ h. absurd (none v (h .0) (h .1))) (λ later. later) (split v .0 r′)) r)) (m .1 t),
             );
       }
 
   -- No clause is left.
-  pub share-all : clauses (drop start ls) ≡ [] → Flagged (Via n tops (SharesBy ls sign x)) old new
-  share-all none = record { size = s .size; flags = λ e l. (λ t. s .flags e l .0 (inl t), λ t. ⊎-elim (λ o. o) (λ r. absurd (List·Memᴰ·not-nil (subst (List·Memᴰ (r .holds .clause)) none (r .holds .listed)))) (s .flags e l .1 t)) }
+  pub share-all : clauses (drop start ls) ≡ [] → Flagged (Via n tops (λ y. By signs (λ sign. SharesBy ls sign x y))) old new
+  share-all none = record { size = s .size; flags = λ e l. (λ t. s .flags e l .0 (inl t), λ t. ⊎-elim (λ o. o) (λ r. absurd (signs-none (drop start ls) signs x (r .for) none (r .holds))) (s .flags e l .1 t)) }

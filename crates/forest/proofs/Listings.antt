@@ -1,9 +1,9 @@
 -- From flags to what a call that lists promises, and from the parts of an order to the whole.
 use Prim.Native.Nat.{ℕ, _≤_}
-use mathlib.Core.Path.{_≡_, refl, sym, ap, subst₂}
-use mathlib.Core.Bool.{Bool, false}
+use mathlib.Core.Path.{_≡_, refl, sym, ap, _∙_, subst₂}
+use mathlib.Core.Bool.{Bool, true, false}
 use mathlib.Core.List.{List, [], _∷_, _++_}
-use mathlib.Core.Logic.{inl}
+use mathlib.Core.Logic.{inl, _↔_}
 use native.Mathlib.Omega.{arith}
 use lib.IntN.{ℤ}
 use lib.ListN.{length, getD}
@@ -13,7 +13,7 @@ use Rattle.terms.specs.declared.Verdict.the-variants.{Accepted, Refused}
 use Rattle.terms.specs.declared.Filled.{Filled}
 use Rattle.terms.proofs.Verdicts.{at0-first, at0-none, accepted-then}
 use Rattle.connection.specs.Reach.{Variables, Lawful}
-use Rattle.connection.specs.Tables.{Table, row, lent, WellFormed, EntryPointOf, MemberBy, Member}
+use Rattle.connection.specs.Tables.{Table, row, lent, WellFormed, EntryPointOf, Member}
 use Rattle.connection.specs.Listed.{Listed}
 use Rattle.connection.specs.Counts.{sum}
 use Rattle.connection.proofs.Counts.{count-most}
@@ -47,16 +47,11 @@ picks-listing order {P} f n before after none listed (Filled.Refused number plac
     let first : FirstOf (order ++ (At0 14 (TooLong P before) ∷ [])) 14 0 = accepted-then order (At0 14 (TooLong P before) ∷ []) {v = Accepted} (Refused 14 0) refl none (inl (at0-first 14 (picked f n, listed, picks .2))) in
     (subst₂ (FirstOf (order ++ (At0 14 (TooLong P before) ∷ []))) (sym (picks .0)) (sym (picks .1)) first, picks .3)
 
--- The members by some of the entry points are what is picked by the tops, where these are flagged ...
-members-by-picked : {X : Variables} {W : Table} → Lawful X → WellFormed X W → X .count ≤ 4096 → {P : ℕ → Type 0} {S : ℕ → ℕ → Type 0} {x : ℕ} → ((e : ℕ) → P e → EntryPointOf X W S x e) → {old entered : List Bool} (tops : List ℕ) → Blank old → EntryRows X W x tops → Flagged P old entered
-    → Listed (MemberBy X W P) (picked (pick Set (X .count) entered tops) (X .count))
-unfolding pick
-members-by-picked {X} law formed few points {entered = entered} tops blank rows f =
-    picked-listed (pick Set (X .count) entered tops) (X .count) (λ y m. law .within y (m .existential)) (λ y _ _. members-of law formed tops rows points entered (λ e l. flags-are blank f e (omega arith)) y)
-
--- ... and so the set, by all of them.
+-- The set of x is what is picked by the tops, where its entry points are flagged.
 pub members-picked : {X : Variables} {W : Table} → Lawful X → WellFormed X W → X .count ≤ 4096 → {S : ℕ → ℕ → Type 0} {x : ℕ} {old entered : List Bool} (tops : List ℕ) → Blank old → EntryRows X W x tops → Flagged (EntryPointOf X W S x) old entered → Listed (Member X W S x) (picked (pick Set (X .count) entered tops) (X .count))
-members-picked law formed few tops blank rows f = members-by-picked law formed few (λ e o. o) tops blank rows f
+unfolding pick
+members-picked {X} law formed few {entered = entered} tops blank rows f =
+    picked-listed (pick Set (X .count) entered tops) (X .count) (λ y m. law .within y (m .existential)) (λ y _ _. members-of law formed tops rows (λ e o. o) entered (λ e l. flags-are blank f e (omega arith)) y)
 
 module _ {n : ℕ} {es : List ℕ} {ls : List ℤ} {classes parents counts : List ℕ} (x : ℕ) (none : NoneOf (readOrder n es ls classes parents counts x)) where
   -- Where nothing is refused before the output, the tables are well formed and n is within its limit.
@@ -66,12 +61,17 @@ module _ {n : ℕ} {es : List ℕ} {ls : List ℤ} {classes parents counts : Lis
   few : n ≤ 4096
   few = sound-check (none .0, (none .1 .0, (none .1 .1 .0, (none .1 .1 .1 .0, tt)))) .few
 
-  module _ (scheme : Scheme) {old entered : List Bool} (tops : List ℕ) (blank : Blank old) (enters : Enters (variables n es) (lent (variables n es) classes parents) (EntriesBy scheme n es ls classes parents x) x tops old entered Accepted) where
-    -- What is picked by the flags of the entry points is what is asked for.
+  module _ (scheme : Scheme) {entered : List Bool} (tops : List ℕ) (enters : Enters (variables n es) (lent (variables n es) classes parents) (EntriesBy scheme n es ls classes parents x) x tops entered Accepted) where
+    -- The flags of the entry points tell of the numbers up to n.
+    points-told : (e : ℕ) → e ≤ n → (getD entered e false ≡ true) ↔ EntriesBy scheme n es ls classes parents x e
+    points-told e l = enters .2 .tells e (let f = few in omega arith)
+
+    -- What is picked by them is what is asked for.
     pub asked-listed : (asked : Asked) → Listed (Wanted scheme asked n es ls classes parents x) (picked (pick asked n entered tops) n)
     unfolding pick lent
-    asked-listed Points = picked-listed (pick Points n entered tops) n (λ e o. of-within (lawful n es) formed (scheme-points n es ls classes parents x scheme e o)) (λ e _ l. flags-are blank (enters .1) e (let f = few in omega arith))
-    asked-listed Set = members-by-picked (lawful n es) formed few (scheme-points n es ls classes parents x scheme) tops blank (enters .0) (enters .1)
+    asked-listed Points = picked-listed (pick Points n entered tops) n (λ e o. of-within (lawful n es) formed (scheme-points n es ls classes parents x scheme e o)) (λ e _ l. points-told e l)
+    asked-listed Set = picked-listed (pick Set n entered tops) n (λ y m. lawful n es .within y (m .existential))
+        (λ y _ _. let q = enters .2 .same y in let m = members-of (lawful n es) formed (enters .0) (enters .1) (scheme-points n es ls classes parents x scheme) entered points-told y in (λ t. m .0 (sym q ∙ t), λ k. q ∙ m .1 k))
 
     -- The sum of their counts is the size.
     pub entries-sized : SizeBy scheme n es ls classes parents counts x (sum (row n counts) (picked (λ v. getD entered v false) n))

@@ -1,72 +1,128 @@
 -- What a scheme takes of the two signs of x: of their flags, and so of the entry points.
-use Prim.Native.Nat.{ℕ, _+_, _≤_, _<_}
-use mathlib.Core.Path.{_≡_, refl, sym, ap, ap₂, _∙_}
-use mathlib.Core.Bool.{Bool, true, false, _&&_, _||_}
+use Prim.Native.Nat.{ℕ, _+_, _-_, _≤_, _<_}
+use mathlib.Core.Path.{_≡_, refl, sym, ap, _∙_, subst}
+use mathlib.Core.Bool.{Bool, true, false, cond, not-eq-not}
 use mathlib.Core.List.{List}
-use mathlib.Core.Logic.{_⊎_, inl, inr, ⊎-elim, _↔_}
+use mathlib.Core.Logic.{_≢_, inl, inr, ⊎-elim, _↔_, by-cases}
+use native.Mathlib.Decide.{decLe}
 use native.Mathlib.Omega.{arith}
-use borrow.Author.Count.{below-more}
 use lib.IntN.{ℤ}
-use lib.ListN.{length, getD, set, length-set}
-use lib.Seq.{getD-set-same, getD-set-other}
+use lib.ListN.{length, getD, set, length-set, List·getD-eq-default}
 use Rattle.terms.specs.declared.Verdict.the-variants.{Accepted}
 use Rattle.terms.proofs.Common.{clash}
-use Rattle.formula.specs.Levels.{SoundPrefix, Levelled}
-use Rattle.connection.specs.Tables.{lent, WellFormed, EntryPointOf}
-use Rattle.connection.proofs.Choice.{either, both, or-right}
+use Rattle.formula.specs.Meaning.{level}
+use Rattle.connection.specs.Tables.{row, lent, WellFormed, EntryPointOf}
 use Rattle.connection.proofs.Strict.{strict-entry-within}
+use Rattle.forest.specs.declared.marks.Signs.{Signs}
 use Rattle.forest.specs.declared.Scheme.{Scheme}
-use Rattle.forest.specs.declared.Scheme.the-variants.{Standard, Strict}
-use Rattle.tables.specs.Formula.{variables, tabled, universalIn, Shares, SharesBy}
+use Rattle.tables.specs.Formula.{variables, Shares, SharesBy}
 use Rattle.forest.specs.Answers.{EntriesBy}
-use Rattle.tables.specs.Rows.{rowsOf}
-use Rattle.forest.specs.Search.{EntryRows, TopRows, Flagged, Takes, taking, Taken, Via, Blank, Enters}
+use Rattle.tables.specs.Counting.{FormedBy}
+use Rattle.forest.specs.Search.{EntryRows, TopRows, By, Flagged, Takes, Via, Blank, ifFlagged, Entering, Enters}
+use Rattle.tables.proofs.Readings.{row-none, row-over}
+use Rattle.forest.proofs.Tops.{row-stored, row-kept}
 use Rattle.forest.proofs.Climbing.{tops-entries}
-use Rattle.forest.proofs.Flags.{flag-as, via-as, via-or}
-use Rattle.tables.proofs.Agreeing.{formed-same, tables-agree, lawful}
-use Rattle.forest.proofs.Agreeing.{entry-row-same}
-use Rattle.forest.proofs.Entered.{flags-are, entries-of, own-level}
+use Rattle.forest.proofs.Flags.{via-as, via-or}
+use Rattle.tables.proofs.Agreeing.{lawful}
+use Rattle.forest.proofs.Entered.{flags-are, entries-of}
 use Rattle.forest.proofs.Sides.{shares-some, shares-signed}
 
--- A flag that is taken tells what the scheme takes.
-taking-tells : (scheme : Scheme) (a b : Bool) (P : Bool → Type 0) → (a ≡ true) ↔ P true → (b ≡ true) ↔ P false → (taking scheme a b ≡ true) ↔ Takes scheme P
-unfolding taking
-taking-tells Scheme.Standard a b P f g = (λ t. ⊎-elim (λ q. inl (f .0 q)) (λ q. inr (g .0 q)) (either a b t), ⊎-elim (λ p. ap (λ c. c || b) (f .1 p)) (λ p. or-right a b (g .1 p)))
-taking-tells Scheme.Strict a b P f g = (λ t. let (p, q) = both a b t in (f .0 p, g .0 q), λ h. ap₂ _&&_ (f .1 (h .0)) (g .1 (h .1)))
-
--- So a table of flags that are taken flags what the scheme takes of what two tables flag.
-pub taken-flags : (P : Bool → ℕ → Type 0) {old blank flags others new : List Bool} (scheme : Scheme) → Blank old → Blank blank → Flagged (P true) old flags → Flagged (P false) blank others → Taken scheme flags others new → Flagged (λ v. Takes scheme (λ sign. P sign v)) old new
-taken-flags P {flags = flags} {others = others} scheme b b′ f g t =
+-- The tops by either sign are flagged.
+pub entering-either : {n : ℕ} (tops : List ℕ) (P : Bool → ℕ → Type 0) {old new : List Bool} → Blank old → Flagged (Via n tops (λ y. By Signs.Either (λ sign. P sign y))) old new
+    → Entering n (λ e. Takes Scheme.Standard (λ sign. Via n tops (P sign) e)) tops tops new
+entering-either tops P blank f =
     record {
-      size = t .size ∙ f .size;
-      flags = λ v l.
-          let low : v ≤ 4096 = let q = b .size in omega arith in
-          let is = t .flags-are v (let q = f .size in omega arith) in
-          let tells = taking-tells scheme (getD flags v false) (getD others v false) (λ sign. P sign v) (flags-are b f v low) (flags-are b′ g v low) in
-          (λ q. inr (tells .0 (sym is ∙ q)), ⊎-elim (λ o. absurd (clash o (b .blank v))) (λ p. is ∙ tells .1 p));
+      tells = λ e l. let t = flags-are blank f e l in (λ q. via-or (t .0 q), λ s. t .1 (⊎-elim (via-as (λ y. inl)) (via-as (λ y. inr)) s));
+      same = λ y. refl;
     }
 
--- The flags taken one after the other.
-pub record TakenUpto (scheme : Scheme) (flags others new : List Bool) (i : ℕ) : Type 0 where
-  pub size : length new ≡ length flags
-  pub taken : (v : ℕ) → v < i → getD new v false ≡ taking scheme (getD flags v false) (getD others v false)
-  pub kept : (v : ℕ) → i ≤ v → getD new v false ≡ getD flags v false
+-- The tops by one sign are all that is left in the rows, and of these the tops by the other are flagged.
+module _ {n : ℕ} (tops kept : List ℕ) (P : Bool → ℕ → Type 0) {blank first cleared new : List Bool} (b : Blank blank) (f : Flagged (Via n tops (P true)) blank first)
+    (k : (v : ℕ) → row n kept v ≡ ifFlagged first (row n tops v)) (b′ : Blank cleared) (g : Flagged (Via n kept (P false)) cleared new) where
+  -- a row that is left has a top that is flagged by the first sign
+  left-row : (v e : ℕ) → row n kept v ≡ e → e ≢ 0 → (getD first e false ≡ true) × (row n tops v ≡ e)
+  unfolding ifFlagged
+  left-row v e is some = go (getD first (row n tops v) false) refl (sym (k v) ∙ is)
+    where
+      go : (c : Bool) → getD first (row n tops v) false ≡ c → cond c (row n tops v) 0 ≡ e → (getD first e false ≡ true) × (row n tops v ≡ e)
+      go true t q = (ap (λ d. getD first d false) (sym q) ∙ t, q)
+      go false t q = absurd (some (sym q))
 
-module _ (scheme : Scheme) (flags others : List Bool) where
-  pub taken-none : TakenUpto scheme flags others flags 0
-  taken-none = record { size = refl; taken = λ v l. absurd (omega arith); kept = λ v l. refl }
+  left-tells : (e : ℕ) → e ≤ 4096 → (getD new e false ≡ true) ↔ (Via n tops (P true) e × Via n tops (P false) e)
+  unfolding ifFlagged
+  left-tells e l = (
+    λ q. let t = flags-are b′ g e l .0 q in let (one, is) = left-row (t .for) e (t .is) (t .some) in (flags-are b f e l .0 one, record { for = t .for; holds = t .holds; is = is; some = t .some }),
+    λ s. let (p, q) = s in
+        let one = flags-are b f e l .1 p in
+        flags-are b′ g e l .1 (record { for = q .for; holds = q .holds; is = k (q .for) ∙ ap (λ d. cond (getD first d false) d 0) (q .is) ∙ ap (λ c. cond c e 0) one; some = q .some }),
+  )
 
-  pub taken-more : {new : List Bool} {i : ℕ} {b : Bool} → TakenUpto scheme flags others new i → i < length flags → b ≡ taking scheme (getD new i false) (getD others i false) → TakenUpto scheme flags others (set new i b) (i + 1)
-  taken-more {new} {i} {b} t l is =
+  pub entering-both : Entering n (λ e. Takes Scheme.Strict (λ sign. Via n tops (P sign) e)) tops kept new
+  unfolding ifFlagged
+  entering-both = record { tells = left-tells; same = λ y. go y (getD first (row n tops y) false) refl }
+    where
+      none : getD new 0 false ≡ false
+      none = not-eq-not {b = false} .0 (λ t. flags-are b′ g 0 (omega arith) .0 t .some refl)
+
+      out : (e : ℕ) → getD first e false ≡ false → getD new e false ≡ false
+      out e f′ =
+          by-cases (decLe e 4096) (λ l. not-eq-not {b = false} .0 (λ t. let h = flags-are b′ g e l .0 t in clash (left-row (h .for) e (h .is) (h .some) .0) f′))
+          (λ l. List·getD-eq-default new false {n = e} (let q = g .size in let s = b′ .size in omega arith))
+
+      go : (y : ℕ) (c : Bool) → getD first (row n tops y) false ≡ c → getD new (row n kept y) false ≡ getD new (row n tops y) false
+      go y true t = ap (λ d. getD new d false) (k y ∙ ap (λ c. cond c (row n tops y) 0) t)
+      go y false t = ap (λ d. getD new d false) (k y ∙ ap (λ c. cond c (row n tops y) 0) t) ∙ none ∙ sym (out (row n tops y) t)
+
+-- The rows on the way: up to a variable those with a top that is flagged are left, and from it on all.
+pub record Keeping (n : ℕ) (flags : List Bool) (old tops : List ℕ) (passed : ℕ) : Type 0 where
+  pub size : length tops ≡ length old
+  pub most : passed ≤ n
+  pub done : (v : ℕ) → v ≤ passed → row n tops v ≡ ifFlagged flags (row n old v)
+  pub rest : (v : ℕ) → passed < v → row n tops v ≡ row n old v
+
+nothing : (b : Bool) → cond {A = ℕ} b 0 0 ≡ 0
+nothing true = refl
+nothing false = refl
+
+pub keeping-none : (n : ℕ) (flags : List Bool) (old : List ℕ) → Keeping n flags old old 0
+unfolding ifFlagged
+keeping-none n flags old = record { size = refl; most = omega arith; done = λ v l. let z : v ≡ 0 = omega arith in row-none n old v z ∙ sym (ap (ifFlagged flags) (row-none n old v z) ∙ nothing (getD flags 0 false)); rest = λ v l. refl }
+
+module _ {n : ℕ} {flags : List Bool} {old tops : List ℕ} {passed : ℕ} (k : Keeping n flags old tops passed) where
+  module _ (more : passed < n) (v top : ℕ) {b : Bool} (is : v ≡ passed + 1) (read : top ≡ row n tops v) (told : b ≡ getD flags top false) where
+    -- a row stays as it was if its top is flagged
+    pub keeping-same : b ≡ true → Keeping n flags old tops (passed + 1)
+    unfolding ifFlagged
+    keeping-same yes′ =
+        record {
+          size = k .size;
+          most = omega arith;
+          done = λ w l. by-cases (decLe w passed) (k .done w) (λ over. let q : w ≡ v = omega arith in
+              let same = k .rest w (omega arith) in
+              same ∙ sym (ap (λ c. cond c (row n old w) 0) (ap (λ d. getD flags d false) (sym same ∙ ap (row n tops) q ∙ sym read) ∙ sym told ∙ yes′)));
+          rest = λ w l. k .rest w (omega arith);
+        }
+
+  -- and is 0 if it is not
+  pub keeping-out : n ≤ length old → passed < n → (v top : ℕ) {b : Bool} → v ≡ passed + 1 → top ≡ row n tops v → b ≡ getD flags top false → b ≡ false → Keeping n flags old (set tops passed 0) (passed + 1)
+  unfolding ifFlagged
+  keeping-out long more v top is read told no′ =
+      let at : v - 1 ≡ passed = omega arith in
+      let some : v ≢ 0 = λ z. omega arith in
+      let stored : row n (set tops passed 0) v ≡ 0 = subst (λ i. row n (set tops i 0) v ≡ 0) at (row-stored n tops v 0 some (omega arith) (let q = k .size in omega arith)) in
+      let kept : (w : ℕ) → w ≢ v → row n (set tops passed 0) w ≡ row n tops w = λ w other. subst (λ i. row n (set tops i 0) w ≡ row n tops w) at (row-kept n tops v 0 w some other) in
       record {
-        size = length-set new i b ∙ t .size;
-        taken = below-more (λ v. getD (set new i b) v false ≡ taking scheme (getD flags v false) (getD others v false)) i (λ v less. getD-set-other new i v b false (λ q. omega arith) ∙ t .taken v less)
-            (getD-set-same new i b false (let q = t .size in omega arith) ∙ is ∙ ap (λ a. taking scheme a (getD others i false)) (t .kept i (omega arith)));
-        kept = λ v more. getD-set-other new i v b false (λ q. omega arith) ∙ t .kept v (omega arith);
+        size = length-set tops passed 0 ∙ k .size;
+        most = omega arith;
+        done = λ w l. by-cases (decLe w passed) (λ low. kept w (λ q. omega arith) ∙ k .done w low) (λ over. let q : w ≡ v = omega arith in
+            let same = k .rest w (omega arith) in
+            ap (row n (set tops passed 0)) q ∙ stored ∙ sym (ap (λ c. cond c (row n old w) 0) (ap (λ d. getD flags d false) (sym same ∙ ap (row n tops) q ∙ sym read) ∙ sym told ∙ no′)));
+        rest = λ w l. kept w (λ q. omega arith) ∙ k .rest w (omega arith);
       }
 
-  pub taken-all : {new : List Bool} {i : ℕ} → TakenUpto scheme flags others new i → length flags ≤ i → Taken scheme flags others new
-  taken-all t done = record { size = t .size; flags-are = λ v l. t .taken v (omega arith) }
+  pub keeping-all : n ≤ passed → (v : ℕ) → row n tops v ≡ ifFlagged flags (row n old v)
+  unfolding ifFlagged
+  keeping-all done v = by-cases (decLe v passed) (k .done v) (λ l. let over : n < v = omega arith in row-over n tops v over ∙ sym (ap (ifFlagged flags) (row-over n old v over) ∙ nothing (getD flags 0 false)))
 
 -- The entry points by a scheme are among the standard ones.
 pub scheme-points : (n : ℕ) (es : List ℕ) (ls : List ℤ) (classes parents : List ℕ) (x : ℕ) (scheme : Scheme) (e : ℕ) → EntriesBy scheme n es ls classes parents x e → EntryPointOf (variables n es) (lent (variables n es) classes parents) (Shares ls) x e
@@ -89,14 +145,11 @@ takes-entries n es ls classes parents {x} tops formed rows Scheme.Strict e = (λ
     each true t = t .0
     each false t = t .1
 
-module _ {n : ℕ} {es levels : List ℕ} {universals : List Bool} (sound : SoundPrefix n es) (table : Levelled es levels universals) (classes parents : List ℕ) (x : ℕ) where
-  -- The tops over the level of x, and the flags of those that a scheme takes of the variables that share a clause with x.
-  pub sound-enters : (scheme : Scheme) (ls : List ℤ) (floor : ℕ) (tops : List ℕ) {old new : List Bool} → WellFormed (tabled n levels universals) (rowsOf n classes parents) → universalIn n universals x ≡ true → floor ≡ getD levels x 0
-      → TopRows (tabled n levels universals) (rowsOf n classes parents) floor tops → Flagged (λ e. Takes scheme (λ sign. Via n tops (SharesBy ls sign x) e)) old new
-      → Enters (variables n es) (lent (variables n es) classes parents) (EntriesBy scheme n es ls classes parents x) x tops old new Accepted
-  unfolding lent
-  sound-enters scheme ls floor tops formed u low tops-are f =
-      let s = tables-agree sound table in
-      let own = own-level sound table classes parents x u in
-      let rows : EntryRows (variables n es) (lent (variables n es) classes parents) x tops = λ y. entry-row-same s formed own (tops-entries formed floor tops low tops-are y) in
-      (rows, flag-as f (takes-entries n es ls classes parents tops (formed-same s formed) rows scheme))
+-- The tops over the level of x, and the flags of those that a scheme takes of the variables that share a clause with x.
+pub over-enters : (n : ℕ) (es : List ℕ) (ls : List ℤ) (classes parents : List ℕ) (x floor : ℕ) (tops : List ℕ) {kept : List ℕ} {flags : List Bool} (scheme : Scheme) → FormedBy n es classes parents → floor ≡ level es x
+    → TopRows (variables n es) (lent (variables n es) classes parents) floor tops → Entering n (λ e. Takes scheme (λ sign. Via n tops (SharesBy ls sign x) e)) tops kept flags
+    → Enters (variables n es) (lent (variables n es) classes parents) (EntriesBy scheme n es ls classes parents x) x kept flags Accepted
+over-enters n es ls classes parents x floor tops scheme formed low rows e =
+    let entries = tops-entries formed floor tops low rows in
+    let points = takes-entries n es ls classes parents tops formed entries scheme in
+    (tops, entries, record { tells = λ v l. let t = e .tells v l in (λ q. points v .0 (t .0 q), λ p. t .1 (points v .1 p)); same = e .same })

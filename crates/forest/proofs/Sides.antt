@@ -19,8 +19,9 @@ use Rattle.formula.specs.Meaning.{clauses, opposite, alwaysTrue, connected}
 use Rattle.formula.proofs.Signs.{pair-true, connected-none, connected-all}
 use Rattle.formula.specs.Tables.{literalAt}
 use Rattle.forest.specs.declared.marks.Side.{Side}
+use Rattle.forest.specs.declared.marks.Signs.{Signs}
 use Rattle.tables.specs.Formula.{signed, joined, Shares, SharesBy}
-use Rattle.forest.specs.Search.{HasLiteral, Sided}
+use Rattle.forest.specs.Search.{HasLiteral, Sided, By, sideBy}
 
 -- The variable of a literal of x is x, and every literal is one of its variable.
 pub signed-variable : (sign : Bool) (x : ℕ) → variableOf (signed sign x) ≡ x
@@ -144,3 +145,35 @@ module _ (ls : List ℤ) (start x : ℕ) where
         go Side.Neither s = λ sign h. s sign (shorter sign h)
         go Side.Positive s = longer true s
         go Side.Negative s = longer false s
+
+-- A side that a scan is for has one of its signs, and any other none, where no two sides can be had at once.
+pub side-has : (signs : Signs) (side : Side) (P : Bool → Type 0) → sideBy signs side ≡ true → Sided side P → By signs P
+unfolding sideBy
+side-has Signs.Either Side.Neither P q s = absurd (clash refl (sym q))
+side-has Signs.Either Side.Positive P q s = inl s
+side-has Signs.Either Side.Negative P q s = inr s
+side-has Signs.Positive Side.Neither P q s = absurd (clash refl (sym q))
+side-has Signs.Positive Side.Positive P q s = s
+side-has Signs.Positive Side.Negative P q s = absurd (clash refl (sym q))
+side-has Signs.Negative Side.Neither P q s = absurd (clash refl (sym q))
+side-has Signs.Negative Side.Positive P q s = absurd (clash refl (sym q))
+side-has Signs.Negative Side.Negative P q s = s
+
+pub side-not : (signs : Signs) (side : Side) (P : Bool → Type 0) → sideBy signs side ≡ false → Sided side P → (P true → P false → ⊥) → By signs P → ⊥
+unfolding sideBy
+side-not Signs.Either Side.Neither P q s apart = ⊎-elim (s true) (s false)
+side-not Signs.Either Side.Positive P q s apart = absurd (clash refl q)
+side-not Signs.Either Side.Negative P q s apart = absurd (clash refl q)
+side-not Signs.Positive Side.Neither P q s apart = s true
+side-not Signs.Positive Side.Positive P q s apart = absurd (clash refl q)
+side-not Signs.Positive Side.Negative P q s apart = λ p. apart p s
+side-not Signs.Negative Side.Neither P q s apart = s false
+side-not Signs.Negative Side.Positive P q s apart = λ p. apart s p
+side-not Signs.Negative Side.Negative P q s apart = absurd (clash refl q)
+
+-- a clause that has x in neither sign is for no scan
+pub side-neither : (signs : Signs) → sideBy signs Side.Neither ≡ false
+unfolding sideBy
+side-neither Signs.Either = refl
+side-neither Signs.Positive = refl
+side-neither Signs.Negative = refl

@@ -1,9 +1,10 @@
 -- What the inner functions find in lent rows, by the level table. What a reader must believe of the calls is in Causes, Answers and Listed.
 use Prim.Native.Nat.{ℕ, zero, suc, _+_, _-_, _≤_, _<_}
 use mathlib.Core.Path.{_≡_}
-use mathlib.Core.Bool.{Bool, true, false, cond, _&&_, _||_}
+use mathlib.Core.Bool.{Bool, true, false, cond}
 use mathlib.Core.List.{List, [], _∷_, _++_, List·Memᴰ}
 use mathlib.Core.Logic.{_⊎_, _≢_, _↔_}
+use lib.Dec.{eqb}
 use lib.IntN.{ℤ}
 use lib.ListN.{length, getD, take, drop}
 use lib.Seq.{sets}
@@ -20,6 +21,7 @@ use Rattle.forest.specs.declared.listing.Asked.{Asked}
 use Rattle.forest.specs.declared.listing.Asked.the-variants.{Points, Set}
 use Rattle.forest.specs.declared.marks.Side.{Side}
 use Rattle.forest.specs.declared.marks.Side.the-variants.{Neither, Positive, Negative}
+use Rattle.forest.specs.declared.marks.Signs.{Signs}
 use Rattle.forest.specs.declared.Scheme.{Scheme}
 use Rattle.forest.specs.declared.Scheme.the-variants.{Standard, Strict}
 use Rattle.forest.specs.declared.search.Found.{Found}
@@ -54,6 +56,10 @@ pub record TopRow (X : Variables) (W : Table) (floor y top : ℕ) : Type 0 where
   pub found : Under X floor y → (rises : ℕ) × Searched X W floor (W .cls y) top rises
   pub none : (Under X floor y → ⊥) → top ≡ 0
 
+-- the top of a variable of class c, 0 for none, deeper than the floor: that of the parent of c, and c itself if the parent has none
+unfoldable pub topBy : ℕ → ℕ → ℕ
+topBy c above = cond (eqb c 0) 0 (cond (eqb above 0) c above)
+
 -- the row of every y is its top
 abbrev pub TopRows : Variables → Table → ℕ → List ℕ → Type 0
 TopRows X W floor tops = (y : ℕ) → TopRow X W floor y (row (X .count) tops y)
@@ -67,10 +73,6 @@ pub record TopsOver (X : Variables) (W : Table) (floor from : ℕ) (tops : List 
   pub rows : TopRows X W floor tops
   pub most : from ≤ X .count
   pub none : Topless (X .count) tops from
-
--- the rows of the variables below v are tops
-abbrev pub TopsBelow : Variables → Table → ℕ → List ℕ → ℕ → Type 0
-TopsBelow X W floor tops v = (y : ℕ) → y < v → TopRow X W floor y (row (X .count) tops y)
 
 -- y is existential and deeper than x
 abbrev pub Deeper : Variables → ℕ → ℕ → Type 0
@@ -110,6 +112,23 @@ Sided Neither P = (sign : Bool) → P sign → ⊥
 Sided Positive P = P true
 Sided Negative P = P false
 
+-- what holds of the signs that a scan is for; and whether it is for a side
+abbrev pub By : Signs → (Bool → Type 0) → Type 0
+By Signs.Either P = P true ⊎ P false
+By Signs.Positive P = P true
+By Signs.Negative P = P false
+
+unfoldable pub sideBy : Signs → Side → Bool
+sideBy Signs.Either Neither = false
+sideBy Signs.Either Positive = true
+sideBy Signs.Either Negative = true
+sideBy Signs.Positive Neither = false
+sideBy Signs.Positive Positive = true
+sideBy Signs.Positive Negative = false
+sideBy Signs.Negative Neither = false
+sideBy Signs.Negative Positive = false
+sideBy Signs.Negative Negative = true
+
 -- s is the last entry up to p with none but literals from it up to p, p not counted
 pub record LastZero (ls : List ℤ) (p s : ℕ) : Type 0 where
   pub most : s ≤ p
@@ -125,19 +144,10 @@ pub record Flagged (P : ℕ → Type 0) (old new : List Bool) : Type 0 where
   pub size : length new ≡ length old
   pub flags : (v : ℕ) → v < length old → (getD new v false ≡ true) ↔ ((getD old v false ≡ true) ⊎ P v)
 
--- what a scheme takes: what holds of either sign, or what holds of both; and the same of flags
+-- what a scheme takes: what holds of either sign, or what holds of both
 abbrev pub Takes : Scheme → (Bool → Type 0) → Type 0
 Takes Standard P = P true ⊎ P false
 Takes Strict P = P true × P false
-
-unfoldable pub taking : Scheme → Bool → Bool → Bool
-taking Standard a b = a || b
-taking Strict a b = a && b
-
--- a table of flags is what a scheme takes of two
-pub record Taken (scheme : Scheme) (flags others new : List Bool) : Type 0 where
-  pub size : length new ≡ length flags
-  pub flags-are : (v : ℕ) → v < length flags → getD new v false ≡ taking scheme (getD flags v false) (getD others v false)
 
 -- e is the top of a variable of which P holds
 pub record Via (n : ℕ) (tops : List ℕ) (P : ℕ → Type 0) (e : ℕ) : Type 0 where
@@ -165,15 +175,24 @@ abbrev pub Wanted : Scheme → Asked → ℕ → List ℕ → List ℤ → List 
 Wanted scheme Points n es ls classes parents x = EntriesBy scheme n es ls classes parents x
 Wanted scheme Set n es ls classes parents x = MembersBy scheme n es ls classes parents x
 
--- where a call is not refused: the entry of every variable, and the entry points, by P, flagged
-abbrev pub Enters : Variables → Table → (ℕ → Type 0) → ℕ → List ℕ → List Bool → List Bool → Verdict → Type 0
-Enters X W P x tops old new Accepted = EntryRows X W x tops × Flagged P old new
-Enters X W P x tops old new (Verdict.Refused number place) = Unit {0}
-
 -- a table of flags with none set
 pub record Blank (flags : List Bool) : Type 0 where
   pub size : length flags ≡ 4097
   pub blank : (v : ℕ) → getD flags v false ≡ false
+
+-- a top that is flagged, and 0 in place of any other
+unfoldable pub ifFlagged : List Bool → ℕ → ℕ
+ifFlagged flags top = cond (getD flags top false) top 0
+
+-- the flags tell of which numbers P holds, and what the row of a variable says by them is what its entry says
+pub record Entering (n : ℕ) (P : ℕ → Type 0) (entries tops : List ℕ) (flags : List Bool) : Type 0 where
+  pub tells : (e : ℕ) → e ≤ 4096 → (getD flags e false ≡ true) ↔ P e
+  pub same : (y : ℕ) → getD flags (row n tops y) false ≡ getD flags (row n entries y) false
+
+-- where a call is not refused: the entry points, by P, are flagged, and the rows stand for the entries of all variables
+abbrev pub Enters : Variables → Table → (ℕ → Type 0) → ℕ → List ℕ → List Bool → Verdict → Type 0
+Enters X W P x tops flags Accepted = (entries : List ℕ) × EntryRows X W x entries × Entering (X .count) P entries tops flags
+Enters X W P x tops flags (Verdict.Refused number place) = Unit {0}
 
 -- the picked numbers are written, ascending, or there is too little room for them
 abbrev pub Picks : (ℕ → Bool) → ℕ → List ℕ → List ℕ → Filled → Type 0

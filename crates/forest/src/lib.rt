@@ -205,7 +205,7 @@ pub fn size_by(
 ) -> Filled
     ensures { λ r. ⌜ SizedBy scheme n (now (prefix .entry)) (now (clauses .entry)) (now (classes .entry)) (now (parents .entry)) (now (counts .entry)) (x .0) r ⌝ }
 {
-    let mut tops = [0u32; 4096];
+    let mut tops = [0u32; 4097];
     let mut entered = [false; 4097];
     match enter(
         scheme,
@@ -239,7 +239,7 @@ fn list_asked(
 ) -> Filled
     ensures { λ r. ⌜ Listing (listOrder n (now (prefix .entry)) (now (clauses .entry)) (now (classes .entry)) (now (parents .entry)) (now (counts .entry)) (x .0) (Wanted scheme asked n (now (prefix .entry)) (now (clauses .entry)) (now (classes .entry)) (now (parents .entry)) (x .0)) (now (out .entry))) (Wanted scheme asked n (now (prefix .entry)) (now (clauses .entry)) (now (classes .entry)) (now (parents .entry)) (x .0)) (now (out .entry)) (now (out .exit)) r ⌝ }
 {
-    let mut tops = [0u32; 4096];
+    let mut tops = [0u32; 4097];
     let mut entered = [false; 4097];
     match enter(
         scheme,

@@ -4,17 +4,20 @@ use crate::Scheme;
 use formula::clauses::literal_at;
 use formula::clauses::variable_at;
 use formula::truth::always_true;
+use tables::rows::flag_at;
 use tables::rows::row_of;
 use terms::Literal;
 use terms::Variable;
-ghost use Prim.Native.Nat.{ℕ, _+_, _<_};
+ghost use Prim.Native.Nat.{ℕ, _+_, _≤_, _<_};
 ghost use mathlib.Core.Path.{_≡_};
-ghost use mathlib.Core.Bool.{true, false};
-ghost use lib.ListN.{length};
+ghost use mathlib.Core.Bool.{false};
+ghost use lib.ListN.{length, getD};
 ghost use Rattle.terms.specs.Literals.{variableOf};
 ghost use Rattle.formula.specs.Lookup.{NextZero, SoundClauses, Stamps};
+ghost use Rattle.connection.specs.Tables.{row};
+ghost use Rattle.forest.specs.declared.Scheme.the-variants.{Strict};
 ghost use Rattle.tables.specs.Formula.{signed, SharesBy};
-ghost use Rattle.forest.specs.Search.{Has, HasLiteral, Sided, LastZero, Connects, Flagged, Takes, taking, Taken, Via, Blank};
+ghost use Rattle.forest.specs.Search.{Has, HasLiteral, Sided, By, sideBy, LastZero, Connects, Flagged, Takes, Via, Blank, ifFlagged, Entering};
 
 // In which sign a clause has x. One that is not always true has it in one sign only.
 pub enum Side {
@@ -29,35 +32,77 @@ pub struct Scan {
     pub side: Side,
 }
 
-// Flags the tops of the variables that share a clause with x, by a scheme: with x in either sign, or those that both signs have.
+// By which signs of x a scan flags.
+pub enum Signs {
+    Either,
+    Positive,
+    Negative,
+}
+
+// Flags the entry points of x by a scheme, the tops of variables that share a clause with it; what was flagged before is forgotten. A top that
+// is no entry point may be taken out of the rows on the way.
 pub fn flag_entries(
     scheme: Scheme,
     n: u32,
     clauses: &[i32],
     x: Variable,
-    tops: &[u32],
+    tops: &mut [u32],
     flags: &mut [bool],
 )
-    requires { ⌜ SoundClauses (now clauses) × Blank (now flags) ⌝ }
-    ensures { λ r. ⌜ Flagged (λ e. Takes scheme (λ sign. Via n (now (tops .entry)) (SharesBy (now (clauses .entry)) sign (x .0)) e)) (now (flags .entry)) (now (flags .exit)) ⌝ }
+    requires { ⌜ SoundClauses (now clauses) × (length (now flags) ≡ 4097) × (n ≤ length (now tops)) ⌝ }
+    ensures { λ r. ⌜ Entering n (λ e. Takes scheme (λ sign. Via n (now (tops .entry)) (SharesBy (now (clauses .entry)) sign (x .0)) e)) (now (tops .entry)) (now (tops .exit)) (now (flags .exit)) ⌝ }
 {
-    let mut negative = [false; 4097];
-    flag_signs(n, clauses, x, tops, flags, &mut negative);
-    take_flags(scheme, flags, &negative);
+    clear_flags(flags);
+    match scheme {
+        Scheme::Standard => flag_signs(Signs::Either, n, clauses, x, tops, flags),
+        Scheme::Strict => flag_both(n, clauses, x, tops, flags),
+    }
 }
 
-// Flags the tops of the variables that share a clause with x, in a table for each sign that x has there.
-fn flag_signs(
-    n: u32,
-    clauses: &[i32],
-    x: Variable,
-    tops: &[u32],
-    positive: &mut [bool],
-    negative: &mut [bool],
-)
+// Takes back every flag.
+fn clear_flags(flags: &mut [bool])
+    ensures { λ r. ⌜ ((v : ℕ) → getD (now (flags .exit)) v false ≡ false) ⌝ }
+{
+    let mut i = 0;
+    while i < flags.len() {
+        flags[i] = false;
+        i += 1;
+    }
+}
+
+// Flags the tops that both signs of x have: those by the one are all that is left in the rows when those by the other are flagged.
+fn flag_both(n: u32, clauses: &[i32], x: Variable, tops: &mut [u32], flags: &mut [bool])
+    requires { ⌜ SoundClauses (now clauses) × Blank (now flags) × (n ≤ length (now tops)) ⌝ }
+    ensures { λ r. ⌜ Entering n (λ e. Takes Strict (λ sign. Via n (now (tops .entry)) (SharesBy (now (clauses .entry)) sign (x .0)) e)) (now (tops .entry)) (now (tops .exit)) (now (flags .exit)) ⌝ }
+{
+    flag_signs(Signs::Positive, n, clauses, x, tops, flags);
+    keep_flagged(n, flags, tops);
+    clear_flags(flags);
+    flag_signs(Signs::Negative, n, clauses, x, tops, flags);
+}
+
+// Takes every top that is not flagged out of the rows.
+fn keep_flagged(n: u32, flags: &[bool], tops: &mut [u32])
+    requires { ⌜ n ≤ length (now tops) ⌝ }
+    ensures { λ r. ⌜ ((v : ℕ) → row n (now (tops .exit)) v ≡ ifFlagged (now (flags .entry)) (row n (now (tops .entry)) v)) ⌝ }
+{
+    let mut passed: u32 = 0;
+    while passed < n {
+        let v = Variable::new(passed + 1);
+        let top = row_of(n, tops, v);
+        if flag_at(flags, top) {
+            passed += 1;
+        } else {
+            tops[passed as usize] = 0;
+            passed += 1;
+        }
+    }
+}
+
+// Flags the tops of the variables that share a clause with x, where it has one of the signs.
+fn flag_signs(signs: Signs, n: u32, clauses: &[i32], x: Variable, tops: &[u32], flags: &mut [bool])
     requires { ⌜ SoundClauses (now clauses) ⌝ }
-    ensures { λ r. ⌜ Flagged (Via n (now (tops .entry)) (SharesBy (now (clauses .entry)) true (x .0))) (now (positive .entry)) (now (positive .exit)) ⌝ }
-    ensures { λ r. ⌜ Flagged (Via n (now (tops .entry)) (SharesBy (now (clauses .entry)) false (x .0))) (now (negative .entry)) (now (negative .exit)) ⌝ }
+    ensures { λ r. ⌜ Flagged (Via n (now (tops .entry)) (λ y. By signs (λ sign. SharesBy (now (clauses .entry)) sign (x .0) y))) (now (flags .entry)) (now (flags .exit)) ⌝ }
 {
     let mut seen = [0u16; 8194];
     let mut start = 0;
@@ -68,19 +113,31 @@ fn flag_signs(
             return;
         }
         let side = scan.side;
-        match side {
-            Side::Neither => {
-                start = end + 1;
-            }
-            Side::Positive => {
-                flag_clause(n, clauses, start, end, tops, positive, &mut seen);
-                start = end + 1;
-            }
-            Side::Negative => {
-                flag_clause(n, clauses, start, end, tops, negative, &mut seen);
-                start = end + 1;
-            }
+        if has_sign(signs, side) {
+            flag_clause(n, clauses, start, end, tops, flags, &mut seen);
+            start = end + 1;
+        } else {
+            start = end + 1;
         }
+    }
+}
+
+// Whether the side of a clause is one of the signs.
+fn has_sign(signs: Signs, side: Side) -> bool
+    ensures { λ r. ⌜ r ≡ sideBy signs side ⌝ }
+{
+    match side {
+        Side::Neither => false,
+        Side::Positive => match signs {
+            Signs::Negative => false,
+            Signs::Either => true,
+            Signs::Positive => true,
+        },
+        Side::Negative => match signs {
+            Signs::Positive => false,
+            Signs::Either => true,
+            Signs::Negative => true,
+        },
     }
 }
 
@@ -184,27 +241,5 @@ fn flag(flags: &mut [bool], v: Variable)
     let at = v.0 as usize;
     if at < flags.len() {
         flags[at] = true;
-    }
-}
-
-// Makes the flags those that a scheme takes of them and of others: those of either table, or those of both.
-fn take_flags(scheme: Scheme, flags: &mut [bool], others: &[bool])
-    requires { ⌜ length (now flags) ≡ length (now others) ⌝ }
-    ensures { λ r. ⌜ Taken scheme (now (flags .entry)) (now (others .entry)) (now (flags .exit)) ⌝ }
-{
-    let mut i = 0;
-    while i < flags.len() {
-        flags[i] = takes(scheme, flags[i], others[i]);
-        i += 1;
-    }
-}
-
-// What a scheme takes of two flags.
-fn takes(scheme: Scheme, flag: bool, other: bool) -> bool
-    ensures { λ r. ⌜ r ≡ taking scheme flag other ⌝ }
-{
-    match scheme {
-        Scheme::Standard => flag || other,
-        Scheme::Strict => flag && other,
     }
 }

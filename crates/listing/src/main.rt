@@ -21,13 +21,11 @@ use terms::Variable;
 ghost use Prim.Native.Nat.{_≤_, _<_};
 ghost use mathlib.Core.Path.{_≡_};
 ghost use lib.ListN.{length};
-ghost use Rattle.formula.specs.Levels.{SoundPrefix};
+ghost use Rattle.formula.specs.Levels.{SoundPrefix, Levelled};
 ghost use Rattle.formula.specs.Lookup.{SoundClauses};
 ghost use Rattle.formula.specs.Meaning.{blocks};
 ghost use Rattle.formula.specs.Meaning.{clauses as Meaning·clauses};
-ghost use Rattle.connection.specs.Tables.{WellFormed, lent};
-ghost use Rattle.tables.specs.Formula.{variables, tabled};
-ghost use Rattle.tables.specs.Rows.{rowsOf};
+ghost use Rattle.tables.specs.Counting.{FormedBy};
 ghost use Rattle.sets.specs.Threads.{Closed, Tied};
 ghost use Rattle.sets.specs.Passed.{Ready};
 ghost use Rattle.listing.specs.Lines.{Small};
@@ -91,7 +89,7 @@ fn list_formula(n: u32, prefix: &[u32], clauses: &[i32]) {
 
 // The first line, and then the universals in ascending order. The levels are looked up once for all of them.
 fn list_forest(n: u32, prefix: &[u32], clauses: &[i32], classes: &[u32], parents: &[u32])
-    requires { ⌜ SoundPrefix n (now prefix) × SoundClauses (now clauses) × Closed (now clauses) × WellFormed (variables n (now prefix)) (lent (variables n (now prefix)) (now classes) (now parents)) ⌝ }
+    requires { ⌜ SoundPrefix n (now prefix) × SoundClauses (now clauses) × Closed (now clauses) × FormedBy n (now prefix) (now classes) (now parents) ⌝ }
 {
     let mut levels = [0u32; 4097];
     let mut universals = [false; 4097];
@@ -99,7 +97,7 @@ fn list_forest(n: u32, prefix: &[u32], clauses: &[i32], classes: &[u32], parents
     let blocks = count_blocks(prefix);
     let clause_count = count_clauses(clauses);
     print_head(n, blocks, clause_count);
-    list_universals(n, &levels, &universals, clauses, classes, parents);
+    list_universals(n, prefix, &levels, &universals, clauses, classes, parents);
 }
 
 // Prints the first line.
@@ -148,19 +146,21 @@ fn count_clauses(clauses: &[i32]) -> usize
 // A line for each universal, in ascending order, once they are tied to their clauses.
 fn list_universals(
     n: u32,
+    prefix: &[u32],
     levels: &[u32],
     universals: &[bool],
     clauses: &[i32],
     classes: &[u32],
     parents: &[u32],
 )
-    requires { ⌜ (n ≤ 4096) × (length (now universals) ≡ 4097) × SoundClauses (now clauses) × Closed (now clauses) × WellFormed (tabled n (now levels) (now universals)) (rowsOf n (now classes) (now parents)) ⌝ }
+    requires { ⌜ SoundPrefix n (now prefix) × Levelled (now prefix) (now levels) (now universals) × SoundClauses (now clauses) × Closed (now clauses) × FormedBy n (now prefix) (now classes) (now parents) ⌝ }
 {
     let mut first = [0u32; 4097];
     let mut next = [0u32; 16384];
     thread(clauses, universals, &mut first, &mut next);
     list_tied(
         n,
+        prefix,
         levels,
         universals,
         clauses,
@@ -175,6 +175,7 @@ fn list_universals(
 // deeper than.
 fn list_tied(
     n: u32,
+    prefix: &[u32],
     levels: &[u32],
     universals: &[bool],
     clauses: &[i32],
@@ -183,7 +184,7 @@ fn list_tied(
     first: &[u32],
     next: &[u32],
 )
-    requires { ⌜ Ready n (now levels) (now universals) (now clauses) (now classes) (now parents) (now first) (now next) ⌝ }
+    requires { ⌜ Ready n (now prefix) (now levels) (now universals) (now clauses) (now classes) (now parents) (now first) (now next) ⌝ }
 {
     let mut tops = [0u32; 4096];
     let mut floor = Floor {
@@ -195,7 +196,7 @@ fn list_tied(
         passed += 1;
         let x = Variable::new(passed);
         if universal_at(n, universals, x) {
-            floor = retop(n, levels, universals, classes, parents, floor, x, &mut tops);
+            floor = retop(n, prefix, levels, classes, parents, floor, x, &mut tops);
             list_universal(n, clauses, first, next, x, floor.level, &tops);
         }
     }

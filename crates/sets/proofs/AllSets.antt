@@ -1,4 +1,4 @@
--- The pass over all universals: what is written or counted for one joins what was before, there is room for it, and what holds by the level table holds of the formula.
+-- The pass over all universals: what is written or counted for one joins what was before, and there is room for it.
 use Prim.Native.Nat.{ℕ, _+_, _*_, _≤_, _<_}
 use mathlib.Core.Path.{_≡_, refl, sym, ap, _∙_, subst₂}
 use mathlib.Core.Bool.{Bool, true, false, cond}
@@ -15,28 +15,26 @@ use Rattle.terms.specs.declared.Verdict.the-variants.{Accepted, Refused}
 use Rattle.terms.specs.declared.Filled.{Filled}
 use Rattle.terms.proofs.Verdicts.{at0-first, at0-none, accepted-then}
 use Rattle.formula.specs.Causes.{ends-inside, checkOrder}
-use Rattle.formula.specs.Levels.{SoundPrefix, Levelled}
+use Rattle.formula.specs.Meaning.{level}
 use Rattle.connection.specs.Reach.{Variables}
 use Rattle.connection.specs.Tables.{Table, lent, WellFormed, Member}
 use Rattle.connection.specs.Listed.{Listed}
 use Rattle.forest.specs.declared.listing.Asked.the-variants.{Set}
-use Rattle.tables.specs.Formula.{tabled, universal, universalIn, Shares}
+use Rattle.tables.specs.Formula.{variables, universal, Shares}
 use Rattle.tables.specs.Causes.{ForestCause}
 use Rattle.forest.specs.Answers.{Members}
 use Rattle.forest.specs.Listed.{Filling}
-use Rattle.tables.specs.Rows.{rowsOf}
 use Rattle.forest.specs.Search.{TopRows, Topless, Flagged, Via, pick, picked, NoneUpto}
 use Rattle.sets.specs.Sets.{AllSets, SetsTooLong}
 use Rattle.sets.specs.Threads.{Closed, Together}
-use Rattle.sets.specs.Passed.{TabledSets, PutSet, RoomFor, RoomUpto, PutAll, Fills}
+use Rattle.sets.specs.Passed.{SetsUpto, PutSet, RoomFor, RoomUpto, PutAll, Fills}
 use Rattle.forest.proofs.Climbing.{tops-entries}
 use Rattle.forest.proofs.Flags.{flag-as, via-as}
 use Rattle.sets.proofs.Followed.{together-shares}
-use Rattle.tables.proofs.Agreeing.{same-back, formed-same, tables-agree, universal-agrees}
-use Rattle.forest.proofs.Agreeing.{member-same}
-use Rattle.forest.proofs.Entered.{fresh, flags-are, entries-of, tabled-lawful, own-level}
+use Rattle.tables.proofs.Agreeing.{lawful}
+use Rattle.forest.proofs.Entered.{fresh, flags-are, entries-of}
 use Rattle.forest.proofs.Listings.{members-picked}
-use Rattle.sets.proofs.Records.{records-one, records-most, records-set, records-other, records-as, put-more}
+use Rattle.sets.proofs.Records.{records-one, records-most, records-set, records-other, put-more}
 
 -- what is written is as long as what was there
 pub put-length : (writing : Bool) (before list : List ℕ) → length (cond writing (sets before 0 list) before) ≡ length before
@@ -52,31 +50,31 @@ topless-none flags from f none v low high = ap (λ e. getD flags e false) (none 
     go true t = absurd (flags-are fresh f 0 (omega arith) .0 t .some refl)
     go false t = refl
 
-module _ (n : ℕ) (levels : List ℕ) (universals : List Bool) (ls : List ℤ) (classes parents : List ℕ) where
+module _ (n : ℕ) (es : List ℕ) (ls : List ℤ) (classes parents : List ℕ) where
   abbrev X : Variables
-  X = tabled n levels universals
+  X = variables n es
 
   abbrev W : Table
-  W = rowsOf n classes parents
+  W = lent X classes parents
 
   abbrev R : ℕ → List ℕ → Type 0
-  R = TabledSets n levels universals ls classes parents
+  R = SetsUpto n es ls classes parents
 
   pub sets-within : (x v : ℕ) → Member X W (Shares ls) x v → (1 ≤ v) × (v ≤ n)
-  sets-within x v m = tabled-lawful n levels universals .within v (m .existential)
+  sets-within x v m = lawful n es .within v (m .existential)
 
   -- the list stays small
   pub sets-small : n ≤ 4096 → (m : ℕ) (list : List ℕ) → m ≤ n → R m list → length list < 16785409
   sets-small few m list l r =
-      let most = records-most (universalIn n universals) (Member X W (Shares ls)) n sets-within m list r in
+      let most = records-most (universal n es) (Member X W (Shares ls)) n sets-within m list r in
       let bound : m * (n + 2) ≤ 4096 * (n + 2) = mul-le-mul-right (n + 2) (omega arith) in
       omega arith
 
   -- The set of x, by the tops over its level and the flags of all that is in a clause with it.
-  pub tabled-picked : n ≤ 4096 → Closed ls → WellFormed X W → (x floor : ℕ) (tops : List ℕ) (flags : List Bool) → floor ≡ getD levels x 0 → TopRows X W floor tops
+  pub set-picked : n ≤ 4096 → Closed ls → WellFormed X W → (x floor : ℕ) (tops : List ℕ) (flags : List Bool) → floor ≡ level es x → TopRows X W floor tops
       → Flagged (Via n tops (Together ls x)) (replicate 4097 false) flags → Listed (Member X W (Shares ls) x) (picked (pick Set n flags tops) n)
-  tabled-picked few closed formed x floor tops flags low rows f =
-      let law = tabled-lawful n levels universals in
+  set-picked few closed formed x floor tops flags low rows f =
+      let law = lawful n es in
       let entries = tops-entries formed floor tops low rows in
       let shared = flag-as f (λ e. (via-as (λ v t. together-shares ls x v closed .0 t), via-as (λ v s. together-shares ls x v closed .1 s))) in
       members-picked law formed few tops fresh entries (flag-as shared (entries-of law formed tops entries))
@@ -84,11 +82,11 @@ module _ (n : ℕ) (levels : List ℕ) (universals : List Bool) (ls : List ℤ) 
   module _ (few : n ≤ 4096) (closed : Closed ls) (formed : WellFormed X W) (m x floor : ℕ) (tops : List ℕ) (writing : Bool) (before : List ℕ) {out : List ℕ} {end : ℕ}
       (is : x ≡ m + 1) (p : PutAll (R m) writing before out end) where
     -- A universal adds its record ...
-    module _ (u : universalIn n universals x ≡ true) (low : floor ≡ getD levels x 0) (rows : TopRows X W floor tops) where
+    module _ (u : universal n es x ≡ true) (low : floor ≡ level es x) (rows : TopRows X W floor tops) where
       pub put-room : m < n → (writing ≡ true → RoomUpto R n (length before)) → RoomFor n tops ls x end writing out
       put-room less room yes′ flags f =
           let members = picked (pick Set n flags tops) n in
-          let all = records-set (universalIn n universals) (Member X W (Shares ls)) m (p .0) (p .1) x members is u (tabled-picked few closed formed x floor tops flags low rows f) in
+          let all = records-set (universal n es) (Member X W (Shares ls)) m (p .0) (p .1) x members is u (set-picked few closed formed x floor tops flags low rows f) in
           let fits = room yes′ (m + 1) (p .0 ++ (x ∷ length members ∷ members)) (omega arith) all in
           let size = length-append (p .0) (x ∷ length members ∷ members) in
           let long = ap length (p .3) ∙ put-length writing before (p .0) in
@@ -98,38 +96,29 @@ module _ (n : ℕ) (levels : List ℕ) (universals : List Bool) (ls : List ℤ) 
       pub put-next : {out′ : List ℕ} {end′ : ℕ} → PutSet n tops ls x end writing out out′ end′ → PutAll (R (m + 1)) writing before out′ end′
       put-next s =
           let members = picked (pick Set n (s .flags) tops) n in
-          let all = records-set (universalIn n universals) (Member X W (Shares ls)) m (p .0) (p .1) x members is u (tabled-picked few closed formed x floor tops (s .flags) low rows (s .flagged)) in
+          let all = records-set (universal n es) (Member X W (Shares ls)) m (p .0) (p .1) x members is u (set-picked few closed formed x floor tops (s .flags) low rows (s .flagged)) in
           let size = length-append (p .0) (x ∷ length members ∷ members) in
           let here = p .2 in
           let there = s .put .0 in
           (p .0 ++ (x ∷ length members ∷ members), all, omega arith, put-more writing before end (p .0) (x ∷ length members ∷ members) here (p .3) (s .put .1))
 
   -- ... and any other variable nothing.
-  pub put-other : (m x : ℕ) (writing : Bool) (before : List ℕ) {out : List ℕ} {end : ℕ} → x ≡ m + 1 → PutAll (R m) writing before out end → universalIn n universals x ≡ false → PutAll (R (m + 1)) writing before out end
-  put-other m x writing before is p u = (p .0, records-other (universalIn n universals) (Member X W (Shares ls)) m (p .0) (p .1) x is u, p .2, p .3)
+  pub put-other : (m x : ℕ) (writing : Bool) (before : List ℕ) {out : List ℕ} {end : ℕ} → x ≡ m + 1 → PutAll (R m) writing before out end → universal n es x ≡ false → PutAll (R (m + 1)) writing before out end
+  put-other m x writing before is p u = (p .0, records-other (universal n es) (Member X W (Shares ls)) m (p .0) (p .1) x is u, p .2, p .3)
 
   -- At first there is nothing.
   pub put-none : (writing : Bool) (before : List ℕ) → PutAll (R 0) writing before before 0
   put-none true before = ([], refl, refl, refl)
   put-none false before = ([], refl, refl, refl)
 
--- The same sets by the level table and by the formula.
-module _ {n : ℕ} {es levels : List ℕ} {universals : List Bool} (sound : SoundPrefix n es) (table : Levelled es levels universals) (ls : List ℤ) (classes parents : List ℕ) (formed : WellFormed (tabled n levels universals) (rowsOf n classes parents)) where
-  pub sets-agree : (list : List ℕ) → TabledSets n levels universals ls classes parents n list → AllSets n es ls classes parents list
-  unfolding lent
-  sets-agree list r =
-      let s = tables-agree sound table in
-      records-as (universal-agrees sound table)
-      (λ x u v. let own = own-level sound table classes parents x u in (member-same s formed own, member-same (same-back s) (formed-same s formed) (sym own))) n list r
-
 -- What is written, or what there is no room for, as the call promises it.
-pub fills-filling : (n : ℕ) (es : List ℕ) (ls : List ℤ) (classes parents counts : List ℕ) {L : List ℕ → Type 0} (before after : List ℕ) → ((list : List ℕ) → L list → AllSets n es ls classes parents list) → None (ForestCause n es classes parents counts) → (r : Filled) → Fills L before after r
+pub fills-filling : (n : ℕ) (es : List ℕ) (ls : List ℤ) (classes parents counts : List ℕ) (before after : List ℕ) → None (ForestCause n es classes parents counts) → (r : Filled) → Fills (AllSets n es ls classes parents) before after r
     → Filling (ForestCause n es classes parents counts ∷ At0 14 (SetsTooLong n es ls classes parents before) ∷ []) (AllSets n es ls classes parents) before after r
-fills-filling n es ls classes parents counts before after as-sets none (Filled.Count count) (list, is, size, room, stored) =
-    let fits : SetsTooLong n es ls classes parents before → ⊥ = λ long. let q = ap length (records-one (universal n es) (Members n es ls classes parents) n (long .0) list (long .1) (as-sets list is)) in let l = long .2 in omega arith in
-    ((none, (at0-none 14 fits, tt)), (list, as-sets list is, size, stored))
-fills-filling n es ls classes parents counts before after as-sets none (Filled.Refused number place) (k, p, long, same) =
-    let first : FirstOf (ForestCause n es classes parents counts ∷ At0 14 (SetsTooLong n es ls classes parents before) ∷ []) 14 0 = inr (none, inl (at0-first 14 (long .0, as-sets (long .0) (long .1), long .2))) in
+fills-filling n es ls classes parents counts before after none (Filled.Count count) (list, is, size, room, stored) =
+    let fits : SetsTooLong n es ls classes parents before → ⊥ = λ long. let q = ap length (records-one (universal n es) (Members n es ls classes parents) n (long .0) list (long .1) is) in let l = long .2 in omega arith in
+    ((none, (at0-none 14 fits, tt)), (list, is, size, stored))
+fills-filling n es ls classes parents counts before after none (Filled.Refused number place) (k, p, long, same) =
+    let first : FirstOf (ForestCause n es classes parents counts ∷ At0 14 (SetsTooLong n es ls classes parents before) ∷ []) 14 0 = inr (none, inl (at0-first 14 (long .0, long .1, long .2))) in
     (subst₂ (FirstOf (ForestCause n es classes parents counts ∷ At0 14 (SetsTooLong n es ls classes parents before) ∷ [])) (sym k) (sym p) first, same)
 
 -- A list filled, once an order before it has accepted.

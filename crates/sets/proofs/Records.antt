@@ -3,7 +3,7 @@ use Prim.Native.Nat.{ℕ, zero, suc, _+_, _-_, _*_, _≤_, _<_}
 use mathlib.Core.Path.{_≡_, refl, sym, ap, ap₂, _∙_, subst}
 use mathlib.Core.Bool.{Bool, true, false, cond}
 use mathlib.Core.List.{List, [], _∷_, _++_, append-nil, append-assoc}
-use mathlib.Core.Logic.{_↔_, by-cases}
+use mathlib.Core.Logic.{by-cases}
 use native.Mathlib.Decide.{ℕ-discrete}
 use native.Mathlib.Numerals.{add-one}
 use native.Mathlib.Omega.{arith}
@@ -79,15 +79,6 @@ module _ (U : ℕ → Bool) (P : ℕ → ℕ → Type 0) where
       there′ : (members : List ℕ) × Listed (P x) members × (front : List ℕ) × (back : List ℕ) × (before ≡ front ++ ((x ∷ length members ∷ members) ++ back)) → (members : List ℕ) × Listed (P x) members × (front : List ℕ) × (back : List ℕ) × (list ≡ front ++ ((x ∷ length members ∷ members) ++ back))
       there′ (members, l, front, back, is) =
           (members, l, front, back ++ part, q ∙ ap (λ (b : List ℕ). b ++ part) is ∙ append-assoc front ((x ∷ length members ∷ members) ++ back) part ∙ ap (λ (p : List ℕ). front ++ p) (append-assoc (x ∷ length members ∷ members) back part))
-
--- The same sets, said otherwise.
-pub records-as : {U U′ : ℕ → Bool} {P Q : ℕ → ℕ → Type 0} → ((x : ℕ) → U x ≡ U′ x) → ((x : ℕ) → U x ≡ true → (v : ℕ) → P x v ↔ Q x v) → (m : ℕ) (list : List ℕ) → Records U P m list → Records U′ Q m list
-records-as same both zero list q = q
-records-as {U} {U′} {P} {Q} same both (suc m) list (before, part, r, a, q) = (before, part, records-as same both m before r, subst (λ b. Record b (suc m) (Q (suc m)) part) (same (suc m)) (go (U (suc m)) refl a), q)
-  where
-    go : (b : Bool) → U (suc m) ≡ b → Record b (suc m) (P (suc m)) part → Record b (suc m) (Q (suc m)) part
-    go true u (s, l, e) = (s, record { ascending = l .ascending; each = λ v m′. both (suc m) u v .0 (l .each v m′); all = λ v p. l .all v (both (suc m) u v .1 p) }, e)
-    go false u e = e
 
 -- Stores: a run behind a run, and a store in front of a run.
 pub sets-append : (before : List ℕ) (at : ℕ) (list more : List ℕ) → sets (sets before at list) (at + length list) more ≡ sets before at (list ++ more)

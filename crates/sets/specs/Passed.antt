@@ -1,4 +1,4 @@
--- What the inner functions of the call for all sets count and write, by the level table.
+-- What the inner functions of the call for all sets count and write.
 use Prim.Native.Nat.{ℕ, _+_, _≤_, _<_}
 use mathlib.Core.Path.{_≡_}
 use mathlib.Core.Bool.{Bool, true, false, cond}
@@ -8,22 +8,24 @@ use lib.ListN.{length, replicate}
 use lib.Seq.{sets}
 use Rattle.terms.specs.declared.Filled.{Filled}
 use Rattle.terms.specs.declared.Filled.the-variants.{Count, Refused}
-use Rattle.connection.specs.Tables.{WellFormed, Member}
+use Rattle.formula.specs.Levels.{SoundPrefix, Levelled}
 use Rattle.forest.specs.declared.listing.Asked.the-variants.{Set}
-use Rattle.tables.specs.Formula.{tabled, universalIn, Shares}
-use Rattle.tables.specs.Rows.{rowsOf}
+use Rattle.tables.specs.Formula.{universal}
+use Rattle.forest.specs.Answers.{Members}
+use Rattle.tables.specs.Counting.{FormedBy}
 use Rattle.forest.specs.Search.{Flagged, Via, pick, picked}
 use Rattle.sets.specs.Sets.{Records}
 use Rattle.sets.specs.Threads.{Together, Threaded, Closed}
 
 -- the sets of the universals 1 to m
-abbrev pub TabledSets : ℕ → List ℕ → List Bool → List ℤ → List ℕ → List ℕ → ℕ → List ℕ → Type 0
-TabledSets n levels universals ls classes parents = Records (universalIn n universals) (Member (tabled n levels universals) (rowsOf n classes parents) (Shares ls))
+abbrev pub SetsUpto : ℕ → List ℕ → List ℤ → List ℕ → List ℕ → ℕ → List ℕ → Type 0
+SetsUpto n es ls classes parents = Records (universal n es) (Members n es ls classes parents)
 
--- what the passes over all universals stand on: well-formed rows, closed clauses, and universals that are tied to them
-pub record Ready (n : ℕ) (levels : List ℕ) (universals : List Bool) (ls : List ℤ) (classes parents first next : List ℕ) : Type 0 where
-  pub few : n ≤ 4096
-  pub formed : WellFormed (tabled n levels universals) (rowsOf n classes parents)
+-- what the passes over all universals stand on: an accepted prefix and its level table, well-formed rows, closed clauses, and universals that are tied to them
+pub record Ready (n : ℕ) (es levels : List ℕ) (universals : List Bool) (ls : List ℤ) (classes parents first next : List ℕ) : Type 0 where
+  pub sound : SoundPrefix n es
+  pub table : Levelled es levels universals
+  pub formed : FormedBy n es classes parents
   pub closed : Closed ls
   pub heads : length first ≡ 4097
   pub links : length ls ≤ length next

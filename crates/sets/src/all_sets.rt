@@ -16,18 +16,18 @@ ghost use Prim.Native.Nat.{_+_, _≤_, _<_};
 ghost use mathlib.Core.Path.{_≡_};
 ghost use mathlib.Core.Bool.{true, false};
 ghost use lib.ListN.{length};
+ghost use Rattle.formula.specs.Levels.{SoundPrefix, Levelled};
 ghost use Rattle.formula.specs.Lookup.{SoundClauses};
-ghost use Rattle.connection.specs.Tables.{WellFormed};
 ghost use Rattle.forest.specs.declared.listing.Asked.the-variants.{Set};
-ghost use Rattle.tables.specs.Formula.{tabled};
-ghost use Rattle.tables.specs.Rows.{rowsOf};
+ghost use Rattle.tables.specs.Counting.{FormedBy};
 ghost use Rattle.forest.specs.Search.{pick, picked, NoneUpto, Topless};
 ghost use Rattle.sets.specs.Threads.{Closed, Tied};
-ghost use Rattle.sets.specs.Passed.{TabledSets, Ready, Put, PutSet, RoomFor, RoomUpto, TellsRoom, PutAll, Fills};
+ghost use Rattle.sets.specs.Passed.{SetsUpto, Ready, Put, PutSet, RoomFor, RoomUpto, TellsRoom, PutAll, Fills};
 
 // Writes the sets of all universals into the front of `out`, if there is room for all of them.
 pub fn list_sets(
     n: u32,
+    prefix: &[u32],
     levels: &[u32],
     universals: &[bool],
     clauses: &[i32],
@@ -35,14 +35,15 @@ pub fn list_sets(
     parents: &[u32],
     out: &mut [u32],
 ) -> Filled
-    requires { ⌜ (n ≤ 4096) × (length (now universals) ≡ 4097) × SoundClauses (now clauses) × Closed (now clauses) × WellFormed (tabled n (now levels) (now universals)) (rowsOf n (now classes) (now parents)) ⌝ }
-    ensures { λ r. ⌜ Fills (TabledSets n (now (levels .entry)) (now (universals .entry)) (now (clauses .entry)) (now (classes .entry)) (now (parents .entry)) n) (now (out .entry)) (now (out .exit)) r ⌝ }
+    requires { ⌜ SoundPrefix n (now prefix) × Levelled (now prefix) (now levels) (now universals) × SoundClauses (now clauses) × Closed (now clauses) × FormedBy n (now prefix) (now classes) (now parents) ⌝ }
+    ensures { λ r. ⌜ Fills (SetsUpto n (now (prefix .entry)) (now (clauses .entry)) (now (classes .entry)) (now (parents .entry)) n) (now (out .entry)) (now (out .exit)) r ⌝ }
 {
     let mut first = [0u32; 4097];
     let mut next = [0u32; 16384];
     thread(clauses, universals, &mut first, &mut next);
     write_fitting(
         n,
+        prefix,
         levels,
         universals,
         clauses,
@@ -57,6 +58,7 @@ pub fn list_sets(
 // The same, once the universals are tied to their clauses.
 fn write_fitting(
     n: u32,
+    prefix: &[u32],
     levels: &[u32],
     universals: &[bool],
     clauses: &[i32],
@@ -66,11 +68,12 @@ fn write_fitting(
     next: &[u32],
     out: &mut [u32],
 ) -> Filled
-    requires { ⌜ Ready n (now levels) (now universals) (now clauses) (now classes) (now parents) (now first) (now next) ⌝ }
-    ensures { λ r. ⌜ Fills (TabledSets n (now (levels .entry)) (now (universals .entry)) (now (clauses .entry)) (now (classes .entry)) (now (parents .entry)) n) (now (out .entry)) (now (out .exit)) r ⌝ }
+    requires { ⌜ Ready n (now prefix) (now levels) (now universals) (now clauses) (now classes) (now parents) (now first) (now next) ⌝ }
+    ensures { λ r. ⌜ Fills (SetsUpto n (now (prefix .entry)) (now (clauses .entry)) (now (classes .entry)) (now (parents .entry)) n) (now (out .entry)) (now (out .exit)) r ⌝ }
 {
     if !sets_fit(
         n,
+        prefix,
         levels,
         universals,
         clauses,
@@ -84,6 +87,7 @@ fn write_fitting(
     }
     let end = pass_sets(
         n,
+        prefix,
         levels,
         universals,
         clauses,
@@ -100,6 +104,7 @@ fn write_fitting(
 // Whether there is room for all sets. They are counted only where there is room for less than n records of n members each.
 fn sets_fit(
     n: u32,
+    prefix: &[u32],
     levels: &[u32],
     universals: &[bool],
     clauses: &[i32],
@@ -109,8 +114,8 @@ fn sets_fit(
     next: &[u32],
     out: &mut [u32],
 ) -> bool
-    requires { ⌜ Ready n (now levels) (now universals) (now clauses) (now classes) (now parents) (now first) (now next) ⌝ }
-    ensures { λ r. ⌜ TellsRoom r (TabledSets n (now (levels .entry)) (now (universals .entry)) (now (clauses .entry)) (now (classes .entry)) (now (parents .entry))) n (length (now (out .entry))) ⌝ }
+    requires { ⌜ Ready n (now prefix) (now levels) (now universals) (now clauses) (now classes) (now parents) (now first) (now next) ⌝ }
+    ensures { λ r. ⌜ TellsRoom r (SetsUpto n (now (prefix .entry)) (now (clauses .entry)) (now (classes .entry)) (now (parents .entry))) n (length (now (out .entry))) ⌝ }
     ensures { λ r. ⌜ now (out .exit) ≡ now (out .entry) ⌝ }
 {
     let count = n as usize;
@@ -119,6 +124,7 @@ fn sets_fit(
     }
     let needed = pass_sets(
         n,
+        prefix,
         levels,
         universals,
         clauses,
@@ -139,6 +145,7 @@ fn sets_fit(
 // block of the universal only, and stay while it does; at first they are those over a level that nothing is deeper than.
 fn pass_sets(
     n: u32,
+    prefix: &[u32],
     levels: &[u32],
     universals: &[bool],
     clauses: &[i32],
@@ -149,9 +156,9 @@ fn pass_sets(
     writing: bool,
     out: &mut [u32],
 ) -> usize
-    requires { ⌜ Ready n (now levels) (now universals) (now clauses) (now classes) (now parents) (now first) (now next) ⌝ }
-    requires { ⌜ (writing ≡ true → RoomUpto (TabledSets n (now levels) (now universals) (now clauses) (now classes) (now parents)) n (length (now out))) ⌝ }
-    ensures { λ r. ⌜ PutAll (TabledSets n (now (levels .entry)) (now (universals .entry)) (now (clauses .entry)) (now (classes .entry)) (now (parents .entry)) n) writing (now (out .entry)) (now (out .exit)) r ⌝ }
+    requires { ⌜ Ready n (now prefix) (now levels) (now universals) (now clauses) (now classes) (now parents) (now first) (now next) ⌝ }
+    requires { ⌜ (writing ≡ true → RoomUpto (SetsUpto n (now prefix) (now clauses) (now classes) (now parents)) n (length (now out))) ⌝ }
+    ensures { λ r. ⌜ PutAll (SetsUpto n (now (prefix .entry)) (now (clauses .entry)) (now (classes .entry)) (now (parents .entry)) n) writing (now (out .entry)) (now (out .exit)) r ⌝ }
 {
     let mut tops = [0u32; 4096];
     let mut floor = Floor {
@@ -164,7 +171,7 @@ fn pass_sets(
         passed += 1;
         let x = Variable::new(passed);
         if universal_at(n, universals, x) {
-            floor = retop(n, levels, universals, classes, parents, floor, x, &mut tops);
+            floor = retop(n, prefix, levels, classes, parents, floor, x, &mut tops);
             end = put_set(n, clauses, first, next, x, &tops, floor, end, writing, out);
         }
     }

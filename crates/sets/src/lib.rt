@@ -54,6 +54,15 @@ fn sound_sets(
     fill_levels(prefix, &mut levels, &mut universals);
     match check_forest(n, prefix, &levels, &universals, classes, parents, counts) {
         Verdict::Refused(number, place) => Filled::Refused(number, place),
-        Verdict::Accepted => list_sets(n, &levels, &universals, clauses, classes, parents, out),
+        Verdict::Accepted => list_sets(
+            n,
+            prefix,
+            &levels,
+            &universals,
+            clauses,
+            classes,
+            parents,
+            out,
+        ),
     }
 }

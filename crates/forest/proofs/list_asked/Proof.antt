@@ -3,7 +3,7 @@ use Prim.Native.Nat.{ℕ}
 use mathlib.Core.Path.{refl, subst}
 use mathlib.Core.Bool.{false}
 use mathlib.Core.List.{[], _∷_}
-use lib.ListN.{length-replicate, replicate}
+use lib.ListN.{length-replicate}
 use Rattle.terms.specs.Refusals.{At0, Judged}
 use Rattle.terms.proofs.Verdicts.{refused-first}
 use Rattle.connection.specs.Tables.{lent}
@@ -12,7 +12,6 @@ use Rattle.forest.specs.Answers.{EntriesBy}
 use Rattle.forest.specs.Causes.{readOrder}
 use Rattle.forest.specs.Listed.{TooLong}
 use Rattle.forest.specs.Search.{pick, Wanted, Enters}
-use Rattle.forest.proofs.Entered.{fresh}
 use Rattle.forest.proofs.Listings.{picks-listing, asked-listed}
 use borrow.Author.Needs.{needs}
 use Rattle.forest.proofs.list_asked.Statement.{statement}
@@ -25,7 +24,7 @@ slice-aggregate-enter-2 : tie.Need-slice-aggregate-enter-2
 slice-aggregate-enter-2 c = search needs
 
 enter-requires : tie.Need-enter-requires
-enter-requires c κs = (length-replicate {A = ℕ} 4096 0, fresh)
+enter-requires c κs = (length-replicate {A = ℕ} 4097 0, length-replicate 4097 false)
 
 enum-known-number : tie.Need-enum-known-number
 enum-known-number c = search needs
@@ -56,8 +55,8 @@ returns-2 c =
     let tops = c .before .before .before .before .before .before .before .before .before .before .enter .last .1 .1 .1 .1 .1 .1 .1 .1 .0 in
     let entered = c .before .before .before .before .before .before .before .before .before .before .enter .last .1 .1 .1 .1 .1 .1 .1 .1 .1 .0 in
     let none = subst (Judged (readOrder (a .n) (a .prefix .now) (a .clauses .now) (a .classes .now) (a .parents .now) (a .counts .now) (a .x .0))) (c .before .before .before .before .before .before .enum-told .given .1) (c .before .before .before .before .before .before .before .before .before .before .enter .ensures .0) in
-    let enters = subst (Enters (variables (a .n) (a .prefix .now)) (lent (variables (a .n) (a .prefix .now)) (a .classes .now) (a .parents .now)) (EntriesBy (a .scheme) (a .n) (a .prefix .now) (a .clauses .now) (a .classes .now) (a .parents .now) (a .x .0)) (a .x .0) tops (replicate 4097 false) entered) (c .before .before .before .before .before .before .enum-told .given .1) (c .before .before .before .before .before .before .before .before .before .before .enter .ensures .1) in
-    picks-listing (readOrder (a .n) (a .prefix .now) (a .clauses .now) (a .classes .now) (a .parents .now) (a .counts .now) (a .x .0)) (pick (a .asked) (a .n) entered tops) (a .n) (a .out .now) (c .before .before .list-picked .last .1 .1 .1 .1 .0) none (asked-listed (a .x .0) none (a .scheme) tops fresh enters (a .asked)) (c .before .before .list-picked .result) (c .before .before .list-picked .ensures)
+    let enters = subst (Enters (variables (a .n) (a .prefix .now)) (lent (variables (a .n) (a .prefix .now)) (a .classes .now) (a .parents .now)) (EntriesBy (a .scheme) (a .n) (a .prefix .now) (a .clauses .now) (a .classes .now) (a .parents .now) (a .x .0)) (a .x .0) tops entered) (c .before .before .before .before .before .before .enum-told .given .1) (c .before .before .before .before .before .before .before .before .before .before .enter .ensures .1) in
+    picks-listing (readOrder (a .n) (a .prefix .now) (a .clauses .now) (a .classes .now) (a .parents .now) (a .counts .now) (a .x .0)) (pick (a .asked) (a .n) entered tops) (a .n) (a .out .now) (c .before .before .list-picked .last .1 .1 .1 .1 .0) none (asked-listed (a .x .0) none (a .scheme) tops enters (a .asked)) (c .before .before .list-picked .result) (c .before .before .list-picked .ensures)
 
 pub list-asked-spec : {M : Type 1} → statement M
 list-asked-spec =

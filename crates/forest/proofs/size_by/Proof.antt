@@ -2,7 +2,7 @@
 use Prim.Native.Nat.{ℕ}
 use mathlib.Core.Path.{sym, subst}
 use mathlib.Core.Bool.{false}
-use lib.ListN.{replicate, length-replicate}
+use lib.ListN.{length-replicate}
 use Rattle.terms.specs.Refusals.{NoneOf, Judged}
 use Rattle.formula.proofs.Sound.{sound-check}
 use Rattle.connection.specs.Tables.{lent}
@@ -10,7 +10,6 @@ use Rattle.tables.specs.Formula.{variables}
 use Rattle.forest.specs.Causes.{readOrder}
 use Rattle.forest.specs.Answers.{EntriesBy, SizeBy}
 use Rattle.forest.specs.Search.{Enters}
-use Rattle.forest.proofs.Entered.{fresh}
 use Rattle.forest.proofs.Listings.{counts-small, entries-sized}
 use borrow.Author.Needs.{needs}
 use Rattle.forest.proofs.size_by.Statement.{statement}
@@ -23,7 +22,7 @@ slice-aggregate-enter-2 : tie.Need-slice-aggregate-enter-2
 slice-aggregate-enter-2 c = search needs
 
 enter-requires : tie.Need-enter-requires
-enter-requires c κs = (length-replicate {A = ℕ} 4096 0, fresh)
+enter-requires c κs = (length-replicate {A = ℕ} 4097 0, length-replicate 4097 false)
 
 enum-known-number : tie.Need-enum-known-number
 enum-known-number c = search needs
@@ -56,8 +55,8 @@ returns-2 c =
     let tops = c .before .before .before .before .before .before .enter .last .1 .1 .1 .1 .1 .1 .1 .1 .0 in
     let entered = c .before .before .before .before .before .before .enter .last .1 .1 .1 .1 .1 .1 .1 .1 .1 .0 in
     let none = none-refused (c .before .before) in
-    let enters = subst (Enters (variables (a .n) (a .prefix .now)) (lent (variables (a .n) (a .prefix .now)) (a .classes .now) (a .parents .now)) (EntriesBy (a .scheme) (a .n) (a .prefix .now) (a .clauses .now) (a .classes .now) (a .parents .now) (a .x .0)) (a .x .0) tops (replicate 4097 false) entered) (c .before .before .enum-told .given .1) (c .before .before .before .before .before .before .enter .ensures .1) in
-    (none, subst (SizeBy (a .scheme) (a .n) (a .prefix .now) (a .clauses .now) (a .classes .now) (a .parents .now) (a .counts .now) (a .x .0)) (sym (c .sum-flagged .ensures)) (entries-sized (a .x .0) none (a .scheme) tops fresh enters))
+    let enters = subst (Enters (variables (a .n) (a .prefix .now)) (lent (variables (a .n) (a .prefix .now)) (a .classes .now) (a .parents .now)) (EntriesBy (a .scheme) (a .n) (a .prefix .now) (a .clauses .now) (a .classes .now) (a .parents .now) (a .x .0)) (a .x .0) tops entered) (c .before .before .enum-told .given .1) (c .before .before .before .before .before .before .enter .ensures .1) in
+    (none, subst (SizeBy (a .scheme) (a .n) (a .prefix .now) (a .clauses .now) (a .classes .now) (a .parents .now) (a .counts .now) (a .x .0)) (sym (c .sum-flagged .ensures)) (entries-sized (a .x .0) none (a .scheme) tops enters))
 
 pub size-by-spec : {M : Type 1} → statement M
 size-by-spec =

@@ -1,9 +1,4 @@
 -- `listing::list_forest` meets its contract.
-use mathlib.Core.Path.{_∙_}
-use mathlib.Core.Bool.{Bool, false}
-use lib.ListN.{length-replicate}
-use Rattle.connection.specs.Tables.{lent}
-use Rattle.tables.proofs.Agreeing.{same-back, formed-same, tables-agree}
 use borrow.Author.Needs.{needs}
 use Rattle.listing.proofs.list_forest.Statement.{statement}
 use Rattle.listing.proofs.list_forest.Tie as tie
@@ -33,11 +28,7 @@ slice-aggregate-list-universals-2 : tie.Need-slice-aggregate-list-universals-2
 slice-aggregate-list-universals-2 c = search needs
 
 list-universals-requires : tie.Need-list-universals-requires
-unfolding lent
-list-universals-requires c κs =
-    let pre = c .before .before .before .before .before .before .before .before .before .before .before .before .before .pre in
-    let fill = c .before .before .before .before .before .before .before .fill-levels in
-    (pre .0 .few, fill .kept .1 .1 .0 ∙ length-replicate {A = Bool} 4097 false, pre .1, pre .2, formed-same (same-back (tables-agree (pre .0) (fill .ensures))) (pre .3))
+list-universals-requires c κs = let pre = c .before .before .before .before .before .before .before .before .before .before .before .before .before .pre in (pre .0, c .before .before .before .before .before .before .before .fill-levels .ensures, pre .1, pre .2, pre .3)
 
 returns : tie.Need-returns
 returns c = search needs

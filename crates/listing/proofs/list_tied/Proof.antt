@@ -1,12 +1,14 @@
 -- `listing::list_tied` meets its contract.
 use Prim.Native.Nat.{ℕ, _≤_, _-_}
 use mathlib.Core.Path.{_≡_, sym, _∙_}
-use mathlib.Core.Bool.{false}
+use mathlib.Core.Bool.{true, false}
 use native.Mathlib.Omega.{arith}
 use lib.ListN.{length, getD, length-replicate}
-use Rattle.tables.specs.Formula.{tabled, universalIn}
-use Rattle.tables.specs.Rows.{rowsOf}
+use Rattle.formula.specs.Meaning.{level, isExistential}
+use Rattle.connection.specs.Tables.{lent}
+use Rattle.tables.specs.Formula.{variables, universalIn}
 use Rattle.forest.specs.Search.{TopsOver}
+use Rattle.tables.proofs.Agreeing.{lawful, level-agrees}
 use Rattle.tables.proofs.Readings.{flag-within}
 use Rattle.forest.proofs.Tops.{tops-over}
 use borrow.Author.Needs.{needs}
@@ -14,19 +16,20 @@ use Rattle.listing.proofs.list_tied.Statement.{statement}
 use Rattle.listing.proofs.list_tied.Tie as tie
 
 abbrev Inv-loop : tie.InvT-loop
-Inv-loop n levels universals clauses classes parents first next tops₀ floor₀ passed₀ tops floor passed = (passed ≤ n) × (length tops ≡ 4096) × TopsOver (tabled n levels universals) (rowsOf n classes parents) (floor .level .0) (floor .from) tops
+Inv-loop n prefix levels universals clauses classes parents first next tops₀ floor₀ passed₀ tops floor passed = (passed ≤ n) × (length tops ≡ 4096) × TopsOver (variables n prefix) (lent (variables n prefix) classes parents) (floor .level .0) (floor .from) tops
 
 abbrev μ-loop : tie.MeasureT-loop
-μ-loop n levels universals clauses classes parents first next tops₀ floor₀ passed₀ tops floor passed = n - passed
+μ-loop n prefix levels universals clauses classes parents first next tops₀ floor₀ passed₀ tops floor passed = n - passed
 
 new-requires : tie.Need-new-requires Inv-loop μ-loop
 new-requires c κs = search needs
 
 loop-holds : tie.Need-loop-holds Inv-loop μ-loop
 loop-holds c =
-    let a = c .before .before .before .before .before .before .before .args in
-    let over : (v : ℕ) → getD (a .levels .now) v 0 ≤ c .new .result .0 = λ v. let is = c .new .ensures in omega (arith, c .before .before .before .before .before .before .shared-slice-known .given v) in
-    (omega arith, length-replicate {A = ℕ} 4096 0, tops-over {X = tabled (a .n) (a .levels .now) (a .universals .now)} {W = rowsOf (a .n) (a .classes .now) (a .parents .now)} (c .new .result .0) 4096 over)
+    let a = c .before .before .before .before .before .before .before .before .args in
+    let ready = c .before .before .before .before .before .before .before .before .pre in
+    let over : (v : ℕ) → isExistential (a .n) (a .prefix .now) v ≡ true → level (a .prefix .now) v ≤ c .new .result .0 = λ v ex. let is = c .new .ensures in let own = level-agrees (ready .sound) (ready .table) v (lawful (a .n) (a .prefix .now) .within v ex .1) in omega (arith, c .before .before .before .before .before .before .shared-slice-known2 .given v) in
+    (omega arith, length-replicate {A = ℕ} 4096 0, tops-over {X = variables (a .n) (a .prefix .now)} {W = lent (variables (a .n) (a .prefix .now)) (a .classes .now) (a .parents .now)} (c .new .result .0) 4096 over)
 
 add-passed : tie.Need-add-passed Inv-loop μ-loop
 add-passed c = omega arith
@@ -42,11 +45,14 @@ slice-aggregate-retop c = search needs
 
 retop-requires : tie.Need-retop-requires Inv-loop μ-loop
 retop-requires c κs =
-    let ready = c .before .before .before .before .before .before .before .before .before .before .before .before .before .pre in
-    let few = ready .few in
+    let a = c .before .before .before .before .before .before .before .before .before .before .before .before .before .before .args in
+    let ready = c .before .before .before .before .before .before .before .before .before .before .before .before .before .before .pre in
+    let few = ready .sound .few in
     let inv = c .before .before .before .before .before .loop .inv in
     let long = inv .1 in
-    (ready .formed, omega arith, inv .2)
+    let is = c .before .before .before .new2 .ensures in
+    let less = c .before .before .before .before .loop-test .taken in
+    ((ready .sound, ready .formed, omega arith), ((omega arith, (a .universals .now, ready .table)), inv .2))
 
 slice-aggregate-list-universal : tie.Need-slice-aggregate-list-universal Inv-loop μ-loop
 slice-aggregate-list-universal c = search needs
@@ -54,9 +60,9 @@ slice-aggregate-list-universal c = search needs
 list-universal-requires : tie.Need-list-universal-requires Inv-loop μ-loop
 unfolding universalIn
 list-universal-requires c κs =
-    let a = c .before .before .before .before .before .before .before .before .before .before .before .before .before .before .before .before .args in
-    let ready = c .before .before .before .before .before .before .before .before .before .before .before .before .before .before .before .before .pre in
-    let few = ready .few in
+    let a = c .before .before .before .before .before .before .before .before .before .before .before .before .before .before .before .before .before .args in
+    let ready = c .before .before .before .before .before .before .before .before .before .before .before .before .before .before .before .before .before .pre in
+    let few = ready .sound .few in
     let heads = ready .heads in
     let x = c .before .before .before .before .before .before .new2 .result .0 in
     let u = sym (c .before .before .before .before .before .universal-at .ensures) ∙ c .before .before .before .before .if1 .taken in

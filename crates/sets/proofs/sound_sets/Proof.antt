@@ -1,14 +1,12 @@
 -- `sets::sound_sets` meets its contract.
-use mathlib.Core.Path.{refl, subst, _∙_}
-use mathlib.Core.Bool.{Bool, false}
+use mathlib.Core.Path.{refl, subst}
 use mathlib.Core.List.{[], _∷_}
-use lib.ListN.{length-replicate}
 use Rattle.terms.specs.Refusals.{At0, Judged}
 use Rattle.terms.proofs.Verdicts.{refused-first}
 use Rattle.tables.specs.Causes.{ForestCause}
 use Rattle.sets.specs.Sets.{SetsTooLong}
-use Rattle.forest.proofs.Entered.{tabled-formed}
-use Rattle.sets.proofs.AllSets.{sets-agree, fills-filling}
+use Rattle.tables.proofs.Agreeing.{none-formed}
+use Rattle.sets.proofs.AllSets.{fills-filling}
 use borrow.Author.Needs.{needs}
 use Rattle.sets.proofs.sound_sets.Statement.{statement}
 use Rattle.sets.proofs.sound_sets.Tie as tie
@@ -46,15 +44,11 @@ slice-aggregate-list-sets-2 c = search needs
 list-sets-requires : tie.Need-list-sets-requires
 list-sets-requires c κs =
     let a = c .before .before .before .before .before .before .before .before .before .before .before .before .before .before .before .before .before .before .args in
-    let levels = c .before .before .before .before .before .before .before .before .before .before .fill-levels .last .1 .0 in
-    let universals = c .before .before .before .before .before .before .before .before .before .before .fill-levels .last .1 .1 .0 in
-    (c .before .before .before .before .before .before .before .before .before .before .before .before .before .before .before .before .before .before .pre .0 .few, c .before .before .before .before .before .before .before .before .before .before .fill-levels .kept .1 .1 .0 ∙ length-replicate {A = Bool} 4097 false, c .before .before .before .before .before .before .before .before .before .before .before .before .before .before .before .before .before .before .pre .1, c .before .before .before .before .before .before .before .before .before .before .before .before .before .before .before .before .before .before .pre .2, tabled-formed (c .before .before .before .before .before .before .before .before .before .before .before .before .before .before .before .before .before .before .pre .0) (c .before .before .before .before .before .before .before .before .before .before .fill-levels .ensures) (a .classes .now) (a .parents .now) ((subst (Judged (ForestCause (a .n) (a .prefix .now) (a .classes .now) (a .parents .now) (a .counts .now) ∷ [])) (c .before .before .before .enum-told .given .1) (c .before .before .before .before .before .check-forest .ensures)) .0))
+    (c .before .before .before .before .before .before .before .before .before .before .before .before .before .before .before .before .before .before .pre .0, c .before .before .before .before .before .before .before .before .before .before .fill-levels .ensures, c .before .before .before .before .before .before .before .before .before .before .before .before .before .before .before .before .before .before .pre .1, c .before .before .before .before .before .before .before .before .before .before .before .before .before .before .before .before .before .before .pre .2, none-formed ((subst (Judged (ForestCause (a .n) (a .prefix .now) (a .classes .now) (a .parents .now) (a .counts .now) ∷ [])) (c .before .before .before .enum-told .given .1) (c .before .before .before .before .before .check-forest .ensures)) .0))
 
 returns : tie.Need-returns
 returns c =
     let a = c .before .before .before .before .before .before .before .before .before .before .before .before .before .before .before .before .args in
-    let levels = c .before .before .before .before .before .before .before .before .fill-levels .last .1 .0 in
-    let universals = c .before .before .before .before .before .before .before .before .fill-levels .last .1 .1 .0 in
     let judged = (c .before .before .before .check-forest .ensures) in
     (refused-first (ForestCause (a .n) (a .prefix .now) (a .classes .now) (a .parents .now) (a .counts .now) ∷ []) (At0 14 (SetsTooLong (a .n) (a .prefix .now) (a .clauses .now) (a .classes .now) (a .parents .now) (a .out .now)) ∷ []) (c .before .number .given .1) judged, refl)
 
@@ -64,12 +58,8 @@ same-length c = search needs
 returns-2 : tie.Need-returns-2
 returns-2 c =
     let a = c .before .before .before .before .before .before .before .before .before .before .before .before .before .before .before .before .before .before .before .before .before .args in
-    let levels = c .before .before .before .before .before .before .before .before .before .before .before .before .before .fill-levels .last .1 .0 in
-    let universals = c .before .before .before .before .before .before .before .before .before .before .before .before .before .fill-levels .last .1 .1 .0 in
-    let table = c .before .before .before .before .before .before .before .before .before .before .before .before .before .fill-levels .ensures in
     let accepted = subst (Judged (ForestCause (a .n) (a .prefix .now) (a .classes .now) (a .parents .now) (a .counts .now) ∷ [])) (c .before .before .before .before .before .before .enum-told .given .1) (c .before .before .before .before .before .before .before .before .check-forest .ensures) in
-    let formed = tabled-formed (c .before .before .before .before .before .before .before .before .before .before .before .before .before .before .before .before .before .before .before .before .before .pre .0) table (a .classes .now) (a .parents .now) (accepted .0) in
-    fills-filling (a .n) (a .prefix .now) (a .clauses .now) (a .classes .now) (a .parents .now) (a .counts .now) (a .out .now) (c .before .before .list-sets .last .1 .1 .1 .1 .1 .1 .0) (sets-agree (c .before .before .before .before .before .before .before .before .before .before .before .before .before .before .before .before .before .before .before .before .before .pre .0) table (a .clauses .now) (a .classes .now) (a .parents .now) formed) (accepted .0) (c .before .before .list-sets .result) (c .before .before .list-sets .ensures)
+    fills-filling (a .n) (a .prefix .now) (a .clauses .now) (a .classes .now) (a .parents .now) (a .counts .now) (a .out .now) (c .before .before .list-sets .last .1 .1 .1 .1 .1 .1 .1 .0) (accepted .0) (c .before .before .list-sets .result) (c .before .before .list-sets .ensures)
 
 pub sound-sets-spec : {M : Type 1} → statement M
 sound-sets-spec =

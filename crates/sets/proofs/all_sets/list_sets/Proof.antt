@@ -16,9 +16,9 @@ slice-aggregate-thread-2 c = search needs
 
 thread-requires : tie.Need-thread-requires
 thread-requires c κs =
-    let pre = c .before .before .before .before .before .before .before .pre in
+    let pre = c .before .before .before .before .before .before .before .before .pre in
     let few = pre .2 in
-    let size = pre .1 in
+    let size = pre .1 .sizes .1 in
     let heads = length-replicate {A = ℕ} 4097 0 in
     let links = length-replicate {A = ℕ} 16384 0 in
     (few, omega arith, omega arith, new-zero 4097)
@@ -31,11 +31,11 @@ slice-aggregate-write-fitting-2 c = search needs
 
 write-fitting-requires : tie.Need-write-fitting-requires
 write-fitting-requires c κs =
-    let pre = c .before .before .before .before .before .before .before .before .before .before .before .before .before .pre in
+    let pre = c .before .before .before .before .before .before .before .before .before .before .before .before .before .before .pre in
     let short = pre .2 in
     let heads = c .before .before .before .before .before .thread .kept .1 .1 .0 ∙ length-replicate {A = ℕ} 4097 0 in
     let links = c .before .before .before .before .before .thread .kept .1 .1 .1 .0 ∙ length-replicate {A = ℕ} 16384 0 in
-    record { few = pre .0; formed = pre .4; closed = pre .3; heads = heads; links = omega arith; threaded = c .before .before .before .before .before .thread .ensures }
+    record { sound = pre .0; table = pre .1; formed = pre .4; closed = pre .3; heads = heads; links = omega arith; threaded = c .before .before .before .before .before .thread .ensures }
 
 same-length : tie.Need-same-length
 same-length c = search needs
