@@ -1,4 +1,4 @@
-/* The fourteen calls, each wrapped so that every byte that was lent is compared. */
+/* The sixteen calls, each wrapped so that every byte that was lent is compared. */
 #include "agree.h"
 #include "calls.h"
 #include "lend.h"
@@ -71,15 +71,21 @@ struct verdict call_check(const struct formula *f)
     return settle(snow_check(lent.n, lent.prefix, lent.prefix_len, lent.clauses, lent.clauses_len, place));
 }
 
-/* Takes the first n rows of all three tables back, and the tally. */
-static void take_forest(struct forest *w, uint32_t n)
+/* Takes the first n rows of all three tables back. */
+static void take_rows(struct forest *w, uint32_t n)
 {
-    take(&w->tally, tally, sizeof w->tally);
     if (!within(n, w->classes_len) || !within(n, w->parents_len) || !within(n, w->counts_len))
         return;
     take(w->classes, rows.classes, n * sizeof *w->classes);
     take(w->parents, rows.parents, n * sizeof *w->parents);
     take(w->counts, rows.counts, n * sizeof *w->counts);
+}
+
+/* The same, and the tally. */
+static void take_forest(struct forest *w, uint32_t n)
+{
+    take(&w->tally, tally, sizeof w->tally);
+    take_rows(w, n);
 }
 
 struct verdict call_build(const struct formula *f, struct forest *w, uint32_t *count)
@@ -319,6 +325,58 @@ struct verdict call_write(const struct formula *f, uint8_t *text, size_t text_le
         take(count, cell, sizeof *count);
         if (within(*count, text_len))
             take(text, table, *count);
+    }
+    return settle(number);
+}
+
+struct verdict call_store(const struct formula *f, uint32_t with_sets, uint8_t *file, size_t file_len, uint32_t *count)
+{
+    uint8_t *table;
+    uint32_t *cell, number;
+
+    lend_begin();
+    lend_prefix(f);
+    lend_clauses(f);
+    table = lend(file, file_len);
+    cell = lend_cell();
+    lend_place();
+    number = snow_store(lent.n, lent.prefix, lent.prefix_len, lent.clauses, lent.clauses_len, with_sets, table, file_len, cell, place);
+    if (number == 0) {
+        take(count, cell, sizeof *count);
+        if (within(*count, file_len))
+            take(file, table, *count);
+    }
+    return settle(number);
+}
+
+struct verdict call_load(const uint8_t *file, size_t file_len, struct loaded *t)
+{
+    const uint8_t *copy;
+    uint32_t *prefix_table, *n_cell, *prefix_cell, *clauses_cell, *sets_cell, number;
+    int32_t *clause_table;
+
+    lend_begin();
+    copy = lend(file, file_len);
+    prefix_table = lend(t->prefix, t->prefix_len * sizeof *t->prefix);
+    clause_table = lend(t->clauses, t->clauses_len * sizeof *t->clauses);
+    lend_forest(&t->rows);
+    n_cell = lend_cell();
+    prefix_cell = lend_cell();
+    clauses_cell = lend_cell();
+    sets_cell = lend_cell();
+    lend_place();
+    number = snow_load(copy, file_len, n_cell, prefix_table, t->prefix_len, prefix_cell, clause_table, t->clauses_len, clauses_cell,
+                       rows.classes, rows.classes_len, rows.parents, rows.parents_len, rows.counts, rows.counts_len, sets_cell, place);
+    if (number == 0) {
+        take(&t->n, n_cell, sizeof t->n);
+        take(&t->prefix_count, prefix_cell, sizeof t->prefix_count);
+        take(&t->clauses_count, clauses_cell, sizeof t->clauses_count);
+        take(&t->with_sets, sets_cell, sizeof t->with_sets);
+        if (within(t->prefix_count, t->prefix_len))
+            take(t->prefix, prefix_table, t->prefix_count * sizeof *t->prefix);
+        if (within(t->clauses_count, t->clauses_len))
+            take(t->clauses, clause_table, t->clauses_count * sizeof *t->clauses);
+        take_rows(&t->rows, t->n);
     }
     return settle(number);
 }

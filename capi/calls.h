@@ -1,5 +1,5 @@
 /*
- * The fourteen calls, each wrapped so that every use of it in the test also
+ * The sixteen calls, each wrapped so that every use of it in the test also
  * compares every byte that was lent: on a refusal only *place may change, on
  * acceptance *place may not, nor anything past what was written. Answers are
  * handed out on acceptance only.
@@ -56,5 +56,21 @@ struct verdict call_read(const uint8_t *text, size_t text_len, uint32_t *n,
                          uint32_t *prefix, size_t prefix_len, uint32_t *prefix_count,
                          int32_t *clauses, size_t clauses_len, uint32_t *clauses_count);
 struct verdict call_write(const struct formula *f, uint8_t *text, size_t text_len, uint32_t *count);
+
+/* What reading a file fills: tables as lent, and what it says of them. */
+struct loaded {
+    uint32_t n;
+    uint32_t *prefix;
+    size_t prefix_len;
+    uint32_t prefix_count;
+    int32_t *clauses;
+    size_t clauses_len;
+    uint32_t clauses_count;
+    struct forest rows;
+    uint32_t with_sets;
+};
+
+struct verdict call_store(const struct formula *f, uint32_t with_sets, uint8_t *file, size_t file_len, uint32_t *count);
+struct verdict call_load(const uint8_t *file, size_t file_len, struct loaded *t);
 
 #endif

@@ -11,6 +11,7 @@ int main(void)
     test_formula_a();
     test_refusals();
     test_texts();
+    test_stored();
     test_limits();
     test_drawn();
     return agreed_all();

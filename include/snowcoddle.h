@@ -3,14 +3,16 @@
  *
  * The library takes a formula in prenex conjunctive form, builds its
  * connection forest, answers which existentials depend on a universal and how
- * many they are, takes further clauses, and reads and writes QDIMACS text.
+ * many they are, takes further clauses, reads and writes QDIMACS text, and
+ * stores formula and forest in a file for another site.
  * Every call is proved against its contract. There is no state between calls
  * and no allocation: all tables are the caller's, lent for the time of the
  * call.
  *
  * Link target/staticlib/libcapi.a, which `rt staticlib capi` writes. It is
  * for x86-64 Linux, and calls nothing but memset and memcpy. A call keeps its
- * own tables on the stack, some 140 KiB at most (snow_sets).
+ * own tables on the stack, some 140 KiB at most (snow_sets), but snow_store
+ * and snow_load some 800 KiB.
  *
  *
  * THE FORMULA
@@ -117,11 +119,22 @@
  *       classes are not as many as the tables have; or
  *       its merges and classes do not sum to the
  *       existentials                                    0
+ *  19   of a file: the length of a record cut or odd,   where the record
+ *       kind 1 under two bytes, kind 2 not whole        begins; 0 for a file
+ *       literals, kind 65,535 not two bytes; or over    too long
+ *       262,144 bytes, read or to be written
+ *  20   of a file: an unknown kind, a wrong order or    where the record
+ *       a kind missing                                  begins, or would
+ *  21   a file's words do not sum to zero               0
+ *  22   a file's rows or sets are not its formula's,    where the record
+ *       in number or value                              begins
  *
  * Entries and bytes are counted from 0. Where several refusals apply, the
  * first in this order is given: 1, 2, the prefix from the left, the clause
  * literals from the left, 12, 18, 13, 15 (writing), 14; at one entry the lower
  * number. snow_read gives 15, then 16 and 17 by the earliest line, then 14.
+ * snow_load gives 19, 20, 21, then 1 to 11 for the formula in the file, then
+ * 22, then 14; snow_store 1 to 11, then 19, then 14.
  * A call skips what it does not take; the list above each prototype says
  * which refusals it can give.
  *
@@ -160,6 +173,7 @@ extern "C" {
 #define SNOW_MOST_PREFIX 8192
 #define SNOW_MOST_CLAUSES 16384
 #define SNOW_MOST_TEXT 65536
+#define SNOW_MOST_FILE 262144
 
 /*
  * The most clauses that a tally takes: at so many, snow_add refuses it as 18.
@@ -434,6 +448,49 @@ uint32_t snow_write(uint32_t n, const uint32_t *prefix, size_t prefix_len,
                     const int32_t *clauses, size_t clauses_len,
                     uint8_t *text, size_t text_len,
                     uint32_t *count, uint32_t *place);
+
+/*
+ * Store: the file of a formula and its forest, for another site to load. The
+ * forest is built here; with_sets other than 0 puts the standard sets of all
+ * universals beside it. *count says how many bytes.
+ *
+ * A file is records, one after the other: the length of the payload in four
+ * bytes, the kind in two, and the payload, every number with its lowest byte
+ * first. Kind 1: n, then the prefix, two bytes a number. Kind 2: the clauses,
+ * four bytes a literal. Kind 3: n class names, n parents and n counts, four
+ * bytes a number. Kind 4, if asked for: for each universal ascending its
+ * number, the count of its set and its set, two bytes each. Kind 65,535: a
+ * two-byte word, with which the 16-bit words of the whole file sum to zero
+ * when the sum is let wrap.
+ *
+ * Of A: 238 bytes without sets, 260 with them.
+ *
+ * Refuses 1 to 11, 19 where the file would be longer than 262,144 bytes, and
+ * 14 where file has fewer than *count; 262,144 bytes always suffice.
+ */
+uint32_t snow_store(uint32_t n, const uint32_t *prefix, size_t prefix_len,
+                    const int32_t *clauses, size_t clauses_len,
+                    uint32_t with_sets, uint8_t *file, size_t file_len,
+                    uint32_t *count, uint32_t *place);
+
+/*
+ * Load: a formula and its forest out of a file. The formula is checked and its
+ * forest built anew, and the file is accepted only if its rows, and its sets
+ * where it has them, are the same. Gives *n, fills prefix and clauses, with
+ * their counts, and n rows of classes, of parents and of counts; *with_sets is
+ * 1 if the file has sets, else 0. What snow_store wrote is loaded back the
+ * same, and a file with one 16-bit word changed is refused.
+ *
+ * Refuses 19, 20, 21, 1 to 11 for the formula in the file, with places in its
+ * tables, 22, and 14 where a table is too short.
+ */
+uint32_t snow_load(const uint8_t *file, size_t file_len, uint32_t *n,
+                   uint32_t *prefix, size_t prefix_len, uint32_t *prefix_count,
+                   int32_t *clauses, size_t clauses_len, uint32_t *clauses_count,
+                   uint32_t *classes, size_t classes_len,
+                   uint32_t *parents, size_t parents_len,
+                   uint32_t *counts, size_t counts_len,
+                   uint32_t *with_sets, uint32_t *place);
 
 #ifdef __cplusplus
 }

@@ -4,4 +4,5 @@ pub mod Telling
 pub mod Rewritten
 pub mod Texts
 pub mod Writes
+pub mod Filed
 pub mod Tight

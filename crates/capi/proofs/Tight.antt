@@ -1,9 +1,11 @@
 -- What C is told leaves nothing open: the number and the cell `place` are settled by what was lent, and so are the tables and the cells of the tally after
--- build and add. (What else is given on acceptance is settled as the library's calls settle it.)
+-- build and add, and the bytes, tables and cells after store and load. (What else is given on acceptance is settled as the library's calls settle it.)
 use Prim.Native.Nat.{ℕ}
 use mathlib.Core.Path.{_≡_, refl, sym, ap, _∙_}
+use mathlib.Core.Bool.{Bool}
 use mathlib.Core.List.{List}
 use lib.IntN.{ℤ}
+use lib.ListN.{length}
 use lib.Seq.{sets}
 use Rattle.terms.specs.declared.Verdict.{Verdict}
 use Rattle.terms.specs.declared.Verdict.the-variants.{Accepted, Refused}
@@ -13,7 +15,14 @@ use Rattle.terms.proofs.Verdicts.{judged-unique, first-or-none}
 use Rattle.tables.specs.Formula.{variables, Shares}
 use Rattle.growth.specs.Grown.{Standing, tableOf, many, buildOrder, addOrder, Extended, Grown, TallyOf, Took, Builds, Adds}
 use Rattle.growth.proofs.Tight.{build-tight, add-tight}
-use Rattle.capi.specs.Told.{Told, accepted, refused, cellsOf, Left}
+use Rattle.records.specs.declared.Loaded.the-variants.{Formula}
+use Rattle.records.specs.Layout.{FileOf}
+use Rattle.records.specs.Places.{countIn, prefixIn, clausesIn, hasSets}
+use Rattle.records.specs.Causes.{Lent, loadOrder}
+use Rattle.records.proofs.Unique.{file-unique}
+use Rattle.records.proofs.Settled.{load-settled}
+use Rattle.capi.specs.Told.{Told, accepted, refused, cellsOf, Front, Left}
+use Rattle.capi.specs.Filed.{Given}
 
 numberIn : Verdict → ℕ
 numberIn Accepted = 0
@@ -59,3 +68,18 @@ module _ (n : ℕ) (es : List ℕ) (ls : List ℤ) (s : Standing) {classes paren
     where
       added : (a : Standing) → Grown (variables n es) (Extended (variables n es) (tableOf (variables n es) s) ls) s a × Took (variables n es) s a → Adds n es s ls a (Count n)
       added a (grown, took) = record { judged = none; leaves = (refl, grown, took) }
+
+-- what store gives: the count and every byte
+pub stored-tight : (n : ℕ) (es : List ℕ) (ls : List ℤ) (asked : Bool) (before : List ℕ) {after after′ : List ℕ} {count count′ : ℕ}
+    → Front (FileOf n es ls asked) before after count → Front (FileOf n es ls asked) before after′ count′ → (count ≡ count′) × (after ≡ after′)
+stored-tight n es ls asked before (file, f, q, r) (file′, g, q′, r′) =
+    let same = file-unique n es ls asked file file′ f g in
+    (q ∙ ap length same ∙ sym q′, r ∙ ap (sets before 0) same ∙ sym r′)
+
+-- what load gives: the cells and the tables
+pub loaded-tight : (file : List ℕ) (lent a b : Lent) {n entries literals with-sets n′ entries′ literals′ with-sets′ : ℕ} → NoneOf (loadOrder file lent)
+    → Given file lent a n entries literals with-sets → Given file lent b n′ entries′ literals′ with-sets′
+    → (n ≡ n′) × (entries ≡ entries′) × (literals ≡ literals′) × (with-sets ≡ with-sets′) × (a ≡ b)
+loaded-tight file lent a b none f g =
+    let said = Formula (countIn file) (length (prefixIn file)) (length (clausesIn file)) (hasSets file) in
+    (f .count ∙ sym (g .count), f .prefix-count ∙ sym (g .prefix-count), f .clauses-count ∙ sym (g .clauses-count), f .sets-told ∙ sym (g .sets-told), load-settled file lent a b said said (none, refl, refl, refl, refl, f .filled) (none, refl, refl, refl, refl, g .filled) .1)

@@ -8,6 +8,7 @@ use terms::Filled;
 ghost use mathlib.Core.Path.{_≡_};
 ghost use Rattle.capi.specs.Cells.{Fits, Laid, TallyLaid};
 ghost use Rattle.capi.specs.Told.{tallyIn, schemeOf};
+ghost use Rattle.capi.specs.Filed.{tellsSets};
 
 // An answer with a count: accepted, it goes into its cell; refused, the place goes into its own.
 pub fn lay(answer: Filled, count: &mut u32, place: &mut u32) -> u32
@@ -59,4 +60,11 @@ pub fn scheme_in(number: u32) -> Scheme
     } else {
         Scheme::Standard
     }
+}
+
+// The number that tells whether sets are there.
+pub fn sets_told(there: bool) -> u32
+    ensures { λ r. ⌜ r ≡ tellsSets there ⌝ }
+{
+    if there { 1 } else { 0 }
 }

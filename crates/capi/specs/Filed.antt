@@ -1,0 +1,26 @@
+-- What the calls for the file of a forest tell C: whether sets are asked for, and what a file that is loaded gives.
+use Prim.Native.Nat.{ℕ}
+use mathlib.Core.Path.{_≡_}
+use mathlib.Core.Bool.{Bool, cond, not}
+use mathlib.Core.List.{List}
+use lib.Dec.{eqb}
+use lib.ListN.{length}
+use Rattle.records.specs.Places.{countIn, prefixIn, clausesIn, hasSets}
+use Rattle.records.specs.Causes.{Lent}
+use Rattle.records.specs.Promises.{FilledFrom}
+
+-- every number but 0 asks for sets
+abbrev pub asksSets : ℕ → Bool
+asksSets number = not (eqb number 0)
+
+-- the number that tells of sets: 1 where they are, else 0
+unfoldable pub tellsSets : Bool → ℕ
+tellsSets there = cond there 1 0
+
+-- n, how many entries prefix and clauses have, and whether sets were there, as the file has them; with the lent tables filled
+pub record Given (file : List ℕ) (lent lent′ : Lent) (n entries literals with-sets : ℕ) : Type 0 where
+  pub count : n ≡ countIn file
+  pub prefix-count : entries ≡ length (prefixIn file)
+  pub clauses-count : literals ≡ length (clausesIn file)
+  pub sets-told : with-sets ≡ tellsSets (hasSets file)
+  pub filled : FilledFrom file lent lent′

@@ -1,0 +1,5 @@
+-- The laws of the records of a file, in reading order.
+pub mod Heads
+pub mod Walks
+pub mod Spans
+pub mod Laying

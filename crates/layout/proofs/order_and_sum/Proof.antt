@@ -1,0 +1,52 @@
+-- `layout::order_and_sum` meets its contract.
+use mathlib.Core.Path.{sym, _∙_}
+use mathlib.Core.List.{[], _∷_}
+use mathlib.Core.Logic.{inl}
+use Rattle.terms.specs.Refusals.{At0}
+use Rattle.terms.specs.declared.Verdict.{Verdict}
+use Rattle.terms.specs.declared.Verdict.the-variants.{Accepted}
+use Rattle.terms.proofs.Verdicts.{at0-first, at0-none, refused-first, accepted-then}
+use Rattle.records.specs.Layout.{SumsToZero}
+use Rattle.records.specs.Causes.{OrderCause}
+use borrow.Author.Needs.{needs}
+use Rattle.layout.proofs.order_and_sum.Statement.{statement}
+use Rattle.layout.proofs.order_and_sum.Tie as tie
+
+order-verdict-requires : tie.Need-order-verdict-requires
+order-verdict-requires c κs = search needs
+
+enum-known-number : tie.Need-enum-known-number
+enum-known-number c = search needs
+
+enum-told : tie.Need-enum-told
+enum-told c = search needs
+
+sum-words-requires : tie.Need-sum-words-requires
+sum-words-requires c κs = search needs
+
+returns : tie.Need-returns
+returns c =
+    let file = c .before .before .before .before .before .before .args .file .now in
+    accepted-then (OrderCause file ∷ []) (At0 21 (SumsToZero file → ⊥) ∷ []) Accepted (c .before .before .enum-told .given .1) (c .before .before .before .before .order-verdict .ensures) (at0-none 21 (λ no. no (sym (c .before .sum-words .ensures) ∙ c .if1 .taken)), tt)
+
+returns-2 : tie.Need-returns-2
+returns-2 c =
+    let file = c .before .before .before .before .before .args .file .now in
+    refused-first (OrderCause file ∷ []) (At0 21 (SumsToZero file → ⊥) ∷ []) (c .before .number .given .1) (c .before .before .before .order-verdict .ensures)
+
+returns-3 : tie.Need-returns-3
+returns-3 c =
+    let file = c .before .before .before .before .before .before .args .file .now in
+    accepted-then (OrderCause file ∷ []) (At0 21 (SumsToZero file → ⊥) ∷ []) (Verdict.Refused 21 0) (c .before .before .enum-told .given .1) (c .before .before .before .before .order-verdict .ensures) (inl (at0-first 21 (λ zero. c .if1 .left (c .before .sum-words .ensures ∙ zero))))
+
+pub order-and-sum-spec : {M : Type 1} → statement M
+order-and-sum-spec =
+    tie.close
+    (tie.spec
+    order-verdict-requires
+    enum-known-number
+    enum-told
+    sum-words-requires
+    returns
+    returns-2
+    returns-3)

@@ -1,0 +1,15 @@
+-- `layout::places::second_at` meets its contract.
+use mathlib.Core.Path.{sym, _∙_}
+use Rattle.layout.proofs.Spans.{second-is}
+use borrow.Author.Needs.{needs}
+use Rattle.layout.proofs.places.second_at.Statement.{statement}
+use Rattle.layout.proofs.places.second_at.Tie as tie
+
+next-at-requires : tie.Need-next-at-requires
+next-at-requires c κs = search needs
+
+returns : tie.Need-returns
+returns c = c .next-at .ensures ∙ sym (second-is (c .before .before .args .file .now))
+
+pub second-at-spec : {M : Type 1} → statement M
+second-at-spec = tie.close (tie.spec next-at-requires returns)

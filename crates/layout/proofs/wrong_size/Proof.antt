@@ -1,0 +1,23 @@
+-- `layout::wrong_size` meets its contract, kind by kind.
+use mathlib.Core.Logic.{inl}
+use Rattle.layout.proofs.Heads.{tells-count, tells-literals, tells-word, tells-other}
+use Rattle.layout.proofs.wrong_size.Statement.{statement}
+use Rattle.layout.proofs.wrong_size.Tie as tie
+
+returns : tie.Need-returns
+returns c = inl (c .if1 .taken)
+
+returns-2 : tie.Need-returns-2
+returns-2 c = let a = c .before .before .args in tells-count (a .kind) (a .size) (c .before .if1 .left) (c .if2 .taken)
+
+returns-3 : tie.Need-returns-3
+returns-3 c = let a = c .before .before .before .args in tells-literals (a .kind) (a .size) (c .before .before .if1 .left) (c .if3 .taken)
+
+returns-4 : tie.Need-returns-4
+returns-4 c = let a = c .before .before .before .before .args in tells-word (a .kind) (a .size) (c .before .before .before .if1 .left) (c .if4 .taken)
+
+returns-5 : tie.Need-returns-5
+returns-5 c = let a = c .before .before .before .before .args in tells-other (a .kind) (a .size) (c .before .before .before .if1 .left) (c .before .before .if2 .left) (c .before .if3 .left) (c .if4 .left)
+
+pub wrong-size-spec : {M : Type 1} → statement M
+wrong-size-spec = tie.close (tie.spec returns returns-2 returns-3 returns-4 returns-5)

@@ -1,0 +1,2 @@
+-- The records of a file one after the other: what the walk over them finds.
+pub mod Laid

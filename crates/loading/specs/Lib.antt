@@ -1,0 +1,2 @@
+-- Reading the file of a forest: what its inner functions promise.
+pub mod Inner

@@ -1,0 +1,70 @@
+// Reading the file of a forest: its records, the formula that they hold, and whether the rows and sets beside it are those of the formula.
+
+mod contents;
+mod decoding;
+mod filling;
+
+use contents::contents_verdict;
+use filling::fill_lent;
+use filling::has_room;
+use layout::layout_verdict;
+use records::Loaded;
+use terms::Verdict;
+ghost use Rattle.records.specs.Causes.{lentTables};
+ghost use Rattle.records.specs.Promises.{Loads};
+ghost use Rattle.layout.specs.Laid.{Laid};
+ghost use Rattle.loading.specs.Inner.{OwnRows, LoadsLaid, LoadsRight};
+
+// Reads a file into the lent tables: prefix, clauses, and the rows of class names, parents and counts. Everything is judged before the first row is
+// written.
+pub fn load(
+    file: &[u8],
+    prefix: &mut [u32],
+    clauses: &mut [i32],
+    classes: &mut [u32],
+    parents: &mut [u32],
+    counts: &mut [u32],
+) -> Loaded
+    ensures { λ r. ⌜ Loads (now (file .entry)) (lentTables (now (prefix .entry)) (now (clauses .entry)) (now (classes .entry)) (now (parents .entry)) (now (counts .entry))) (lentTables (now (prefix .exit)) (now (clauses .exit)) (now (classes .exit)) (now (parents .exit)) (now (counts .exit))) r ⌝ }
+{
+    match layout_verdict(file) {
+        Verdict::Refused(number, place) => Loaded::Refused(number, place),
+        Verdict::Accepted => load_laid(file, prefix, clauses, classes, parents, counts),
+    }
+}
+
+// The same, once the records are in their order and the sum closes.
+fn load_laid(
+    file: &[u8],
+    prefix: &mut [u32],
+    clauses: &mut [i32],
+    classes: &mut [u32],
+    parents: &mut [u32],
+    counts: &mut [u32],
+) -> Loaded
+    requires { ⌜ Laid (now file) ⌝ }
+    ensures { λ r. ⌜ LoadsLaid (now (file .entry)) (lentTables (now (prefix .entry)) (now (clauses .entry)) (now (classes .entry)) (now (parents .entry)) (now (counts .entry))) (lentTables (now (prefix .exit)) (now (clauses .exit)) (now (classes .exit)) (now (parents .exit)) (now (counts .exit))) r ⌝ }
+{
+    match contents_verdict(file) {
+        Verdict::Refused(number, place) => Loaded::Refused(number, place),
+        Verdict::Accepted => load_right(file, prefix, clauses, classes, parents, counts),
+    }
+}
+
+// The same, once the formula is accepted and rows and sets are its own.
+fn load_right(
+    file: &[u8],
+    prefix: &mut [u32],
+    clauses: &mut [i32],
+    classes: &mut [u32],
+    parents: &mut [u32],
+    counts: &mut [u32],
+) -> Loaded
+    requires { ⌜ Laid (now file) × OwnRows (now file) ⌝ }
+    ensures { λ r. ⌜ LoadsRight (now (file .entry)) (lentTables (now (prefix .entry)) (now (clauses .entry)) (now (classes .entry)) (now (parents .entry)) (now (counts .entry))) (lentTables (now (prefix .exit)) (now (clauses .exit)) (now (classes .exit)) (now (parents .exit)) (now (counts .exit))) r ⌝ }
+{
+    if !has_room(file, prefix, clauses, classes, parents, counts) {
+        return Loaded::Refused(14, 0);
+    }
+    fill_lent(file, prefix, clauses, classes, parents, counts)
+}

@@ -1,0 +1,15 @@
+-- The laws of the file of a forest, in reading order.
+pub mod Example
+pub mod Orders
+pub mod Bits
+pub mod WordSums
+pub mod Lengths
+pub mod Taken
+pub mod Unique
+pub mod Settled
+pub mod OwnSets
+pub mod Changed
+pub mod Decoded
+pub mod Fits
+pub mod Walked
+pub mod RoundTrip

@@ -1,0 +1,89 @@
+-- A formula has one forest, one list of sets and so one file.
+use Prim.Native.Nat.{ℕ, _+_, _%_, _<_, _≤_}
+use mathlib.Core.Path.{_≡_, sym, ap, _∙_, subst}
+use mathlib.Core.Bool.{Bool, true, false}
+use mathlib.Core.List.{List, _++_}
+use native.Mathlib.Omega.{arith}
+use lib.IntN.{ℤ}
+use lib.ListN.{length, getD, List·getD-eq-default}
+use Rattle.connection.specs.Reach.{Depends}
+use Rattle.connection.specs.Tables.{Table, row, lent}
+use Rattle.connection.specs.Counts.{Counted}
+use Rattle.connection.proofs.Reach.{joined-sym}
+use Rattle.connection.proofs.Rows.{rows-one, lent-one}
+use Rattle.connection.proofs.Growth.{forest-is}
+use Rattle.connection.proofs.Counts.{counts-one}
+use Rattle.tables.specs.Formula.{variables, universal, joined, Shares}
+use Rattle.tables.proofs.Agreeing.{lawful}
+use Rattle.sets.proofs.Records.{records-one}
+use Rattle.records.specs.Numbers.{bytesOf, wordSum}
+use Rattle.records.specs.Layout.{setsKind, recordBytes, prefixRecord, clausesRecord, rowsRecord, closingRecord, ForestRows, StandardSets, SetsRecord, FileOf}
+use Rattle.records.proofs.WordSums.{sum-append, closing-sum}
+use Rattle.records.proofs.Lengths.{bytes-length, record-length, prefix-length, clauses-length, rows-length}
+
+-- rows past n of tables with n rows read alike
+past-alike : {n : ℕ} (rows rows′ : List ℕ) → length rows ≡ n → length rows′ ≡ n → (i : ℕ) → n ≤ i → getD rows i 0 ≡ getD rows′ i 0
+past-alike rows rows′ q q′ i h = List·getD-eq-default rows 0 (omega arith) ∙ sym (List·getD-eq-default rows′ 0 (omega arith))
+
+module _ (n : ℕ) (es : List ℕ) (ls : List ℤ) where
+  pub rows-unique : {classes parents counts classes′ parents′ counts′ : List ℕ} → ForestRows n es ls classes parents counts → ForestRows n es ls classes′ parents′ counts′ → (classes ≡ classes′) × (parents ≡ parents′) × (counts ≡ counts′)
+  rows-unique {classes} {parents} {counts} {classes′} {parents′} {counts′} f g = (same .0, same .1, rows-one n counts counts′ (f .counts-many ∙ sym (g .counts-many)) alike (past-alike counts counts′ (f .counts-many) (g .counts-many)))
+    where
+      same : (classes ≡ classes′) × (parents ≡ parents′)
+      same = lent-one (joined-sym {cs = joined ls}) (f .forest) (g .forest)
+          (f .classes-many ∙ sym (g .classes-many)) (past-alike classes classes′ (f .classes-many) (g .classes-many))
+          (f .parents-many ∙ sym (g .parents-many)) (past-alike parents parents′ (f .parents-many) (g .parents-many))
+
+      alike : (v : ℕ) → row n counts v ≡ row n counts′ v
+      alike = counts-one (forest-is (lawful n es) .0 (g .forest) .formed) (subst (λ (W : Table). Counted (variables n es) W (row n counts)) (λ i. lent (variables n es) (same .0 i) (same .1 i)) (f .counted)) (g .counted)
+
+  pub sets-unique : (list other : List ℕ) → StandardSets n es ls list → StandardSets n es ls other → list ≡ other
+  sets-unique list other = records-one (universal n es) (Depends (variables n es) (Shares ls)) n list other
+
+  sets-record-unique : (asked : Bool) (bytes bytes′ : List ℕ) → SetsRecord asked n es ls bytes → SetsRecord asked n es ls bytes′ → bytes ≡ bytes′
+  sets-record-unique true bytes bytes′ (list, are, is) (list′, are′, is′) = is ∙ ap (λ (l : List ℕ). recordBytes setsKind (bytesOf 2 l)) (sets-unique list list′ are are′) ∙ sym is′
+  sets-record-unique false bytes bytes′ is is′ = is ∙ sym is′
+
+  -- all records, by what they hold
+  abbrev whole : List ℕ → List ℕ → List ℕ → List ℕ → ℕ → List ℕ
+  whole classes parents counts sets-record word = prefixRecord n es ++ (clausesRecord ls ++ (rowsRecord classes parents counts ++ (sets-record ++ closingRecord word)))
+
+  -- no byte of a record is left over, so that the words of a file are those of its records
+  sets-even : (asked : Bool) (bytes : List ℕ) → SetsRecord asked n es ls bytes → length bytes % 2 ≡ 0
+  sets-even true bytes (list, are, is) = let l = ap length is ∙ record-length setsKind (bytesOf 2 list) in let b = bytes-length 2 list in omega arith
+  sets-even false bytes is = let l = ap length is in omega arith
+
+  module _ (classes parents counts : List ℕ) (asked : Bool) (sets-record : List ℕ) (are : SetsRecord asked n es ls sets-record) where
+    file-sum : (word : ℕ) → word < 65536
+        → wordSum (whole classes parents counts sets-record word)
+        ≡ wordSum (prefixRecord n es) + (wordSum (clausesRecord ls) + (wordSum (rowsRecord classes parents counts) + (wordSum sets-record + (65537 + word))))
+    file-sum word fits =
+        let r = rowsRecord classes parents counts in
+        let p = prefix-length n es in
+        let c = clauses-length ls in
+        let l = rows-length classes parents counts in
+        let s = sets-even asked sets-record are in
+        sum-append (prefixRecord n es) (clausesRecord ls ++ (r ++ (sets-record ++ closingRecord word))) (omega arith)
+        ∙ ap (λ (k : ℕ). wordSum (prefixRecord n es) + k)
+        (sum-append (clausesRecord ls) (r ++ (sets-record ++ closingRecord word)) (omega arith)
+        ∙ ap (λ (k : ℕ). wordSum (clausesRecord ls) + k)
+        (sum-append r (sets-record ++ closingRecord word) (omega arith)
+        ∙ ap (λ (k : ℕ). wordSum r + k) (sum-append sets-record (closingRecord word) s ∙ ap (λ (k : ℕ). wordSum sets-record + k) (closing-sum word fits))))
+
+    -- the word that closes the sum is one
+    word-unique : {file file′ : List ℕ} (word word′ : ℕ) → word < 65536 → word′ < 65536
+        → file ≡ whole classes parents counts sets-record word
+        → file′ ≡ whole classes parents counts sets-record word′
+        → wordSum file % 65536 ≡ 0 → wordSum file′ % 65536 ≡ 0 → word ≡ word′
+    word-unique word word′ fits fits′ is is′ sum sum′ =
+        let a = ap wordSum is ∙ file-sum word fits in
+        let b = ap wordSum is′ ∙ file-sum word′ fits′ in
+        omega arith
+
+  pub file-unique : (asked : Bool) (file file′ : List ℕ) → FileOf n es ls asked file → FileOf n es ls asked file′ → file ≡ file′
+  file-unique asked file file′ f g =
+      let (classes, parents, counts) = rows-unique (f .rows) (g .rows) in
+      let sets = sets-record-unique asked (f .sets-record) (g .sets-record) (f .sets) (g .sets) in
+      let same : whole (f .classes) (f .parents) (f .counts) (f .sets-record) (f .word) ≡ whole (g .classes) (g .parents) (g .counts) (g .sets-record) (f .word) = λ i. whole (classes i) (parents i) (counts i) (sets i) (f .word) in
+      let word = word-unique (g .classes) (g .parents) (g .counts) asked (g .sets-record) (g .sets) (f .word) (g .word) (f .word-fits) (g .word-fits) (f .bytes ∙ same) (g .bytes) (f .sum) (g .sum) in
+      f .bytes ∙ same ∙ ap (whole (g .classes) (g .parents) (g .counts) (g .sets-record)) word ∙ sym (g .bytes)

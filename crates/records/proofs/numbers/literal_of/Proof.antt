@@ -1,0 +1,32 @@
+-- `records::numbers::literal_of` meets its contract.
+use Prim.Native.Nat.{_-_}
+use mathlib.Core.Path.{_≡_, ap, _∙_}
+use native.Mathlib.Omega.{arith}
+use mir.Syntax.{w32}
+use mir.Val.{toZ}
+use Rattle.records.proofs.Bits.{literal-is}
+use borrow.Author.Needs.{needs}
+use Rattle.records.proofs.numbers.literal_of.Statement.{statement}
+use Rattle.records.proofs.numbers.literal_of.Tie as tie
+
+cast-result : tie.Need-cast-result
+cast-result c = search needs
+
+sub-below : tie.Need-sub-below
+sub-below c = search needs
+
+cast-below : tie.Need-cast-below
+cast-below c = search needs
+
+returns : tie.Need-returns
+returns c = literal-is (c .before .args .number)
+
+returns-2 : tie.Need-returns-2
+returns-2 c =
+    let n = c .before .args .number in
+    let f = c .before .fits .number in
+    let q : 4294967295 - (4294967295 - n) ≡ n = omega arith in
+    ap (toZ w32) q ∙ literal-is n
+
+pub literal-of-spec : {M : Type 1} → statement M
+literal-of-spec = tie.close (tie.spec cast-result sub-below cast-below returns returns-2)

@@ -1,0 +1,84 @@
+-- The records of a file, and the file of a formula (document 02, request 6). A record is its payload length in four bytes, its kind in two, and the payload.
+use Prim.Native.Nat.{ℕ, _+_, _<_, _%_}
+use mathlib.Core.Path.{_≡_}
+use mathlib.Core.Bool.{Bool, true, false}
+use mathlib.Core.List.{List, [], _∷_, _++_, map}
+use lib.IntN.{ℤ}
+use lib.ListN.{length}
+use Rattle.connection.specs.Reach.{Depends}
+use Rattle.connection.specs.Tables.{row, lent}
+use Rattle.connection.specs.Forest.{Forest}
+use Rattle.connection.specs.Counts.{Counted}
+use Rattle.tables.specs.Formula.{variables, universal, Shares}
+use Rattle.sets.specs.Sets.{Records}
+use Rattle.records.specs.Numbers.{numberBytes, bytesOf, literalNumber, wordSum}
+
+-- the kinds
+abbrev pub prefixKind : ℕ
+prefixKind = 1
+
+abbrev pub clausesKind : ℕ
+clausesKind = 2
+
+abbrev pub rowsKind : ℕ
+rowsKind = 3
+
+abbrev pub setsKind : ℕ
+setsKind = 4
+
+abbrev pub closingKind : ℕ
+closingKind = 65535
+
+-- the bytes of a record of a kind, with a payload
+unfoldable pub recordBytes : ℕ → List ℕ → List ℕ
+recordBytes kind payload = numberBytes 4 (length payload) ++ (numberBytes 2 kind ++ payload)
+
+-- The rows of a formula's forest: class names, parents and counts, n of each.
+pub record ForestRows (n : ℕ) (es : List ℕ) (ls : List ℤ) (classes parents counts : List ℕ) : Type 0 where
+  pub classes-many : length classes ≡ n
+  pub parents-many : length parents ≡ n
+  pub counts-many : length counts ≡ n
+  pub forest : Forest (variables n es) (Shares ls) (lent (variables n es) classes parents)
+  pub counted : Counted (variables n es) (lent (variables n es) classes parents) (row n counts)
+
+-- The standard sets of a formula: for each universal ascending its number, the count of its set and its set ascending.
+abbrev pub StandardSets : ℕ → List ℕ → List ℤ → List ℕ → Type 0
+StandardSets n es ls = Records (universal n es) (Depends (variables n es) (Shares ls)) n
+
+-- kind 1: n, then the prefix, two bytes a number
+unfoldable pub prefixRecord : ℕ → List ℕ → List ℕ
+prefixRecord n es = recordBytes prefixKind (bytesOf 2 (n ∷ es))
+
+-- kind 2: the clauses, four bytes a literal
+unfoldable pub clausesRecord : List ℤ → List ℕ
+clausesRecord ls = recordBytes clausesKind (bytesOf 4 (map literalNumber ls))
+
+-- kind 3: class names, parents and counts, four bytes a number
+unfoldable pub rowsRecord : List ℕ → List ℕ → List ℕ → List ℕ
+rowsRecord classes parents counts = recordBytes rowsKind (bytesOf 4 (classes ++ (parents ++ counts)))
+
+-- kind 4: the sets, two bytes a number, if they are asked for
+abbrev pub SetsRecord : Bool → ℕ → List ℕ → List ℤ → List ℕ → Type 0
+SetsRecord true n es ls bytes = (sets : List ℕ) × StandardSets n es ls sets × (bytes ≡ recordBytes setsKind (bytesOf 2 sets))
+SetsRecord false n es ls bytes = bytes ≡ []
+
+-- kind 65,535: a two-byte word
+unfoldable pub closingRecord : ℕ → List ℕ
+closingRecord word = recordBytes closingKind (numberBytes 2 word)
+
+-- the words sum to zero when the sum is let wrap
+abbrev pub SumsToZero : List ℕ → Type 0
+SumsToZero file = wordSum file % 65536 ≡ 0
+
+-- The file of a formula, with its sets if they are asked for: the records in the order of their kinds, of which the last has the word that closes the sum.
+pub record FileOf (n : ℕ) (es : List ℕ) (ls : List ℤ) (asked : Bool) (file : List ℕ) : Type 0 where
+  pub classes : List ℕ
+  pub parents : List ℕ
+  pub counts : List ℕ
+  pub rows : ForestRows n es ls classes parents counts
+  pub sets-record : List ℕ
+  pub sets : SetsRecord asked n es ls sets-record
+  pub word : ℕ
+  pub word-fits : word < 65536
+  pub bytes : file ≡ prefixRecord n es ++ (clausesRecord ls ++ (rowsRecord classes parents counts ++ (sets-record ++ closingRecord word)))
+  pub sum : SumsToZero file

@@ -1,0 +1,6 @@
+-- The file of a forest: its numbers and records, where they begin, the causes of refusal, and what reading and writing promise.
+pub mod Numbers
+pub mod Layout
+pub mod Places
+pub mod Causes
+pub mod Promises

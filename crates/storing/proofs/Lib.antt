@@ -1,0 +1,7 @@
+-- The laws of writing a file, in reading order.
+pub mod Runs
+pub mod Sizes
+pub mod Composed
+pub mod Filed
+pub mod SetLists
+pub mod Built

@@ -1,0 +1,25 @@
+-- `storing::bytes::put_head` meets its contract.
+use native.Mathlib.Omega.{arith}
+use Rattle.qdimacs.proofs.Stores.{wrote-more}
+use Rattle.records.proofs.Lengths.{number-length}
+use borrow.Author.Needs.{needs}
+use Rattle.storing.proofs.bytes.put_head.Statement.{statement}
+use Rattle.storing.proofs.bytes.put_head.Tie as tie
+
+put-number-requires : tie.Need-put-number-requires
+put-number-requires c κs = search needs
+
+put-number-requires-2 : tie.Need-put-number-requires-2
+put-number-requires-2 c κs =
+    let k = c .before .before .before .before .before .before in
+    omega (arith, k .pre, c .before .before .before .put-number .ensures .end, number-length 4 (k .args .size))
+
+same-length : tie.Need-same-length
+same-length c = search needs
+
+returns : tie.Need-returns
+returns c =
+    wrote-more (c .before .before .before .before .before .before .put-number .ensures) (c .before .before .put-number2 .ensures)
+
+pub put-head-spec : {M : Type 1} → statement M
+put-head-spec = tie.close (tie.spec put-number-requires put-number-requires-2 same-length returns)

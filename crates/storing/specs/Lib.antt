@@ -1,0 +1,2 @@
+-- Writing the file of a forest; what it promises stands in records.
+pub mod Parts

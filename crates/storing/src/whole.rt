@@ -1,0 +1,117 @@
+// The whole file: its size is known before anything is written.
+
+use crate::parts::put_clauses;
+use crate::parts::put_closing;
+use crate::parts::put_prefix;
+use crate::parts::put_rows;
+use crate::parts::put_sets;
+use records::FILE_BYTES;
+use terms::Filled;
+ghost use Prim.Native.Nat.{_<_, _≤_};
+ghost use mathlib.Core.Path.{_≡_};
+ghost use mathlib.Core.Bool.{true};
+ghost use lib.ListN.{length};
+ghost use Rattle.terms.specs.Refusals.{NoneOf};
+ghost use Rattle.formula.specs.Causes.{checkOrder};
+ghost use Rattle.qdimacs.specs.Bytes.{Wrote};
+ghost use Rattle.records.specs.Layout.{ForestRows, StandardSets};
+ghost use Rattle.storing.specs.Parts.{formulaPart, forestPart, wholeOf, sizeOf, StoresAccepted};
+
+// Writes the file of an accepted formula, its rows and, if they are asked for, its sets; nothing is written where it is too long or does not fit.
+pub fn store_file(
+    n: u32,
+    prefix: &[u32],
+    clauses: &[i32],
+    classes: &[u32],
+    parents: &[u32],
+    counts: &[u32],
+    asked: bool,
+    list: &[u32],
+    file: &mut [u8],
+) -> Filled
+    requires { ⌜ NoneOf (checkOrder n (now prefix) (now clauses)) × ForestRows n (now prefix) (now clauses) (now classes) (now parents) (now counts) × (length (now list) ≤ 131072) × (asked ≡ true → StandardSets n (now prefix) (now clauses) (now list)) ⌝ }
+    ensures { λ r. ⌜ StoresAccepted n (now (prefix .entry)) (now (clauses .entry)) asked (now (file .entry)) (now (file .exit)) r ⌝ }
+{
+    let size = size_of(
+        prefix.len(),
+        clauses.len(),
+        classes.len(),
+        asked,
+        list.len(),
+    );
+    if size > FILE_BYTES {
+        return Filled::Refused(19, 0);
+    }
+    if file.len() < size {
+        return Filled::Refused(14, 0);
+    }
+    let written = put_file(
+        file,
+        n,
+        prefix,
+        clauses,
+        classes,
+        parents,
+        counts,
+        asked,
+        list,
+    );
+    Filled::Count(written as u32)
+}
+
+// How many bytes a file has, by its prefix entries, literals, rows of each table, and numbers in its sets.
+fn size_of(entries: usize, literals: usize, rows: usize, asked: bool, numbers: usize) -> usize
+    requires { ⌜ (entries ≤ 8192) × (literals ≤ 16384) × (rows ≤ 4096) × (numbers ≤ 131072) ⌝ }
+    ensures { λ r. ⌜ r ≡ sizeOf entries literals rows asked numbers ⌝ }
+{
+    if asked {
+        return 2 * entries + 4 * literals + 12 * rows + 2 * numbers + 34;
+    }
+    2 * entries + 4 * literals + 12 * rows + 28
+}
+
+// All records of a file, for which there is room.
+fn put_file(
+    out: &mut [u8],
+    n: u32,
+    prefix: &[u32],
+    clauses: &[i32],
+    classes: &[u32],
+    parents: &[u32],
+    counts: &[u32],
+    asked: bool,
+    list: &[u32],
+) -> usize
+    requires { ⌜ (length (now prefix) ≤ 8192) × (length (now clauses) ≤ 16384) × (length (now classes) ≤ 4096) × (length (now parents) ≡ length (now classes)) × (length (now counts) ≡ length (now classes)) × (length (now list) ≤ 131072) × (sizeOf (length (now prefix)) (length (now clauses)) (length (now classes)) asked (length (now list)) ≤ length (now out)) ⌝ }
+    ensures { λ r. ⌜ Wrote (wholeOf n (now (prefix .entry)) (now (clauses .entry)) (now (classes .entry)) (now (parents .entry)) (now (counts .entry)) asked (now (list .entry))) (now (out .entry)) (now (out .exit)) 0 r ⌝ }
+{
+    let forest = put_formula(out, n, prefix, clauses);
+    let last = put_forest(out, forest, classes, parents, counts, asked, list);
+    put_closing(out, last)
+}
+
+// The records of the formula.
+fn put_formula(out: &mut [u8], n: u32, prefix: &[u32], clauses: &[i32]) -> usize
+    requires { ⌜ (length (now prefix) ≤ 8192) × (length (now clauses) ≤ 16384) ⌝ }
+    ensures { λ r. ⌜ Wrote (formulaPart n (now (prefix .entry)) (now (clauses .entry))) (now (out .entry)) (now (out .exit)) 0 r ⌝ }
+{
+    let next = put_prefix(out, n, prefix);
+    put_clauses(out, next, clauses)
+}
+
+// The records of its forest.
+fn put_forest(
+    out: &mut [u8],
+    at: usize,
+    classes: &[u32],
+    parents: &[u32],
+    counts: &[u32],
+    asked: bool,
+    list: &[u32],
+) -> usize
+    requires { ⌜ (at < 131072) × (length (now classes) ≤ 4096) × (length (now parents) ≡ length (now classes)) × (length (now counts) ≡ length (now classes)) × (length (now list) ≤ 131072) ⌝ }
+    ensures { λ r. ⌜ Wrote (forestPart (now (classes .entry)) (now (parents .entry)) (now (counts .entry)) asked (now (list .entry))) (now (out .entry)) (now (out .exit)) at r ⌝ }
+{
+    let next = put_rows(out, at, classes, parents, counts);
+    put_sets(out, next, asked, list)
+}
