@@ -66,7 +66,7 @@ static void call_check(const struct subject *s)
 {
     uint32_t place;
 
-    must(snow_check(s->f.n, s->f.prefix, s->f.prefix_len, s->f.clauses, s->f.clauses_len, &place), "check");
+    must(snow_check(SNOW_PLAIN, s->f.n, s->f.prefix, s->f.prefix_len, s->f.clauses, s->f.clauses_len, &place), "check");
 }
 
 static void call_read(const struct subject *s)
@@ -81,7 +81,7 @@ static void call_build(struct subject *s)
 {
     uint32_t count, place;
 
-    must(snow_build(s->f.n, s->f.prefix, s->f.prefix_len, s->f.clauses, s->f.clauses_len,
+    must(snow_build(SNOW_PLAIN, s->f.n, s->f.prefix, s->f.prefix_len, s->f.clauses, s->f.clauses_len,
                     s->classes, s->f.n, s->parents, s->f.n, s->counts, s->f.n, &s->tally, &count, &place), "build");
 }
 
@@ -89,7 +89,7 @@ static uint32_t call_set(const struct subject *s, uint32_t x)
 {
     uint32_t count, place;
 
-    must(snow_set(s->f.n, s->f.prefix, s->f.prefix_len, s->f.clauses, s->f.clauses_len,
+    must(snow_set(SNOW_PLAIN, s->f.n, s->f.prefix, s->f.prefix_len, s->f.clauses, s->f.clauses_len,
                   s->classes, s->f.n, s->parents, s->f.n, s->counts, s->f.n, x, out, SNOW_MOST_VARIABLES, &count, &place), "set");
     return count;
 }
@@ -98,7 +98,7 @@ static uint32_t call_size(const struct subject *s, uint32_t x)
 {
     uint32_t size, place;
 
-    must(snow_size(s->f.n, s->f.prefix, s->f.prefix_len, s->f.clauses, s->f.clauses_len,
+    must(snow_size(SNOW_PLAIN, s->f.n, s->f.prefix, s->f.prefix_len, s->f.clauses, s->f.clauses_len,
                    s->classes, s->f.n, s->parents, s->f.n, s->counts, s->f.n, x, &size, &place), "size");
     return size;
 }
@@ -108,7 +108,7 @@ static uint32_t call_sets(const struct subject *s)
 {
     uint32_t count, place;
 
-    must(snow_sets(s->f.n, s->f.prefix, s->f.prefix_len, s->f.clauses, s->f.clauses_len,
+    must(snow_sets(SNOW_PLAIN, s->f.n, s->f.prefix, s->f.prefix_len, s->f.clauses, s->f.clauses_len,
                    s->classes, s->f.n, s->parents, s->f.n, s->counts, s->f.n, every, sizeof every / sizeof *every, &count, &place),
          "sets");
     return count;
@@ -118,7 +118,7 @@ static void call_write(const struct subject *s)
 {
     uint32_t count, place;
 
-    must(snow_write(s->f.n, s->f.prefix, s->f.prefix_len, s->f.clauses, s->f.clauses_len, written, SNOW_MOST_TEXT, &count, &place), "write");
+    must(snow_write(SNOW_PLAIN, s->f.n, s->f.prefix, s->f.prefix_len, s->f.clauses, s->f.clauses_len, written, SNOW_MOST_TEXT, &count, &place), "write");
 }
 
 static double check_job(unsigned times)
@@ -158,7 +158,7 @@ static double read_build_job(unsigned times)
         struct subject *s = &subjects[times % VARIANTS];
 
         call_read(s);
-        must(snow_build(read_n, read_prefix, prefix_count, read_clauses, clauses_count,
+        must(snow_build(SNOW_PLAIN, read_n, read_prefix, prefix_count, read_clauses, clauses_count,
                         s->classes, read_n, s->parents, read_n, s->counts, read_n, &s->tally, &count, &place), "build");
     }
     return now() - start;
@@ -181,7 +181,7 @@ static double add_job(unsigned times)
         tally = s->tally;
         start = now();
         for (k = 0; k < ADDED && times > 0; k++, times--)
-            must(snow_add(s->f.n, s->f.prefix, s->f.prefix_len, grown_classes, s->f.n, grown_parents, s->f.n,
+            must(snow_add(SNOW_PLAIN, s->f.n, s->f.prefix, s->f.prefix_len, grown_classes, s->f.n, grown_parents, s->f.n,
                           grown_counts, s->f.n, &tally, s->added[k], ADDED_LITERALS, &place), "add");
         spent += now() - start;
     }
@@ -362,7 +362,7 @@ static void prepare(const struct family *family, uint32_t n)
 
         draw_from(n * VARIANTS + k);
         family->fill(&s->f, n);
-        must(snow_write(s->f.n, s->f.prefix, s->f.prefix_len, s->f.clauses, s->f.clauses_len, s->text, SNOW_MOST_TEXT, &s->text_len, &place),
+        must(snow_write(SNOW_PLAIN, s->f.n, s->f.prefix, s->f.prefix_len, s->f.clauses, s->f.clauses_len, s->text, SNOW_MOST_TEXT, &s->text_len, &place),
              "write");
         for (j = 0; j < ADDED * ADDED_LITERALS; j++)
             s->added[j / ADDED_LITERALS][j % ADDED_LITERALS] = (int32_t)(1 + draw(s->f.n));

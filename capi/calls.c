@@ -3,6 +3,8 @@
 #include "calls.h"
 #include "lend.h"
 
+uint32_t reading_rule = SNOW_PLAIN;
+
 /* The formula and the forest, lent. */
 static struct formula lent;
 static struct forest rows;
@@ -68,7 +70,7 @@ struct verdict call_check(const struct formula *f)
     lend_prefix(f);
     lend_clauses(f);
     lend_place();
-    return settle(snow_check(lent.n, lent.prefix, lent.prefix_len, lent.clauses, lent.clauses_len, place));
+    return settle(snow_check(reading_rule, lent.n, lent.prefix, lent.prefix_len, lent.clauses, lent.clauses_len, place));
 }
 
 /* Takes the first n rows of all three tables back. */
@@ -99,7 +101,7 @@ struct verdict call_build(const struct formula *f, struct forest *w, uint32_t *c
     lend_tally(w);
     cell = lend_cell();
     lend_place();
-    number = snow_build(lent.n, lent.prefix, lent.prefix_len, lent.clauses, lent.clauses_len, rows.classes, rows.classes_len,
+    number = snow_build(reading_rule, lent.n, lent.prefix, lent.prefix_len, lent.clauses, lent.clauses_len, rows.classes, rows.classes_len,
                         rows.parents, rows.parents_len, rows.counts, rows.counts_len, tally, cell, place);
     if (number == 0) {
         take(count, cell, sizeof *count);
@@ -136,7 +138,7 @@ struct verdict call_entry_point(const struct formula *f, const struct forest *w,
     entry_cell = lend_cell();
     rises_cell = lend_cell();
     lend_place();
-    number = snow_entry_point(lent.n, lent.prefix, lent.prefix_len, rows.classes, rows.classes_len,
+    number = snow_entry_point(reading_rule, lent.n, lent.prefix, lent.prefix_len, rows.classes, rows.classes_len,
                               rows.parents, rows.parents_len, rows.counts, rows.counts_len, x, y, entry_cell, rises_cell, place);
     if (number == 0) {
         take(entry, entry_cell, sizeof *entry);
@@ -175,7 +177,7 @@ struct verdict call_entry_points(const struct formula *f, const struct forest *w
     uint32_t number;
 
     lend_listing(f, w, out, out_len);
-    number = snow_entry_points(lent.n, lent.prefix, lent.prefix_len, lent.clauses, lent.clauses_len, rows.classes, rows.classes_len,
+    number = snow_entry_points(reading_rule, lent.n, lent.prefix, lent.prefix_len, lent.clauses, lent.clauses_len, rows.classes, rows.classes_len,
                                rows.parents, rows.parents_len, rows.counts, rows.counts_len, x, list_table, out_len, count_cell, place);
     return settle_listing(number, out, out_len, count);
 }
@@ -186,7 +188,7 @@ struct verdict call_set(const struct formula *f, const struct forest *w, uint32_
     uint32_t number;
 
     lend_listing(f, w, out, out_len);
-    number = snow_set(lent.n, lent.prefix, lent.prefix_len, lent.clauses, lent.clauses_len, rows.classes, rows.classes_len,
+    number = snow_set(reading_rule, lent.n, lent.prefix, lent.prefix_len, lent.clauses, lent.clauses_len, rows.classes, rows.classes_len,
                       rows.parents, rows.parents_len, rows.counts, rows.counts_len, x, list_table, out_len, count_cell, place);
     return settle_listing(number, out, out_len, count);
 }
@@ -196,7 +198,7 @@ struct verdict call_sets(const struct formula *f, const struct forest *w, uint32
     uint32_t number;
 
     lend_listing(f, w, out, out_len);
-    number = snow_sets(lent.n, lent.prefix, lent.prefix_len, lent.clauses, lent.clauses_len, rows.classes, rows.classes_len,
+    number = snow_sets(reading_rule, lent.n, lent.prefix, lent.prefix_len, lent.clauses, lent.clauses_len, rows.classes, rows.classes_len,
                        rows.parents, rows.parents_len, rows.counts, rows.counts_len, list_table, out_len, count_cell, place);
     return settle_listing(number, out, out_len, count);
 }
@@ -207,7 +209,7 @@ struct verdict call_entry_points_by(uint32_t scheme, const struct formula *f, co
     uint32_t number;
 
     lend_listing(f, w, out, out_len);
-    number = snow_entry_points_by(scheme, lent.n, lent.prefix, lent.prefix_len, lent.clauses, lent.clauses_len, rows.classes, rows.classes_len,
+    number = snow_entry_points_by(reading_rule, scheme, lent.n, lent.prefix, lent.prefix_len, lent.clauses, lent.clauses_len, rows.classes, rows.classes_len,
                                   rows.parents, rows.parents_len, rows.counts, rows.counts_len, x, list_table, out_len, count_cell, place);
     return settle_listing(number, out, out_len, count);
 }
@@ -218,7 +220,7 @@ struct verdict call_set_by(uint32_t scheme, const struct formula *f, const struc
     uint32_t number;
 
     lend_listing(f, w, out, out_len);
-    number = snow_set_by(scheme, lent.n, lent.prefix, lent.prefix_len, lent.clauses, lent.clauses_len, rows.classes, rows.classes_len,
+    number = snow_set_by(reading_rule, scheme, lent.n, lent.prefix, lent.prefix_len, lent.clauses, lent.clauses_len, rows.classes, rows.classes_len,
                          rows.parents, rows.parents_len, rows.counts, rows.counts_len, x, list_table, out_len, count_cell, place);
     return settle_listing(number, out, out_len, count);
 }
@@ -245,7 +247,7 @@ struct verdict call_size(const struct formula *f, const struct forest *w, uint32
     uint32_t number;
 
     lend_sizing(f, w);
-    number = snow_size(lent.n, lent.prefix, lent.prefix_len, lent.clauses, lent.clauses_len, rows.classes, rows.classes_len,
+    number = snow_size(reading_rule, lent.n, lent.prefix, lent.prefix_len, lent.clauses, lent.clauses_len, rows.classes, rows.classes_len,
                        rows.parents, rows.parents_len, rows.counts, rows.counts_len, x, count_cell, place);
     return settle_sizing(number, size);
 }
@@ -255,7 +257,7 @@ struct verdict call_size_by(uint32_t scheme, const struct formula *f, const stru
     uint32_t number;
 
     lend_sizing(f, w);
-    number = snow_size_by(scheme, lent.n, lent.prefix, lent.prefix_len, lent.clauses, lent.clauses_len, rows.classes, rows.classes_len,
+    number = snow_size_by(reading_rule, scheme, lent.n, lent.prefix, lent.prefix_len, lent.clauses, lent.clauses_len, rows.classes, rows.classes_len,
                           rows.parents, rows.parents_len, rows.counts, rows.counts_len, x, count_cell, place);
     return settle_sizing(number, size);
 }
@@ -271,7 +273,7 @@ struct verdict call_add(const struct formula *f, struct forest *w, const int32_t
     lend_tally(w);
     literals = lend(clause, clause_len * sizeof *clause);
     lend_place();
-    number = snow_add(lent.n, lent.prefix, lent.prefix_len, rows.classes, rows.classes_len,
+    number = snow_add(reading_rule, lent.n, lent.prefix, lent.prefix_len, rows.classes, rows.classes_len,
                       rows.parents, rows.parents_len, rows.counts, rows.counts_len, tally, literals, clause_len, place);
     if (number == 0)
         take_forest(w, f->n);
@@ -319,7 +321,7 @@ struct verdict call_write(const struct formula *f, uint8_t *text, size_t text_le
     table = lend(text, text_len);
     cell = lend_cell();
     lend_place();
-    number = snow_write(lent.n, lent.prefix, lent.prefix_len, lent.clauses, lent.clauses_len,
+    number = snow_write(reading_rule, lent.n, lent.prefix, lent.prefix_len, lent.clauses, lent.clauses_len,
                         table, text_len, cell, place);
     if (number == 0) {
         take(count, cell, sizeof *count);
@@ -340,7 +342,7 @@ struct verdict call_store(const struct formula *f, uint32_t with_sets, uint8_t *
     table = lend(file, file_len);
     cell = lend_cell();
     lend_place();
-    number = snow_store(lent.n, lent.prefix, lent.prefix_len, lent.clauses, lent.clauses_len, with_sets, table, file_len, cell, place);
+    number = snow_store(reading_rule, lent.n, lent.prefix, lent.prefix_len, lent.clauses, lent.clauses_len, with_sets, table, file_len, cell, place);
     if (number == 0) {
         take(count, cell, sizeof *count);
         if (within(*count, file_len))
@@ -365,7 +367,7 @@ struct verdict call_load(const uint8_t *file, size_t file_len, struct loaded *t)
     clauses_cell = lend_cell();
     sets_cell = lend_cell();
     lend_place();
-    number = snow_load(copy, file_len, n_cell, prefix_table, t->prefix_len, prefix_cell, clause_table, t->clauses_len, clauses_cell,
+    number = snow_load(reading_rule, copy, file_len, n_cell, prefix_table, t->prefix_len, prefix_cell, clause_table, t->clauses_len, clauses_cell,
                        rows.classes, rows.classes_len, rows.parents, rows.parents_len, rows.counts, rows.counts_len, sets_cell, place);
     if (number == 0) {
         take(&t->n, n_cell, sizeof t->n);

@@ -35,6 +35,9 @@ struct verdict {
     uint32_t place;
 };
 
+/* The rule by which every call below that takes a prefix or a file is asked to read it; SNOW_PLAIN until a test changes it. */
+extern uint32_t reading_rule;
+
 struct verdict call_check(const struct formula *f);
 struct verdict call_build(const struct formula *f, struct forest *w, uint32_t *count);
 struct verdict call_clause(const struct formula *f, uint32_t number, uint32_t *start, uint32_t *len);

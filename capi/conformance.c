@@ -13,6 +13,7 @@ int main(void)
     test_texts();
     test_stored();
     test_limits();
+    test_reading();
     test_drawn();
     return agreed_all();
 }

@@ -58,6 +58,42 @@ void draw_prefix(struct drawn *d, uint32_t n, uint32_t blocks)
     d->f.prefix_len = at;
 }
 
+/* Up to two empty blocks. */
+static size_t put_empty(uint32_t *prefix, size_t at)
+{
+    uint32_t k;
+
+    for (k = draw(4) == 0 ? 1 + draw(2) : 0; k > 0; k--) {
+        prefix[at++] = 1 + draw(2);
+        prefix[at++] = 0;
+    }
+    return at;
+}
+
+void draw_spread(struct drawn *d)
+{
+    static uint32_t whole[ROOM];
+    size_t e, at, length = d->f.prefix_len;
+    uint32_t mark = 0;
+
+    memcpy(whole, d->prefix, length * sizeof *whole);
+    at = put_empty(d->prefix, 0);
+    for (e = 0; e < length; e++) {
+        if (e == 0 || whole[e - 1] == 0)
+            mark = whole[e];
+        d->prefix[at++] = whole[e];
+        if (whole[e] == 0) {
+            at = put_empty(d->prefix, at);
+        } else if (e > 0 && whole[e - 1] != 0 && whole[e + 1] != 0 && draw(4) == 0) {
+            /* the block goes on in one of its own */
+            d->prefix[at++] = 0;
+            at = put_empty(d->prefix, at);
+            d->prefix[at++] = mark;
+        }
+    }
+    d->f.prefix_len = at;
+}
+
 int32_t draw_literal(uint32_t n)
 {
     int32_t v = (int32_t)(1 + draw(n));

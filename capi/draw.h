@@ -20,6 +20,9 @@ struct drawn {
 /* `blocks` blocks, none empty; the variables that are left are free. Needs n of at least `blocks`. */
 void draw_prefix(struct drawn *d, uint32_t n, uint32_t blocks);
 
+/* Spreads the blocks of a drawn prefix over several with one mark, and puts empty ones between: joined it is what it was. */
+void draw_spread(struct drawn *d);
+
 /* Clauses of up to `longest` literals; some empty, some with a literal twice or in both signs. */
 void draw_clauses(struct drawn *d, uint32_t n, uint32_t count, uint32_t longest);
 

@@ -426,6 +426,42 @@ static void texts(void)
     }
 }
 
+/* Prefixes that are joined: spread over more blocks, as they are, and damaged; against the same search. */
+static void joined(void)
+{
+    static struct drawn d;
+    uint32_t round;
+
+    reading_rule = SNOW_JOINED;
+    group("random formulas with joined prefixes");
+    for (round = 0; round < ROUNDS; round++) {
+        about("formula", round);
+        draw_formula(&d);
+        draw_signs(&d);
+        if (round % 4 != 0)
+            draw_spread(&d);
+        compare(&d.f);
+    }
+    group("random formulas with joined prefixes, damaged");
+    for (round = 0; round < 2 * ROUNDS; round++) {
+        about("formula", round);
+        draw_formula(&d);
+        draw_spread(&d);
+        damage_formula(&d);
+        compare(&d.f);
+    }
+    group("ladders of 64 blocks with joined prefixes");
+    for (round = 0; round < LADDERS; round++) {
+        about("ladder", round);
+        d.f.n = SMALL;
+        draw_prefix(&d, SMALL, SNOW_MOST_BLOCKS);
+        draw_spread(&d);
+        draw_clauses(&d, SMALL, 20 + 10 * round, 3);
+        compare(&d.f);
+    }
+    reading_rule = SNOW_PLAIN;
+}
+
 void test_drawn(void)
 {
     static struct drawn d;
@@ -463,6 +499,7 @@ void test_drawn(void)
         draw_clauses(&d, SMALL, 20 + 10 * round, 3);
         compare(&d.f);
     }
+    joined();
     group("random texts, damaged");
     texts();
 }

@@ -57,7 +57,7 @@ static int read_file(struct formula *f, const char *name)
 static int build(struct formula *f)
 {
     uint32_t rows, place;
-    uint32_t number = snow_build(f->n, f->prefix, f->prefix_count, f->clauses, f->clauses_count,
+    uint32_t number = snow_build(SNOW_PLAIN, f->n, f->prefix, f->prefix_count, f->clauses, f->clauses_count,
                                  f->classes, SNOW_MOST_VARIABLES, f->parents, SNOW_MOST_VARIABLES,
                                  f->counts, SNOW_MOST_VARIABLES, &f->tally, &rows, &place);
     return refused("build", number, place);
@@ -68,7 +68,7 @@ static int print_set(const struct formula *f, uint32_t x, uint32_t size)
 {
     uint32_t set[SNOW_MOST_VARIABLES];
     uint32_t count, place, i;
-    uint32_t number = snow_set(f->n, f->prefix, f->prefix_count, f->clauses, f->clauses_count,
+    uint32_t number = snow_set(SNOW_PLAIN, f->n, f->prefix, f->prefix_count, f->clauses, f->clauses_count,
                                f->classes, SNOW_MOST_VARIABLES, f->parents, SNOW_MOST_VARIABLES,
                                f->counts, SNOW_MOST_VARIABLES, x, set, size, &count, &place);
     if (refused("set", number, place))
@@ -84,7 +84,7 @@ static int print_set(const struct formula *f, uint32_t x, uint32_t size)
 static int print_line(const struct formula *f, uint32_t x)
 {
     uint32_t size, place;
-    uint32_t number = snow_size(f->n, f->prefix, f->prefix_count, f->clauses, f->clauses_count,
+    uint32_t number = snow_size(SNOW_PLAIN, f->n, f->prefix, f->prefix_count, f->clauses, f->clauses_count,
                                 f->classes, SNOW_MOST_VARIABLES, f->parents, SNOW_MOST_VARIABLES,
                                 f->counts, SNOW_MOST_VARIABLES, x, &size, &place);
     if (number == 13)
@@ -113,7 +113,7 @@ static int add(struct formula *f, const int32_t *clause, uint32_t length)
         printf("no room for another clause\n");
         return 1;
     }
-    number = snow_add(f->n, f->prefix, f->prefix_count, f->classes, SNOW_MOST_VARIABLES,
+    number = snow_add(SNOW_PLAIN, f->n, f->prefix, f->prefix_count, f->classes, SNOW_MOST_VARIABLES,
                       f->parents, SNOW_MOST_VARIABLES, f->counts, SNOW_MOST_VARIABLES, &f->tally,
                       clause, length, &place);
     if (refused("add", number, place))

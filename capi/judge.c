@@ -31,15 +31,29 @@ static int variable_place(const struct formula *f, size_t e)
     return !mark_place(f, e) && f->prefix[e] != 0;
 }
 
-/* The mark of the block before the one whose mark stands at e; 0 for the first. */
+/* Entry e is the mark of a block. Where prefixes are joined, one with 0 directly after its mark is none. */
+static int block_at(const struct formula *f, size_t e)
+{
+    int empty = e + 1 < f->prefix_len && f->prefix[e + 1] == 0;
+
+    return mark_place(f, e) && !(reading_rule == SNOW_JOINED && empty);
+}
+
+/* The mark of the last block whose mark stands before e; 0 if there is none. */
 static uint32_t mark_before(const struct formula *f, size_t e)
 {
     size_t k;
 
     for (k = e; k > 0; k--)
-        if (mark_place(f, k - 1))
+        if (block_at(f, k - 1))
             return f->prefix[k - 1];
     return 0;
+}
+
+/* Entry e begins a block. Where prefixes are joined, one with the mark of the block before goes on with that. */
+static int begins_at(const struct formula *f, size_t e)
+{
+    return block_at(f, e) && !(reading_rule == SNOW_JOINED && f->prefix[e] == mark_before(f, e));
 }
 
 static size_t blocks_before(const struct formula *f, size_t e)
@@ -47,7 +61,7 @@ static size_t blocks_before(const struct formula *f, size_t e)
     size_t k, blocks = 0;
 
     for (k = 0; k < e; k++)
-        blocks += mark_place(f, k);
+        blocks += begins_at(f, k);
     return blocks;
 }
 
@@ -68,11 +82,11 @@ static int prefix_cause(const struct formula *f, uint32_t number, size_t e)
 
     switch (number) {
     case 4: return mark_place(f, e) && entry != 1 && entry != 2;
-    case 5: return mark_place(f, e) && entry == mark_before(f, e);
-    case 6: return mark_place(f, e) && blocks_before(f, e) >= SNOW_MOST_BLOCKS;
+    case 5: return reading_rule == SNOW_PLAIN && mark_place(f, e) && entry == mark_before(f, e);
+    case 6: return begins_at(f, e) && blocks_before(f, e) >= SNOW_MOST_BLOCKS;
     case 7: return variable_place(f, e) && entry > f->n;
     case 8: return variable_place(f, e) && named_before(f, e);
-    case 9: return entry == 0 && e > 0 && !mark_place(f, e) && mark_place(f, e - 1);
+    case 9: return reading_rule == SNOW_PLAIN && entry == 0 && e > 0 && !mark_place(f, e) && mark_place(f, e - 1);
     default: return 0;
     }
 }
@@ -106,6 +120,8 @@ static struct verdict clause_entries(const struct formula *f)
 
 struct verdict judge_prefix(const struct formula *f)
 {
+    if (reading_rule != SNOW_PLAIN && reading_rule != SNOW_JOINED)
+        return refused(23, 0);
     if (f->n > SNOW_MOST_VARIABLES)
         return refused(1, 0);
     if (f->prefix_len > SNOW_MOST_PREFIX)
@@ -126,7 +142,7 @@ struct verdict judge_formula(const struct formula *f)
 {
     struct verdict v = judge_prefix(f);
 
-    if (v.number == 1 || v.number == 2)
+    if (v.number == 23 || v.number == 1 || v.number == 2)
         return v;
     if (f->clauses_len > SNOW_MOST_CLAUSES)
         return refused(2, 0);
@@ -138,7 +154,7 @@ struct verdict judge_added(const struct formula *f, const int32_t *clause, size_
     struct verdict v = judge_prefix(f);
     size_t e;
 
-    if (v.number == 1 || v.number == 2)
+    if (v.number == 23 || v.number == 1 || v.number == 2)
         return v;
     if (clause_len > SNOW_MOST_CLAUSES)
         return refused(2, 0);
@@ -167,7 +183,10 @@ uint32_t judge_block(const struct formula *f, uint32_t v)
 
     if (e < f->prefix_len)
         return (uint32_t)blocks_before(f, e);
-    return f->prefix_len > 0 && f->prefix[0] == 1 ? 1 : 0;
+    for (e = 0; e < f->prefix_len; e++)
+        if (block_at(f, e))
+            return f->prefix[e] == 1 ? 1 : 0;
+    return 0;
 }
 
 int judge_universal(const struct formula *f, uint32_t v)

@@ -8,7 +8,7 @@
 
 #include "calls.h"
 
-/* 1, 2 and the causes in the prefix: what a call says that takes n and a prefix. */
+/* 23, 1, 2 and the causes in the prefix, by the rule that the calls are asked for: what a call says that takes n and a prefix. */
 struct verdict judge_prefix(const struct formula *f);
 
 /* 1, 2 and the causes in the clause table: what a call says that takes n and clauses. */

@@ -175,6 +175,8 @@ struct verdict judge_file(const uint8_t *file, size_t length, struct filed *r)
     size_t places[6], count = 0;
     struct verdict v;
 
+    if (reading_rule != SNOW_PLAIN && reading_rule != SNOW_JOINED)
+        return refused(23, 0);
     if (length > MOST_FILE)
         return refused(19, 0);
     v = records(file, length, places, &count);

@@ -155,7 +155,7 @@ static void joined_strict_set(const struct formula *f, uint32_t x)
 /* All sets into the large table, of which so many entries are lent. */
 static uint32_t sets_into(const struct formula *f, size_t length, uint32_t *count, uint32_t *place)
 {
-    return snow_sets(f->n, f->prefix, f->prefix_len, f->clauses, f->clauses_len, class_rows, SNOW_MOST_VARIABLES,
+    return snow_sets(SNOW_PLAIN, f->n, f->prefix, f->prefix_len, f->clauses, f->clauses_len, class_rows, SNOW_MOST_VARIABLES,
                      parent_rows, SNOW_MOST_VARIABLES, count_rows, SNOW_MOST_VARIABLES, every, length, count, place);
 }
 

@@ -240,32 +240,43 @@ static void compare_wide(uint32_t universals, int fits)
     agree(count == 8 + 2 * f.prefix_len + 6 + 4 * f.clauses_len + 6 + 12 * n + 6 + 2004 * universals + 8, "the length of the file");
 }
 
-void test_stored(void)
+/* Files of random formulas by the rule that the calls are asked for, and formulas that it refuses. */
+static void random_files(const char *files, const char *refused)
 {
     static struct drawn d;
-    uint32_t round;
+    uint32_t round, count;
 
-    group("files of formula A");
-    refused_by_hand();
-    group("files of random formulas, and damaged");
+    group(files);
     for (round = 0; round < ROUNDS; round++) {
         about("file", round);
         draw_formula(&d);
+        if (reading_rule == SNOW_JOINED && round % 4 != 0)
+            draw_spread(&d);
         if (judge_formula(&d.f).number == 0 && d.f.n <= SMALL)
             compare_file(&d.f, round % 3 == 0 ? 0 : round);
     }
-    group("files with long sets");
-    compare_wide(120, 1);
-    compare_wide(130, 0);
-    compare_wide(300, 0);
-    group("files of formulas that are refused");
+    group(refused);
     for (round = 0; round < ROUNDS; round++) {
-        uint32_t count;
-
         about("file", round);
         draw_formula(&d);
+        if (reading_rule == SNOW_JOINED)
+            draw_spread(&d);
         damage_formula(&d);
         if (judge_formula(&d.f).number != 0)
             expect_verdict(call_store(&d.f, round % 2, file, 4, &count), judge_formula(&d.f), "store");
     }
+}
+
+void test_stored(void)
+{
+    group("files of formula A");
+    refused_by_hand();
+    group("files with long sets");
+    compare_wide(120, 1);
+    compare_wide(130, 0);
+    compare_wide(300, 0);
+    random_files("files of random formulas, and damaged", "files of formulas that are refused");
+    reading_rule = SNOW_JOINED;
+    random_files("files with joined prefixes, and damaged", "files of formulas with joined prefixes that are refused");
+    reading_rule = SNOW_PLAIN;
 }

@@ -7,6 +7,7 @@ void test_refusals(void);   /* refusals.c: each refusal of each call, by hand */
 void test_texts(void);      /* texts.c: QDIMACS lines, within and outside the rules */
 void test_stored(void);     /* stored.c: files of a forest, written, read and damaged */
 void test_limits(void);     /* limits.c: each limit, at it and one past it */
+void test_reading(void);    /* reading.c: reading rules for prefixes, by hand */
 void test_drawn(void);      /* drawn.c: random formulas, forests and texts, against the slow search */
 
 #endif

@@ -11,8 +11,8 @@
  *
  * Link target/staticlib/libcapi.a, which `rt staticlib capi` writes. It is
  * for x86-64 Linux, and calls nothing but memset and memcpy. A call keeps its
- * own tables on the stack, some 140 KiB at most (snow_sets), but snow_store
- * and snow_load some 800 KiB.
+ * own tables on the stack, some 160 KiB at most (snow_sets), but snow_store
+ * and snow_load some 820 KiB.
  *
  *
  * THE FORMULA
@@ -20,7 +20,8 @@
  * n         The variable count, 0 to 4,096. Variables are 1 to n.
  *
  * prefix    The blocks, outermost first. A block is a mark (1 existential,
- *           2 universal), its variables, then 0. Marks alternate. Blocks are
+ *           2 universal), its variables, then 0. Marks alternate, and no
+ *           block is empty, unless the rule below says otherwise. Blocks are
  *           numbered from 1; at most 64 of them, at most 8,192 entries.
  *           A variable in no block is free: it is existential, and belongs to
  *           block 1 if that is existential, else to block 0.
@@ -31,6 +32,16 @@
  *           be empty and may repeat a literal. A clause with both signs of
  *           one variable is always true: it connects nothing, but keeps its
  *           number.
+ *
+ * rule      How a prefix is read, for every call that takes one, and for
+ *           snow_load, which reads that of the file. SNOW_PLAIN: as it
+ *           stands. SNOW_JOINED: a block with 0 directly after its mark
+ *           is dropped, and then neighbours with one mark are one block, so
+ *           that blocks are counted and numbered after that; 5 and 9 are not
+ *           given. Places are entries of the prefix as lent, and snow_write
+ *           and snow_store write it as lent. Where SNOW_PLAIN accepts a
+ *           prefix, both rules give the same. Any other number is refused as
+ *           23.
  *
  * Formula A, for the examples below: n is 9,
  *           prefix   1 1 2 0  2 3 0  1 4 5 0  2 6 0  1 7 8 9 0
@@ -128,13 +139,14 @@
  *  21   a file's words do not sum to zero               0
  *  22   a file's rows or sets are not its formula's,    where the record
  *       in number or value                              begins
+ *  23   rule is neither SNOW_PLAIN nor SNOW_JOINED      0
  *
  * Entries and bytes are counted from 0. Where several refusals apply, the
- * first in this order is given: 1, 2, the prefix from the left, the clause
+ * first in this order is given: 23, 1, 2, the prefix from the left, the clause
  * literals from the left, 12, 18, 13, 15 (writing), 14; at one entry the lower
  * number. snow_read gives 15, then 16 and 17 by the earliest line, then 14.
- * snow_load gives 19, 20, 21, then 1 to 11 for the formula in the file, then
- * 22, then 14; snow_store 1 to 11, then 19, then 14.
+ * snow_load gives 23, 19, 20, 21, then 1 to 11 for the formula in the file,
+ * then 22, then 14; snow_store 23, 1 to 11, then 19, then 14.
  * A call skips what it does not take; the list above each prototype says
  * which refusals it can give.
  *
@@ -181,6 +193,14 @@ extern "C" {
 #define SNOW_MOST_TAKEN 65535
 
 /*
+ * The rules that a prefix may be read by.
+ */
+enum snow_rule {
+    SNOW_PLAIN = 1,
+    SNOW_JOINED = 2
+};
+
+/*
  * The schemes that a call ending in _by may be asked for.
  */
 enum snow_scheme {
@@ -201,9 +221,10 @@ struct snow_tally {
  * Check: whether a formula keeps every rule. All other calls check what they
  * take by themselves; none needs this one first.
  *
- * Refuses 1 to 11.
+ * Refuses 23, 1 to 11.
  */
-uint32_t snow_check(uint32_t n, const uint32_t *prefix, size_t prefix_len,
+uint32_t snow_check(uint32_t rule, uint32_t n,
+                    const uint32_t *prefix, size_t prefix_len,
                     const int32_t *clauses, size_t clauses_len,
                     uint32_t *place);
 
@@ -212,9 +233,10 @@ uint32_t snow_check(uint32_t n, const uint32_t *prefix, size_t prefix_len,
  * counts, gives the tally of the clauses, as if each had been added from none,
  * and *count = n. What the rows and the tally held before does not matter.
  *
- * Refuses 1 to 11, and 14 where a table has fewer than n rows.
+ * Refuses 23, 1 to 11, and 14 where a table has fewer than n rows.
  */
-uint32_t snow_build(uint32_t n, const uint32_t *prefix, size_t prefix_len,
+uint32_t snow_build(uint32_t rule, uint32_t n,
+                    const uint32_t *prefix, size_t prefix_len,
                     const int32_t *clauses, size_t clauses_len,
                     uint32_t *classes, size_t classes_len,
                     uint32_t *parents, size_t parents_len,
@@ -243,9 +265,10 @@ uint32_t snow_clause(uint32_t n, const int32_t *clauses, size_t clauses_len,
  *
  * Of A: for x = 3, y = 8 it is 4, with one rise.
  *
- * Refuses 1 to 9, 12, 13.
+ * Refuses 23, 1 to 9, 12, 13.
  */
-uint32_t snow_entry_point(uint32_t n, const uint32_t *prefix, size_t prefix_len,
+uint32_t snow_entry_point(uint32_t rule, uint32_t n,
+                          const uint32_t *prefix, size_t prefix_len,
                           const uint32_t *classes, size_t classes_len,
                           const uint32_t *parents, size_t parents_len,
                           const uint32_t *counts, size_t counts_len,
@@ -259,10 +282,11 @@ uint32_t snow_entry_point(uint32_t n, const uint32_t *prefix, size_t prefix_len,
  *
  * Of A: 4 for x = 3.
  *
- * Refuses 1 to 13, and 14 where out has fewer than *count entries; n of them
- * always suffice.
+ * Refuses 23, 1 to 13, and 14 where out has fewer than *count entries; n of
+ * them always suffice.
  */
-uint32_t snow_entry_points(uint32_t n, const uint32_t *prefix, size_t prefix_len,
+uint32_t snow_entry_points(uint32_t rule, uint32_t n,
+                           const uint32_t *prefix, size_t prefix_len,
                            const int32_t *clauses, size_t clauses_len,
                            const uint32_t *classes, size_t classes_len,
                            const uint32_t *parents, size_t parents_len,
@@ -279,10 +303,11 @@ uint32_t snow_entry_points(uint32_t n, const uint32_t *prefix, size_t prefix_len
  *
  * Of A: 4 7 8 for x = 3.
  *
- * Refuses 1 to 13, and 14 where out has fewer than *count entries; n of them
- * always suffice.
+ * Refuses 23, 1 to 13, and 14 where out has fewer than *count entries; n of
+ * them always suffice.
  */
-uint32_t snow_set(uint32_t n, const uint32_t *prefix, size_t prefix_len,
+uint32_t snow_set(uint32_t rule, uint32_t n,
+                  const uint32_t *prefix, size_t prefix_len,
                   const int32_t *clauses, size_t clauses_len,
                   const uint32_t *classes, size_t classes_len,
                   const uint32_t *parents, size_t parents_len,
@@ -296,9 +321,10 @@ uint32_t snow_set(uint32_t n, const uint32_t *prefix, size_t prefix_len,
  *
  * Of A: 3 for x = 3.
  *
- * Refuses 1 to 13.
+ * Refuses 23, 1 to 13.
  */
-uint32_t snow_size(uint32_t n, const uint32_t *prefix, size_t prefix_len,
+uint32_t snow_size(uint32_t rule, uint32_t n,
+                   const uint32_t *prefix, size_t prefix_len,
                    const int32_t *clauses, size_t clauses_len,
                    const uint32_t *classes, size_t classes_len,
                    const uint32_t *parents, size_t parents_len,
@@ -315,10 +341,10 @@ uint32_t snow_size(uint32_t n, const uint32_t *prefix, size_t prefix_len,
  * and -3 8 behind those of A, which leave its forest as it is: 4 for x = 3,
  * where the standard ones are 4 5.
  *
- * Refuses 1 to 13, and 14 where out has fewer than *count entries; n of them
- * always suffice.
+ * Refuses 23, 1 to 13, and 14 where out has fewer than *count entries; n of
+ * them always suffice.
  */
-uint32_t snow_entry_points_by(uint32_t scheme, uint32_t n,
+uint32_t snow_entry_points_by(uint32_t rule, uint32_t scheme, uint32_t n,
                               const uint32_t *prefix, size_t prefix_len,
                               const int32_t *clauses, size_t clauses_len,
                               const uint32_t *classes, size_t classes_len,
@@ -338,10 +364,10 @@ uint32_t snow_entry_points_by(uint32_t scheme, uint32_t n,
  * Of A, strict: none for x = 3; with those two clauses 4 7 8, where the
  * standard set is 4 5 7 8 9.
  *
- * Refuses 1 to 13, and 14 where out has fewer than *count entries; n of them
- * always suffice.
+ * Refuses 23, 1 to 13, and 14 where out has fewer than *count entries; n of
+ * them always suffice.
  */
-uint32_t snow_set_by(uint32_t scheme, uint32_t n,
+uint32_t snow_set_by(uint32_t rule, uint32_t scheme, uint32_t n,
                      const uint32_t *prefix, size_t prefix_len,
                      const int32_t *clauses, size_t clauses_len,
                      const uint32_t *classes, size_t classes_len,
@@ -356,9 +382,9 @@ uint32_t snow_set_by(uint32_t scheme, uint32_t n,
  *
  * Of A, strict: 0 for x = 3; with those two clauses 3.
  *
- * Refuses 1 to 13.
+ * Refuses 23, 1 to 13.
  */
-uint32_t snow_size_by(uint32_t scheme, uint32_t n,
+uint32_t snow_size_by(uint32_t rule, uint32_t scheme, uint32_t n,
                       const uint32_t *prefix, size_t prefix_len,
                       const int32_t *clauses, size_t clauses_len,
                       const uint32_t *classes, size_t classes_len,
@@ -374,11 +400,12 @@ uint32_t snow_size_by(uint32_t scheme, uint32_t n,
  *
  * Of A: 3 3 4 7 8 6 1 9.
  *
- * Refuses 1 to 12, and 14 where out has fewer than *count entries; n * (n + 2)
- * of them always suffice, and with as many the sets are not counted before
- * they are written, which saves about half of the time.
+ * Refuses 23, 1 to 12, and 14 where out has fewer than *count entries;
+ * n * (n + 2) of them always suffice, and with as many the sets are not counted
+ * before they are written, which saves about half of the time.
  */
-uint32_t snow_sets(uint32_t n, const uint32_t *prefix, size_t prefix_len,
+uint32_t snow_sets(uint32_t rule, uint32_t n,
+                   const uint32_t *prefix, size_t prefix_len,
                    const int32_t *clauses, size_t clauses_len,
                    const uint32_t *classes, size_t classes_len,
                    const uint32_t *parents, size_t parents_len,
@@ -402,10 +429,11 @@ uint32_t snow_sets(uint32_t n, const uint32_t *prefix, size_t prefix_len,
  * 0 0 0 1 0 0 4 4 0, counts 6 1 0 5 0 0 2 1 0, and a tally of 6 clauses,
  * 2 merges and 5 classes.
  *
- * Refuses 1 to 9, 10 for a bad literal of the clause or a 0 in it, 12, and 18
- * for the tally. The tally of a formula within the limits is never refused.
+ * Refuses 23, 1 to 9, 10 for a bad literal of the clause or a 0 in it, 12, and
+ * 18 for the tally. The tally of a formula within the limits is never refused.
  */
-uint32_t snow_add(uint32_t n, const uint32_t *prefix, size_t prefix_len,
+uint32_t snow_add(uint32_t rule, uint32_t n,
+                  const uint32_t *prefix, size_t prefix_len,
                   uint32_t *classes, size_t classes_len,
                   uint32_t *parents, size_t parents_len,
                   uint32_t *counts, size_t counts_len,
@@ -441,10 +469,11 @@ uint32_t snow_read(const uint8_t *text, size_t text_len, uint32_t *n,
  * zeros. *count says how many bytes; there is no terminating 0 byte. snow_read
  * gives the same n, prefix and clauses back.
  *
- * Refuses 1 to 11, 15 where the text would be longer than 65,536 bytes, and
+ * Refuses 23, 1 to 11, 15 where the text would be longer than 65,536 bytes, and
  * 14 where text has fewer than *count; 65,536 bytes always suffice.
  */
-uint32_t snow_write(uint32_t n, const uint32_t *prefix, size_t prefix_len,
+uint32_t snow_write(uint32_t rule, uint32_t n,
+                    const uint32_t *prefix, size_t prefix_len,
                     const int32_t *clauses, size_t clauses_len,
                     uint8_t *text, size_t text_len,
                     uint32_t *count, uint32_t *place);
@@ -465,10 +494,11 @@ uint32_t snow_write(uint32_t n, const uint32_t *prefix, size_t prefix_len,
  *
  * Of A: 238 bytes without sets, 260 with them.
  *
- * Refuses 1 to 11, 19 where the file would be longer than 262,144 bytes, and
- * 14 where file has fewer than *count; 262,144 bytes always suffice.
+ * Refuses 23, 1 to 11, 19 where the file would be longer than 262,144 bytes,
+ * and 14 where file has fewer than *count; 262,144 bytes always suffice.
  */
-uint32_t snow_store(uint32_t n, const uint32_t *prefix, size_t prefix_len,
+uint32_t snow_store(uint32_t rule, uint32_t n,
+                    const uint32_t *prefix, size_t prefix_len,
                     const int32_t *clauses, size_t clauses_len,
                     uint32_t with_sets, uint8_t *file, size_t file_len,
                     uint32_t *count, uint32_t *place);
@@ -479,12 +509,13 @@ uint32_t snow_store(uint32_t n, const uint32_t *prefix, size_t prefix_len,
  * where it has them, are the same. Gives *n, fills prefix and clauses, with
  * their counts, and n rows of classes, of parents and of counts; *with_sets is
  * 1 if the file has sets, else 0. What snow_store wrote is loaded back the
- * same, and a file with one 16-bit word changed is refused.
+ * same by the same rule, and a file with one 16-bit word changed is refused.
  *
- * Refuses 19, 20, 21, 1 to 11 for the formula in the file, with places in its
- * tables, 22, and 14 where a table is too short.
+ * Refuses 23, 19, 20, 21, 1 to 11 for the formula in the file, with places in
+ * its tables, 22, and 14 where a table is too short.
  */
-uint32_t snow_load(const uint8_t *file, size_t file_len, uint32_t *n,
+uint32_t snow_load(uint32_t rule, const uint8_t *file, size_t file_len,
+                   uint32_t *n,
                    uint32_t *prefix, size_t prefix_len, uint32_t *prefix_count,
                    int32_t *clauses, size_t clauses_len, uint32_t *clauses_count,
                    uint32_t *classes, size_t classes_len,

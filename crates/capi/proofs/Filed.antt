@@ -8,7 +8,7 @@ use native.Mathlib.Omega.{arith}
 use lib.IntN.{ℤ}
 use lib.ListN.{length}
 use Rattle.terms.specs.Refusals.{At0, FirstOf, NoneOf}
-use Rattle.formula.specs.Causes.{checkOrder}
+use Rattle.joining.specs.Rules.{NoRule, checkOrderUnder}
 use Rattle.records.specs.declared.Loaded.{Loaded}
 use Rattle.records.specs.declared.Loaded.the-variants.{Formula, Refused}
 use Rattle.records.specs.Layout.{SumsToZero}
@@ -22,10 +22,10 @@ use Rattle.layout.proofs.Laying.{file-laid}
 use Rattle.capi.specs.Filed.{tellsSets, Given}
 use Rattle.capi.proofs.Places.{Small, small-then, small-within, small-at0, small-check}
 
-pub small-store : (n : ℕ) (es : List ℕ) (ls : List ℤ) (asked : Bool) (before : List ℕ) → Small (storeOrder n es ls asked before)
-small-store n es ls asked before =
-    small-then (checkOrder n es ls) (At0 19 (FileTooLarge n es ls asked) ∷ At0 14 (FileTooLong n es ls asked before) ∷ []) (small-check n es ls)
-    (λ _. small-then (At0 19 (FileTooLarge n es ls asked) ∷ []) (At0 14 (FileTooLong n es ls asked before) ∷ []) (small-at0 19 (FileTooLarge n es ls asked)) (λ _. small-at0 14 (FileTooLong n es ls asked before)))
+pub small-store : (rule n : ℕ) (es : List ℕ) (ls : List ℤ) (asked : Bool) (before : List ℕ) → Small (storeOrder rule n es ls asked before)
+small-store rule n es ls asked before =
+    small-then (checkOrderUnder rule n es ls) (At0 19 (FileTooLarge rule n es ls asked) ∷ At0 14 (FileTooLong rule n es ls asked before) ∷ []) (small-check rule n es ls)
+    (λ _. small-then (At0 19 (FileTooLarge rule n es ls asked) ∷ []) (At0 14 (FileTooLong rule n es ls asked before) ∷ []) (small-at0 19 (FileTooLarge rule n es ls asked)) (λ _. small-at0 14 (FileTooLong rule n es ls asked before)))
 
 module _ (file : List ℕ) where
   -- records begin within the file, and those of rows and sets within the longest one
@@ -36,7 +36,7 @@ module _ (file : List ℕ) where
   order-place (wrong _ _ r _ _) = reached-within file r
   order-place (missing _ _ r _ _) = reached-within file r
 
-  forest-place : {k p : ℕ} → Laid file → ForestFileCause file k p → p ≤ 262144
+  forest-place : {rule k p : ℕ} → Laid file → ForestFileCause rule file k p → p ≤ 262144
   forest-place laid (rows-disagree _ q _) = let ends = laid-ends file laid in omega (arith, ends .third, ends .fourth)
   forest-place laid (sets-disagree _ q _ _) = let ends = laid-ends file laid in omega (arith, ends .fourth)
 
@@ -49,29 +49,32 @@ module _ (file : List ℕ) where
       (λ _. small-then (OrderCause file ∷ []) (At0 21 (SumsToZero file → ⊥) ∷ []) (small-within (OrderCause file) 262144 (omega arith) (λ k p cause. let l = order-place cause in omega arith))
       (λ _. small-at0 21 (SumsToZero file → ⊥))))
 
-  pub small-load : (lent : Lent) → Small (loadOrder file lent)
-  small-load lent =
-      small-then (fileOrder file) (checkOrder (countIn file) (prefixIn file) (clausesIn file) ++ (ForestFileCause file ∷ At0 14 (NoRoom file lent) ∷ [])) small-file
-      (λ none. small-then (checkOrder (countIn file) (prefixIn file) (clausesIn file)) (ForestFileCause file ∷ At0 14 (NoRoom file lent) ∷ []) (small-check (countIn file) (prefixIn file) (clausesIn file))
-      (λ _. small-then (ForestFileCause file ∷ []) (At0 14 (NoRoom file lent) ∷ []) (small-within (ForestFileCause file) 262144 (omega arith) (λ k p cause. forest-place (file-laid file none) cause))
-      (λ _. small-at0 14 (NoRoom file lent))))
+  pub small-load : (rule : ℕ) (lent : Lent) → Small (loadOrder rule file lent)
+  small-load rule lent =
+      let order = checkOrderUnder rule (countIn file) (prefixIn file) (clausesIn file) in
+      let last = At0 14 (NoRoom file lent) ∷ [] in
+      small-then (At0 23 (NoRule rule) ∷ []) (fileOrder file ++ (order ++ (ForestFileCause rule file ∷ last))) (small-at0 23 (NoRule rule))
+      (λ _. small-then (fileOrder file) (order ++ (ForestFileCause rule file ∷ last)) small-file
+      (λ none. small-then order (ForestFileCause rule file ∷ last) (small-check rule (countIn file) (prefixIn file) (clausesIn file))
+      (λ _. small-then (ForestFileCause rule file ∷ []) last (small-within (ForestFileCause rule file) 262144 (omega arith) (λ k p cause. forest-place (file-laid file none) cause))
+      (λ _. small-at0 14 (NoRoom file lent)))))
 
 -- What loading says: the entries of an accepted formula are few, and with a number that tells of its sets it is what C is given.
-module _ (file : List ℕ) (lent lent′ : Lent) {answer : Loaded} (said : Loads file lent lent′ answer) where
+module _ (rule : ℕ) (file : List ℕ) (lent lent′ : Lent) {answer : Loaded} (said : Loads rule file lent lent′ answer) where
   module _ {n entries literals : ℕ} {there : Bool} (q : answer ≡ Formula n entries literals there) where
     pub loaded-few : (entries ≤ 8192) × (literals ≤ 16384)
     loaded-few =
-        let s = subst (Loads file lent lent′) q said in
-        let long : ¬ (8192 < length (prefixIn file)) = λ l. s .0 .1 .1 .1 .1 .1 .0 2 0 (refl, refl, inl l) in
-        let large : ¬ (16384 < length (clausesIn file)) = λ l. s .0 .1 .1 .1 .1 .1 .0 2 0 (refl, refl, inr l) in
+        let s = subst (Loads rule file lent lent′) q said in
+        let long : ¬ (8192 < length (prefixIn file)) = λ l. s .0 .1 .1 .1 .1 .1 .1 .1 .0 2 0 (refl, refl, inl l) in
+        let large : ¬ (16384 < length (clausesIn file)) = λ l. s .0 .1 .1 .1 .1 .1 .1 .1 .0 2 0 (refl, refl, inr l) in
         let many = s .2 in
         let more = s .3 in
         (omega arith, omega arith)
 
-    pub load-given : {told : ℕ} → told ≡ tellsSets there → NoneOf (loadOrder file lent) × Given file lent lent′ n entries literals told
+    pub load-given : {told : ℕ} → told ≡ tellsSets there → NoneOf (loadOrder rule file lent) × Given rule file lent lent′ n entries literals told
     load-given t =
-        let s = subst (Loads file lent lent′) q said in
+        let s = subst (Loads rule file lent lent′) q said in
         (s .0, record { count = s .1; prefix-count = s .2; clauses-count = s .3; sets-told = t ∙ ap tellsSets (s .4); filled = s .5 })
 
-  pub load-refused : {number at : ℕ} → answer ≡ Refused number at → FirstOf (loadOrder file lent) number at × (lent′ ≡ lent)
-  load-refused q = subst (Loads file lent lent′) q said
+  pub load-refused : {number at : ℕ} → answer ≡ Refused number at → FirstOf (loadOrder rule file lent) number at × (lent′ ≡ lent)
+  load-refused q = subst (Loads rule file lent lent′) q said

@@ -1,20 +1,24 @@
 -- Every place fits a cell of 32 bits.
 use Prim.Native.Nat.{ℕ, _≤_, _<_}
 use mathlib.Core.Path.{refl}
+use mathlib.Core.Bool.{Bool, true, false}
 use mathlib.Core.List.{List, [], _∷_, _++_}
 use mathlib.Core.Logic.{_⊎_, inl, inr}
 use native.Mathlib.Omega.{arith}
+use lib.Dec.{eqb}
 use lib.IntN.{ℤ}
 use lib.ListN.{length}
 use Rattle.terms.specs.Refusals.{Causes, At0, FirstOf, NoneOf}
 use Rattle.formula.specs.Meaning.{clauses}
-use Rattle.formula.specs.Causes.{VariableCount, PrefixLong, ClausesLong, PrefixCause, ClauseCause, prefixOrder, checkOrder, clauseOrder}
+use Rattle.formula.specs.Causes.{VariableCount, PrefixLong, ClausesLong, PrefixCause, ClauseCause, clauseOrder}
 use Rattle.tables.specs.Causes.{ForestCause, short, bad-row, bad-count}
-use Rattle.forest.specs.Causes.{NotUniversal, NotDeeper, entryOrder, readOrder, listOrder}
-use Rattle.forest.specs.Listed.{TooLong}
-use Rattle.sets.specs.Sets.{SetsTooLong, setsOrder}
 use Rattle.tables.specs.Formula.{variables}
-use Rattle.growth.specs.Grown.{Standing, classNames, existentials, AddedCause, TooShort, WrongTally, buildOrder, addOrder, clauseFirst}
+use Rattle.forest.specs.Causes.{NotUniversal, NotDeeper}
+use Rattle.forest.specs.Listed.{TooLong}
+use Rattle.sets.specs.Sets.{SetsTooLong}
+use Rattle.growth.specs.Grown.{Standing, classNames, existentials, AddedCause, TooShort, WrongTally}
+use Rattle.joining.specs.Rules.{readAs, JoinedCause, causesIf, PrefixCauseBy, NoRule, ruledPrefix, checkOrderUnder}
+use Rattle.ruled.specs.Calls.{entryOrderUnder, readOrderUnder, listOrderUnder, setsOrderUnder, buildOrderUnder, addOrderUnder}
 
 -- the places of an order's causes fit 32 bits, if each is the first one
 abbrev pub Small : List Causes → Type 0
@@ -44,6 +48,17 @@ prefix-place k p (PrefixCause.outside _ m _) = let l = m .0 in omega arith
 prefix-place k p (PrefixCause.named-before _ _ m _ _ _) = let l = m .0 in omega arith
 prefix-place k p (PrefixCause.empty-block _ _ _ _ m) = let l = m .0 in omega arith
 
+joined-place : {n : ℕ} {es : List ℕ} (k p : ℕ) → JoinedCause n es k p → p ≤ length es
+joined-place k p (JoinedCause.ends-inside _ q _) = omega arith
+joined-place k p (JoinedCause.no-mark _ m _ _) = let l = m .0 in omega arith
+joined-place k p (JoinedCause.too-many-blocks _ m _ _) = let l = m .0 in omega arith
+joined-place k p (JoinedCause.outside _ m _) = let l = m .0 in omega arith
+joined-place k p (JoinedCause.named-before _ _ m _ _ _) = let l = m .0 in omega arith
+
+ruled-place : (joins : Bool) (n : ℕ) (es : List ℕ) (k p : ℕ) → causesIf joins n es k p → p ≤ length es
+ruled-place false n es k p cause = prefix-place k p cause
+ruled-place true n es k p cause = joined-place k p cause
+
 clause-place : {n : ℕ} {ls : List ℤ} (k p : ℕ) → ClauseCause n ls k p → p ≤ length ls
 clause-place k p (ClauseCause.outside _ l _ _) = omega arith
 clause-place k p (ClauseCause.ends-inside _ q _) = omega arith
@@ -57,64 +72,69 @@ forest-place k p (short _ q _) = omega arith
 forest-place k p (bad-row _ _ l _) = l
 forest-place k p (bad-count _ _ l _ _) = l
 
--- What is known of n and the lengths where neither 1 nor 2 is given.
+-- What is known of n where 1 is not given.
 few : (n : ℕ) → NoneOf (VariableCount n ∷ []) → n ≤ 4096
 few n none = let over : ¬ (4096 < n) = λ l. none .0 1 0 (refl, refl, l) in omega arith
 
-module _ (n : ℕ) (es : List ℕ) where
+small-clauses : (n : ℕ) (ls : List ℤ) → length ls ≤ 16384 → Small (ClauseCause n ls ∷ [])
+small-clauses n ls l = small-within (ClauseCause n ls) 16384 (omega arith) (λ k p cause. let m = clause-place k p cause in omega arith)
+
+small-added : (n : ℕ) (ls : List ℤ) → length ls ≤ 16384 → Small (AddedCause n ls ∷ [])
+small-added n ls l = small-within (AddedCause n ls) 16384 (omega arith) (λ k p cause. let m = added-place k p cause in omega arith)
+
+small-forest : (n : ℕ) (es classes parents counts : List ℕ) → n ≤ 4096 → Small (ForestCause n es classes parents counts ∷ [])
+small-forest n es classes parents counts l = small-within (ForestCause n es classes parents counts) 4096 (omega arith) (λ k p cause. let m = forest-place k p cause in omega arith)
+
+module _ (rule n : ℕ) (es : List ℕ) where
+  -- the prefix as the rule reads it
+  abbrev read : List ℕ
+  read = readAs rule es
+
   -- A prefix of a length within its limit, and whatever is looked at after it.
-  small-prefix : length es ≤ 8192 → Small (PrefixCause n es ∷ [])
-  small-prefix l = small-within (PrefixCause n es) 8192 (omega arith) (λ k p cause. let m = prefix-place k p cause in omega arith)
+  small-prefix : length es ≤ 8192 → Small (PrefixCauseBy rule n es ∷ [])
+  small-prefix l = small-within (PrefixCauseBy rule n es) 8192 (omega arith) (λ k p cause. let m = ruled-place (eqb rule 2) n es k p cause in omega arith)
 
-  small-clauses : (ls : List ℤ) → length ls ≤ 16384 → Small (ClauseCause n ls ∷ [])
-  small-clauses ls l = small-within (ClauseCause n ls) 16384 (omega arith) (λ k p cause. let m = clause-place k p cause in omega arith)
-
-  small-added : (ls : List ℤ) → length ls ≤ 16384 → Small (AddedCause n ls ∷ [])
-  small-added ls l = small-within (AddedCause n ls) 16384 (omega arith) (λ k p cause. let m = added-place k p cause in omega arith)
-
-  small-forest : (classes parents counts : List ℕ) → n ≤ 4096 → Small (ForestCause n es classes parents counts ∷ [])
-  small-forest classes parents counts l = small-within (ForestCause n es classes parents counts) 4096 (omega arith) (λ k p cause. let m = forest-place k p cause in omega arith)
-
-  -- 1, 2 and the prefix; and then causes in a table of literals
-  small-first : (entries : ℕ) → Small (prefixOrder n es entries)
+  -- 23, 1, 2 and the prefix; and then causes in a table of literals
+  small-first : (entries : ℕ) → Small (ruledPrefix rule n es entries)
   small-first entries =
-      small-then (VariableCount n ∷ []) (At0 2 (PrefixLong es ⊎ ClausesLong entries) ∷ PrefixCause n es ∷ []) (small-at0 1 (4096 < n))
-      (λ _. small-then (At0 2 (PrefixLong es ⊎ ClausesLong entries) ∷ []) (PrefixCause n es ∷ []) (small-at0 2 (PrefixLong es ⊎ ClausesLong entries))
-      (λ none. let long : ¬ (8192 < length es) = λ l. none .0 2 0 (refl, refl, inl l) in small-prefix (omega arith)))
+      small-then (At0 23 (NoRule rule) ∷ []) (VariableCount n ∷ At0 2 (PrefixLong es ⊎ ClausesLong entries) ∷ PrefixCauseBy rule n es ∷ []) (small-at0 23 (NoRule rule))
+      (λ _. small-then (VariableCount n ∷ []) (At0 2 (PrefixLong es ⊎ ClausesLong entries) ∷ PrefixCauseBy rule n es ∷ []) (small-at0 1 (4096 < n))
+      (λ _. small-then (At0 2 (PrefixLong es ⊎ ClausesLong entries) ∷ []) (PrefixCauseBy rule n es ∷ []) (small-at0 2 (PrefixLong es ⊎ ClausesLong entries))
+      (λ none. let long : ¬ (8192 < length es) = λ l. none .0 2 0 (refl, refl, inl l) in small-prefix (omega arith))))
 
-  small-two : (ls : List ℤ) (causes : Causes) → (length ls ≤ 16384 → Small (causes ∷ [])) → Small (prefixOrder n es (length ls) ++ (causes ∷ []))
+  small-two : (ls : List ℤ) (causes : Causes) → (length ls ≤ 16384 → Small (causes ∷ [])) → Small (ruledPrefix rule n es (length ls) ++ (causes ∷ []))
   small-two ls causes last =
-      small-then (prefixOrder n es (length ls)) (causes ∷ []) (small-first (length ls))
-      (λ none. let large : ¬ (16384 < length ls) = λ l. none .1 .0 2 0 (refl, refl, inr l) in last (omega arith))
+      small-then (ruledPrefix rule n es (length ls)) (causes ∷ []) (small-first (length ls))
+      (λ none. let large : ¬ (16384 < length ls) = λ l. none .1 .1 .0 2 0 (refl, refl, inr l) in last (omega arith))
 
-  pub small-check : (ls : List ℤ) → Small (checkOrder n es ls)
-  small-check ls = small-two ls (ClauseCause n ls) (small-clauses ls)
+  pub small-check : (ls : List ℤ) → Small (checkOrderUnder rule n es ls)
+  small-check ls = small-two ls (ClauseCause n ls) (small-clauses n ls)
 
-  pub small-build : (ls : List ℤ) (s : Standing) → Small (buildOrder n es ls s)
-  small-build ls s = small-then (checkOrder n es ls) (At0 14 (TooShort n s) ∷ []) (small-check ls) (λ _. small-at0 14 (TooShort n s))
+  pub small-build : (ls : List ℤ) (s : Standing) → Small (buildOrderUnder rule n es ls s)
+  small-build ls s = small-then (checkOrderUnder rule n es ls) (At0 14 (TooShort n s) ∷ []) (small-check ls) (λ _. small-at0 14 (TooShort n s))
 
   -- the forest after what comes first, and then causes at place 0
-  small-after : (first : List Causes) (classes parents counts : List ℕ) (number : ℕ) (condition : Type 0) → Small first → (NoneOf first → n ≤ 4096) → Small (first ++ (ForestCause n es classes parents counts ∷ At0 number condition ∷ []))
+  small-after : (first : List Causes) (classes parents counts : List ℕ) (number : ℕ) (condition : Type 0) → Small first → (NoneOf first → n ≤ 4096) → Small (first ++ (ForestCause n read classes parents counts ∷ At0 number condition ∷ []))
   small-after first classes parents counts number condition small most =
-      small-then first (ForestCause n es classes parents counts ∷ At0 number condition ∷ []) small
-      (λ none. small-then (ForestCause n es classes parents counts ∷ []) (At0 number condition ∷ []) (small-forest classes parents counts (most none)) (λ _. small-at0 number condition))
+      small-then first (ForestCause n read classes parents counts ∷ At0 number condition ∷ []) small
+      (λ none. small-then (ForestCause n read classes parents counts ∷ []) (At0 number condition ∷ []) (small-forest n read classes parents counts (most none)) (λ _. small-at0 number condition))
 
-  pub small-add : (s : Standing) (ls : List ℤ) → Small (addOrder n es s ls)
+  pub small-add : (s : Standing) (ls : List ℤ) → Small (addOrderUnder rule n es s ls)
   small-add s ls =
-      small-after (clauseFirst n es ls) (s .classes) (s .parents) (s .counts) 18 (WrongTally (s .tally) (classNames (variables n es) s) (existentials (variables n es)))
-      (small-two ls (AddedCause n ls) (small-added ls)) (λ none. few n (none .0, tt))
+      small-after (ruledPrefix rule n es (length ls) ++ (AddedCause n ls ∷ [])) (s .classes) (s .parents) (s .counts) 18 (WrongTally (s .tally) (classNames (variables n read) s) (existentials (variables n read)))
+      (small-two ls (AddedCause n ls) (small-added n ls)) (λ none. few n (none .1 .0, tt))
 
-  pub small-entry : (classes parents counts : List ℕ) (x y : ℕ) → Small (entryOrder n es classes parents counts x y)
-  small-entry classes parents counts x y = small-after (prefixOrder n es 0) classes parents counts 13 (NotUniversal n es x ⊎ NotDeeper n es x y) (small-first 0) (λ none. few n (none .0, tt))
+  pub small-entry : (classes parents counts : List ℕ) (x y : ℕ) → Small (entryOrderUnder rule n es classes parents counts x y)
+  small-entry classes parents counts x y = small-after (ruledPrefix rule n es 0) classes parents counts 13 (NotUniversal n read x ⊎ NotDeeper n read x y) (small-first 0) (λ none. few n (none .1 .0, tt))
 
-  pub small-read : (ls : List ℤ) (classes parents counts : List ℕ) (x : ℕ) → Small (readOrder n es ls classes parents counts x)
-  small-read ls classes parents counts x = small-after (checkOrder n es ls) classes parents counts 13 (NotUniversal n es x) (small-check ls) (λ none. few n (none .0, tt))
+  pub small-read : (ls : List ℤ) (classes parents counts : List ℕ) (x : ℕ) → Small (readOrderUnder rule n es ls classes parents counts x)
+  small-read ls classes parents counts x = small-after (checkOrderUnder rule n es ls) classes parents counts 13 (NotUniversal n read x) (small-check ls) (λ none. few n (none .1 .0, tt))
 
-  pub small-list : (ls : List ℤ) (classes parents counts : List ℕ) (x : ℕ) (P : ℕ → Type 0) (before : List ℕ) → Small (listOrder n es ls classes parents counts x P before)
-  small-list ls classes parents counts x P before = small-then (readOrder n es ls classes parents counts x) (At0 14 (TooLong P before) ∷ []) (small-read ls classes parents counts x) (λ _. small-at0 14 (TooLong P before))
+  pub small-list : (ls : List ℤ) (classes parents counts : List ℕ) (x : ℕ) (P : ℕ → Type 0) (before : List ℕ) → Small (listOrderUnder rule n es ls classes parents counts x P before)
+  small-list ls classes parents counts x P before = small-then (readOrderUnder rule n es ls classes parents counts x) (At0 14 (TooLong P before) ∷ []) (small-read ls classes parents counts x) (λ _. small-at0 14 (TooLong P before))
 
-  pub small-sets : (ls : List ℤ) (classes parents counts before : List ℕ) → Small (setsOrder n es ls classes parents counts before)
-  small-sets ls classes parents counts before = small-after (checkOrder n es ls) classes parents counts 14 (SetsTooLong n es ls classes parents before) (small-check ls) (λ none. few n (none .0, tt))
+  pub small-sets : (ls : List ℤ) (classes parents counts before : List ℕ) → Small (setsOrderUnder rule n es ls classes parents counts before)
+  small-sets ls classes parents counts before = small-after (checkOrderUnder rule n es ls) classes parents counts 14 (SetsTooLong n read ls classes parents before) (small-check ls) (λ none. few n (none .1 .0, tt))
 
 pub small-clause : (n : ℕ) (ls : List ℤ) (asked : ℕ) → Small (clauseOrder n ls asked)
 small-clause n ls asked =
@@ -122,4 +142,4 @@ small-clause n ls asked =
     (λ _. small-then (At0 2 (ClausesLong (length ls)) ∷ []) (ClauseCause n ls ∷ At0 13 (length (clauses ls) ≤ asked) ∷ []) (small-at0 2 (ClausesLong (length ls)))
     (λ none.
     let large : ¬ (16384 < length ls) = λ l. none .0 2 0 (refl, refl, l) in
-    small-then (ClauseCause n ls ∷ []) (At0 13 (length (clauses ls) ≤ asked) ∷ []) (small-clauses n [] ls (omega arith)) (λ _. small-at0 13 (length (clauses ls) ≤ asked))))
+    small-then (ClauseCause n ls ∷ []) (At0 13 (length (clauses ls) ≤ asked) ∷ []) (small-clauses n ls (omega arith)) (λ _. small-at0 13 (length (clauses ls) ≤ asked))))

@@ -11,10 +11,11 @@ use Rattle.terms.specs.declared.Verdict.the-variants.{Accepted, Refused}
 use Rattle.terms.specs.Refusals.{Causes, FirstOf, NoneOf, Judged}
 use Rattle.forest.specs.declared.EntryAnswer.{EntryAnswer}
 use Rattle.forest.specs.declared.Scheme.{Scheme}
-use Rattle.forest.specs.Answers.{Entry, EntryAnswered, SizeBy, SizedBy}
-use Rattle.forest.specs.Causes.{entryOrder, readOrder, listOrder}
+use Rattle.forest.specs.Answers.{Entry, SizeBy}
 use Rattle.forest.specs.Listed.{Listing, Filling}
 use Rattle.connection.specs.Listed.{Listed}
+use Rattle.joining.specs.Rules.{readAs}
+use Rattle.ruled.specs.Calls.{EntryUnder, SizeUnder, entryOrderUnder, readOrderUnder, listOrderUnder}
 use Rattle.capi.specs.Cells.{Fits, Laid, counted, placed}
 use Rattle.capi.specs.Told.{Told, accepted, refused, Front, Written}
 use Rattle.capi.proofs.Places.{Small, small-read, small-list}
@@ -64,48 +65,48 @@ module _ (order : List Causes) (L : List ℕ → Type 0) (out out′ : List ℕ)
   tell-filling {answer} laid filling = tell-said order (Front L out out′) (out′ ≡ out) laid (filling-said answer filling) (λ q r. (q, r))
 
 -- What is listed for x, and its size by a scheme: what is answered for a number is told for an equal one.
-module _ (n : ℕ) (es : List ℕ) (ls : List ℤ) (classes parents counts : List ℕ) where
-  pub fits-listing : (P : ℕ → ℕ → Type 0) (out out′ : List ℕ) (answer : Filled) (x : ℕ) → Listing (listOrder n es ls classes parents counts x (P x) out) (P x) out out′ answer → Fits answer
-  fits-listing P out out′ answer x = fits-filling (listOrder n es ls classes parents counts x (P x) out) (Listed (P x)) out out′ answer (small-list n es ls classes parents counts x (P x) out)
+module _ (rule n : ℕ) (es : List ℕ) (ls : List ℤ) (classes parents counts : List ℕ) where
+  pub fits-listing : (P : ℕ → ℕ → Type 0) (out out′ : List ℕ) (answer : Filled) (x : ℕ) → Listing (listOrderUnder rule n es ls classes parents counts x (P x) out) (P x) out out′ answer → Fits answer
+  fits-listing P out out′ answer x = fits-filling (listOrderUnder rule n es ls classes parents counts x (P x) out) (Listed (P x)) out out′ answer (small-list rule n es ls classes parents counts x (P x) out)
 
   pub tell-listing : (P : ℕ → ℕ → Type 0) (out out′ : List ℕ) {answer : Filled} {x x′ count count′ place place′ returned : ℕ} → x ≡ x′ → Laid answer count count′ place place′ returned
-      → Listing (listOrder n es ls classes parents counts x (P x) out) (P x) out out′ answer
-      → Told (listOrder n es ls classes parents counts x′ (P x′) out) (Written (P x′) out out′ count′) ((count′ ≡ count) × (out′ ≡ out)) returned place place′
+      → Listing (listOrderUnder rule n es ls classes parents counts x (P x) out) (P x) out out′ answer
+      → Told (listOrderUnder rule n es ls classes parents counts x′ (P x′) out) (Written (P x′) out out′ count′) ((count′ ≡ count) × (out′ ≡ out)) returned place place′
   tell-listing P out out′ {answer} {x} {x′} q laid listing =
-      tell-filling (listOrder n es ls classes parents counts x′ (P x′) out) (Listed (P x′)) out out′ laid
-      (subst (λ (v : ℕ). Listing (listOrder n es ls classes parents counts v (P v) out) (P v) out out′ answer) q listing)
+      tell-filling (listOrderUnder rule n es ls classes parents counts x′ (P x′) out) (Listed (P x′)) out out′ laid
+      (subst (λ (v : ℕ). Listing (listOrderUnder rule n es ls classes parents counts v (P v) out) (P v) out out′ answer) q listing)
 
   -- and by a scheme, for an equal one too
   pub tell-listing-by : (P : Scheme → ℕ → ℕ → Type 0) (out out′ : List ℕ) {answer : Filled} {s s′ : Scheme} {x x′ count count′ place place′ returned : ℕ} → s ≡ s′ → x ≡ x′ → Laid answer count count′ place place′ returned
-      → Listing (listOrder n es ls classes parents counts x (P s x) out) (P s x) out out′ answer
-      → Told (listOrder n es ls classes parents counts x′ (P s′ x′) out) (Written (P s′ x′) out out′ count′) ((count′ ≡ count) × (out′ ≡ out)) returned place place′
+      → Listing (listOrderUnder rule n es ls classes parents counts x (P s x) out) (P s x) out out′ answer
+      → Told (listOrderUnder rule n es ls classes parents counts x′ (P s′ x′) out) (Written (P s′ x′) out out′ count′) ((count′ ≡ count) × (out′ ≡ out)) returned place place′
   tell-listing-by P out out′ {answer} {s} {s′} {x} p q laid listing =
-      tell-listing (P s′) out out′ q laid (subst (λ (t : Scheme). Listing (listOrder n es ls classes parents counts x (P t x) out) (P t x) out out′ answer) p listing)
+      tell-listing (P s′) out out′ q laid (subst (λ (t : Scheme). Listing (listOrderUnder rule n es ls classes parents counts x (P t x) out) (P t x) out out′ answer) p listing)
 
-  sized-said : (s : Scheme) (answer : Filled) (x : ℕ) → SizedBy s n es ls classes parents counts x answer → Says (readOrder n es ls classes parents counts x) (SizeBy s n es ls classes parents counts x) (Unit {0}) answer
+  sized-said : (s : Scheme) (answer : Filled) (x : ℕ) → SizeUnder rule s n es ls classes parents counts x answer → Says (readOrderUnder rule n es ls classes parents counts x) (SizeBy s n (readAs rule es) ls classes parents counts x) (Unit {0}) answer
   sized-said s (Count size) x sized = sized
   sized-said s (Filled.Refused number at) x sized = (sized, tt)
 
-  pub fits-sized : (s : Scheme) (answer : Filled) (x : ℕ) → SizedBy s n es ls classes parents counts x answer → Fits answer
-  fits-sized s answer x sized = fits-said (readOrder n es ls classes parents counts x) (SizeBy s n es ls classes parents counts x) (Unit {0}) answer (small-read n es ls classes parents counts x) (sized-said s answer x sized)
+  pub fits-sized : (s : Scheme) (answer : Filled) (x : ℕ) → SizeUnder rule s n es ls classes parents counts x answer → Fits answer
+  fits-sized s answer x sized = fits-said (readOrderUnder rule n es ls classes parents counts x) (SizeBy s n (readAs rule es) ls classes parents counts x) (Unit {0}) answer (small-read rule n es ls classes parents counts x) (sized-said s answer x sized)
 
-  pub tell-sized : (s : Scheme) {answer : Filled} {x x′ size size′ place place′ returned : ℕ} → x ≡ x′ → Laid answer size size′ place place′ returned → SizedBy s n es ls classes parents counts x answer
-      → Told (readOrder n es ls classes parents counts x′) (SizeBy s n es ls classes parents counts x′ size′) (size′ ≡ size) returned place place′
+  pub tell-sized : (s : Scheme) {answer : Filled} {x x′ size size′ place place′ returned : ℕ} → x ≡ x′ → Laid answer size size′ place place′ returned → SizeUnder rule s n es ls classes parents counts x answer
+      → Told (readOrderUnder rule n es ls classes parents counts x′) (SizeBy s n (readAs rule es) ls classes parents counts x′ size′) (size′ ≡ size) returned place place′
   tell-sized s {answer} {x} {x′} q laid sized =
-      tell-said (readOrder n es ls classes parents counts x′) (SizeBy s n es ls classes parents counts x′) (Unit {0}) laid
-      (sized-said s answer x′ (subst (λ (v : ℕ). SizedBy s n es ls classes parents counts v answer) q sized)) (λ r _. r)
+      tell-said (readOrderUnder rule n es ls classes parents counts x′) (SizeBy s n (readAs rule es) ls classes parents counts x′) (Unit {0}) laid
+      (sized-said s answer x′ (subst (λ (v : ℕ). SizeUnder rule s n es ls classes parents counts v answer) q sized)) (λ r _. r)
 
-  pub tell-sized-by : {answer : Filled} {s s′ : Scheme} {x x′ size size′ place place′ returned : ℕ} → s ≡ s′ → x ≡ x′ → Laid answer size size′ place place′ returned → SizedBy s n es ls classes parents counts x answer
-      → Told (readOrder n es ls classes parents counts x′) (SizeBy s′ n es ls classes parents counts x′ size′) (size′ ≡ size) returned place place′
-  tell-sized-by {answer} {s} {s′} {x} p q laid sized = tell-sized s′ q laid (subst (λ (t : Scheme). SizedBy t n es ls classes parents counts x answer) p sized)
+  pub tell-sized-by : {answer : Filled} {s s′ : Scheme} {x x′ size size′ place place′ returned : ℕ} → s ≡ s′ → x ≡ x′ → Laid answer size size′ place place′ returned → SizeUnder rule s n es ls classes parents counts x answer
+      → Told (readOrderUnder rule n es ls classes parents counts x′) (SizeBy s′ n (readAs rule es) ls classes parents counts x′ size′) (size′ ≡ size) returned place place′
+  tell-sized-by {answer} {s} {s′} {x} p q laid sized = tell-sized s′ q laid (subst (λ (t : Scheme). SizeUnder rule t n es ls classes parents counts x answer) p sized)
 
 -- The entry point: what is answered for two numbers is told for equal ones.
-module _ (n : ℕ) (es classes parents counts : List ℕ) {x x′ y y′ : ℕ} (q : x ≡ x′) (r : y ≡ y′) (answer : EntryAnswer) (said : EntryAnswered n es classes parents counts x y answer) where
-  asked : EntryAnswered n es classes parents counts x′ y′ answer
-  asked = subst (λ (v : ℕ). EntryAnswered n es classes parents counts x′ v answer) r (subst (λ (v : ℕ). EntryAnswered n es classes parents counts v y answer) q said)
+module _ (rule n : ℕ) (es classes parents counts : List ℕ) {x x′ y y′ : ℕ} (q : x ≡ x′) (r : y ≡ y′) (answer : EntryAnswer) (said : EntryUnder rule n es classes parents counts x y answer) where
+  asked : EntryUnder rule n es classes parents counts x′ y′ answer
+  asked = subst (λ (v : ℕ). EntryUnder rule n es classes parents counts x′ v answer) r (subst (λ (v : ℕ). EntryUnder rule n es classes parents counts v y answer) q said)
 
-  pub tell-entry : {class : Variable} {rises : ℕ} {kept : Type 0} (place : ℕ) → answer ≡ EntryAnswer.At class rises → Told (entryOrder n es classes parents counts x′ y′) (Entry n es classes parents x′ y′ (class .0) rises) kept 0 place place
-  tell-entry place e = let at = subst (EntryAnswered n es classes parents counts x′ y′) e asked in accepted (at .0) (at .1) refl refl
+  pub tell-entry : {class : Variable} {rises : ℕ} {kept : Type 0} (place : ℕ) → answer ≡ EntryAnswer.At class rises → Told (entryOrderUnder rule n es classes parents counts x′ y′) (Entry n (readAs rule es) classes parents x′ y′ (class .0) rises) kept 0 place place
+  tell-entry place e = let at = subst (EntryUnder rule n es classes parents counts x′ y′) e asked in accepted (at .0) (at .1) refl refl
 
-  pub named-entry : {number at : ℕ} → answer ≡ EntryAnswer.Refused number at → FirstOf (entryOrder n es classes parents counts x′ y′) number at
-  named-entry e = subst (EntryAnswered n es classes parents counts x′ y′) e asked
+  pub named-entry : {number at : ℕ} → answer ≡ EntryAnswer.Refused number at → FirstOf (entryOrderUnder rule n es classes parents counts x′ y′) number at
+  named-entry e = subst (EntryUnder rule n es classes parents counts x′ y′) e asked

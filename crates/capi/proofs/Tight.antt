@@ -13,14 +13,16 @@ use Rattle.terms.specs.declared.Filled.the-variants.{Count}
 use Rattle.terms.specs.Refusals.{Causes, NoneOf}
 use Rattle.terms.proofs.Verdicts.{judged-unique, first-or-none}
 use Rattle.tables.specs.Formula.{variables, Shares}
-use Rattle.growth.specs.Grown.{Standing, tableOf, many, buildOrder, addOrder, Extended, Grown, TallyOf, Took, Builds, Adds}
-use Rattle.growth.proofs.Tight.{build-tight, add-tight}
+use Rattle.growth.specs.Grown.{Standing, tableOf, many, Extended, Grown, TallyOf, Took}
+use Rattle.joining.specs.Rules.{readAs}
 use Rattle.records.specs.declared.Loaded.the-variants.{Formula}
 use Rattle.records.specs.Layout.{FileOf}
 use Rattle.records.specs.Places.{countIn, prefixIn, clausesIn, hasSets}
 use Rattle.records.specs.Causes.{Lent, loadOrder}
 use Rattle.records.proofs.Unique.{file-unique}
 use Rattle.records.proofs.Settled.{load-settled}
+use Rattle.ruled.specs.Calls.{buildOrderUnder, addOrderUnder, BuildsUnder, AddsUnder}
+use Rattle.ruled.proofs.Settled.{build-settled, add-settled}
 use Rattle.capi.specs.Told.{Told, accepted, refused, cellsOf, Front, Left}
 use Rattle.capi.specs.Filed.{Given}
 
@@ -48,38 +50,38 @@ module _ (S : Standing → Type 0) (one : (a b : Standing) → S a → S b → a
       let e = one _ _ f g in
       (ap (λ (s : Standing). s .classes) e, ap (λ (s : Standing). s .parents) e, ap (λ (s : Standing). s .counts) e, q ∙ ap (λ (s : Standing). sets cells 0 (cellsOf (s .tally))) e ∙ sym r)
 
-module _ (n : ℕ) (es : List ℕ) (ls : List ℤ) (s : Standing) {classes parents counts classes′ parents′ counts′ : List ℕ} (cells : List ℕ) {after after′ : List ℕ} where
+module _ (rule n : ℕ) (es : List ℕ) (ls : List ℤ) (s : Standing) {classes parents counts classes′ parents′ counts′ : List ℕ} (cells : List ℕ) {after after′ : List ℕ} where
   -- what build gives
-  pub built-tight : NoneOf (buildOrder n es ls s)
-      → Left (λ a. Grown (variables n es) (Shares ls) s a × TallyOf (variables n es) (many ls) a) classes parents counts cells after
-      → Left (λ a. Grown (variables n es) (Shares ls) s a × TallyOf (variables n es) (many ls) a) classes′ parents′ counts′ cells after′
+  pub built-tight : NoneOf (buildOrderUnder rule n es ls s)
+      → Left (λ a. Grown (variables n (readAs rule es)) (Shares ls) s a × TallyOf (variables n (readAs rule es)) (many ls) a) classes parents counts cells after
+      → Left (λ a. Grown (variables n (readAs rule es)) (Shares ls) s a × TallyOf (variables n (readAs rule es)) (many ls) a) classes′ parents′ counts′ cells after′
       → (classes ≡ classes′) × (parents ≡ parents′) × (counts ≡ counts′) × (after ≡ after′)
-  built-tight none = left-tight _ (λ a b f g. build-tight (Count n) (Count n) (built a f) (built b g) .1) cells
+  built-tight none = left-tight _ (λ a b f g. build-settled rule n es ls s a b (Count n) (Count n) (built a f) (built b g) .1) cells
     where
-      built : (a : Standing) → Grown (variables n es) (Shares ls) s a × TallyOf (variables n es) (many ls) a → Builds n es ls s a (Count n)
+      built : (a : Standing) → Grown (variables n (readAs rule es)) (Shares ls) s a × TallyOf (variables n (readAs rule es)) (many ls) a → BuildsUnder rule n es ls s a (Count n)
       built a (grown, tally) = record { judged = none; leaves = (refl, grown, tally) }
 
   -- what add gives
-  pub added-tight : NoneOf (addOrder n es s ls)
-      → Left (λ a. Grown (variables n es) (Extended (variables n es) (tableOf (variables n es) s) ls) s a × Took (variables n es) s a) classes parents counts cells after
-      → Left (λ a. Grown (variables n es) (Extended (variables n es) (tableOf (variables n es) s) ls) s a × Took (variables n es) s a) classes′ parents′ counts′ cells after′
+  pub added-tight : NoneOf (addOrderUnder rule n es s ls)
+      → Left (λ a. Grown (variables n (readAs rule es)) (Extended (variables n (readAs rule es)) (tableOf (variables n (readAs rule es)) s) ls) s a × Took (variables n (readAs rule es)) s a) classes parents counts cells after
+      → Left (λ a. Grown (variables n (readAs rule es)) (Extended (variables n (readAs rule es)) (tableOf (variables n (readAs rule es)) s) ls) s a × Took (variables n (readAs rule es)) s a) classes′ parents′ counts′ cells after′
       → (classes ≡ classes′) × (parents ≡ parents′) × (counts ≡ counts′) × (after ≡ after′)
-  added-tight none = left-tight _ (λ a b f g. add-tight (Count n) (Count n) (added a f) (added b g) .1) cells
+  added-tight none = left-tight _ (λ a b f g. add-settled rule n es ls s a b (Count n) (Count n) (added a f) (added b g) .1) cells
     where
-      added : (a : Standing) → Grown (variables n es) (Extended (variables n es) (tableOf (variables n es) s) ls) s a × Took (variables n es) s a → Adds n es s ls a (Count n)
+      added : (a : Standing) → Grown (variables n (readAs rule es)) (Extended (variables n (readAs rule es)) (tableOf (variables n (readAs rule es)) s) ls) s a × Took (variables n (readAs rule es)) s a → AddsUnder rule n es s ls a (Count n)
       added a (grown, took) = record { judged = none; leaves = (refl, grown, took) }
 
 -- what store gives: the count and every byte
-pub stored-tight : (n : ℕ) (es : List ℕ) (ls : List ℤ) (asked : Bool) (before : List ℕ) {after after′ : List ℕ} {count count′ : ℕ}
-    → Front (FileOf n es ls asked) before after count → Front (FileOf n es ls asked) before after′ count′ → (count ≡ count′) × (after ≡ after′)
-stored-tight n es ls asked before (file, f, q, r) (file′, g, q′, r′) =
-    let same = file-unique n es ls asked file file′ f g in
+pub stored-tight : (rule n : ℕ) (es : List ℕ) (ls : List ℤ) (asked : Bool) (before : List ℕ) {after after′ : List ℕ} {count count′ : ℕ}
+    → Front (FileOf rule n es ls asked) before after count → Front (FileOf rule n es ls asked) before after′ count′ → (count ≡ count′) × (after ≡ after′)
+stored-tight rule n es ls asked before (file, f, q, r) (file′, g, q′, r′) =
+    let same = file-unique rule n es ls asked file file′ f g in
     (q ∙ ap length same ∙ sym q′, r ∙ ap (sets before 0) same ∙ sym r′)
 
 -- what load gives: the cells and the tables
-pub loaded-tight : (file : List ℕ) (lent a b : Lent) {n entries literals with-sets n′ entries′ literals′ with-sets′ : ℕ} → NoneOf (loadOrder file lent)
-    → Given file lent a n entries literals with-sets → Given file lent b n′ entries′ literals′ with-sets′
+pub loaded-tight : (rule : ℕ) (file : List ℕ) (lent a b : Lent) {n entries literals with-sets n′ entries′ literals′ with-sets′ : ℕ} → NoneOf (loadOrder rule file lent)
+    → Given rule file lent a n entries literals with-sets → Given rule file lent b n′ entries′ literals′ with-sets′
     → (n ≡ n′) × (entries ≡ entries′) × (literals ≡ literals′) × (with-sets ≡ with-sets′) × (a ≡ b)
-loaded-tight file lent a b none f g =
+loaded-tight rule file lent a b none f g =
     let said = Formula (countIn file) (length (prefixIn file)) (length (clausesIn file)) (hasSets file) in
-    (f .count ∙ sym (g .count), f .prefix-count ∙ sym (g .prefix-count), f .clauses-count ∙ sym (g .clauses-count), f .sets-told ∙ sym (g .sets-told), load-settled file lent a b said said (none, refl, refl, refl, refl, f .filled) (none, refl, refl, refl, refl, g .filled) .1)
+    (f .count ∙ sym (g .count), f .prefix-count ∙ sym (g .prefix-count), f .clauses-count ∙ sym (g .clauses-count), f .sets-told ∙ sym (g .sets-told), load-settled rule file lent a b said said (none, refl, refl, refl, refl, f .filled) (none, refl, refl, refl, refl, g .filled) .1)

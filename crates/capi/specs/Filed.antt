@@ -18,9 +18,9 @@ unfoldable pub tellsSets : Bool → ℕ
 tellsSets there = cond there 1 0
 
 -- n, how many entries prefix and clauses have, and whether sets were there, as the file has them; with the lent tables filled
-pub record Given (file : List ℕ) (lent lent′ : Lent) (n entries literals with-sets : ℕ) : Type 0 where
+pub record Given (rule : ℕ) (file : List ℕ) (lent lent′ : Lent) (n entries literals with-sets : ℕ) : Type 0 where
   pub count : n ≡ countIn file
   pub prefix-count : entries ≡ length (prefixIn file)
   pub clauses-count : literals ≡ length (clausesIn file)
   pub sets-told : with-sets ≡ tellsSets (hasSets file)
-  pub filled : FilledFrom file lent lent′
+  pub filled : FilledFrom rule file lent lent′

@@ -1,4 +1,4 @@
-// The calls for C that write and read the file of a forest.
+// The calls for C that write and read the file of a forest, each under a reading rule.
 
 use crate::cells::lay;
 use crate::cells::sets_told;
@@ -12,6 +12,7 @@ ghost use Rattle.capi.specs.Filed.{asksSets, Given};
 // Store: the file of a formula and its forest, with its sets if they are asked for, and with the count of its bytes.
 #[no_mangle]
 pub extern "C" fn snow_store(
+    rule: u32,
     n: u32,
     prefix: &[u32],
     clauses: &[i32],
@@ -20,15 +21,16 @@ pub extern "C" fn snow_store(
     count: &mut u32,
     place: &mut u32,
 ) -> u32
-    ensures { λ r. ⌜ Told (storeOrder n (now (prefix .entry)) (now (clauses .entry)) (asksSets «with_sets») (now (file .entry))) (Front (FileOf n (now (prefix .entry)) (now (clauses .entry)) (asksSets «with_sets»)) (now (file .entry)) (now (file .exit)) (now (count .exit))) ((now (count .exit) ≡ now (count .entry)) × (now (file .exit) ≡ now (file .entry))) r (now (place .entry)) (now (place .exit)) ⌝ }
+    ensures { λ r. ⌜ Told (storeOrder rule n (now (prefix .entry)) (now (clauses .entry)) (asksSets «with_sets») (now (file .entry))) (Front (FileOf rule n (now (prefix .entry)) (now (clauses .entry)) (asksSets «with_sets»)) (now (file .entry)) (now (file .exit)) (now (count .exit))) ((now (count .exit) ≡ now (count .entry)) × (now (file .exit) ≡ now (file .entry))) r (now (place .entry)) (now (place .exit)) ⌝ }
 {
-    let answer = storing::store(n, prefix, clauses, with_sets != 0, file);
+    let answer = storing::store(rule, n, prefix, clauses, with_sets != 0, file);
     lay(answer, count, place)
 }
 
 // Load: n, both tables of the formula with the counts of their entries, the rows of its forest, and whether the file has sets.
 #[no_mangle]
 pub extern "C" fn snow_load(
+    rule: u32,
     file: &[u8],
     n: &mut u32,
     prefix: &mut [u32],
@@ -41,9 +43,9 @@ pub extern "C" fn snow_load(
     with_sets: &mut u32,
     place: &mut u32,
 ) -> u32
-    ensures { λ r. ⌜ Told (loadOrder (now (file .entry)) (lentTables (now (prefix .entry)) (now (clauses .entry)) (now (classes .entry)) (now (parents .entry)) (now (counts .entry)))) (Given (now (file .entry)) (lentTables (now (prefix .entry)) (now (clauses .entry)) (now (classes .entry)) (now (parents .entry)) (now (counts .entry))) (lentTables (now (prefix .exit)) (now (clauses .exit)) (now (classes .exit)) (now (parents .exit)) (now (counts .exit))) (now (n .exit)) (now («prefix_count» .exit)) (now («clauses_count» .exit)) (now («with_sets» .exit))) ((now (n .exit) ≡ now (n .entry)) × (now («prefix_count» .exit) ≡ now («prefix_count» .entry)) × (now («clauses_count» .exit) ≡ now («clauses_count» .entry)) × (now («with_sets» .exit) ≡ now («with_sets» .entry)) × (lentTables (now (prefix .exit)) (now (clauses .exit)) (now (classes .exit)) (now (parents .exit)) (now (counts .exit)) ≡ lentTables (now (prefix .entry)) (now (clauses .entry)) (now (classes .entry)) (now (parents .entry)) (now (counts .entry)))) r (now (place .entry)) (now (place .exit)) ⌝ }
+    ensures { λ r. ⌜ Told (loadOrder rule (now (file .entry)) (lentTables (now (prefix .entry)) (now (clauses .entry)) (now (classes .entry)) (now (parents .entry)) (now (counts .entry)))) (Given rule (now (file .entry)) (lentTables (now (prefix .entry)) (now (clauses .entry)) (now (classes .entry)) (now (parents .entry)) (now (counts .entry))) (lentTables (now (prefix .exit)) (now (clauses .exit)) (now (classes .exit)) (now (parents .exit)) (now (counts .exit))) (now (n .exit)) (now («prefix_count» .exit)) (now («clauses_count» .exit)) (now («with_sets» .exit))) ((now (n .exit) ≡ now (n .entry)) × (now («prefix_count» .exit) ≡ now («prefix_count» .entry)) × (now («clauses_count» .exit) ≡ now («clauses_count» .entry)) × (now («with_sets» .exit) ≡ now («with_sets» .entry)) × (lentTables (now (prefix .exit)) (now (clauses .exit)) (now (classes .exit)) (now (parents .exit)) (now (counts .exit)) ≡ lentTables (now (prefix .entry)) (now (clauses .entry)) (now (classes .entry)) (now (parents .entry)) (now (counts .entry)))) r (now (place .entry)) (now (place .exit)) ⌝ }
 {
-    match loading::load(file, prefix, clauses, classes, parents, counts) {
+    match loading::load(rule, file, prefix, clauses, classes, parents, counts) {
         Loaded::Formula(variables, entries, literals, sets) => {
             *n = variables;
             *prefix_count = entries as u32;

@@ -1,4 +1,4 @@
-// The calls of the library for C, as include/snowcoddle.h has them: each calls the library and lays its answer out. A slice is a pointer and
+// The calls of the library for C, as include/snowcoddle.h has them: each calls the library, by a reading rule where it takes a prefix, and lays its answer out. A slice is a pointer and
 // a length there, a `&mut` to a number is a cell, and that to the three numbers of a tally is a pointer to its struct.
 
 mod cells;
@@ -15,23 +15,30 @@ use qdimacs::Reading;
 use terms::Variable;
 use terms::Verdict;
 ghost use mathlib.Core.Path.{_≡_};
-ghost use Rattle.formula.specs.Causes.{checkOrder, clauseOrder};
-ghost use Rattle.forest.specs.Causes.{entryOrder, readOrder as sizeOrder, listOrder};
+ghost use Rattle.formula.specs.Causes.{clauseOrder};
 ghost use Rattle.forest.specs.Answers.{Entry, Entries, EntriesBy, Members, MembersBy, Size, SizeBy};
 ghost use Rattle.tables.specs.Formula.{variables, Shares};
-ghost use Rattle.sets.specs.Sets.{AllSets, setsOrder};
-ghost use Rattle.growth.specs.Grown.{standing, tableOf, many, buildOrder, addOrder, Extended, Grown, TallyOf, Took};
+ghost use Rattle.sets.specs.Sets.{AllSets};
+ghost use Rattle.growth.specs.Grown.{standing, tableOf, many, Extended, Grown, TallyOf, Took};
 ghost use Rattle.qdimacs.specs.Reading.{ReadInto, readOrder};
-ghost use Rattle.qdimacs.specs.Stored.{Stored, tablesOrder};
+ghost use Rattle.qdimacs.specs.Stored.{Stored};
 ghost use Rattle.qdimacs.specs.Writing.{textOf};
+ghost use Rattle.joining.specs.Rules.{readAs, checkOrderUnder};
+ghost use Rattle.ruled.specs.Calls.{entryOrderUnder, readOrderUnder, listOrderUnder, setsOrderUnder, buildOrderUnder, addOrderUnder, writeOrderUnder};
 ghost use Rattle.capi.specs.Told.{Told, Clause, Front, Written, tallyIn, Left, schemeOf};
 
 // Check: whether a formula keeps every rule.
 #[no_mangle]
-pub extern "C" fn snow_check(n: u32, prefix: &[u32], clauses: &[i32], place: &mut u32) -> u32
-    ensures { λ r. ⌜ Told (checkOrder n (now (prefix .entry)) (now (clauses .entry))) (Unit {0}) (Unit {0}) r (now (place .entry)) (now (place .exit)) ⌝ }
+pub extern "C" fn snow_check(
+    rule: u32,
+    n: u32,
+    prefix: &[u32],
+    clauses: &[i32],
+    place: &mut u32,
+) -> u32
+    ensures { λ r. ⌜ Told (checkOrderUnder rule n (now (prefix .entry)) (now (clauses .entry))) (Unit {0}) (Unit {0}) r (now (place .entry)) (now (place .exit)) ⌝ }
 {
-    match formula::check(n, prefix, clauses) {
+    match ruled::check(rule, n, prefix, clauses) {
         Verdict::Accepted => 0,
         Verdict::Refused(number, at) => {
             *place = at as u32;
@@ -71,6 +78,7 @@ pub extern "C" fn snow_clause(
 // Build: the forest of a formula and its tally, with n as the count of its rows.
 #[no_mangle]
 pub extern "C" fn snow_build(
+    rule: u32,
     n: u32,
     prefix: &[u32],
     clauses: &[i32],
@@ -81,10 +89,19 @@ pub extern "C" fn snow_build(
     count: &mut u32,
     place: &mut u32,
 ) -> u32
-    ensures { λ r. ⌜ Told (buildOrder n (now (prefix .entry)) (now (clauses .entry)) (standing (now (classes .entry)) (now (parents .entry)) (now (counts .entry)) (tallyIn (now (tally .entry))))) ((now (count .exit) ≡ n) × Left (λ s. Grown (variables n (now (prefix .entry))) (Shares (now (clauses .entry))) (standing (now (classes .entry)) (now (parents .entry)) (now (counts .entry)) (tallyIn (now (tally .entry)))) s × TallyOf (variables n (now (prefix .entry))) (many (now (clauses .entry))) s) (now (classes .exit)) (now (parents .exit)) (now (counts .exit)) (now (tally .entry)) (now (tally .exit))) ((now (count .exit) ≡ now (count .entry)) × (now (classes .exit) ≡ now (classes .entry)) × (now (parents .exit) ≡ now (parents .entry)) × (now (counts .exit) ≡ now (counts .entry)) × (now (tally .exit) ≡ now (tally .entry))) r (now (place .entry)) (now (place .exit)) ⌝ }
+    ensures { λ r. ⌜ Told (buildOrderUnder rule n (now (prefix .entry)) (now (clauses .entry)) (standing (now (classes .entry)) (now (parents .entry)) (now (counts .entry)) (tallyIn (now (tally .entry))))) ((now (count .exit) ≡ n) × Left (λ s. Grown (variables n (readAs rule (now (prefix .entry)))) (Shares (now (clauses .entry))) (standing (now (classes .entry)) (now (parents .entry)) (now (counts .entry)) (tallyIn (now (tally .entry)))) s × TallyOf (variables n (readAs rule (now (prefix .entry)))) (many (now (clauses .entry))) s) (now (classes .exit)) (now (parents .exit)) (now (counts .exit)) (now (tally .entry)) (now (tally .exit))) ((now (count .exit) ≡ now (count .entry)) × (now (classes .exit) ≡ now (classes .entry)) × (now (parents .exit) ≡ now (parents .entry)) × (now (counts .exit) ≡ now (counts .entry)) × (now (tally .exit) ≡ now (tally .entry))) r (now (place .entry)) (now (place .exit)) ⌝ }
 {
     let lent = tally_in(tally);
-    let told = growth::build_tallied(n, prefix, clauses, classes, parents, counts, lent);
+    let told = ruled::building::build_tallied(
+        rule,
+        n,
+        prefix,
+        clauses,
+        classes,
+        parents,
+        counts,
+        lent,
+    );
     lay_tally(told, tally);
     let answer = told.answer;
     lay(answer, count, place)
@@ -93,6 +110,7 @@ pub extern "C" fn snow_build(
 // The entry point of x for y, and the number of rises up to it.
 #[no_mangle]
 pub extern "C" fn snow_entry_point(
+    rule: u32,
     n: u32,
     prefix: &[u32],
     classes: &[u32],
@@ -104,9 +122,10 @@ pub extern "C" fn snow_entry_point(
     rises: &mut u32,
     place: &mut u32,
 ) -> u32
-    ensures { λ r. ⌜ Told (entryOrder n (now (prefix .entry)) (now (classes .entry)) (now (parents .entry)) (now (counts .entry)) x y) (Entry n (now (prefix .entry)) (now (classes .entry)) (now (parents .entry)) x y (now (entry .exit)) (now (rises .exit))) ((now (entry .exit) ≡ now (entry .entry)) × (now (rises .exit) ≡ now (rises .entry))) r (now (place .entry)) (now (place .exit)) ⌝ }
+    ensures { λ r. ⌜ Told (entryOrderUnder rule n (now (prefix .entry)) (now (classes .entry)) (now (parents .entry)) (now (counts .entry)) x y) (Entry n (readAs rule (now (prefix .entry))) (now (classes .entry)) (now (parents .entry)) x y (now (entry .exit)) (now (rises .exit))) ((now (entry .exit) ≡ now (entry .entry)) × (now (rises .exit) ≡ now (rises .entry))) r (now (place .entry)) (now (place .exit)) ⌝ }
 {
-    match forest::entry_point(
+    match ruled::asking::entry_point(
+        rule,
         n,
         prefix,
         classes,
@@ -130,6 +149,7 @@ pub extern "C" fn snow_entry_point(
 // The entry points of x, ascending, with their count.
 #[no_mangle]
 pub extern "C" fn snow_entry_points(
+    rule: u32,
     n: u32,
     prefix: &[u32],
     clauses: &[i32],
@@ -141,9 +161,10 @@ pub extern "C" fn snow_entry_points(
     count: &mut u32,
     place: &mut u32,
 ) -> u32
-    ensures { λ r. ⌜ Told (listOrder n (now (prefix .entry)) (now (clauses .entry)) (now (classes .entry)) (now (parents .entry)) (now (counts .entry)) x (Entries n (now (prefix .entry)) (now (clauses .entry)) (now (classes .entry)) (now (parents .entry)) x) (now (out .entry))) (Written (Entries n (now (prefix .entry)) (now (clauses .entry)) (now (classes .entry)) (now (parents .entry)) x) (now (out .entry)) (now (out .exit)) (now (count .exit))) ((now (count .exit) ≡ now (count .entry)) × (now (out .exit) ≡ now (out .entry))) r (now (place .entry)) (now (place .exit)) ⌝ }
+    ensures { λ r. ⌜ Told (listOrderUnder rule n (now (prefix .entry)) (now (clauses .entry)) (now (classes .entry)) (now (parents .entry)) (now (counts .entry)) x (Entries n (readAs rule (now (prefix .entry))) (now (clauses .entry)) (now (classes .entry)) (now (parents .entry)) x) (now (out .entry))) (Written (Entries n (readAs rule (now (prefix .entry))) (now (clauses .entry)) (now (classes .entry)) (now (parents .entry)) x) (now (out .entry)) (now (out .exit)) (now (count .exit))) ((now (count .exit) ≡ now (count .entry)) × (now (out .exit) ≡ now (out .entry))) r (now (place .entry)) (now (place .exit)) ⌝ }
 {
-    let answer = forest::entry_points(
+    let answer = ruled::asking::entry_points(
+        rule,
         n,
         prefix,
         clauses,
@@ -159,6 +180,7 @@ pub extern "C" fn snow_entry_points(
 // The set of x, ascending, with the count of its members.
 #[no_mangle]
 pub extern "C" fn snow_set(
+    rule: u32,
     n: u32,
     prefix: &[u32],
     clauses: &[i32],
@@ -170,9 +192,10 @@ pub extern "C" fn snow_set(
     count: &mut u32,
     place: &mut u32,
 ) -> u32
-    ensures { λ r. ⌜ Told (listOrder n (now (prefix .entry)) (now (clauses .entry)) (now (classes .entry)) (now (parents .entry)) (now (counts .entry)) x (Members n (now (prefix .entry)) (now (clauses .entry)) (now (classes .entry)) (now (parents .entry)) x) (now (out .entry))) (Written (Members n (now (prefix .entry)) (now (clauses .entry)) (now (classes .entry)) (now (parents .entry)) x) (now (out .entry)) (now (out .exit)) (now (count .exit))) ((now (count .exit) ≡ now (count .entry)) × (now (out .exit) ≡ now (out .entry))) r (now (place .entry)) (now (place .exit)) ⌝ }
+    ensures { λ r. ⌜ Told (listOrderUnder rule n (now (prefix .entry)) (now (clauses .entry)) (now (classes .entry)) (now (parents .entry)) (now (counts .entry)) x (Members n (readAs rule (now (prefix .entry))) (now (clauses .entry)) (now (classes .entry)) (now (parents .entry)) x) (now (out .entry))) (Written (Members n (readAs rule (now (prefix .entry))) (now (clauses .entry)) (now (classes .entry)) (now (parents .entry)) x) (now (out .entry)) (now (out .exit)) (now (count .exit))) ((now (count .exit) ≡ now (count .entry)) × (now (out .exit) ≡ now (out .entry))) r (now (place .entry)) (now (place .exit)) ⌝ }
 {
-    let answer = forest::set_of(
+    let answer = ruled::asking::set_of(
+        rule,
         n,
         prefix,
         clauses,
@@ -188,6 +211,7 @@ pub extern "C" fn snow_set(
 // The size of the set of x.
 #[no_mangle]
 pub extern "C" fn snow_size(
+    rule: u32,
     n: u32,
     prefix: &[u32],
     clauses: &[i32],
@@ -198,9 +222,10 @@ pub extern "C" fn snow_size(
     size: &mut u32,
     place: &mut u32,
 ) -> u32
-    ensures { λ r. ⌜ Told (sizeOrder n (now (prefix .entry)) (now (clauses .entry)) (now (classes .entry)) (now (parents .entry)) (now (counts .entry)) x) (Size n (now (prefix .entry)) (now (clauses .entry)) (now (classes .entry)) (now (parents .entry)) (now (counts .entry)) x (now (size .exit))) (now (size .exit) ≡ now (size .entry)) r (now (place .entry)) (now (place .exit)) ⌝ }
+    ensures { λ r. ⌜ Told (readOrderUnder rule n (now (prefix .entry)) (now (clauses .entry)) (now (classes .entry)) (now (parents .entry)) (now (counts .entry)) x) (Size n (readAs rule (now (prefix .entry))) (now (clauses .entry)) (now (classes .entry)) (now (parents .entry)) (now (counts .entry)) x (now (size .exit))) (now (size .exit) ≡ now (size .entry)) r (now (place .entry)) (now (place .exit)) ⌝ }
 {
-    let answer = forest::set_size(
+    let answer = ruled::asking::set_size(
+        rule,
         n,
         prefix,
         clauses,
@@ -215,6 +240,7 @@ pub extern "C" fn snow_size(
 // The entry points of x by the scheme that a number asks for, ascending, with their count.
 #[no_mangle]
 pub extern "C" fn snow_entry_points_by(
+    rule: u32,
     scheme: u32,
     n: u32,
     prefix: &[u32],
@@ -227,9 +253,10 @@ pub extern "C" fn snow_entry_points_by(
     count: &mut u32,
     place: &mut u32,
 ) -> u32
-    ensures { λ r. ⌜ Told (listOrder n (now (prefix .entry)) (now (clauses .entry)) (now (classes .entry)) (now (parents .entry)) (now (counts .entry)) x (EntriesBy (schemeOf scheme) n (now (prefix .entry)) (now (clauses .entry)) (now (classes .entry)) (now (parents .entry)) x) (now (out .entry))) (Written (EntriesBy (schemeOf scheme) n (now (prefix .entry)) (now (clauses .entry)) (now (classes .entry)) (now (parents .entry)) x) (now (out .entry)) (now (out .exit)) (now (count .exit))) ((now (count .exit) ≡ now (count .entry)) × (now (out .exit) ≡ now (out .entry))) r (now (place .entry)) (now (place .exit)) ⌝ }
+    ensures { λ r. ⌜ Told (listOrderUnder rule n (now (prefix .entry)) (now (clauses .entry)) (now (classes .entry)) (now (parents .entry)) (now (counts .entry)) x (EntriesBy (schemeOf scheme) n (readAs rule (now (prefix .entry))) (now (clauses .entry)) (now (classes .entry)) (now (parents .entry)) x) (now (out .entry))) (Written (EntriesBy (schemeOf scheme) n (readAs rule (now (prefix .entry))) (now (clauses .entry)) (now (classes .entry)) (now (parents .entry)) x) (now (out .entry)) (now (out .exit)) (now (count .exit))) ((now (count .exit) ≡ now (count .entry)) × (now (out .exit) ≡ now (out .entry))) r (now (place .entry)) (now (place .exit)) ⌝ }
 {
-    let answer = forest::entry_points_by(
+    let answer = ruled::asking::entry_points_by(
+        rule,
         scheme_in(scheme),
         n,
         prefix,
@@ -246,6 +273,7 @@ pub extern "C" fn snow_entry_points_by(
 // The set of x by the scheme that a number asks for, ascending, with the count of its members.
 #[no_mangle]
 pub extern "C" fn snow_set_by(
+    rule: u32,
     scheme: u32,
     n: u32,
     prefix: &[u32],
@@ -258,9 +286,10 @@ pub extern "C" fn snow_set_by(
     count: &mut u32,
     place: &mut u32,
 ) -> u32
-    ensures { λ r. ⌜ Told (listOrder n (now (prefix .entry)) (now (clauses .entry)) (now (classes .entry)) (now (parents .entry)) (now (counts .entry)) x (MembersBy (schemeOf scheme) n (now (prefix .entry)) (now (clauses .entry)) (now (classes .entry)) (now (parents .entry)) x) (now (out .entry))) (Written (MembersBy (schemeOf scheme) n (now (prefix .entry)) (now (clauses .entry)) (now (classes .entry)) (now (parents .entry)) x) (now (out .entry)) (now (out .exit)) (now (count .exit))) ((now (count .exit) ≡ now (count .entry)) × (now (out .exit) ≡ now (out .entry))) r (now (place .entry)) (now (place .exit)) ⌝ }
+    ensures { λ r. ⌜ Told (listOrderUnder rule n (now (prefix .entry)) (now (clauses .entry)) (now (classes .entry)) (now (parents .entry)) (now (counts .entry)) x (MembersBy (schemeOf scheme) n (readAs rule (now (prefix .entry))) (now (clauses .entry)) (now (classes .entry)) (now (parents .entry)) x) (now (out .entry))) (Written (MembersBy (schemeOf scheme) n (readAs rule (now (prefix .entry))) (now (clauses .entry)) (now (classes .entry)) (now (parents .entry)) x) (now (out .entry)) (now (out .exit)) (now (count .exit))) ((now (count .exit) ≡ now (count .entry)) × (now (out .exit) ≡ now (out .entry))) r (now (place .entry)) (now (place .exit)) ⌝ }
 {
-    let answer = forest::set_by(
+    let answer = ruled::asking::set_by(
+        rule,
         scheme_in(scheme),
         n,
         prefix,
@@ -277,6 +306,7 @@ pub extern "C" fn snow_set_by(
 // The size of that set.
 #[no_mangle]
 pub extern "C" fn snow_size_by(
+    rule: u32,
     scheme: u32,
     n: u32,
     prefix: &[u32],
@@ -288,9 +318,10 @@ pub extern "C" fn snow_size_by(
     size: &mut u32,
     place: &mut u32,
 ) -> u32
-    ensures { λ r. ⌜ Told (sizeOrder n (now (prefix .entry)) (now (clauses .entry)) (now (classes .entry)) (now (parents .entry)) (now (counts .entry)) x) (SizeBy (schemeOf scheme) n (now (prefix .entry)) (now (clauses .entry)) (now (classes .entry)) (now (parents .entry)) (now (counts .entry)) x (now (size .exit))) (now (size .exit) ≡ now (size .entry)) r (now (place .entry)) (now (place .exit)) ⌝ }
+    ensures { λ r. ⌜ Told (readOrderUnder rule n (now (prefix .entry)) (now (clauses .entry)) (now (classes .entry)) (now (parents .entry)) (now (counts .entry)) x) (SizeBy (schemeOf scheme) n (readAs rule (now (prefix .entry))) (now (clauses .entry)) (now (classes .entry)) (now (parents .entry)) (now (counts .entry)) x (now (size .exit))) (now (size .exit) ≡ now (size .entry)) r (now (place .entry)) (now (place .exit)) ⌝ }
 {
-    let answer = forest::size_by(
+    let answer = ruled::asking::size_by(
+        rule,
         scheme_in(scheme),
         n,
         prefix,
@@ -306,6 +337,7 @@ pub extern "C" fn snow_size_by(
 // The sets of all universals: for each universal ascending its number, the count of its set and its set; with the count of all entries.
 #[no_mangle]
 pub extern "C" fn snow_sets(
+    rule: u32,
     n: u32,
     prefix: &[u32],
     clauses: &[i32],
@@ -316,15 +348,16 @@ pub extern "C" fn snow_sets(
     count: &mut u32,
     place: &mut u32,
 ) -> u32
-    ensures { λ r. ⌜ Told (setsOrder n (now (prefix .entry)) (now (clauses .entry)) (now (classes .entry)) (now (parents .entry)) (now (counts .entry)) (now (out .entry))) (Front (AllSets n (now (prefix .entry)) (now (clauses .entry)) (now (classes .entry)) (now (parents .entry))) (now (out .entry)) (now (out .exit)) (now (count .exit))) ((now (count .exit) ≡ now (count .entry)) × (now (out .exit) ≡ now (out .entry))) r (now (place .entry)) (now (place .exit)) ⌝ }
+    ensures { λ r. ⌜ Told (setsOrderUnder rule n (now (prefix .entry)) (now (clauses .entry)) (now (classes .entry)) (now (parents .entry)) (now (counts .entry)) (now (out .entry))) (Front (AllSets n (readAs rule (now (prefix .entry))) (now (clauses .entry)) (now (classes .entry)) (now (parents .entry))) (now (out .entry)) (now (out .exit)) (now (count .exit))) ((now (count .exit) ≡ now (count .entry)) × (now (out .exit) ≡ now (out .entry))) r (now (place .entry)) (now (place .exit)) ⌝ }
 {
-    let answer = sets::sets(n, prefix, clauses, classes, parents, counts, out);
+    let answer = ruled::asking::sets(rule, n, prefix, clauses, classes, parents, counts, out);
     lay(answer, count, place)
 }
 
 // Add a clause: the lent rows become those of the forest with it, and the tally takes it.
 #[no_mangle]
 pub extern "C" fn snow_add(
+    rule: u32,
     n: u32,
     prefix: &[u32],
     classes: &mut [u32],
@@ -334,10 +367,19 @@ pub extern "C" fn snow_add(
     clause: &[i32],
     place: &mut u32,
 ) -> u32
-    ensures { λ r. ⌜ Told (addOrder n (now (prefix .entry)) (standing (now (classes .entry)) (now (parents .entry)) (now (counts .entry)) (tallyIn (now (tally .entry)))) (now (clause .entry))) (Left (λ s. Grown (variables n (now (prefix .entry))) (Extended (variables n (now (prefix .entry))) (tableOf (variables n (now (prefix .entry))) (standing (now (classes .entry)) (now (parents .entry)) (now (counts .entry)) (tallyIn (now (tally .entry))))) (now (clause .entry))) (standing (now (classes .entry)) (now (parents .entry)) (now (counts .entry)) (tallyIn (now (tally .entry)))) s × Took (variables n (now (prefix .entry))) (standing (now (classes .entry)) (now (parents .entry)) (now (counts .entry)) (tallyIn (now (tally .entry)))) s) (now (classes .exit)) (now (parents .exit)) (now (counts .exit)) (now (tally .entry)) (now (tally .exit))) ((now (classes .exit) ≡ now (classes .entry)) × (now (parents .exit) ≡ now (parents .entry)) × (now (counts .exit) ≡ now (counts .entry)) × (now (tally .exit) ≡ now (tally .entry))) r (now (place .entry)) (now (place .exit)) ⌝ }
+    ensures { λ r. ⌜ Told (addOrderUnder rule n (now (prefix .entry)) (standing (now (classes .entry)) (now (parents .entry)) (now (counts .entry)) (tallyIn (now (tally .entry)))) (now (clause .entry))) (Left (λ s. Grown (variables n (readAs rule (now (prefix .entry)))) (Extended (variables n (readAs rule (now (prefix .entry)))) (tableOf (variables n (readAs rule (now (prefix .entry)))) (standing (now (classes .entry)) (now (parents .entry)) (now (counts .entry)) (tallyIn (now (tally .entry))))) (now (clause .entry))) (standing (now (classes .entry)) (now (parents .entry)) (now (counts .entry)) (tallyIn (now (tally .entry)))) s × Took (variables n (readAs rule (now (prefix .entry)))) (standing (now (classes .entry)) (now (parents .entry)) (now (counts .entry)) (tallyIn (now (tally .entry)))) s) (now (classes .exit)) (now (parents .exit)) (now (counts .exit)) (now (tally .entry)) (now (tally .exit))) ((now (classes .exit) ≡ now (classes .entry)) × (now (parents .exit) ≡ now (parents .entry)) × (now (counts .exit) ≡ now (counts .entry)) × (now (tally .exit) ≡ now (tally .entry))) r (now (place .entry)) (now (place .exit)) ⌝ }
 {
     let lent = tally_in(tally);
-    let told = growth::add_tallied(n, prefix, classes, parents, counts, lent, clause);
+    let told = ruled::building::add_tallied(
+        rule,
+        n,
+        prefix,
+        classes,
+        parents,
+        counts,
+        lent,
+        clause,
+    );
     lay_tally(told, tally);
     let answer = told.answer;
     let mut count: u32 = 0;
@@ -378,6 +420,7 @@ pub extern "C" fn snow_read(
 // Write a text, with the count of its bytes.
 #[no_mangle]
 pub extern "C" fn snow_write(
+    rule: u32,
     n: u32,
     prefix: &[u32],
     clauses: &[i32],
@@ -385,9 +428,9 @@ pub extern "C" fn snow_write(
     count: &mut u32,
     place: &mut u32,
 ) -> u32
-    ensures { λ r. ⌜ Told (tablesOrder n (now (prefix .entry)) (now (clauses .entry)) (now (text .entry))) (Stored (textOf n (now (prefix .entry)) (now (clauses .entry))) (now (text .entry)) (now (text .exit)) (now (count .exit))) ((now (count .exit) ≡ now (count .entry)) × (now (text .exit) ≡ now (text .entry))) r (now (place .entry)) (now (place .exit)) ⌝ }
+    ensures { λ r. ⌜ Told (writeOrderUnder rule n (now (prefix .entry)) (now (clauses .entry)) (now (text .entry))) (Stored (textOf n (now (prefix .entry)) (now (clauses .entry))) (now (text .entry)) (now (text .exit)) (now (count .exit))) ((now (count .exit) ≡ now (count .entry)) × (now (text .exit) ≡ now (text .entry))) r (now (place .entry)) (now (place .exit)) ⌝ }
 {
-    match qdimacs::write(n, prefix, clauses, text) {
+    match ruled::write(rule, n, prefix, clauses, text) {
         Output::Written { count: written } => {
             *count = written as u32;
             0

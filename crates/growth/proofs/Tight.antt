@@ -29,12 +29,12 @@ tally-one : (t u : Tally) → t .clauses ≡ u .clauses → t .merges ≡ u .mer
 tally-one t u c m k i = record { clauses = c i; merges = m i; classes = k i }
 
 -- The tally of a list, and that after an add, are settled by the class names of the tables.
-tally-of-one : (X : Variables) {taken : ℕ} (s s′ : Standing) → classNames X s ≡ classNames X s′ → TallyOf X taken s → TallyOf X taken s′ → s .tally ≡ s′ .tally
+pub tally-of-one : (X : Variables) {taken : ℕ} (s s′ : Standing) → classNames X s ≡ classNames X s′ → TallyOf X taken s → TallyOf X taken s′ → s .tally ≡ s′ .tally
 tally-of-one X s s′ e t u =
     let k : s .tally .classes ≡ s′ .tally .classes = t .classes ∙ e ∙ sym (u .classes) in
     tally-one (s .tally) (s′ .tally) (t .clauses ∙ sym (u .clauses)) (omega (arith, t .merges, u .merges)) k
 
-took-one : (X : Variables) (s₀ s s′ : Standing) → classNames X s ≡ classNames X s′ → Took X s₀ s → Took X s₀ s′ → s .tally ≡ s′ .tally
+pub took-one : (X : Variables) (s₀ s s′ : Standing) → classNames X s ≡ classNames X s′ → Took X s₀ s → Took X s₀ s′ → s .tally ≡ s′ .tally
 took-one X s₀ s s′ e t u = tally-one (s .tally) (s′ .tally) (t .clauses ∙ sym (u .clauses)) (omega (arith, t .merges, u .merges)) (t .classes ∙ e ∙ sym (u .classes))
 
 module _ (n : ℕ) (es : List ℕ) where
@@ -54,7 +54,7 @@ module _ (n : ℕ) (es : List ℕ) where
       counts = counts-one (forest-is (lawful n es) .0 (g .forest) .formed) (subst (λ (W : Table). Counted X W (row n (a .counts))) (λ i. lent X (same .0 i) (same .1 i)) (f .counted)) (g .counted)
 
   -- Two outcomes that an order, a forest and what the tally is to be settle are equal.
-  tight : (order : List Causes) (cs : List (List ℕ)) (T : Standing → Type 0) → ((a b : Standing) → classNames X a ≡ classNames X b → T a → T b → a .tally ≡ b .tally)
+  pub tight : (order : List Causes) (cs : List (List ℕ)) (T : Standing → Type 0) → ((a b : Standing) → classNames X a ≡ classNames X b → T a → T b → a .tally ≡ b .tally)
       → (s a b : Standing) (x y : Filled) → Judged order (verdictOf x) → Judged order (verdictOf y) → Leaves X (Joined cs) T s a x → Leaves X (Joined cs) T s b y → (x ≡ y) × (a ≡ b)
   tight order cs T one s a b (Count k) (Count m) f g (is, left, t) (is′, left′, t′) =
       let (c, p, q) = rows-left s a b left left′ in

@@ -8,6 +8,7 @@ use native.Mathlib.Omega.{arith}
 use lib.IntN.{ℤ}
 use lib.ListN.{length}
 use Rattle.terms.specs.Refusals.{None, First}
+use Rattle.joining.specs.Rules.{readAs}
 use Rattle.records.specs.Layout.{ForestRows, StandardSets}
 use Rattle.records.specs.Numbers.{numbersAt}
 use Rattle.records.specs.Places.{payloadAt, thirdAt, fourthAt, hasSets, countIn, prefixIn, clausesIn, Holds}
@@ -24,9 +25,9 @@ pub held-to : {file : List ℕ} {n : ℕ} {es : List ℕ} {ls : List ℤ} → He
 held-to {file} {n} {es} {ls} h P x =
     subst (λ (l : List ℤ). P (countIn file) (prefixIn file) l) (h .clauses) (subst (λ (e : List ℕ). P (countIn file) e ls) (h .prefix) (subst (λ (m : ℕ). P m es ls) (h .count) x))
 
-module _ (file : List ℕ) where
+module _ (rule : ℕ) (file : List ℕ) where
   -- The rows that a file has are its own, where they are those of its formula's forest.
-  pub own-rows : {cs ps ks : List ℕ} → RightRows file cs ps ks → OwnRows file
+  pub own-rows : {cs ps ks : List ℕ} → RightRows rule file cs ps ks → OwnRows rule file
   unfolding classesIn parentsIn countsIn
   own-rows {cs} {ps} {ks} right =
       let r = right .0 in
@@ -35,21 +36,21 @@ module _ (file : List ℕ) where
       let a : cs ≡ classesIn file = sym (t .classes) ∙ (λ i. numbersAt 4 file p (r .classes-many i)) in
       let b : ps ≡ parentsIn file = sym (t .parents) ∙ (λ i. numbersAt 4 file (p + 4 * r .classes-many i) (r .parents-many i)) in
       let d : ks ≡ countsIn file = sym (t .counts) ∙ (λ i. numbersAt 4 file (p + 4 * r .classes-many i + 4 * r .parents-many i) (r .counts-many i)) in
-      subst (λ (xs : List ℕ). RightRows file (classesIn file) (parentsIn file) xs) d (subst (λ (xs : List ℕ). RightRows file (classesIn file) xs ks) b (subst (λ (xs : List ℕ). RightRows file xs ps ks) a right))
+      subst (λ (xs : List ℕ). RightRows rule file (classesIn file) (parentsIn file) xs) d (subst (λ (xs : List ℕ). RightRows rule file (classesIn file) xs ks) b (subst (λ (xs : List ℕ). RightRows rule file xs ps ks) a right))
 
-  module _ {cs ps ks : List ℕ} (r : ForestRows (countIn file) (prefixIn file) (clausesIn file) cs ps ks) where
+  module _ {cs ps ks : List ℕ} (r : ForestRows (countIn file) (readAs rule (prefixIn file)) (clausesIn file) cs ps ks) where
     -- No rows are right where those of the forest are not held.
-    pub no-rows : (Holds 4 file (thirdAt file) (cs ++ (ps ++ ks)) → ⊥) → (cs′ ps′ ks′ : List ℕ) → RightRows file cs′ ps′ ks′ → ⊥
+    pub no-rows : (Holds 4 file (thirdAt file) (cs ++ (ps ++ ks)) → ⊥) → (cs′ ps′ ks′ : List ℕ) → RightRows rule file cs′ ps′ ks′ → ⊥
     no-rows not cs′ ps′ ks′ right =
-        let (a, b, d) = rows-unique (countIn file) (prefixIn file) (clausesIn file) (right .0) r in
+        let (a, b, d) = rows-unique (countIn file) (readAs rule (prefixIn file)) (clausesIn file) (right .0) r in
         not (subst (λ (xs : List ℕ). Holds 4 file (thirdAt file) xs) (λ i. a i ++ (b i ++ d i)) (right .1))
 
   -- The sets are right exactly if the record has the standard sets.
-  pub right-sets : (list : List ℕ) → StandardSets (countIn file) (prefixIn file) (clausesIn file) list → Holds 2 file (fourthAt file) list ↔ RightSets file
-  right-sets list s = (λ h. (list, s, h), λ r. subst (Holds 2 file (fourthAt file)) (sets-unique (countIn file) (prefixIn file) (clausesIn file) (r .0) list (r .1) s) (r .2))
+  pub right-sets : (list : List ℕ) → StandardSets (countIn file) (readAs rule (prefixIn file)) (clausesIn file) list → Holds 2 file (fourthAt file) list ↔ RightSets rule file
+  right-sets list s = (λ h. (list, s, h), λ r. subst (Holds 2 file (fourthAt file)) (sets-unique (countIn file) (readAs rule (prefixIn file)) (clausesIn file) (r .0) list (r .1) s) (r .2))
 
   -- Sets that need more room than the longest file has are not right.
-  pub long-sets : (list : List ℕ) → Laid file → StandardSets (countIn file) (prefixIn file) (clausesIn file) list → 131072 < length list → RightSets file → ⊥
+  pub long-sets : (list : List ℕ) → Laid file → StandardSets (countIn file) (readAs rule (prefixIn file)) (clausesIn file) list → 131072 < length list → RightSets rule file → ⊥
   long-sets list laid s long r =
       let h = right-sets list s .1 r .size in
       let ends = laid-ends file laid in
@@ -59,25 +60,25 @@ module _ (file : List ℕ) where
   third-before : thirdAt file ≤ fourthAt file
   third-before = let e = fourth-is file in let n = next-past file (thirdAt file) in omega arith
 
-  cause-number : {k e : ℕ} → ForestFileCause file k e → k ≡ 22
+  cause-number : {k e : ℕ} → ForestFileCause rule file k e → k ≡ 22
   cause-number (rows-disagree n _ _) = n
   cause-number (sets-disagree n _ _ _) = n
 
-  pub rows-first : ((cs ps ks : List ℕ) → RightRows file cs ps ks → ⊥) → First (ForestFileCause file) 22 (thirdAt file)
+  pub rows-first : ((cs ps ks : List ℕ) → RightRows rule file cs ps ks → ⊥) → First (ForestFileCause rule file) 22 (thirdAt file)
   rows-first no′ = record { holds = rows-disagree refl refl no′; leftmost = left; lowest = λ k c. let q = cause-number c in omega arith }
     where
-      left : (k e : ℕ) → ForestFileCause file k e → thirdAt file ≤ e
+      left : (k e : ℕ) → ForestFileCause rule file k e → thirdAt file ≤ e
       left k e (rows-disagree _ q _) = omega arith
       left k e (sets-disagree _ q _ _) = let l = third-before in omega arith
 
-  module _ {cs ps ks : List ℕ} (right : RightRows file cs ps ks) where
-    pub sets-first : hasSets file ≡ true → (RightSets file → ⊥) → First (ForestFileCause file) 22 (fourthAt file)
+  module _ {cs ps ks : List ℕ} (right : RightRows rule file cs ps ks) where
+    pub sets-first : hasSets file ≡ true → (RightSets rule file → ⊥) → First (ForestFileCause rule file) 22 (fourthAt file)
     sets-first some no′ = record { holds = sets-disagree refl refl some no′; leftmost = left; lowest = λ k c. let q = cause-number c in omega arith }
       where
-        left : (k e : ℕ) → ForestFileCause file k e → fourthAt file ≤ e
+        left : (k e : ℕ) → ForestFileCause rule file k e → fourthAt file ≤ e
         left k e (rows-disagree _ _ no″) = absurd (no″ cs ps ks right)
         left k e (sets-disagree _ q _ _) = omega arith
 
-    pub none-disagree : (hasSets file ≡ true → RightSets file) → None (ForestFileCause file)
+    pub none-disagree : (hasSets file ≡ true → RightSets rule file) → None (ForestFileCause rule file)
     none-disagree sets k e (rows-disagree _ _ no′) = no′ cs ps ks right
     none-disagree sets k e (sets-disagree _ _ some no′) = no′ (sets some)

@@ -9,13 +9,17 @@ use lib.Seq.{sets}
 use Rattle.terms.specs.Refusals.{Causes, At0, FirstOf, NoneOf, Judged}
 use Rattle.terms.specs.declared.Verdict.{Verdict}
 use Rattle.terms.specs.declared.Verdict.the-variants.{Accepted, Refused}
-use Rattle.formula.specs.Causes.{checkOrder}
+use Rattle.joining.specs.Rules.{checkOrderUnder}
 use Rattle.records.specs.declared.Loaded.{Loaded}
 use Rattle.records.specs.declared.Loaded.the-variants.{Formula}
 use Rattle.records.specs.Numbers.{numbersAt}
 use Rattle.records.specs.Places.{payloadAt, thirdAt, hasSets, countIn, prefixIn, clausesIn}
-use Rattle.records.specs.Causes.{RightRows, ForestFileCause, Lent, lentTables, NoRoom}
+use Rattle.records.specs.Causes.{RightRows, ForestFileCause, Lent, lentTables, NoRoom, fileOrder}
 use Rattle.records.specs.Promises.{FilledFrom}
+
+-- the number of a reading rule
+abbrev pub IsRule : ℕ → Type 0
+IsRule rule = (rule ≡ 1) ⊎ (rule ≡ 2)
 
 -- numbers of a file have two bytes or four
 abbrev pub Width : ℕ → Type 0
@@ -37,23 +41,23 @@ parentsIn file = numbersAt 4 file (payloadAt (thirdAt file) + 4 * countIn file) 
 unfoldable pub countsIn : List ℕ → List ℕ
 countsIn file = numbersAt 4 file (payloadAt (thirdAt file) + 4 * countIn file + 4 * countIn file) (countIn file)
 
--- they are those of the formula
-abbrev pub OwnRows : List ℕ → Type 0
-OwnRows file = RightRows file (classesIn file) (parentsIn file) (countsIn file)
+-- they are those of the formula, its prefix read by a rule
+abbrev pub OwnRows : ℕ → List ℕ → Type 0
+OwnRows rule file = RightRows rule file (classesIn file) (parentsIn file) (countsIn file)
 
-abbrev pub Agreed : List ℕ → Verdict → Type 0
-Agreed file Accepted = OwnRows file
-Agreed file (Refused number place) = Unit {0}
+abbrev pub Agreed : ℕ → List ℕ → Verdict → Type 0
+Agreed rule file Accepted = OwnRows rule file
+Agreed rule file (Refused number place) = Unit {0}
 
 -- the verdict on what a file holds: the table refusals, then 22; and on its rows and sets alone
-abbrev pub contentsOrder : List ℕ → List Causes
-contentsOrder file = checkOrder (countIn file) (prefixIn file) (clausesIn file) ++ (ForestFileCause file ∷ [])
+abbrev pub contentsOrder : ℕ → List ℕ → List Causes
+contentsOrder rule file = checkOrderUnder rule (countIn file) (prefixIn file) (clausesIn file) ++ (ForestFileCause rule file ∷ [])
 
-abbrev pub Judges : List ℕ → Verdict → Type 0
-Judges file v = Judged (contentsOrder file) v × Agreed file v
+abbrev pub Judges : ℕ → List ℕ → Verdict → Type 0
+Judges rule file v = Judged (contentsOrder rule file) v × Agreed rule file v
 
-abbrev pub JudgesRows : List ℕ → Verdict → Type 0
-JudgesRows file v = Judged (ForestFileCause file ∷ []) v × Agreed file v
+abbrev pub JudgesRows : ℕ → List ℕ → Verdict → Type 0
+JudgesRows rule file v = Judged (ForestFileCause rule file ∷ []) v × Agreed rule file v
 
 -- every lent table is long enough
 abbrev pub Room : List ℕ → Lent → Type 0
@@ -68,15 +72,22 @@ saidOf file = Formula (countIn file) (length (prefixIn file)) (length (clausesIn
 abbrev pub stored : List ℕ → Lent → Lent
 stored file lent = lentTables (sets (lent .prefix) 0 (prefixIn file)) (sets (lent .clauses) 0 (clausesIn file)) (sets (lent .classes) 0 (classesIn file)) (sets (lent .parents) 0 (parentsIn file)) (sets (lent .counts) 0 (countsIn file))
 
--- What reading promises, by an order: as `Loads`, whose order is the whole.
-abbrev pub LoadsBy : List Causes → List ℕ → Lent → Lent → Loaded → Type 0
-LoadsBy order file lent lent′ (Formula n entries literals with-sets) =
-    NoneOf order × (n ≡ countIn file) × (entries ≡ length (prefixIn file)) × (literals ≡ length (clausesIn file)) × (with-sets ≡ hasSets file) × FilledFrom file lent lent′
-LoadsBy order file lent lent′ (Loaded.Refused number place) = FirstOf order number place × (lent′ ≡ lent)
+-- What reading promises, by an order and by what is left in the lent tables: as `Loads`, whose order is the whole.
+abbrev pub LoadsBy : List Causes → (Lent → Type 0) → List ℕ → Lent → Lent → Loaded → Type 0
+LoadsBy order Left file lent lent′ (Formula n entries literals with-sets) =
+    NoneOf order × (n ≡ countIn file) × (entries ≡ length (prefixIn file)) × (literals ≡ length (clausesIn file)) × (with-sets ≡ hasSets file) × Left lent′
+LoadsBy order Left file lent lent′ (Loaded.Refused number place) = FirstOf order number place × (lent′ ≡ lent)
 
--- once the records are in order: the table refusals, 22 and 14; once rows and sets are right: 14
-abbrev pub LoadsLaid : List ℕ → Lent → Lent → Loaded → Type 0
-LoadsLaid file lent = LoadsBy (checkOrder (countIn file) (prefixIn file) (clausesIn file) ++ (ForestFileCause file ∷ At0 14 (NoRoom file lent) ∷ [])) file lent
+-- once the rule is one: all but 23; once the records are in order: the table refusals, 22 and 14
+abbrev pub laidOrder : ℕ → List ℕ → Lent → List Causes
+laidOrder rule file lent = checkOrderUnder rule (countIn file) (prefixIn file) (clausesIn file) ++ (ForestFileCause rule file ∷ At0 14 (NoRoom file lent) ∷ [])
 
+abbrev pub LoadsRuled : ℕ → List ℕ → Lent → Lent → Loaded → Type 0
+LoadsRuled rule file lent = LoadsBy (fileOrder file ++ laidOrder rule file lent) (FilledFrom rule file lent) file lent
+
+abbrev pub LoadsLaid : ℕ → List ℕ → Lent → Lent → Loaded → Type 0
+LoadsLaid rule file lent = LoadsBy (laidOrder rule file lent) (FilledFrom rule file lent) file lent
+
+-- once rows and sets are right: 14, and what the file has is stored
 abbrev pub LoadsRight : List ℕ → Lent → Lent → Loaded → Type 0
-LoadsRight file lent = LoadsBy (At0 14 (NoRoom file lent) ∷ []) file lent
+LoadsRight file lent = LoadsBy (At0 14 (NoRoom file lent) ∷ []) (λ (lent′ : Lent). lent′ ≡ stored file lent) file lent

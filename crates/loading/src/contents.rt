@@ -1,10 +1,9 @@
-// What the records of a file hold: the formula is checked, its forest is built, and rows and sets are held against it.
+// What the records of a file hold: the formula is checked under a reading rule, its forest is built, and rows and sets are held against it.
 
 use crate::decoding::fill_literals;
 use crate::decoding::fill_numbers;
 use crate::decoding::same_numbers;
 use growth::Tally;
-use growth::build_tallied;
 use layout::places::clause_entries;
 use layout::places::fourth_at;
 use layout::places::has_sets;
@@ -13,6 +12,7 @@ use layout::places::second_at;
 use layout::places::third_at;
 use records::numbers::four_at;
 use records::numbers::two_at;
+use ruled::building::build_tallied;
 use terms::Filled;
 use terms::Level;
 use terms::Literal;
@@ -23,19 +23,19 @@ ghost use mathlib.Core.Path.{_≡_};
 ghost use mathlib.Core.List.{_++_};
 ghost use lib.ListN.{length};
 ghost use Rattle.terms.specs.Refusals.{NoneOf};
-ghost use Rattle.formula.specs.Causes.{checkOrder};
 ghost use Rattle.tables.specs.Rows.{Tells};
+ghost use Rattle.joining.specs.Rules.{readAs, checkOrderUnder};
 ghost use Rattle.records.specs.Layout.{ForestRows};
 ghost use Rattle.records.specs.Places.{thirdAt, fourthAt, Holds, countIn, prefixIn, clausesIn};
 ghost use Rattle.records.specs.Causes.{RightSets};
 ghost use Rattle.layout.specs.Laid.{Laid};
-ghost use Rattle.loading.specs.Inner.{HeldIn, Judges, JudgesRows};
+ghost use Rattle.loading.specs.Inner.{IsRule, HeldIn, Judges, JudgesRows};
 
 // The first cause of refusal in the formula of a file, and then in its rows and sets. The formula is read into tables of its own, which hold as much
 // as the limits allow.
-pub fn contents_verdict(file: &[u8]) -> Verdict
-    requires { ⌜ Laid (now file) ⌝ }
-    ensures { λ r. ⌜ Judges (now (file .entry)) r ⌝ }
+pub fn contents_verdict(rule: u32, file: &[u8]) -> Verdict
+    requires { ⌜ Laid (now file) × IsRule rule ⌝ }
+    ensures { λ r. ⌜ Judges rule (now (file .entry)) r ⌝ }
 {
     let n = two_at(file, 6);
     let entries = prefix_entries(file);
@@ -49,38 +49,38 @@ pub fn contents_verdict(file: &[u8]) -> Verdict
     if Literal::ENTRIES < literals {
         return Verdict::Refused(2, 0);
     }
-    read_verdict(file, n, entries, literals)
+    read_verdict(rule, file, n, entries, literals)
 }
 
 // The same, once n and the lengths are within the limits.
-fn read_verdict(file: &[u8], n: u32, entries: usize, literals: usize) -> Verdict
+fn read_verdict(rule: u32, file: &[u8], n: u32, entries: usize, literals: usize) -> Verdict
     requires { ⌜ Laid (now file) × (n ≡ countIn (now file)) × (entries ≡ length (prefixIn (now file))) × (literals ≡ length (clausesIn (now file))) ⌝ }
     requires { ⌜ (entries ≤ 8192) × (literals ≤ 16384) ⌝ }
-    ensures { λ r. ⌜ Judges (now (file .entry)) r ⌝ }
+    ensures { λ r. ⌜ Judges rule (now (file .entry)) r ⌝ }
 {
     let mut prefix = [0u32; 8192];
     let mut clauses = [0i32; 16384];
     fill_numbers(file, 2, 8, entries, &mut prefix);
     let second = second_at(file);
     fill_literals(file, second + 6, literals, &mut clauses);
-    formula_verdict(file, n, &prefix[..entries], &clauses[..literals])
+    formula_verdict(rule, file, n, &prefix[..entries], &clauses[..literals])
 }
 
 // The same, with the formula in tables.
-fn formula_verdict(file: &[u8], n: u32, prefix: &[u32], clauses: &[i32]) -> Verdict
+fn formula_verdict(rule: u32, file: &[u8], n: u32, prefix: &[u32], clauses: &[i32]) -> Verdict
     requires { ⌜ Laid (now file) × HeldIn (now file) n (now prefix) (now clauses) ⌝ }
-    ensures { λ r. ⌜ Judges (now (file .entry)) r ⌝ }
+    ensures { λ r. ⌜ Judges rule (now (file .entry)) r ⌝ }
 {
-    match formula::check(n, prefix, clauses) {
+    match ruled::check(rule, n, prefix, clauses) {
         Verdict::Refused(number, place) => Verdict::Refused(number, place),
-        Verdict::Accepted => forest_verdict(file, n, prefix, clauses),
+        Verdict::Accepted => forest_verdict(rule, file, n, prefix, clauses),
     }
 }
 
 // Refusal 22, once the formula is accepted: its forest is built in tables of its own.
-fn forest_verdict(file: &[u8], n: u32, prefix: &[u32], clauses: &[i32]) -> Verdict
-    requires { ⌜ Laid (now file) × HeldIn (now file) n (now prefix) (now clauses) × NoneOf (checkOrder n (now prefix) (now clauses)) ⌝ }
-    ensures { λ r. ⌜ JudgesRows (now (file .entry)) r ⌝ }
+fn forest_verdict(rule: u32, file: &[u8], n: u32, prefix: &[u32], clauses: &[i32]) -> Verdict
+    requires { ⌜ Laid (now file) × HeldIn (now file) n (now prefix) (now clauses) × NoneOf (checkOrderUnder rule n (now prefix) (now clauses)) ⌝ }
+    ensures { λ r. ⌜ JudgesRows rule (now (file .entry)) r ⌝ }
 {
     let mut classes = [0u32; 4096];
     let mut parents = [0u32; 4096];
@@ -91,6 +91,7 @@ fn forest_verdict(file: &[u8], n: u32, prefix: &[u32], clauses: &[i32]) -> Verdi
         classes: 0,
     };
     build_tallied(
+        rule,
         n,
         prefix,
         clauses,
@@ -101,6 +102,7 @@ fn forest_verdict(file: &[u8], n: u32, prefix: &[u32], clauses: &[i32]) -> Verdi
     );
     let rows = n as usize;
     rows_verdict(
+        rule,
         file,
         n,
         prefix,
@@ -113,6 +115,7 @@ fn forest_verdict(file: &[u8], n: u32, prefix: &[u32], clauses: &[i32]) -> Verdi
 
 // The same, with the rows of the forest: those of the file are held against them, and then its sets, if it has any.
 fn rows_verdict(
+    rule: u32,
     file: &[u8],
     n: u32,
     prefix: &[u32],
@@ -121,9 +124,9 @@ fn rows_verdict(
     parents: &[u32],
     counts: &[u32],
 ) -> Verdict
-    requires { ⌜ Laid (now file) × HeldIn (now file) n (now prefix) (now clauses) × NoneOf (checkOrder n (now prefix) (now clauses)) ⌝ }
-    requires { ⌜ ForestRows n (now prefix) (now clauses) (now classes) (now parents) (now counts) ⌝ }
-    ensures { λ r. ⌜ JudgesRows (now (file .entry)) r ⌝ }
+    requires { ⌜ Laid (now file) × HeldIn (now file) n (now prefix) (now clauses) × NoneOf (checkOrderUnder rule n (now prefix) (now clauses)) ⌝ }
+    requires { ⌜ ForestRows n (readAs rule (now prefix)) (now clauses) (now classes) (now parents) (now counts) ⌝ }
+    ensures { λ r. ⌜ JudgesRows rule (now (file .entry)) r ⌝ }
 {
     if !rows_hold(file, classes, parents, counts) {
         return Verdict::Refused(22, third_at(file));
@@ -131,7 +134,7 @@ fn rows_verdict(
     if !has_sets(file) {
         return Verdict::Accepted;
     }
-    if sets_hold(file, n, prefix, clauses, classes, parents, counts) {
+    if sets_hold(rule, file, n, prefix, clauses, classes, parents, counts) {
         return Verdict::Accepted;
     }
     Verdict::Refused(22, fourth_at(file))
@@ -159,6 +162,7 @@ fn rows_hold(file: &[u8], classes: &[u32], parents: &[u32], counts: &[u32]) -> b
 
 // Whether the record of kind 4 has just the sets of the formula. A list longer than the table is longer than any file.
 fn sets_hold(
+    rule: u32,
     file: &[u8],
     n: u32,
     prefix: &[u32],
@@ -167,12 +171,21 @@ fn sets_hold(
     parents: &[u32],
     counts: &[u32],
 ) -> bool
-    requires { ⌜ Laid (now file) × HeldIn (now file) n (now prefix) (now clauses) × NoneOf (checkOrder n (now prefix) (now clauses)) ⌝ }
-    requires { ⌜ ForestRows n (now prefix) (now clauses) (now classes) (now parents) (now counts) ⌝ }
-    ensures { λ r. ⌜ Tells r (RightSets (now (file .entry))) ⌝ }
+    requires { ⌜ Laid (now file) × HeldIn (now file) n (now prefix) (now clauses) × NoneOf (checkOrderUnder rule n (now prefix) (now clauses)) ⌝ }
+    requires { ⌜ ForestRows n (readAs rule (now prefix)) (now clauses) (now classes) (now parents) (now counts) ⌝ }
+    ensures { λ r. ⌜ Tells r (RightSets rule (now (file .entry))) ⌝ }
 {
     let mut list = [0u32; 131072];
-    match sets::sets(n, prefix, clauses, classes, parents, counts, &mut list) {
+    match ruled::asking::sets(
+        rule,
+        n,
+        prefix,
+        clauses,
+        classes,
+        parents,
+        counts,
+        &mut list,
+    ) {
         Filled::Refused(_, _) => false,
         Filled::Count(count) => {
             let many = count as usize;

@@ -29,7 +29,7 @@ pub record ReadsBack (n : ℕ) (P : List ℕ) (C : List ℤ) (prefix′ : List �
 
 -- The text of tables that a text can hold, if it is not too long, reads back as them, given room for them.
 module _ (n : ℕ) (P : List ℕ) (C : List ℤ) (prefix prefix′ : List ℕ) (clauses clauses′ : List ℤ) (p : length P ≤ length prefix) (c : length C ≤ length clauses) where
-  text-reads-back : Holdable n P C → length (textOf n P C) ≤ TEXT-MOST → (r : Reading) → ReadIs (textOf n P C) prefix prefix′ clauses clauses′ r → ReadsBack n P C prefix′ clauses′ r
+  pub text-reads-back : Holdable n P C → length (textOf n P C) ≤ TEXT-MOST → (r : Reading) → ReadIs (textOf n P C) prefix prefix′ clauses clauses′ r → ReadsBack n P C prefix′ clauses′ r
   text-reads-back h short (Refused number place) a =
       absurd (first-or-none (readOrder (textOf n P C) prefix clauses) number place (a .0) (none (textOf n P C) prefix clauses short (written n P C h) p c))
   text-reads-back h short (Read n′ e l) a =

@@ -56,7 +56,7 @@ module _ (text prefix : List ℕ) (clauses : List ℤ) where
 
 module _ (n : ℕ) (es : List ℕ) (ls : List ℤ) (out : List ℕ) where
   -- the bytes that hold a text
-  stored-same : {text out₁ out₂ : List ℕ} {k k′ : ℕ} → Stored text out out₁ k → Stored text out out₂ k′ → (Output.Written k ≡ Output.Written k′) × (out₁ ≡ out₂)
+  pub stored-same : {text out₁ out₂ : List ℕ} {k k′ : ℕ} → Stored text out out₁ k → Stored text out out₂ k′ → (Output.Written k ≡ Output.Written k′) × (out₁ ≡ out₂)
   stored-same {out₁ = out₁} {out₂ = out₂} {k = k} {k′ = k′} a b =
       let count = a .counted ∙ sym (b .counted) in
       (ap Output.Written count, rows-same k k′ out₁ out₂ (a .written ∙ sym (b .written)) (a .kept ∙ ap (λ (i : ℕ). drop i out) count ∙ sym (b .kept)))

@@ -8,7 +8,7 @@ mod opening;
 mod scanning;
 mod tables;
 mod words;
-mod writing;
+pub mod writing;
 
 use scanning::scan;
 use terms::Verdict;

@@ -1,4 +1,4 @@
--- A file that is accepted is refused once one of its 16-bit words is changed.
+-- A file that is accepted under a rule is refused under every rule once one of its 16-bit words is changed.
 use Prim.Native.Nat.{ℕ, zero, suc, _+_, _*_, _/_, _%_, _<_}
 use mathlib.Core.Path.{_≡_, refl, sym, ap, ap₂, _∙_}
 use mathlib.Core.Bool.{Bool}
@@ -55,14 +55,14 @@ same-sum (a ∷ b ∷ more) (suc (suc p)) low high before even within bytes l h 
     (same-sum more p low high (before + (a + 256 * b)) (omega arith) (omega arith) (λ i less. bytes (suc (suc i)) (omega arith)) l h (wrapped (push before (a + 256 * b) (wordSum more)) ∙ sum ∙ sym (wrapped (push before (a + 256 * b) (wordSum (sets more p (low ∷ high ∷ [])))))))
 
 -- a file that has no cause sums to zero
-sums : (file : List ℕ) (lent : Lent) → NoneOf (loadOrder file lent) → SumsToZero file
-sums file lent none = by-cases (ℕ-discrete (wordSum file % 65536) 0) (λ is. is) (λ other. absurd (none .1 .1 .1 .0 21 0 (refl, refl, other)))
+sums : (rule : ℕ) (file : List ℕ) (lent : Lent) → NoneOf (loadOrder rule file lent) → SumsToZero file
+sums rule file lent none = by-cases (ℕ-discrete (wordSum file % 65536) 0) (λ is. is) (λ other. absurd (none .1 .1 .1 .1 .0 21 0 (refl, refl, other)))
 
-pub changed-word-refused : (file : List ℕ) (p low high : ℕ) → Bytes file → p % 2 ≡ 0 → p + 1 < length file → low < 256 → high < 256 → sets file p (low ∷ high ∷ []) ≢ file
-    → (lent lent′ : Lent) {n entries literals : ℕ} {with-sets : Bool} → Loads file lent lent′ (Formula n entries literals with-sets)
-    → (other other′ : Lent) (answer : Loaded) → Loads (sets file p (low ∷ high ∷ [])) other other′ answer → (number : ℕ) × (place : ℕ) × (answer ≡ Refused number place)
-changed-word-refused file p low high bytes even within l h changed lent lent′ accepted other other′ (Formula n entries literals with-sets) loads =
-    let a = sums file lent (accepted .0) in
-    let b = sums (sets file p (low ∷ high ∷ [])) other (loads .0) in
+pub changed-word-refused : (rule rule′ : ℕ) (file : List ℕ) (p low high : ℕ) → Bytes file → p % 2 ≡ 0 → p + 1 < length file → low < 256 → high < 256 → sets file p (low ∷ high ∷ []) ≢ file
+    → (lent lent′ : Lent) {n entries literals : ℕ} {with-sets : Bool} → Loads rule file lent lent′ (Formula n entries literals with-sets)
+    → (other other′ : Lent) (answer : Loaded) → Loads rule′ (sets file p (low ∷ high ∷ [])) other other′ answer → (number : ℕ) × (place : ℕ) × (answer ≡ Refused number place)
+changed-word-refused rule rule′ file p low high bytes even within l h changed lent lent′ accepted other other′ (Formula n entries literals with-sets) loads =
+    let a = sums rule file lent (accepted .0) in
+    let b = sums rule′ (sets file p (low ∷ high ∷ [])) other (loads .0) in
     absurd (changed (same-sum file p low high 0 even within bytes l h (omega arith)))
-changed-word-refused file p low high bytes even within l h changed lent lent′ accepted other other′ (Refused number place) loads = (number, place, refl)
+changed-word-refused rule rule′ file p low high bytes even within l h changed lent lent′ accepted other other′ (Refused number place) loads = (number, place, refl)

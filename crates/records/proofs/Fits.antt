@@ -1,9 +1,9 @@
--- What an accepted formula's file holds fits the bytes that it has there.
+-- What the file of a formula that a rule accepts holds fits the bytes that it has there.
 use Prim.Native.Nat.{ℕ, zero, suc, _+_, _-_, _<_, _≤_}
 use mathlib.Core.Path.{_≡_, refl, sym, ap, ap₂, _∙_, subst}
 use mathlib.Core.Bool.{Bool, true, false, cond}
 use mathlib.Core.List.{List, [], _∷_, _++_, map, List·Memᴰ, List·Memᴰ·head, List·Memᴰ·tail}
-use mathlib.Core.Logic.{by-cases}
+use mathlib.Core.Logic.{by-cases, ⊎-elim, _≢_}
 use native.Mathlib.Decide.{ℕ-discrete, decLt}
 use native.Mathlib.Omega.{arith}
 use borrow.Author.Tests.{lt-ltb, le-ltb}
@@ -12,8 +12,7 @@ use lib.ListN.{length, getD}
 use Rattle.terms.specs.Literals.{variableOf}
 use Rattle.terms.specs.Refusals.{None, NoneOf}
 use Rattle.formula.specs.Tables.{at, literalAt, opens}
-use Rattle.formula.specs.Causes.{PrefixCause, ClauseCause, checkOrder}
-use Rattle.formula.proofs.Sound.{sound-check}
+use Rattle.formula.specs.Causes.{PrefixCause, ClauseCause}
 use Rattle.connection.specs.Reach.{Depends}
 use Rattle.connection.specs.Tables.{row, lent}
 use Rattle.connection.proofs.Listed.{listed-most}
@@ -22,6 +21,8 @@ use Rattle.connection.proofs.Counts.{count-most}
 use Rattle.tables.specs.Formula.{variables, universal, Shares}
 use Rattle.tables.proofs.Agreeing.{lawful}
 use Rattle.sets.specs.Sets.{Record, Records}
+use Rattle.joining.specs.Rules.{readAs, JoinedCause, checkOrderUnder}
+use Rattle.joining.proofs.Orders.{limits, by-rule}
 use Rattle.records.specs.Numbers.{literalNumber, literalOf}
 use Rattle.records.specs.Layout.{ForestRows, StandardSets}
 use Rattle.records.proofs.Decoded.{limit, Fit}
@@ -63,21 +64,29 @@ literals-back (z ∷ more) each =
     let (rest, fit) = literals-back more (λ i less. each (suc i) (omega arith)) in
     (ap₂ (λ (x : ℤ) (xs : List ℤ). x ∷ xs) same rest, (small-four (literalNumber z) fits, fit))
 
-module _ (n : ℕ) (es : List ℕ) (ls : List ℤ) (none : NoneOf (checkOrder n es ls)) where
-  few : n ≤ 4096
-  few = sound-check none .few
+-- An entry of a prefix is a mark, or a variable of at most n, or 0: where no cause says that it is neither.
+entry-most : (n : ℕ) (es : List ℕ) → n ≤ 4096 → ((e : ℕ) → e < length es → opens es e ≡ true → at es e ≢ 1 → at es e ≢ 2 → ⊥) → ((e : ℕ) → e < length es → opens es e ≡ false → at es e ≢ 0 → n < at es e → ⊥)
+    → (e : ℕ) → e < length es → at es e ≤ 4096
+entry-most n es few marks names e less = go (opens es e) refl
+  where
+    go : (b : Bool) → opens es e ≡ b → at es e ≤ 4096
+    go true open′ = by-cases (ℕ-discrete (at es e) 1) (λ q. omega arith) (λ a. by-cases (ℕ-discrete (at es e) 2) (λ q. omega arith) (λ b. absurd (marks e less open′ a b)))
+    go false shut = by-cases (ℕ-discrete (at es e) 0) (λ q. omega arith) (λ some. by-cases (decLt n (at es e)) (λ over. absurd (names e less shut some over)) (λ low. omega arith))
 
-  -- n and the prefix
-  entry-most : (b : Bool) (e : ℕ) → e < length es → opens es e ≡ b → at es e ≤ 4096
-  entry-most true e less open′ =
-      by-cases (ℕ-discrete (at es e) 1) (λ q. omega arith)
-      (λ a. by-cases (ℕ-discrete (at es e) 2) (λ q. omega arith) (λ b. absurd (sound-check none .faultless 4 e (PrefixCause.no-mark refl (less, open′) a b))))
-  entry-most false e less shut =
-      by-cases (ℕ-discrete (at es e) 0) (λ q. omega arith)
-      (λ some. by-cases (decLt n (at es e)) (λ over. absurd (sound-check none .faultless 7 e (PrefixCause.outside refl (less, shut, some) over))) (λ low. let f = few in omega arith))
+module _ (rule n : ℕ) (es : List ℕ) (ls : List ℤ) (none : NoneOf (checkOrderUnder rule n es ls)) where
+  few : n ≤ 4096
+  few = limits rule n es ls none .0
+
+  -- n and the prefix, as it is lent
+  prefix-most : (e : ℕ) → e < length es → at es e ≤ 4096
+  prefix-most =
+      ⊎-elim
+      (λ (one : None (PrefixCause n es)). entry-most n es few (λ e less open′ a b. one 4 e (PrefixCause.no-mark refl (less, open′) a b)) (λ e less shut some over. one 7 e (PrefixCause.outside refl (less, shut, some) over)))
+      (λ (two : None (JoinedCause n es)). entry-most n es few (λ e less open′ a b. two 4 e (JoinedCause.no-mark refl (less, open′) a b)) (λ e less shut some over. two 7 e (JoinedCause.outside refl (less, shut, some) over)))
+      (by-rule rule n es ls none)
 
   pub prefix-fits : (n < limit 2) × Fit 2 es
-  prefix-fits = (small-two n few, fit-each 2 es (λ e less. small-two (at es e) (entry-most (opens es e) e less refl)))
+  prefix-fits = (small-two n few, fit-each 2 es (λ e less. small-two (at es e) (prefix-most e less)))
 
   -- the clauses
   literal-most : None (ClauseCause n ls) → (e : ℕ) → e < length ls → variableOf (literalAt ls e) ≤ 4096
@@ -87,27 +96,27 @@ module _ (n : ℕ) (es : List ℕ) (ls : List ℤ) (none : NoneOf (checkOrder n 
       (λ low. let f = few in omega arith)
 
   pub clauses-back : (map literalOf (map literalNumber ls) ≡ ls) × Fit 4 (map literalNumber ls)
-  clauses-back = literals-back ls (literal-most (none .1 .1 .1 .0))
+  clauses-back = literals-back ls (literal-most (none .1 .1 .1 .1 .0))
 
   -- the rows
-  module _ {classes parents counts : List ℕ} (rows : ForestRows n es ls classes parents counts) where
+  module _ {classes parents counts : List ℕ} (rows : ForestRows n (readAs rule es) ls classes parents counts) where
     read-row : (table : List ℕ) (i : ℕ) → i < n → getD table i 0 ≡ row n table (suc i)
     unfolding row
     read-row table i less = sym (ap (λ (b : Bool). cond b (getD table i 0) 0) (lt-ltb i n less))
 
     formed-class : (v : ℕ) → row n classes v ≤ n
     unfolding lent
-    formed-class v = go (variables n es .ex v) refl
+    formed-class v = go (variables n (readAs rule es) .ex v) refl
       where
-        go : (b : Bool) → variables n es .ex v ≡ b → row n classes v ≤ n
-        go true ex = lawful n es .within (row n classes v) (forest-is (lawful n es) .0 (rows .forest) .formed .right v .class ex .name .existential) .1
-        go false ex = let z = forest-is (lawful n es) .0 (rows .forest) .formed .right v .universal ex .0 in omega arith
+        go : (b : Bool) → variables n (readAs rule es) .ex v ≡ b → row n classes v ≤ n
+        go true ex = lawful n (readAs rule es) .within (row n classes v) (forest-is (lawful n (readAs rule es)) .0 (rows .forest) .formed .right v .class ex .name .existential) .1
+        go false ex = let z = forest-is (lawful n (readAs rule es)) .0 (rows .forest) .formed .right v .universal ex .0 in omega arith
 
     formed-parent : (v : ℕ) → row n parents v ≤ n
     unfolding lent
     formed-parent v =
         by-cases (ℕ-discrete (row n parents v) 0) (λ z. omega arith)
-        (λ some. lawful n es .within (row n parents v) (forest-is (lawful n es) .0 (rows .forest) .formed .right v .parent some .name .existential) .1)
+        (λ some. lawful n (readAs rule es) .within (row n parents v) (forest-is (lawful n (readAs rule es)) .0 (rows .forest) .formed .right v .parent some .name .existential) .1)
 
     fit-rows : (table : List ℕ) → length table ≡ n → ((v : ℕ) → row n table v ≤ n) → Fit 4 table
     fit-rows table many most = fit-each 4 table (λ i less. let q = read-row table i (omega arith) in let m = most (suc i) in let f = few in small-four (getD table i 0) (omega arith))
@@ -115,22 +124,22 @@ module _ (n : ℕ) (es : List ℕ) (ls : List ℤ) (none : NoneOf (checkOrder n 
     pub rows-fit : Fit 4 (classes ++ (parents ++ counts))
     rows-fit =
         fit-append 4 classes (parents ++ counts) (fit-rows classes (rows .classes-many) formed-class)
-        (fit-append 4 parents counts (fit-rows parents (rows .parents-many) formed-parent) (fit-rows counts (rows .counts-many) (count-most (forest-is (lawful n es) .0 (rows .forest) .formed) (lawful n es) (rows .counted))))
+        (fit-append 4 parents counts (fit-rows parents (rows .parents-many) formed-parent) (fit-rows counts (rows .counts-many) (count-most (forest-is (lawful n (readAs rule es)) .0 (rows .forest) .formed) (lawful n (readAs rule es)) (rows .counted))))
 
   -- the sets
-  record-fits : (b : Bool) (x : ℕ) (part : List ℕ) → x ≤ n → Record b x (Depends (variables n es) (Shares ls) x) part → Fit 2 part
+  record-fits : (b : Bool) (x : ℕ) (part : List ℕ) → x ≤ n → Record b x (Depends (variables n (readAs rule es)) (Shares ls) x) part → Fit 2 part
   record-fits true x part low (set, listed, is) =
       let f = few in
-      let inside : (v : ℕ) → Depends (variables n es) (Shares ls) x v → (1 ≤ v) × (v ≤ n) = λ v d. lawful n es .within v (d .existential) in
-      let many = listed-most (Depends (variables n es) (Shares ls) x) n set inside listed in
+      let inside : (v : ℕ) → Depends (variables n (readAs rule es)) (Shares ls) x v → (1 ≤ v) × (v ≤ n) = λ v d. lawful n (readAs rule es) .within v (d .existential) in
+      let many = listed-most (Depends (variables n (readAs rule es)) (Shares ls) x) n set inside listed in
       subst (Fit 2) (sym is)
       (small-two x (omega arith), (small-two (length set) (omega arith), fit-members 2 set (λ v m. let top = inside v (listed .each v m) .1 in small-two v (omega arith))))
   record-fits false x part low is = subst (Fit 2) (sym is) tt
 
-  records-fit : (m : ℕ) (list : List ℕ) → m ≤ n → Records (universal n es) (Depends (variables n es) (Shares ls)) m list → Fit 2 list
+  records-fit : (m : ℕ) (list : List ℕ) → m ≤ n → Records (universal n (readAs rule es)) (Depends (variables n (readAs rule es)) (Shares ls)) m list → Fit 2 list
   records-fit zero list low is = subst (Fit 2) (sym is) tt
   records-fit (suc m) list low (before, part, r, p, is) =
-      subst (Fit 2) (sym is) (fit-append 2 before part (records-fit m before (omega arith) r) (record-fits (universal n es (suc m)) (suc m) part low p))
+      subst (Fit 2) (sym is) (fit-append 2 before part (records-fit m before (omega arith) r) (record-fits (universal n (readAs rule es) (suc m)) (suc m) part low p))
 
-  pub sets-fit : (list : List ℕ) → StandardSets n es ls list → Fit 2 list
+  pub sets-fit : (list : List ℕ) → StandardSets n (readAs rule es) ls list → Fit 2 list
   sets-fit list are = records-fit n list (omega arith) are

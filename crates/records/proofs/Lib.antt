@@ -7,6 +7,7 @@ pub mod Lengths
 pub mod Taken
 pub mod Unique
 pub mod Settled
+pub mod Agreed
 pub mod OwnSets
 pub mod Changed
 pub mod Decoded

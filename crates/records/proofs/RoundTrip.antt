@@ -1,4 +1,4 @@
--- What is written reads back the same: the formula, its rows, and whether sets are there.
+-- What is written under a rule reads back the same under it: the formula as it was lent, its rows, and whether sets are there.
 use Prim.Native.Nat.{ℕ, _+_, _-_, _/_, _<_, _≤_}
 use mathlib.Core.Path.{_≡_, refl, sym, ap, _∙_, subst}
 use mathlib.Core.Bool.{Bool, true, false, false≢true}
@@ -13,7 +13,7 @@ use Rattle.terms.specs.Refusals.{At0, None, NoneOf}
 use Rattle.terms.specs.declared.Filled.the-variants.{Count}
 use Rattle.terms.specs.declared.Verdict.the-variants.{Accepted}
 use Rattle.terms.proofs.Verdicts.{at0-none, accepted-then, first-or-none}
-use Rattle.formula.specs.Causes.{checkOrder}
+use Rattle.joining.specs.Rules.{readAs, checkOrderUnder}
 use Rattle.records.specs.declared.Loaded.{Loaded}
 use Rattle.records.specs.declared.Loaded.the-variants.{Formula, Refused}
 use Rattle.records.specs.Numbers.{numberBytes, bytesOf, numbersAt, literalNumber, literalOf}
@@ -21,7 +21,8 @@ use Rattle.records.specs.Layout.{prefixKind, clausesKind, rowsKind, sets
 use Rattle.records.specs.Places.{sizeAt, kindAt, secondAt, thirdAt, fourthAt, hasSets, countIn, prefixIn, clausesIn, Holds}
 use Rattle.records.specs.Causes.{fileBytes, RightRows, RightSets, ForestFileCause, Lent, lentTables, NoRoom, fileOrder, loadOrder, FileTooLarge, FileTooLong}
 use Rattle.records.specs.Promises.{Stores, Loads}
-use Rattle.records.proofs.Orders.{none-first, none-later}
+use Rattle.joining.proofs.Exchange.{none-later}
+use Rattle.records.proofs.Orders.{none-first}
 use Rattle.records.proofs.Lengths.{number-length, bytes-length, record-length}
 use Rattle.records.proofs.Unique.{rows-unique}
 use Rattle.records.proofs.Decoded.{StandsAt, number-at, numbers-at, record-at, Fit}
@@ -33,7 +34,7 @@ stands-holds : {file : List ℕ} {p kind : ℕ} (width : ℕ) (numbers : List �
 stands-holds {p = p} width numbers stands fit =
     record { size = stands .size ∙ bytes-length width numbers; values = numbers-at width numbers (stands .front) (stands .back) (p + 6) (stands .is) (stands .at) fit }
 
-module _ (n : ℕ) (es : List ℕ) (ls : List ℤ) (asked : Bool) (file : List ℕ) (none : NoneOf (checkOrder n es ls)) (f : FileOf n es ls asked file) (fits : length file ≤ fileBytes) where
+module _ (rule n : ℕ) (es : List ℕ) (ls : List ℤ) (asked : Bool) (file : List ℕ) (none : NoneOf (checkOrderUnder rule n es ls)) (f : FileOf rule n es ls asked file) (fits : length file ≤ fileBytes) where
   abbrev rows : List ℕ
   rows = f .classes ++ (f .parents ++ f .counts)
 
@@ -99,7 +100,7 @@ module _ (n : ℕ) (es : List ℕ) (ls : List ℤ) (asked : Bool) (file : List �
   -- n, the prefix and the clauses are read
   count-is : countIn file ≡ n
   unfolding countIn bytesOf
-  count-is = number-at 2 n (first .front) (bytesOf 2 es ++ first .back) 6 (first .is ∙ ap (λ (xs : List ℕ). first .front ++ xs) (append-assoc (numberBytes 2 n) (bytesOf 2 es) (first .back))) (first .at) (prefix-fits n es ls none .0)
+  count-is = number-at 2 n (first .front) (bytesOf 2 es ++ first .back) 6 (first .is ∙ ap (λ (xs : List ℕ). first .front ++ xs) (append-assoc (numberBytes 2 n) (bytesOf 2 es) (first .back))) (first .at) (prefix-fits rule n es ls none .0)
 
   prefix-is : prefixIn file ≡ es
   unfolding prefixIn bytesOf
@@ -111,7 +112,7 @@ module _ (n : ℕ) (es : List ℕ) (ls : List ℤ) (asked : Bool) (file : List �
       let at = first .at in
       let size = first .size ∙ bytes-length 2 (n ∷ es) in
       let many : (sizeAt file 0 - 2) / 2 ≡ length es = omega arith in
-      ap (numbersAt 2 file 8) many ∙ numbers-at 2 es (first .front ++ numberBytes 2 n) (first .back) 8 is (omega arith) (prefix-fits n es ls none .1)
+      ap (numbersAt 2 file 8) many ∙ numbers-at 2 es (first .front ++ numberBytes 2 n) (first .back) 8 is (omega arith) (prefix-fits rule n es ls none .1)
 
   clauses-is : clausesIn file ≡ ls
   unfolding clausesIn
@@ -120,8 +121,8 @@ module _ (n : ℕ) (es : List ℕ) (ls : List ℤ) (asked : Bool) (file : List �
       let size = second .size ∙ bytes-length 4 numbers in
       let m = length-map ls literalNumber in
       let many : sizeAt file (secondAt file) / 4 ≡ length numbers = omega arith in
-      let read = ap (numbersAt 4 file (secondAt file + 6)) many ∙ numbers-at 4 numbers (second .front) (second .back) (secondAt file + 6) (second .is) (second .at) (clauses-back n es ls none .1) in
-      ap (map literalOf) read ∙ clauses-back n es ls none .0
+      let read = ap (numbersAt 4 file (secondAt file + 6)) many ∙ numbers-at 4 numbers (second .front) (second .back) (secondAt file + 6) (second .is) (second .at) (clauses-back rule n es ls none .1) in
+      ap (map literalOf) read ∙ clauses-back rule n es ls none .0
 
   -- what holds of the formula holds of what is read
   as-read : (P : ℕ → List ℕ → List ℤ → Type 0) → P n es ls → P (countIn file) (prefixIn file) (clausesIn file)
@@ -129,23 +130,23 @@ module _ (n : ℕ) (es : List ℕ) (ls : List ℤ) (asked : Bool) (file : List �
       subst (λ (k : ℕ). P k (prefixIn file) (clausesIn file)) (sym count-is)
       (subst (λ (xs : List ℕ). P n xs (clausesIn file)) (sym prefix-is) (subst (λ (zs : List ℤ). P n es zs) (sym clauses-is) holds))
 
-  right-rows : RightRows file (f .classes) (f .parents) (f .counts)
-  right-rows = (as-read (λ k xs zs. ForestRows k xs zs (f .classes) (f .parents) (f .counts)) (f .rows), stands-holds 4 rows third (rows-fit n es ls none (f .rows)))
+  right-rows : RightRows rule file (f .classes) (f .parents) (f .counts)
+  right-rows = (as-read (λ k xs zs. ForestRows k (readAs rule xs) zs (f .classes) (f .parents) (f .counts)) (f .rows), stands-holds 4 rows third (rows-fit rule n es ls none (f .rows)))
 
   -- whether sets are there, and that they are right
   closing-name : closingKind ≡ setsKind → ⊥
   closing-name q = omega arith
 
-  sets-told : (b : Bool) → SetsRecord b n es ls (f .sets-record) → (hasSets file ≡ b) × (b ≡ true → RightSets file)
+  sets-told : (b : Bool) → SetsRecord b n (readAs rule es) ls (f .sets-record) → (hasSets file ≡ b) × (b ≡ true → RightSets rule file)
   unfolding hasSets closingRecord
   sets-told true (list, are, is) =
       let stands = fourth setsKind (bytesOf 2 list) (closingRecord (f .word)) (ap (λ (xs : List ℕ). xs ++ closingRecord (f .word)) is) (omega arith) in
-      (eq-eqb (kindAt file (fourthAt file)) setsKind (stands .kind-is), λ _. (list, as-read (λ k xs zs. StandardSets k xs zs list) are, stands-holds 2 list stands (sets-fit n es ls none list are)))
+      (eq-eqb (kindAt file (fourthAt file)) setsKind (stands .kind-is), λ _. (list, as-read (λ k xs zs. StandardSets k (readAs rule xs) zs list) are, stands-holds 2 list stands (sets-fit rule n es ls none list are)))
   sets-told false is =
       let stands = fourth closingKind (numberBytes 2 (f .word)) [] (ap (λ (xs : List ℕ). xs ++ closingRecord (f .word)) is ∙ sym (append-nil (closingRecord (f .word)))) (omega arith) in
       (ne-eqb (kindAt file (fourthAt file)) setsKind (λ q. closing-name (sym (stands .kind-is) ∙ q)), λ on. absurd (false≢true on))
 
-  no-disagreement : None (ForestFileCause file)
+  no-disagreement : None (ForestFileCause rule file)
   no-disagreement number place (ForestFileCause.rows-disagree q p wrong) = wrong (f .classes) (f .parents) (f .counts) right-rows
   no-disagreement number place (ForestFileCause.sets-disagree q p on wrong) = wrong (sets-told asked (f .sets) .1 (sym (sets-told asked (f .sets) .0) ∙ on))
 
@@ -165,16 +166,20 @@ module _ (n : ℕ) (es : List ℕ) (ls : List ℤ) (asked : Bool) (file : List �
 
     file-clear : NoneOf (fileOrder file)
     file-clear =
-        let good = run-good file (omega arith) (subst (Run 0) (sym (f .bytes)) (file-run n es ls (f .classes) (f .parents) (f .counts) asked (f .sets-record) (f .word) (f .sets))) in
+        let good = run-good file (omega arith) (subst (Run 0) (sym (f .bytes)) (file-run n es ls (f .classes) (f .parents) (f .counts) (readAs rule es) asked (f .sets-record) (f .word) (f .sets))) in
         (at0-none 19 (λ over. omega arith), (no-record-cause file good, (no-order-cause file good, (at0-none 21 (λ wrong. wrong (f .sum)), tt))))
 
-    pub clear : NoneOf (loadOrder file lent)
+    pub clear : NoneOf (loadOrder rule file lent)
     clear =
-        accepted-then (fileOrder file) (checkOrder (countIn file) (prefixIn file) (clausesIn file) ++ (ForestFileCause file ∷ At0 14 (NoRoom file lent) ∷ [])) Accepted refl file-clear
-        (accepted-then (checkOrder (countIn file) (prefixIn file) (clausesIn file)) (ForestFileCause file ∷ At0 14 (NoRoom file lent) ∷ []) Accepted refl (as-read (λ k xs zs. NoneOf (checkOrder k xs zs)) none) (no-disagreement, (at0-none 14 roomy, tt)))
+        let later = ForestFileCause rule file ∷ At0 14 (NoRoom file lent) ∷ [] in
+        let order = checkOrderUnder rule (countIn file) (prefixIn file) (clausesIn file) in (
+          none .0,
+          accepted-then (fileOrder file) (order ++ later) Accepted refl file-clear
+              (accepted-then order later Accepted refl (as-read (λ k xs zs. NoneOf (checkOrderUnder rule k xs zs)) none) (no-disagreement, (at0-none 14 roomy, tt))),
+        )
 
     -- So reading it gives the formula back, its rows, and whether sets were asked for.
-    pub reads-back : (lent′ : Lent) (answer : Loaded) → Loads file lent lent′ answer
+    pub reads-back : (lent′ : Lent) (answer : Loaded) → Loads rule file lent lent′ answer
         → (answer ≡ Formula n (length es) (length ls) asked)
         × (lent′ ≡ lentTables (sets (lent .prefix) 0 es) (sets (lent .clauses) 0 ls) (sets (lent .classes) 0 (f .classes)) (sets (lent .parents) 0 (f .parents)) (sets (lent .counts) 0 (f .counts)))
     reads-back lent′ (Formula m entries literals with-sets) (none′, count, prefix, clauses, told, filled) =
@@ -182,22 +187,22 @@ module _ (n : ℕ) (es : List ℕ) (ls : List ℤ) (asked : Bool) (file : List �
         let e-is = prefix ∙ ap length prefix-is in
         let l-is = clauses ∙ ap length clauses-is in
         let s-is = told ∙ sets-told asked (f .sets) .0 in
-        let (c, p, k) = rows-unique (countIn file) (prefixIn file) (clausesIn file) (filled .rows .0) (right-rows .0) in
+        let (c, p, k) = rows-unique (countIn file) (readAs rule (prefixIn file)) (clausesIn file) (filled .rows .0) (right-rows .0) in
         (λ i. Formula (m-is i) (e-is i) (l-is i) (s-is i), filled .left ∙ (λ i. lentTables (sets (lent .prefix) 0 (prefix-is i)) (sets (lent .clauses) 0 (clauses-is i)) (sets (lent .classes) 0 (c i)) (sets (lent .parents) 0 (p i)) (sets (lent .counts) 0 (k i))))
-    reads-back lent′ (Refused number place) (first′, same) = absurd (first-or-none (loadOrder file lent) number place first′ clear)
+    reads-back lent′ (Refused number place) (first′, same) = absurd (first-or-none (loadOrder rule file lent) number place first′ clear)
 
 -- What writing leaves in front in its table, read into tables with room for it, gives the same formula, the rows of its forest, and sets if they were asked for.
-pub written-reads-back : (n : ℕ) (es : List ℕ) (ls : List ℤ) (asked : Bool) (before after : List ℕ) (count : ℕ) → Stores n es ls asked before after (Count count)
+pub written-reads-back : (rule n : ℕ) (es : List ℕ) (ls : List ℤ) (asked : Bool) (before after : List ℕ) (count : ℕ) → Stores rule n es ls asked before after (Count count)
     → (lent : Lent) → (length es ≤ length (lent .prefix)) × (length ls ≤ length (lent .clauses)) × (n ≤ length (lent .classes)) × (n ≤ length (lent .parents)) × (n ≤ length (lent .counts))
-    → (lent′ : Lent) (answer : Loaded) → Loads (take count after) lent lent′ answer
+    → (lent′ : Lent) (answer : Loaded) → Loads rule (take count after) lent lent′ answer
     → (answer ≡ Formula n (length es) (length ls) asked)
-    × ((classes : List ℕ) × (parents : List ℕ) × (counts : List ℕ) × ForestRows n es ls classes parents counts
+    × ((classes : List ℕ) × (parents : List ℕ) × (counts : List ℕ) × ForestRows n (readAs rule es) ls classes parents counts
     × (lent′ ≡ lentTables (sets (lent .prefix) 0 es) (sets (lent .clauses) 0 ls) (sets (lent .classes) 0 classes) (sets (lent .parents) 0 parents) (sets (lent .counts) 0 counts)))
-written-reads-back n es ls asked before after count (none, (file, f, size, stored)) lent room lent′ answer loads =
-    let later = At0 19 (FileTooLarge n es ls asked) ∷ At0 14 (FileTooLong n es ls asked before) ∷ [] in
-    let clear = none-later (checkOrder n es ls) later none in
+written-reads-back rule n es ls asked before after count (none, (file, f, size, stored)) lent room lent′ answer loads =
+    let later = At0 19 (FileTooLarge rule n es ls asked) ∷ At0 14 (FileTooLong rule n es ls asked before) ∷ [] in
+    let clear = none-later (checkOrderUnder rule n es ls) later none in
     let small : ¬ (fileBytes < length file) = λ over. clear .0 19 0 (refl, refl, (file, f, over)) in
     let fits : ¬ (length before < length file) = λ over. clear .1 .0 14 0 (refl, refl, (file, f, over)) in
     let read : take count after ≡ file = ap (take count) (stored ∙ sets-eq file before 0 (omega arith)) ∙ take-at file (drop (0 + length file) before) count (sym size) in
-    let back = reads-back n es ls asked file (none-first (checkOrder n es ls) later none) f (omega arith) lent room lent′ answer (subst (λ (xs : List ℕ). Loads xs lent lent′ answer) read loads) in
+    let back = reads-back rule n es ls asked file (none-first (checkOrderUnder rule n es ls) later none) f (omega arith) lent room lent′ answer (subst (λ (xs : List ℕ). Loads rule xs lent lent′ answer) read loads) in
     (back .0, (f .classes, f .parents, f .counts, f .rows, back .1))

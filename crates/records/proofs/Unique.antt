@@ -1,4 +1,4 @@
--- A formula has one forest, one list of sets and so one file.
+-- A formula has one forest, one list of sets and so, under a reading rule, one file.
 use Prim.Native.Nat.{ℕ, _+_, _%_, _<_, _≤_}
 use mathlib.Core.Path.{_≡_, sym, ap, _∙_, subst}
 use mathlib.Core.Bool.{Bool, true, false}
@@ -16,6 +16,7 @@ use Rattle.connection.proofs.Counts.{counts-one}
 use Rattle.tables.specs.Formula.{variables, universal, joined, Shares}
 use Rattle.tables.proofs.Agreeing.{lawful}
 use Rattle.sets.proofs.Records.{records-one}
+use Rattle.joining.specs.Rules.{readAs}
 use Rattle.records.specs.Numbers.{bytesOf, wordSum}
 use Rattle.records.specs.Layout.{setsKind, recordBytes, prefixRecord, clausesRecord, rowsRecord, closingRecord, ForestRows, StandardSets, SetsRecord, FileOf}
 use Rattle.records.proofs.WordSums.{sum-append, closing-sum}
@@ -53,7 +54,7 @@ module _ (n : ℕ) (es : List ℕ) (ls : List ℤ) where
   sets-even true bytes (list, are, is) = let l = ap length is ∙ record-length setsKind (bytesOf 2 list) in let b = bytes-length 2 list in omega arith
   sets-even false bytes is = let l = ap length is in omega arith
 
-  module _ (classes parents counts : List ℕ) (asked : Bool) (sets-record : List ℕ) (are : SetsRecord asked n es ls sets-record) where
+  module _ (classes parents counts sets-record : List ℕ) (even : length sets-record % 2 ≡ 0) where
     file-sum : (word : ℕ) → word < 65536
         → wordSum (whole classes parents counts sets-record word)
         ≡ wordSum (prefixRecord n es) + (wordSum (clausesRecord ls) + (wordSum (rowsRecord classes parents counts) + (wordSum sets-record + (65537 + word))))
@@ -62,13 +63,12 @@ module _ (n : ℕ) (es : List ℕ) (ls : List ℤ) where
         let p = prefix-length n es in
         let c = clauses-length ls in
         let l = rows-length classes parents counts in
-        let s = sets-even asked sets-record are in
         sum-append (prefixRecord n es) (clausesRecord ls ++ (r ++ (sets-record ++ closingRecord word))) (omega arith)
         ∙ ap (λ (k : ℕ). wordSum (prefixRecord n es) + k)
         (sum-append (clausesRecord ls) (r ++ (sets-record ++ closingRecord word)) (omega arith)
         ∙ ap (λ (k : ℕ). wordSum (clausesRecord ls) + k)
         (sum-append r (sets-record ++ closingRecord word) (omega arith)
-        ∙ ap (λ (k : ℕ). wordSum r + k) (sum-append sets-record (closingRecord word) s ∙ ap (λ (k : ℕ). wordSum sets-record + k) (closing-sum word fits))))
+        ∙ ap (λ (k : ℕ). wordSum r + k) (sum-append sets-record (closingRecord word) even ∙ ap (λ (k : ℕ). wordSum sets-record + k) (closing-sum word fits))))
 
     -- the word that closes the sum is one
     word-unique : {file file′ : List ℕ} (word word′ : ℕ) → word < 65536 → word′ < 65536
@@ -80,10 +80,10 @@ module _ (n : ℕ) (es : List ℕ) (ls : List ℤ) where
         let b = ap wordSum is′ ∙ file-sum word′ fits′ in
         omega arith
 
-  pub file-unique : (asked : Bool) (file file′ : List ℕ) → FileOf n es ls asked file → FileOf n es ls asked file′ → file ≡ file′
-  file-unique asked file file′ f g =
-      let (classes, parents, counts) = rows-unique (f .rows) (g .rows) in
-      let sets = sets-record-unique asked (f .sets-record) (g .sets-record) (f .sets) (g .sets) in
-      let same : whole (f .classes) (f .parents) (f .counts) (f .sets-record) (f .word) ≡ whole (g .classes) (g .parents) (g .counts) (g .sets-record) (f .word) = λ i. whole (classes i) (parents i) (counts i) (sets i) (f .word) in
-      let word = word-unique (g .classes) (g .parents) (g .counts) asked (g .sets-record) (g .sets) (f .word) (g .word) (f .word-fits) (g .word-fits) (f .bytes ∙ same) (g .bytes) (f .sum) (g .sum) in
-      f .bytes ∙ same ∙ ap (whole (g .classes) (g .parents) (g .counts) (g .sets-record)) word ∙ sym (g .bytes)
+pub file-unique : (rule n : ℕ) (es : List ℕ) (ls : List ℤ) (asked : Bool) (file file′ : List ℕ) → FileOf rule n es ls asked file → FileOf rule n es ls asked file′ → file ≡ file′
+file-unique rule n es ls asked file file′ f g =
+    let (classes, parents, counts) = rows-unique n (readAs rule es) ls (f .rows) (g .rows) in
+    let sets = sets-record-unique n (readAs rule es) ls asked (f .sets-record) (g .sets-record) (f .sets) (g .sets) in
+    let same : whole n es ls (f .classes) (f .parents) (f .counts) (f .sets-record) (f .word) ≡ whole n es ls (g .classes) (g .parents) (g .counts) (g .sets-record) (f .word) = λ i. whole n es ls (classes i) (parents i) (counts i) (sets i) (f .word) in
+    let word = word-unique n es ls (g .classes) (g .parents) (g .counts) (g .sets-record) (sets-even n (readAs rule es) ls asked (g .sets-record) (g .sets)) (f .word) (g .word) (f .word-fits) (g .word-fits) (f .bytes ∙ same) (g .bytes) (f .sum) (g .sum) in
+    f .bytes ∙ same ∙ ap (whole n es ls (g .classes) (g .parents) (g .counts) (g .sets-record)) word ∙ sym (g .bytes)

@@ -1,4 +1,5 @@
--- The causes of refusals 19 to 22, and of 14, for reading and writing a file, line by line as document 02, request 6 has them, and the orders of the two calls.
+-- The causes of refusals 19 to 22, and of 14, for reading and writing a file, line by line as document 02, request 6 has them, and the orders of the two calls,
+-- which take a rule number (request 7).
 use Prim.Native.Nat.{ℕ, _+_, _<_, _%_}
 use mathlib.Core.Path.{_≡_}
 use mathlib.Core.Bool.{Bool, true, false}
@@ -7,7 +8,7 @@ use mathlib.Core.Logic.{_⊎_, _≢_}
 use lib.IntN.{ℤ}
 use lib.ListN.{length}
 use Rattle.terms.specs.Refusals.{Causes, At0}
-use Rattle.formula.specs.Causes.{checkOrder}
+use Rattle.joining.specs.Rules.{readAs, NoRule, checkOrderUnder}
 use Rattle.records.specs.Layout.{prefixKind, clausesKind, closingKind, ForestRows, StandardSets, FileOf, SumsToZero}
 use Rattle.records.specs.Places.{sizeAt, kindAt, nextAt, Reached, RecordAt, mayFollow, thirdAt, fourthAt, hasSets, countIn, prefixIn, clausesIn, Holds}
 
@@ -39,18 +40,18 @@ pub data OrderCause (file : List ℕ) (number place : ℕ) : Type 0 where
   -- a kind missing: the file ends, and not behind kind 65,535
   missing : (before : ℕ) → number ≡ 20 → Reached file before place → place ≡ length file → before ≢ closingKind → OrderCause file number place
 
--- the rows, and the sets, that kinds 3 and 4 have are those of the formula that kinds 1 and 2 have, in number and value
-abbrev pub RightRows : List ℕ → List ℕ → List ℕ → List ℕ → Type 0
-RightRows file classes parents counts =
-    ForestRows (countIn file) (prefixIn file) (clausesIn file) classes parents counts × Holds 4 file (thirdAt file) (classes ++ (parents ++ counts))
+-- the rows, and the sets, that kinds 3 and 4 have are those of the formula that kinds 1 and 2 have, its prefix read by a rule, in number and value
+abbrev pub RightRows : ℕ → List ℕ → List ℕ → List ℕ → List ℕ → Type 0
+RightRows rule file classes parents counts =
+    ForestRows (countIn file) (readAs rule (prefixIn file)) (clausesIn file) classes parents counts × Holds 4 file (thirdAt file) (classes ++ (parents ++ counts))
 
-abbrev pub RightSets : List ℕ → Type 0
-RightSets file = (sets : List ℕ) × StandardSets (countIn file) (prefixIn file) (clausesIn file) sets × Holds 2 file (fourthAt file) sets
+abbrev pub RightSets : ℕ → List ℕ → Type 0
+RightSets rule file = (sets : List ℕ) × StandardSets (countIn file) (readAs rule (prefixIn file)) (clausesIn file) sets × Holds 2 file (fourthAt file) sets
 
 -- 22: rows or sets disagree; the place is where the record begins
-pub data ForestFileCause (file : List ℕ) (number place : ℕ) : Type 0 where
-  rows-disagree : number ≡ 22 → place ≡ thirdAt file → ((classes parents counts : List ℕ) → RightRows file classes parents counts → ⊥) → ForestFileCause file number place
-  sets-disagree : number ≡ 22 → place ≡ fourthAt file → hasSets file ≡ true → (RightSets file → ⊥) → ForestFileCause file number place
+pub data ForestFileCause (rule : ℕ) (file : List ℕ) (number place : ℕ) : Type 0 where
+  rows-disagree : number ≡ 22 → place ≡ thirdAt file → ((classes parents counts : List ℕ) → RightRows rule file classes parents counts → ⊥) → ForestFileCause rule file number place
+  sets-disagree : number ≡ 22 → place ≡ fourthAt file → hasSets file ≡ true → (RightSets rule file → ⊥) → ForestFileCause rule file number place
 
 -- What is lent to be filled by reading: tables for the prefix, for the clauses, and for the rows.
 pub record Lent : Type 0 where
@@ -70,20 +71,22 @@ NoRoom file lent =
     ⊎ ((length (lent .clauses) < length (clausesIn file))
     ⊎ ((length (lent .classes) < countIn file) ⊎ ((length (lent .parents) < countIn file) ⊎ (length (lent .counts) < countIn file))))
 
--- the order of reading: 19 (too long), 19, 20, 21 (sum), table refusals, 22, 14
+-- the order of reading: 23, which comes before all others (request 7), 19 (too long), 19, 20, 21 (sum), table refusals, 22, 14. The order of the table refusals
+-- begins with 23 too, which is never given there.
 abbrev pub fileOrder : List ℕ → List Causes
 fileOrder file = At0 19 (TooLarge file) ∷ RecordCause file ∷ OrderCause file ∷ At0 21 (SumsToZero file → ⊥) ∷ []
 
-abbrev pub loadOrder : List ℕ → Lent → List Causes
-loadOrder file lent = fileOrder file ++ (checkOrder (countIn file) (prefixIn file) (clausesIn file) ++ (ForestFileCause file ∷ At0 14 (NoRoom file lent) ∷ []))
+abbrev pub loadOrder : ℕ → List ℕ → Lent → List Causes
+loadOrder rule file lent =
+    At0 23 (NoRule rule) ∷ (fileOrder file ++ (checkOrderUnder rule (countIn file) (prefixIn file) (clausesIn file) ++ (ForestFileCause rule file ∷ At0 14 (NoRoom file lent) ∷ [])))
 
 -- 19 and 14, for writing: the file of the formula is too long; it is longer than the table that is lent for it
-abbrev pub FileTooLarge : ℕ → List ℕ → List ℤ → Bool → Type 0
-FileTooLarge n es ls asked = (file : List ℕ) × FileOf n es ls asked file × TooLarge file
+abbrev pub FileTooLarge : ℕ → ℕ → List ℕ → List ℤ → Bool → Type 0
+FileTooLarge rule n es ls asked = (file : List ℕ) × FileOf rule n es ls asked file × TooLarge file
 
-abbrev pub FileTooLong : ℕ → List ℕ → List ℤ → Bool → List ℕ → Type 0
-FileTooLong n es ls asked before = (file : List ℕ) × FileOf n es ls asked file × (length before < length file)
+abbrev pub FileTooLong : ℕ → ℕ → List ℕ → List ℤ → Bool → List ℕ → Type 0
+FileTooLong rule n es ls asked before = (file : List ℕ) × FileOf rule n es ls asked file × (length before < length file)
 
--- the order of writing: table refusals, 19, 14
-abbrev pub storeOrder : ℕ → List ℕ → List ℤ → Bool → List ℕ → List Causes
-storeOrder n es ls asked before = checkOrder n es ls ++ (At0 19 (FileTooLarge n es ls asked) ∷ At0 14 (FileTooLong n es ls asked before) ∷ [])
+-- the order of writing: 23 and the table refusals, 19, 14
+abbrev pub storeOrder : ℕ → ℕ → List ℕ → List ℤ → Bool → List ℕ → List Causes
+storeOrder rule n es ls asked before = checkOrderUnder rule n es ls ++ (At0 19 (FileTooLarge rule n es ls asked) ∷ At0 14 (FileTooLong rule n es ls asked before) ∷ [])

@@ -11,6 +11,7 @@ use Rattle.connection.specs.Forest.{Forest}
 use Rattle.connection.specs.Counts.{Counted}
 use Rattle.tables.specs.Formula.{variables, universal, Shares}
 use Rattle.sets.specs.Sets.{Records}
+use Rattle.joining.specs.Rules.{readAs}
 use Rattle.records.specs.Numbers.{numberBytes, bytesOf, literalNumber, wordSum}
 
 -- the kinds
@@ -70,14 +71,15 @@ closingRecord word = recordBytes closingKind (numberBytes 2 word)
 abbrev pub SumsToZero : List ℕ → Type 0
 SumsToZero file = wordSum file % 65536 ≡ 0
 
--- The file of a formula, with its sets if they are asked for: the records in the order of their kinds, of which the last has the word that closes the sum.
-pub record FileOf (n : ℕ) (es : List ℕ) (ls : List ℤ) (asked : Bool) (file : List ℕ) : Type 0 where
+-- The file of a formula under a reading rule, with its sets if they are asked for: the records in the order of their kinds, of which the last has the word that
+-- closes the sum. The prefix is kept as it is lent (request 7); rows and sets are those of the prefix as the rule reads it.
+pub record FileOf (rule n : ℕ) (es : List ℕ) (ls : List ℤ) (asked : Bool) (file : List ℕ) : Type 0 where
   pub classes : List ℕ
   pub parents : List ℕ
   pub counts : List ℕ
-  pub rows : ForestRows n es ls classes parents counts
+  pub rows : ForestRows n (readAs rule es) ls classes parents counts
   pub sets-record : List ℕ
-  pub sets : SetsRecord asked n es ls sets-record
+  pub sets : SetsRecord asked n (readAs rule es) ls sets-record
   pub word : ℕ
   pub word-fits : word < 65536
   pub bytes : file ≡ prefixRecord n es ++ (clausesRecord ls ++ (rowsRecord classes parents counts ++ (sets-record ++ closingRecord word)))

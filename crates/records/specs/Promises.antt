@@ -1,4 +1,4 @@
--- What writing and reading a file promise (document 02, request 6).
+-- What writing and reading a file promise, each under a reading rule (document 02, requests 6 and 7).
 use Prim.Native.Nat.{ℕ}
 use mathlib.Core.Path.{_≡_}
 use mathlib.Core.Bool.{Bool}
@@ -16,19 +16,19 @@ use Rattle.records.specs.Places.{countIn, prefixIn, clausesIn, hasSets}
 use Rattle.records.specs.Causes.{Lent, lentTables, RightRows, loadOrder, storeOrder}
 
 -- What writing promises: the file of the formula stands in front in the lent table, nothing past it is changed, and the count is its length; or nothing is changed at all.
-abbrev pub Stores : ℕ → List ℕ → List ℤ → Bool → List ℕ → List ℕ → Filled → Type 0
-Stores n es ls asked before = Filling (storeOrder n es ls asked before) (FileOf n es ls asked) before
+abbrev pub Stores : ℕ → ℕ → List ℕ → List ℤ → Bool → List ℕ → List ℕ → Filled → Type 0
+Stores rule n es ls asked before = Filling (storeOrder rule n es ls asked before) (FileOf rule n es ls asked) before
 
 -- What reading leaves: prefix, clauses and rows stand in front in the lent tables, and nothing past them is changed.
-pub record FilledFrom (file : List ℕ) (lent lent′ : Lent) : Type 0 where
+pub record FilledFrom (rule : ℕ) (file : List ℕ) (lent lent′ : Lent) : Type 0 where
   pub classes : List ℕ
   pub parents : List ℕ
   pub counts : List ℕ
-  pub rows : RightRows file classes parents counts
+  pub rows : RightRows rule file classes parents counts
   pub left : lent′ ≡ lentTables (sets (lent .prefix) 0 (prefixIn file)) (sets (lent .clauses) 0 (clausesIn file)) (sets (lent .classes) 0 classes) (sets (lent .parents) 0 parents) (sets (lent .counts) 0 counts)
 
 -- What reading promises: n, how many entries the prefix and the clause table of the file have, and whether sets were there; or nothing is changed.
-abbrev pub Loads : List ℕ → Lent → Lent → Loaded → Type 0
-Loads file lent lent′ (Formula n entries literals with-sets) =
-    NoneOf (loadOrder file lent) × (n ≡ countIn file) × (entries ≡ length (prefixIn file)) × (literals ≡ length (clausesIn file)) × (with-sets ≡ hasSets file) × FilledFrom file lent lent′
-Loads file lent lent′ (Refused number place) = FirstOf (loadOrder file lent) number place × (lent′ ≡ lent)
+abbrev pub Loads : ℕ → List ℕ → Lent → Lent → Loaded → Type 0
+Loads rule file lent lent′ (Formula n entries literals with-sets) =
+    NoneOf (loadOrder rule file lent) × (n ≡ countIn file) × (entries ≡ length (prefixIn file)) × (literals ≡ length (clausesIn file)) × (with-sets ≡ hasSets file) × FilledFrom rule file lent lent′
+Loads rule file lent lent′ (Refused number place) = FirstOf (loadOrder rule file lent) number place × (lent′ ≡ lent)

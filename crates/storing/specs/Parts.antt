@@ -1,14 +1,16 @@
 -- The parts of a file as they are written one after the other, which only proofs rest on.
-use Prim.Native.Nat.{ℕ, _+_, _*_, _-_, _%_}
+use Prim.Native.Nat.{ℕ, _+_, _*_, _-_, _%_, _<_}
+use mathlib.Core.Path.{_≡_}
 use mathlib.Core.Bool.{Bool, true, false}
 use mathlib.Core.List.{List, [], _∷_, _++_}
 use lib.IntN.{ℤ}
+use lib.ListN.{length}
 use Rattle.terms.specs.Refusals.{At0}
 use Rattle.terms.specs.declared.Filled.{Filled}
 use Rattle.forest.specs.Listed.{Filling}
 use Rattle.records.specs.Numbers.{numberBytes, bytesOf, wordSum}
 use Rattle.records.specs.Layout.{setsKind, closingKind, recordBytes, prefixRecord, clausesRecord, rowsRecord, closingRecord, FileOf}
-use Rattle.records.specs.Causes.{FileTooLarge, FileTooLong}
+use Rattle.records.specs.Causes.{TooLarge, FileTooLarge, FileTooLong}
 
 -- the head of a record: its payload length and its kind
 abbrev pub headBytes : ℕ → ℕ → List ℕ
@@ -43,6 +45,10 @@ unfoldable pub sizeOf : ℕ → ℕ → ℕ → Bool → ℕ → ℕ
 sizeOf entries literals rows true numbers = 2 * entries + 4 * literals + 12 * rows + 2 * numbers + 34
 sizeOf entries literals rows false numbers = 2 * entries + 4 * literals + 12 * rows + 28
 
+-- What writing a whole file promises: 19 where it is too long, 14 where it does not fit, and else its bytes in front.
+abbrev pub StoresWhole : List ℕ → List ℕ → List ℕ → Filled → Type 0
+StoresWhole whole before = Filling (At0 19 (TooLarge whole) ∷ At0 14 (length before < length whole) ∷ []) (λ (file : List ℕ). file ≡ whole) before
+
 -- What writing promises once the formula is accepted: 19 and 14 are left.
-abbrev pub StoresAccepted : ℕ → List ℕ → List ℤ → Bool → List ℕ → List ℕ → Filled → Type 0
-StoresAccepted n es ls asked before = Filling (At0 19 (FileTooLarge n es ls asked) ∷ At0 14 (FileTooLong n es ls asked before) ∷ []) (FileOf n es ls asked) before
+abbrev pub StoresAccepted : ℕ → ℕ → List ℕ → List ℤ → Bool → List ℕ → List ℕ → Filled → Type 0
+StoresAccepted rule n es ls asked before = Filling (At0 19 (FileTooLarge rule n es ls asked) ∷ At0 14 (FileTooLong rule n es ls asked before) ∷ []) (FileOf rule n es ls asked) before

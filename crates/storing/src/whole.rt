@@ -9,15 +9,11 @@ use records::FILE_BYTES;
 use terms::Filled;
 ghost use Prim.Native.Nat.{_<_, _≤_};
 ghost use mathlib.Core.Path.{_≡_};
-ghost use mathlib.Core.Bool.{true};
 ghost use lib.ListN.{length};
-ghost use Rattle.terms.specs.Refusals.{NoneOf};
-ghost use Rattle.formula.specs.Causes.{checkOrder};
 ghost use Rattle.qdimacs.specs.Bytes.{Wrote};
-ghost use Rattle.records.specs.Layout.{ForestRows, StandardSets};
-ghost use Rattle.storing.specs.Parts.{formulaPart, forestPart, wholeOf, sizeOf, StoresAccepted};
+ghost use Rattle.storing.specs.Parts.{formulaPart, forestPart, wholeOf, sizeOf, StoresWhole};
 
-// Writes the file of an accepted formula, its rows and, if they are asked for, its sets; nothing is written where it is too long or does not fit.
+// Writes the file of a formula, these rows and, if they are asked for, these sets; nothing is written where it is too long or does not fit.
 pub fn store_file(
     n: u32,
     prefix: &[u32],
@@ -29,8 +25,8 @@ pub fn store_file(
     list: &[u32],
     file: &mut [u8],
 ) -> Filled
-    requires { ⌜ NoneOf (checkOrder n (now prefix) (now clauses)) × ForestRows n (now prefix) (now clauses) (now classes) (now parents) (now counts) × (length (now list) ≤ 131072) × (asked ≡ true → StandardSets n (now prefix) (now clauses) (now list)) ⌝ }
-    ensures { λ r. ⌜ StoresAccepted n (now (prefix .entry)) (now (clauses .entry)) asked (now (file .entry)) (now (file .exit)) r ⌝ }
+    requires { ⌜ (length (now prefix) ≤ 8192) × (length (now clauses) ≤ 16384) × (length (now classes) ≤ 4096) × (length (now parents) ≡ length (now classes)) × (length (now counts) ≡ length (now classes)) × (length (now list) ≤ 131072) ⌝ }
+    ensures { λ r. ⌜ StoresWhole (wholeOf n (now (prefix .entry)) (now (clauses .entry)) (now (classes .entry)) (now (parents .entry)) (now (counts .entry)) asked (now (list .entry))) (now (file .entry)) (now (file .exit)) r ⌝ }
 {
     let size = size_of(
         prefix.len(),

@@ -1,6 +1,6 @@
 -- `capi::snow_check` meets its contract.
 use borrow.Author.Needs.{needs}
-use Rattle.formula.specs.Causes.{checkOrder}
+use Rattle.joining.specs.Rules.{checkOrderUnder}
 use Rattle.capi.proofs.Places.{small-check}
 use Rattle.capi.proofs.Telling.{tell-accepted, tell-refused, named}
 use Rattle.capi.proofs.snow_check.Statement.{statement}
@@ -18,18 +18,18 @@ enum-known-number c = search needs
 cast-place : tie.Need-cast-place
 cast-place c =
     let a = c .before .before .before .before .before .args in
-    let order = checkOrder (a .n) (a .prefix .now) (a .clauses .now) in
-    record { fits = small-check (a .n) (a .prefix .now) (a .clauses .now) _ _ (named order (c .before .number .given .1) (c .before .before .before .check .ensures)) }
+    let order = checkOrderUnder (a .rule) (a .n) (a .prefix .now) (a .clauses .now) in
+    record { fits = small-check (a .rule) (a .n) (a .prefix .now) (a .clauses .now) _ _ (named order (c .before .number .given .1) (c .before .before .before .check .ensures)) }
 
 returns : tie.Need-returns
 returns c =
     let a = c .before .before .before .before .args in
-    tell-accepted (checkOrder (a .n) (a .prefix .now) (a .clauses .now)) _ (c .enum-told .given .1) (c .before .before .check .ensures) tt
+    tell-accepted (checkOrderUnder (a .rule) (a .n) (a .prefix .now) (a .clauses .now)) _ (c .enum-told .given .1) (c .before .before .check .ensures) tt
 
 returns-2 : tie.Need-returns-2
 returns-2 c =
     let a = c .before .before .before .before .before .args in
-    tell-refused (checkOrder (a .n) (a .prefix .now) (a .clauses .now)) _ (c .before .number .given .1) (c .before .before .before .check .ensures) tt
+    tell-refused (checkOrderUnder (a .rule) (a .n) (a .prefix .now) (a .clauses .now)) _ (c .before .number .given .1) (c .before .before .before .check .ensures) tt
 
 pub snow-check-spec : {M : Type 1} → statement M
 snow-check-spec =

@@ -26,19 +26,19 @@ cast-place : tie.Need-cast-place
 cast-place c =
     let a = c .before .before .before .before .before .before .before .before .before .before .args in
     let b = c .before .before .before .entry-point in
-    record { fits = small-entry (a .n) (a .prefix .now) (a .classes .now) (a .parents .now) (a .counts .now) (a .x) (a .y) _ _ (named-entry (a .n) (a .prefix .now) (a .classes .now) (a .parents .now) (a .counts .now) (c .before .before .before .before .before .new .ensures) (c .before .before .before .before .new2 .ensures) (b .result) (b .ensures) (c .before .number .given .1)) }
+    record { fits = small-entry (a .rule) (a .n) (a .prefix .now) (a .classes .now) (a .parents .now) (a .counts .now) (a .x) (a .y) _ _ (named-entry (a .rule) (a .n) (a .prefix .now) (a .classes .now) (a .parents .now) (a .counts .now) (c .before .before .before .before .before .new .ensures) (c .before .before .before .before .new2 .ensures) (b .result) (b .ensures) (c .before .number .given .1)) }
 
 returns : tie.Need-returns
 returns c =
     let a = c .before .before .before .before .before .before .before .before .before .before .args in
     let b = c .before .before .before .entry-point in
-    tell-entry (a .n) (a .prefix .now) (a .classes .now) (a .parents .now) (a .counts .now) (c .before .before .before .before .before .new .ensures) (c .before .before .before .before .new2 .ensures) (b .result) (b .ensures) _ (c .before .class .given .1)
+    tell-entry (a .rule) (a .n) (a .prefix .now) (a .classes .now) (a .parents .now) (a .counts .now) (c .before .before .before .before .before .new .ensures) (c .before .before .before .before .new2 .ensures) (b .result) (b .ensures) _ (c .before .class .given .1)
 
 returns-2 : tie.Need-returns-2
 returns-2 c =
     let a = c .before .before .before .before .before .before .before .before .before .before .args in
     let b = c .before .before .before .entry-point in
-    refused (named-entry (a .n) (a .prefix .now) (a .classes .now) (a .parents .now) (a .counts .now) (c .before .before .before .before .before .new .ensures) (c .before .before .before .before .new2 .ensures) (b .result) (b .ensures) (c .before .number .given .1)) (refl, refl)
+    refused (named-entry (a .rule) (a .n) (a .prefix .now) (a .classes .now) (a .parents .now) (a .counts .now) (c .before .before .before .before .before .new .ensures) (c .before .before .before .before .new2 .ensures) (b .result) (b .ensures) (c .before .number .given .1)) (refl, refl)
 
 pub snow-entry-point-spec : {M : Type 1} → statement M
 snow-entry-point-spec =

@@ -1,6 +1,8 @@
 -- `capi::snow_sets` meets its contract.
 use borrow.Author.Needs.{needs}
-use Rattle.sets.specs.Sets.{AllSets, setsOrder}
+use Rattle.sets.specs.Sets.{AllSets}
+use Rattle.joining.specs.Rules.{readAs}
+use Rattle.ruled.specs.Calls.{setsOrderUnder}
 use Rattle.capi.proofs.Places.{small-sets}
 use Rattle.capi.proofs.Telling.{fits-filling, tell-filling}
 use Rattle.capi.proofs.snow_sets.Statement.{statement}
@@ -13,7 +15,7 @@ lay-requires : tie.Need-lay-requires
 lay-requires c κs =
     let a = c .before .before .before .before .before .before .before .before .before .before .before .args in
     let b = c .before .before .before .before .sets in
-    fits-filling (setsOrder (a .n) (a .prefix .now) (a .clauses .now) (a .classes .now) (a .parents .now) (a .counts .now) (a .out .now)) (AllSets (a .n) (a .prefix .now) (a .clauses .now) (a .classes .now) (a .parents .now)) (a .out .now) _ (b .result) (small-sets (a .n) (a .prefix .now) (a .clauses .now) (a .classes .now) (a .parents .now) (a .counts .now) (a .out .now)) (b .ensures)
+    fits-filling (setsOrderUnder (a .rule) (a .n) (a .prefix .now) (a .clauses .now) (a .classes .now) (a .parents .now) (a .counts .now) (a .out .now)) (AllSets (a .n) (readAs (a .rule) (a .prefix .now)) (a .clauses .now) (a .classes .now) (a .parents .now)) (a .out .now) _ (b .result) (small-sets (a .rule) (a .n) (a .prefix .now) (a .clauses .now) (a .classes .now) (a .parents .now) (a .counts .now) (a .out .now)) (b .ensures)
 
 same-length : tie.Need-same-length
 same-length c = search needs
@@ -21,7 +23,7 @@ same-length c = search needs
 returns : tie.Need-returns
 returns c =
     let a = c .before .before .before .before .before .before .before .before .before .before .before .before .args in
-    tell-filling (setsOrder (a .n) (a .prefix .now) (a .clauses .now) (a .classes .now) (a .parents .now) (a .counts .now) (a .out .now)) (AllSets (a .n) (a .prefix .now) (a .clauses .now) (a .classes .now) (a .parents .now)) (a .out .now) _ (c .lay .ensures) (c .before .before .before .before .before .sets .ensures)
+    tell-filling (setsOrderUnder (a .rule) (a .n) (a .prefix .now) (a .clauses .now) (a .classes .now) (a .parents .now) (a .counts .now) (a .out .now)) (AllSets (a .n) (readAs (a .rule) (a .prefix .now)) (a .clauses .now) (a .classes .now) (a .parents .now)) (a .out .now) _ (c .lay .ensures) (c .before .before .before .before .before .sets .ensures)
 
 pub snow-sets-spec : {M : Type 1} → statement M
 snow-sets-spec = tie.close (tie.spec sets-requires lay-requires same-length returns)

@@ -17,12 +17,12 @@ lay-requires : tie.Need-lay-requires
 lay-requires c κs =
     let a = c .before .before .before .before .before .before .before .before .before .args in
     let b = c .before .before .size-by in
-    fits-sized (a .n) (a .prefix .now) (a .clauses .now) (a .classes .now) (a .parents .now) (a .counts .now) (c .before .before .before .before .scheme-in .result) (b .result) _ (b .ensures)
+    fits-sized (a .rule) (a .n) (a .prefix .now) (a .clauses .now) (a .classes .now) (a .parents .now) (a .counts .now) (c .before .before .before .before .scheme-in .result) (b .result) _ (b .ensures)
 
 returns : tie.Need-returns
 returns c =
     let a = c .before .before .before .before .before .before .before .before .before .before .args in
-    tell-sized-by (a .n) (a .prefix .now) (a .clauses .now) (a .classes .now) (a .parents .now) (a .counts .now) (c .before .before .before .before .before .scheme-in .ensures) (c .before .before .before .before .new .ensures) (c .lay .ensures) (c .before .before .before .size-by .ensures)
+    tell-sized-by (a .rule) (a .n) (a .prefix .now) (a .clauses .now) (a .classes .now) (a .parents .now) (a .counts .now) (c .before .before .before .before .before .scheme-in .ensures) (c .before .before .before .before .new .ensures) (c .lay .ensures) (c .before .before .before .size-by .ensures)
 
 pub snow-size-by-spec : {M : Type 1} → statement M
 snow-size-by-spec = tie.close (tie.spec scheme-in-requires new-requires size-by-requires lay-requires returns)

@@ -2,7 +2,7 @@
 use mathlib.Core.Path.{refl, subst}
 use native.Mathlib.Omega.{arith}
 use borrow.Author.Needs.{needs}
-use Rattle.qdimacs.specs.Stored.{Writes}
+use Rattle.ruled.specs.Calls.{WritesUnder}
 use Rattle.capi.specs.Told.{accepted, refused}
 use Rattle.capi.proofs.Writes.{small-write, written-few}
 use Rattle.capi.proofs.snow_write.Statement.{statement}
@@ -17,8 +17,8 @@ enum-known-written c = search needs
 cast-count : tie.Need-cast-count
 cast-count c =
     let a = c .before .before .before .before .before .before .before .before .before .args in
-    let said = subst (Writes (a .n) (a .prefix .now) (a .clauses .now) (a .text .now) _) (c .before .written .given .1) (c .before .before .before .before .before .write .ensures) in
-    let few = written-few (a .n) (a .prefix .now) (a .clauses .now) (a .text .now) _ _ (said .0) (said .1) in
+    let said = subst (WritesUnder (a .rule) (a .n) (a .prefix .now) (a .clauses .now) (a .text .now) _) (c .before .written .given .1) (c .before .before .before .before .before .write .ensures) in
+    let few = written-few (a .rule) (a .n) (a .prefix .now) (a .clauses .now) (a .text .now) _ _ (said .0) (said .1) in
     omega arith
 
 enum-known-number : tie.Need-enum-known-number
@@ -27,8 +27,8 @@ enum-known-number c = search needs
 cast-place : tie.Need-cast-place
 cast-place c =
     let a = c .before .before .before .before .before .before .before .before .before .args in
-    let said = subst (Writes (a .n) (a .prefix .now) (a .clauses .now) (a .text .now) _) (c .before .number .given .1) (c .before .before .before .before .before .write .ensures) in
-    record { fits = small-write (a .n) (a .prefix .now) (a .clauses .now) (a .text .now) _ _ (said .0) }
+    let said = subst (WritesUnder (a .rule) (a .n) (a .prefix .now) (a .clauses .now) (a .text .now) _) (c .before .number .given .1) (c .before .before .before .before .before .write .ensures) in
+    record { fits = small-write (a .rule) (a .n) (a .prefix .now) (a .clauses .now) (a .text .now) _ _ (said .0) }
 
 same-length : tie.Need-same-length
 same-length c = search needs
@@ -36,7 +36,7 @@ same-length c = search needs
 returns : tie.Need-returns
 returns c =
     let a = c .before .before .before .before .before .before .before .before .before .args in
-    let said = subst (Writes (a .n) (a .prefix .now) (a .clauses .now) (a .text .now) _) (c .before .written .given .1) (c .before .before .before .before .before .write .ensures) in
+    let said = subst (WritesUnder (a .rule) (a .n) (a .prefix .now) (a .clauses .now) (a .text .now) _) (c .before .written .given .1) (c .before .before .before .before .before .write .ensures) in
     accepted (said .0) (said .1) refl refl
 
 same-length-2 : tie.Need-same-length-2
@@ -45,7 +45,7 @@ same-length-2 c = search needs
 returns-2 : tie.Need-returns-2
 returns-2 c =
     let a = c .before .before .before .before .before .before .before .before .before .args in
-    let said = subst (Writes (a .n) (a .prefix .now) (a .clauses .now) (a .text .now) _) (c .before .number .given .1) (c .before .before .before .before .before .write .ensures) in
+    let said = subst (WritesUnder (a .rule) (a .n) (a .prefix .now) (a .clauses .now) (a .text .now) _) (c .before .number .given .1) (c .before .before .before .before .before .write .ensures) in
     refused (said .0) (refl, said .1)
 
 pub snow-write-spec : {M : Type 1} → statement M

@@ -1,36 +1,30 @@
 -- `loading::load` meets its contract.
-use mathlib.Core.Path.{refl, subst}
-use mathlib.Core.List.{[], _∷_, _++_}
-use Rattle.terms.specs.Refusals.{At0, Judged}
-use Rattle.terms.proofs.Verdicts.{refused-first}
-use Rattle.formula.specs.Causes.{checkOrder}
-use Rattle.records.specs.Places.{countIn, prefixIn, clausesIn}
-use Rattle.records.specs.Causes.{ForestFileCause, NoRoom, lentTables, fileOrder}
-use Rattle.layout.proofs.Laying.{file-laid}
-use Rattle.loading.proofs.Judging.{loads-laid}
+use mathlib.Core.Path.{refl}
+use mathlib.Core.Logic.{inl, inr}
+use borrow.Author.Tests.{not-true, not-false}
+use Rattle.terms.proofs.Verdicts.{at0-first}
+use Rattle.tables.proofs.Readings.{told, told-not}
+use Rattle.records.specs.Causes.{lentTables}
+use Rattle.loading.specs.Inner.{IsRule}
+use Rattle.loading.proofs.Judging.{loads-ruled}
 use borrow.Author.Needs.{needs}
 use Rattle.loading.proofs.load.Statement.{statement}
 use Rattle.loading.proofs.load.Tie as tie
 
-layout-verdict-requires : tie.Need-layout-verdict-requires
-layout-verdict-requires c κs = search needs
-
-enum-known-number : tie.Need-enum-known-number
-enum-known-number c = search needs
-
-enum-told : tie.Need-enum-told
-enum-told c = search needs
-
-load-laid-requires : tie.Need-load-laid-requires
-load-laid-requires c κs =
-    let file = c .before .before .before .before .before .before .before .before .before .before .before .before .before .args .file .now in
-    file-laid file (subst (Judged (fileOrder file)) (c .before .before .before .before .before .enum-told .given .1) (c .before .before .before .before .before .before .before .layout-verdict .ensures))
+is-rule-requires : tie.Need-is-rule-requires
+is-rule-requires c κs = search needs
 
 returns : tie.Need-returns
 returns c =
-    let a = c .before .before .before .before .before .before .before .before .before .args in
-    let file = a .file .now in
-    (refused-first (fileOrder file) (checkOrder (countIn file) (prefixIn file) (clausesIn file) ++ (ForestFileCause file ∷ At0 14 (NoRoom file (lentTables (a .prefix .now) (a .clauses .now) (a .classes .now) (a .parents .now) (a .counts .now))) ∷ [])) (c .before .number .given .1) (c .before .before .before .layout-verdict .ensures), refl)
+    let a = c .before .before .before .before .before .before .before .args in
+    let r = c .before .is-rule in
+    let none = told-not {P = IsRule (a .rule)} (r .result) (not-true (r .result) (c .if1 .taken)) (r .ensures) in
+    (inl (at0-first 23 (λ one. none (inl one), λ two. none (inr two))), refl)
+
+load-ruled-requires : tie.Need-load-ruled-requires
+load-ruled-requires c κs =
+    let r = c .before .before .before .before .before .before .is-rule in
+    told (r .result) (not-false (r .result) (c .before .before .before .before .before .if1 .left)) (r .ensures)
 
 same-length : tie.Need-same-length
 same-length c = search needs
@@ -49,20 +43,18 @@ same-length-5 c = search needs
 
 returns-2 : tie.Need-returns-2
 returns-2 c =
-    let a = c .before .before .before .before .before .before .before .before .before .before .before .before .before .before .before .before .before .before .before .before .before .before .before .args in
-    let file = a .file .now in
-    let f = c .before .before .before .before .before .before .before .before .before .load-laid in
-    loads-laid file (lentTables (a .prefix .now) (a .clauses .now) (a .classes .now) (a .parents .now) (a .counts .now)) (lentTables (f .last .1 .0) (f .last .1 .1 .0) (f .last .1 .1 .1 .0) (f .last .1 .1 .1 .1 .0) (f .last .1 .1 .1 .1 .1 .0)) (f .result) (subst (Judged (fileOrder file)) (c .before .before .before .before .before .before .before .before .before .before .before .before .before .before .before .enum-told .given .1) (c .before .before .before .before .before .before .before .before .before .before .before .before .before .before .before .before .before .layout-verdict .ensures)) (f .ensures)
+    let a = c .before .before .before .before .before .before .before .before .before .before .before .before .before .before .before .before .before .before .before .before .before .before .args in
+    let r = c .before .before .before .before .before .before .before .before .before .before .before .before .before .before .before .before .is-rule in
+    let f = c .before .before .before .before .before .before .before .before .before .load-ruled in
+    loads-ruled (a .rule) (a .file .now) (lentTables (a .prefix .now) (a .clauses .now) (a .classes .now) (a .parents .now) (a .counts .now)) (lentTables (f .last .1 .1 .0) (f .last .1 .1 .1 .0) (f .last .1 .1 .1 .1 .0) (f .last .1 .1 .1 .1 .1 .0) (f .last .1 .1 .1 .1 .1 .1 .0)) (f .result) (told {P = IsRule (a .rule)} (r .result) (not-false (r .result) (c .before .before .before .before .before .before .before .before .before .before .before .before .before .before .before .if1 .left)) (r .ensures)) (f .ensures)
 
 pub load-spec : {M : Type 1} → statement M
 load-spec =
     tie.close
     (tie.spec
-    layout-verdict-requires
-    enum-known-number
-    enum-told
-    load-laid-requires
+    is-rule-requires
     returns
+    load-ruled-requires
     same-length
     same-length-2
     same-length-3

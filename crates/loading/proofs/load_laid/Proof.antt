@@ -21,14 +21,13 @@ enum-told c = search needs
 
 load-right-requires : tie.Need-load-right-requires
 load-right-requires c κs =
-    let file = c .before .before .before .before .before .before .before .before .before .before .before .before .before .args .file .now in
-    (c .before .before .before .before .before .before .before .before .before .before .before .before .before .pre, subst (Judges file) (c .before .before .before .before .before .enum-told .given .1) (c .before .before .before .before .before .before .before .contents-verdict .ensures) .1)
+    c .before .before .before .before .before .before .before .before .before .before .before .before .before .pre .0
 
 returns : tie.Need-returns
 returns c =
     let a = c .before .before .before .before .before .before .before .before .before .args in
     let file = a .file .now in
-    (refused-first (contentsOrder file) (At0 14 (NoRoom file (lentTables (a .prefix .now) (a .clauses .now) (a .classes .now) (a .parents .now) (a .counts .now))) ∷ []) (c .before .number .given .1) (c .before .before .before .contents-verdict .ensures .0), refl)
+    (refused-first (contentsOrder (a .rule) file) (At0 14 (NoRoom file (lentTables (a .prefix .now) (a .clauses .now) (a .classes .now) (a .parents .now) (a .counts .now))) ∷ []) (c .before .number .given .1) (c .before .before .before .contents-verdict .ensures .0), refl)
 
 same-length : tie.Need-same-length
 same-length c = search needs
@@ -50,7 +49,8 @@ returns-2 c =
     let a = c .before .before .before .before .before .before .before .before .before .before .before .before .before .before .before .before .before .before .before .before .before .before .before .args in
     let file = a .file .now in
     let f = c .before .before .before .before .before .before .before .before .before .load-right in
-    loads-right file (lentTables (a .prefix .now) (a .clauses .now) (a .classes .now) (a .parents .now) (a .counts .now)) (lentTables (f .last .1 .0) (f .last .1 .1 .0) (f .last .1 .1 .1 .0) (f .last .1 .1 .1 .1 .0) (f .last .1 .1 .1 .1 .1 .0)) (f .result) (subst (Judges file) (c .before .before .before .before .before .before .before .before .before .before .before .before .before .before .before .enum-told .given .1) (c .before .before .before .before .before .before .before .before .before .before .before .before .before .before .before .before .before .contents-verdict .ensures) .0) (f .ensures)
+    let judged = subst (Judges (a .rule) file) (c .before .before .before .before .before .before .before .before .before .before .before .before .before .before .before .enum-told .given .1) (c .before .before .before .before .before .before .before .before .before .before .before .before .before .before .before .before .before .contents-verdict .ensures) in
+    loads-right (a .rule) file (lentTables (a .prefix .now) (a .clauses .now) (a .classes .now) (a .parents .now) (a .counts .now)) (lentTables (f .last .1 .0) (f .last .1 .1 .0) (f .last .1 .1 .1 .0) (f .last .1 .1 .1 .1 .0) (f .last .1 .1 .1 .1 .1 .0)) (f .result) (judged .0) (judged .1) (f .ensures)
 
 pub load-laid-spec : {M : Type 1} → statement M
 load-laid-spec =

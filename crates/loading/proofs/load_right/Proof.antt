@@ -39,7 +39,7 @@ fill-lent-requires : tie.Need-fill-lent-requires
 fill-lent-requires c κs =
     let a = c .before .before .before .before .before .before .before .before .before .before .before .before .before .before .before .before .before .args in
     let room = c .before .before .before .before .before .before .has-room in
-    (c .before .before .before .before .before .before .before .before .before .before .before .before .before .before .before .before .before .pre .0, told (room .result) (not-false (room .result) (c .before .before .before .before .before .if1 .left)) (room .ensures))
+    (c .before .before .before .before .before .before .before .before .before .before .before .before .before .before .before .before .before .pre, told (room .result) (not-false (room .result) (c .before .before .before .before .before .if1 .left)) (room .ensures))
 
 same-length-6 : tie.Need-same-length-6
 same-length-6 c = search needs
@@ -61,7 +61,7 @@ returns-2 c =
     let a = c .before .before .before .before .before .before .before .before .before .before .before .before .before .before .before .before .before .before .before .before .before .before .before .before .before .before .before .args in
     let room = c .before .before .before .before .before .before .before .before .before .before .before .before .before .before .before .before .has-room in
     let f = c .before .before .before .before .before .before .before .before .before .fill-lent in
-    loads-filled (a .file .now) (lentTables (a .prefix .now) (a .clauses .now) (a .classes .now) (a .parents .now) (a .counts .now)) (lentTables (f .last .1 .0) (f .last .1 .1 .0) (f .last .1 .1 .1 .0) (f .last .1 .1 .1 .1 .0) (f .last .1 .1 .1 .1 .1 .0)) (f .result) (c .before .before .before .before .before .before .before .before .before .before .before .before .before .before .before .before .before .before .before .before .before .before .before .before .before .before .before .pre .1) (told {P = Room (a .file .now) (lentTables (a .prefix .now) (a .clauses .now) (a .classes .now) (a .parents .now) (a .counts .now))} (room .result) (not-false (room .result) (c .before .before .before .before .before .before .before .before .before .before .before .before .before .before .before .if1 .left)) (room .ensures)) (f .ensures .0) (f .ensures .1)
+    loads-filled (a .file .now) (lentTables (a .prefix .now) (a .clauses .now) (a .classes .now) (a .parents .now) (a .counts .now)) (lentTables (f .last .1 .0) (f .last .1 .1 .0) (f .last .1 .1 .1 .0) (f .last .1 .1 .1 .1 .0) (f .last .1 .1 .1 .1 .1 .0)) (f .result) (told {P = Room (a .file .now) (lentTables (a .prefix .now) (a .clauses .now) (a .classes .now) (a .parents .now) (a .counts .now))} (room .result) (not-false (room .result) (c .before .before .before .before .before .before .before .before .before .before .before .before .before .before .before .if1 .left)) (room .ensures)) (f .ensures .0) (f .ensures .1)
 
 pub load-right-spec : {M : Type 1} → statement M
 load-right-spec =

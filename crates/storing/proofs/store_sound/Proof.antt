@@ -39,56 +39,56 @@ array-share-prefix-classes c =
     let k = c .before .before .before .before .before .before .before .before .before .before .before .before in
     let a = k .args in
     let o = c .before .before .before .before .before .before .build-tallied in
-    within (a .n) (a .prefix .now) (a .clauses .now) (k .pre) empty (standing (o .last .1 .1 .1 .0) (o .last .1 .1 .1 .1 .0) (o .last .1 .1 .1 .1 .1 .0) (o .result .tally)) (length-replicate {A = ℕ} 4096 0) (length-replicate {A = ℕ} 4096 0) (length-replicate {A = ℕ} 4096 0) (o .result .answer) (o .ensures) (c .before .answer2 .given .1) .0
+    within (a .rule) (a .n) (a .prefix .now) (a .clauses .now) (k .pre) empty (standing (o .last .1 .1 .1 .1 .0) (o .last .1 .1 .1 .1 .1 .0) (o .last .1 .1 .1 .1 .1 .1 .0) (o .result .tally)) (length-replicate {A = ℕ} 4096 0) (length-replicate {A = ℕ} 4096 0) (length-replicate {A = ℕ} 4096 0) (o .result .answer) (o .ensures) (c .before .answer2 .given .1) .0
 
 slice-aggregate-store-built : tie.Need-slice-aggregate-store-built
 slice-aggregate-store-built c =
     let k = c .before .before .before .before .before .before .before .before .before .before .before .before .before in
     let a = k .args in
     let o = c .before .before .before .before .before .before .before .build-tallied in
-    sym (length-take-le (c .before .before .answer2 .given .0 .0) (o .last .1 .1 .1 .0) (within (a .n) (a .prefix .now) (a .clauses .now) (k .pre) empty (standing (o .last .1 .1 .1 .0) (o .last .1 .1 .1 .1 .0) (o .last .1 .1 .1 .1 .1 .0) (o .result .tally)) (length-replicate {A = ℕ} 4096 0) (length-replicate {A = ℕ} 4096 0) (length-replicate {A = ℕ} 4096 0) (o .result .answer) (o .ensures) (c .before .before .answer2 .given .1) .0))
+    sym (length-take-le (c .before .before .answer2 .given .0 .0) (o .last .1 .1 .1 .1 .0) (within (a .rule) (a .n) (a .prefix .now) (a .clauses .now) (k .pre) empty (standing (o .last .1 .1 .1 .1 .0) (o .last .1 .1 .1 .1 .1 .0) (o .last .1 .1 .1 .1 .1 .1 .0) (o .result .tally)) (length-replicate {A = ℕ} 4096 0) (length-replicate {A = ℕ} 4096 0) (length-replicate {A = ℕ} 4096 0) (o .result .answer) (o .ensures) (c .before .before .answer2 .given .1) .0))
 
 array-share-prefix-parents : tie.Need-array-share-prefix-parents
 array-share-prefix-parents c =
     let k = c .before .before .before .before .before .before .before .before .before .before .before .before .before in
     let a = k .args in
     let o = c .before .before .before .before .before .before .before .build-tallied in
-    within (a .n) (a .prefix .now) (a .clauses .now) (k .pre) empty (standing (o .last .1 .1 .1 .0) (o .last .1 .1 .1 .1 .0) (o .last .1 .1 .1 .1 .1 .0) (o .result .tally)) (length-replicate {A = ℕ} 4096 0) (length-replicate {A = ℕ} 4096 0) (length-replicate {A = ℕ} 4096 0) (o .result .answer) (o .ensures) (c .before .before .answer2 .given .1) .1
+    within (a .rule) (a .n) (a .prefix .now) (a .clauses .now) (k .pre) empty (standing (o .last .1 .1 .1 .1 .0) (o .last .1 .1 .1 .1 .1 .0) (o .last .1 .1 .1 .1 .1 .1 .0) (o .result .tally)) (length-replicate {A = ℕ} 4096 0) (length-replicate {A = ℕ} 4096 0) (length-replicate {A = ℕ} 4096 0) (o .result .answer) (o .ensures) (c .before .before .answer2 .given .1) .1
 
 slice-aggregate-store-built-2 : tie.Need-slice-aggregate-store-built-2
 slice-aggregate-store-built-2 c =
     let k = c .before .before .before .before .before .before .before .before .before .before .before .before .before .before in
     let a = k .args in
     let o = c .before .before .before .before .before .before .before .before .build-tallied in
-    sym (length-take-le (c .before .before .before .answer2 .given .0 .0) (o .last .1 .1 .1 .1 .0) (within (a .n) (a .prefix .now) (a .clauses .now) (k .pre) empty (standing (o .last .1 .1 .1 .0) (o .last .1 .1 .1 .1 .0) (o .last .1 .1 .1 .1 .1 .0) (o .result .tally)) (length-replicate {A = ℕ} 4096 0) (length-replicate {A = ℕ} 4096 0) (length-replicate {A = ℕ} 4096 0) (o .result .answer) (o .ensures) (c .before .before .before .answer2 .given .1) .1))
+    sym (length-take-le (c .before .before .before .answer2 .given .0 .0) (o .last .1 .1 .1 .1 .1 .0) (within (a .rule) (a .n) (a .prefix .now) (a .clauses .now) (k .pre) empty (standing (o .last .1 .1 .1 .1 .0) (o .last .1 .1 .1 .1 .1 .0) (o .last .1 .1 .1 .1 .1 .1 .0) (o .result .tally)) (length-replicate {A = ℕ} 4096 0) (length-replicate {A = ℕ} 4096 0) (length-replicate {A = ℕ} 4096 0) (o .result .answer) (o .ensures) (c .before .before .before .answer2 .given .1) .1))
 
 array-share-prefix-counts : tie.Need-array-share-prefix-counts
 array-share-prefix-counts c =
     let k = c .before .before .before .before .before .before .before .before .before .before .before .before .before .before in
     let a = k .args in
     let o = c .before .before .before .before .before .before .before .before .build-tallied in
-    within (a .n) (a .prefix .now) (a .clauses .now) (k .pre) empty (standing (o .last .1 .1 .1 .0) (o .last .1 .1 .1 .1 .0) (o .last .1 .1 .1 .1 .1 .0) (o .result .tally)) (length-replicate {A = ℕ} 4096 0) (length-replicate {A = ℕ} 4096 0) (length-replicate {A = ℕ} 4096 0) (o .result .answer) (o .ensures) (c .before .before .before .answer2 .given .1) .2
+    within (a .rule) (a .n) (a .prefix .now) (a .clauses .now) (k .pre) empty (standing (o .last .1 .1 .1 .1 .0) (o .last .1 .1 .1 .1 .1 .0) (o .last .1 .1 .1 .1 .1 .1 .0) (o .result .tally)) (length-replicate {A = ℕ} 4096 0) (length-replicate {A = ℕ} 4096 0) (length-replicate {A = ℕ} 4096 0) (o .result .answer) (o .ensures) (c .before .before .before .answer2 .given .1) .2
 
 slice-aggregate-store-built-3 : tie.Need-slice-aggregate-store-built-3
 slice-aggregate-store-built-3 c =
     let k = c .before .before .before .before .before .before .before .before .before .before .before .before .before .before .before in
     let a = k .args in
     let o = c .before .before .before .before .before .before .before .before .before .build-tallied in
-    sym (length-take-le (c .before .before .before .before .answer2 .given .0 .0) (o .last .1 .1 .1 .1 .1 .0) (within (a .n) (a .prefix .now) (a .clauses .now) (k .pre) empty (standing (o .last .1 .1 .1 .0) (o .last .1 .1 .1 .1 .0) (o .last .1 .1 .1 .1 .1 .0) (o .result .tally)) (length-replicate {A = ℕ} 4096 0) (length-replicate {A = ℕ} 4096 0) (length-replicate {A = ℕ} 4096 0) (o .result .answer) (o .ensures) (c .before .before .before .before .answer2 .given .1) .2))
+    sym (length-take-le (c .before .before .before .before .answer2 .given .0 .0) (o .last .1 .1 .1 .1 .1 .1 .0) (within (a .rule) (a .n) (a .prefix .now) (a .clauses .now) (k .pre) empty (standing (o .last .1 .1 .1 .1 .0) (o .last .1 .1 .1 .1 .1 .0) (o .last .1 .1 .1 .1 .1 .1 .0) (o .result .tally)) (length-replicate {A = ℕ} 4096 0) (length-replicate {A = ℕ} 4096 0) (length-replicate {A = ℕ} 4096 0) (o .result .answer) (o .ensures) (c .before .before .before .before .answer2 .given .1) .2))
 
 store-built-requires : tie.Need-store-built-requires
 store-built-requires c κs =
     let k = c .before .before .before .before .before .before .before .before .before .before .before .before .before .before .before .before in
     let a = k .args in
     let o = c .before .before .before .before .before .before .before .before .before .before .build-tallied in
-    (k .pre, built-rows (a .n) (a .prefix .now) (a .clauses .now) (k .pre) empty (standing (o .last .1 .1 .1 .0) (o .last .1 .1 .1 .1 .0) (o .last .1 .1 .1 .1 .1 .0) (o .result .tally)) (length-replicate {A = ℕ} 4096 0) (length-replicate {A = ℕ} 4096 0) (length-replicate {A = ℕ} 4096 0) (o .result .answer) (o .ensures) (c .before .before .before .before .before .answer2 .given .1))
+    (k .pre, built-rows (a .rule) (a .n) (a .prefix .now) (a .clauses .now) (k .pre) empty (standing (o .last .1 .1 .1 .1 .0) (o .last .1 .1 .1 .1 .1 .0) (o .last .1 .1 .1 .1 .1 .1 .0) (o .result .tally)) (length-replicate {A = ℕ} 4096 0) (length-replicate {A = ℕ} 4096 0) (length-replicate {A = ℕ} 4096 0) (o .result .answer) (o .ensures) (c .before .before .before .before .before .answer2 .given .1))
 
 returns : tie.Need-returns
 returns c =
     let k = c .before .before .before .before .before .before .before .before .before .before .before .before in
     let a = k .args in
     let o = c .before .before .before .before .before .before .build-tallied in
-    absurd (never-refused (a .n) (a .prefix .now) (a .clauses .now) (k .pre) empty (standing (o .last .1 .1 .1 .0) (o .last .1 .1 .1 .1 .0) (o .last .1 .1 .1 .1 .1 .0) (o .result .tally)) (length-replicate {A = ℕ} 4096 0) (length-replicate {A = ℕ} 4096 0) (length-replicate {A = ℕ} 4096 0) (o .result .answer) (o .ensures) (c .before .answer .given .1))
+    absurd (never-refused (a .rule) (a .n) (a .prefix .now) (a .clauses .now) (k .pre) empty (standing (o .last .1 .1 .1 .1 .0) (o .last .1 .1 .1 .1 .1 .0) (o .last .1 .1 .1 .1 .1 .1 .0) (o .result .tally)) (length-replicate {A = ℕ} 4096 0) (length-replicate {A = ℕ} 4096 0) (length-replicate {A = ℕ} 4096 0) (o .result .answer) (o .ensures) (c .before .answer .given .1))
 
 same-length : tie.Need-same-length
 same-length c = search needs

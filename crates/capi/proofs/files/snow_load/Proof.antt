@@ -18,7 +18,7 @@ cast-prefix-count : tie.Need-cast-prefix-count
 cast-prefix-count c =
     let a = c .before .before .before .before .before .before .before .before .before .before .before .before .before .before .before .before .before .before .before .before .before .before .before .args in
     let f = c .before .before .before .before .before .before .before .before .before .before .before .before .load in
-    let few = loaded-few (a .file .now) (lentTables (a .prefix .now) (a .clauses .now) (a .classes .now) (a .parents .now) (a .counts .now)) (lentTables (f .last .1 .0) (f .last .1 .1 .0) (f .last .1 .1 .1 .0) (f .last .1 .1 .1 .1 .0) (f .last .1 .1 .1 .1 .1 .0)) (f .ensures) (c .before .variables .given .1) in
+    let few = loaded-few (a .rule) (a .file .now) (lentTables (a .prefix .now) (a .clauses .now) (a .classes .now) (a .parents .now) (a .counts .now)) (lentTables (f .last .1 .1 .0) (f .last .1 .1 .1 .0) (f .last .1 .1 .1 .1 .0) (f .last .1 .1 .1 .1 .1 .0) (f .last .1 .1 .1 .1 .1 .1 .0)) (f .ensures) (c .before .variables .given .1) in
     let entries = few .0 in
     omega arith
 
@@ -26,7 +26,7 @@ cast-clauses-count : tie.Need-cast-clauses-count
 cast-clauses-count c =
     let a = c .before .before .before .before .before .before .before .before .before .before .before .before .before .before .before .before .before .before .before .before .before .before .before .args in
     let f = c .before .before .before .before .before .before .before .before .before .before .before .before .load in
-    let few = loaded-few (a .file .now) (lentTables (a .prefix .now) (a .clauses .now) (a .classes .now) (a .parents .now) (a .counts .now)) (lentTables (f .last .1 .0) (f .last .1 .1 .0) (f .last .1 .1 .1 .0) (f .last .1 .1 .1 .1 .0) (f .last .1 .1 .1 .1 .1 .0)) (f .ensures) (c .before .variables .given .1) in
+    let few = loaded-few (a .rule) (a .file .now) (lentTables (a .prefix .now) (a .clauses .now) (a .classes .now) (a .parents .now) (a .counts .now)) (lentTables (f .last .1 .1 .0) (f .last .1 .1 .1 .0) (f .last .1 .1 .1 .1 .0) (f .last .1 .1 .1 .1 .1 .0) (f .last .1 .1 .1 .1 .1 .1 .0)) (f .ensures) (c .before .variables .given .1) in
     let literals = few .1 in
     omega arith
 
@@ -40,8 +40,8 @@ cast-place : tie.Need-cast-place
 cast-place c =
     let a = c .before .before .before .before .before .before .before .before .before .before .before .before .before .before .before .before .before .before .before .before .before .before .before .args in
     let f = c .before .before .before .before .before .before .before .before .before .before .before .before .load in
-    let said = load-refused (a .file .now) (lentTables (a .prefix .now) (a .clauses .now) (a .classes .now) (a .parents .now) (a .counts .now)) (lentTables (f .last .1 .0) (f .last .1 .1 .0) (f .last .1 .1 .1 .0) (f .last .1 .1 .1 .1 .0) (f .last .1 .1 .1 .1 .1 .0)) (f .ensures) (c .before .number .given .1) in
-    record { fits = small-load (a .file .now) (lentTables (a .prefix .now) (a .clauses .now) (a .classes .now) (a .parents .now) (a .counts .now)) _ _ (said .0) }
+    let said = load-refused (a .rule) (a .file .now) (lentTables (a .prefix .now) (a .clauses .now) (a .classes .now) (a .parents .now) (a .counts .now)) (lentTables (f .last .1 .1 .0) (f .last .1 .1 .1 .0) (f .last .1 .1 .1 .1 .0) (f .last .1 .1 .1 .1 .1 .0) (f .last .1 .1 .1 .1 .1 .1 .0)) (f .ensures) (c .before .number .given .1) in
+    record { fits = small-load (a .file .now) (a .rule) (lentTables (a .prefix .now) (a .clauses .now) (a .classes .now) (a .parents .now) (a .counts .now)) _ _ (said .0) }
 
 same-length : tie.Need-same-length
 same-length c = search needs
@@ -62,7 +62,7 @@ returns : tie.Need-returns
 returns c =
     let a = c .before .before .before .before .before .before .before .before .before .before .before .before .before .before .before .before .before .before .before .before .before .before .before .before .args in
     let f = c .before .before .before .before .before .before .before .before .before .before .before .before .before .load in
-    let given = load-given (a .file .now) (lentTables (a .prefix .now) (a .clauses .now) (a .classes .now) (a .parents .now) (a .counts .now)) (lentTables (f .last .1 .0) (f .last .1 .1 .0) (f .last .1 .1 .1 .0) (f .last .1 .1 .1 .1 .0) (f .last .1 .1 .1 .1 .1 .0)) (f .ensures) (c .before .before .variables .given .1) (c .sets-told .ensures) in
+    let given = load-given (a .rule) (a .file .now) (lentTables (a .prefix .now) (a .clauses .now) (a .classes .now) (a .parents .now) (a .counts .now)) (lentTables (f .last .1 .1 .0) (f .last .1 .1 .1 .0) (f .last .1 .1 .1 .1 .0) (f .last .1 .1 .1 .1 .1 .0) (f .last .1 .1 .1 .1 .1 .1 .0)) (f .ensures) (c .before .before .variables .given .1) (c .sets-told .ensures) in
     accepted (given .0) (given .1) refl refl
 
 same-length-6 : tie.Need-same-length-6
@@ -84,7 +84,7 @@ returns-2 : tie.Need-returns-2
 returns-2 c =
     let a = c .before .before .before .before .before .before .before .before .before .before .before .before .before .before .before .before .before .before .before .before .before .before .before .args in
     let f = c .before .before .before .before .before .before .before .before .before .before .before .before .load in
-    let said = load-refused (a .file .now) (lentTables (a .prefix .now) (a .clauses .now) (a .classes .now) (a .parents .now) (a .counts .now)) (lentTables (f .last .1 .0) (f .last .1 .1 .0) (f .last .1 .1 .1 .0) (f .last .1 .1 .1 .1 .0) (f .last .1 .1 .1 .1 .1 .0)) (f .ensures) (c .before .number .given .1) in
+    let said = load-refused (a .rule) (a .file .now) (lentTables (a .prefix .now) (a .clauses .now) (a .classes .now) (a .parents .now) (a .counts .now)) (lentTables (f .last .1 .1 .0) (f .last .1 .1 .1 .0) (f .last .1 .1 .1 .1 .0) (f .last .1 .1 .1 .1 .1 .0) (f .last .1 .1 .1 .1 .1 .1 .0)) (f .ensures) (c .before .number .given .1) in
     refused (said .0) (refl, refl, refl, refl, said .1)
 
 pub snow-load-spec : {M : Type 1} → statement M

@@ -22,43 +22,43 @@ build-tallied-requires c κs = search needs
 array-share-prefix-classes : tie.Need-array-share-prefix-classes
 array-share-prefix-classes c =
     let a = c .before .before .before .before .before .before .before .before .before .args in
-    let (lc, lp, lk, few, rows) = built-rows (a .n) (a .prefix .now) (a .clauses .now) (c .before .before .before .build-tallied .result .answer) (c .before .before .before .before .before .before .before .before .before .pre .2) (c .before .before .before .build-tallied .ensures) in
+    let (lc, lp, lk, few, rows) = built-rows (a .rule) (a .n) (a .prefix .now) (a .clauses .now) (c .before .before .before .build-tallied .result .answer) (c .before .before .before .before .before .before .before .before .before .pre .2) (c .before .before .before .build-tallied .ensures) in
     omega arith
 
 slice-aggregate-rows-verdict : tie.Need-slice-aggregate-rows-verdict
 slice-aggregate-rows-verdict c =
     let a = c .before .before .before .before .before .before .before .before .before .before .args in
-    let (lc, lp, lk, few, rows) = built-rows (a .n) (a .prefix .now) (a .clauses .now) (c .before .before .before .before .build-tallied .result .answer) (c .before .before .before .before .before .before .before .before .before .before .pre .2) (c .before .before .before .before .build-tallied .ensures) in
-    sym (length-take-le (a .n) (c .before .before .before .before .build-tallied .last .1 .1 .1 .0) (omega arith))
+    let (lc, lp, lk, few, rows) = built-rows (a .rule) (a .n) (a .prefix .now) (a .clauses .now) (c .before .before .before .before .build-tallied .result .answer) (c .before .before .before .before .before .before .before .before .before .before .pre .2) (c .before .before .before .before .build-tallied .ensures) in
+    sym (length-take-le (a .n) (c .before .before .before .before .build-tallied .last .1 .1 .1 .1 .0) (omega arith))
 
 array-share-prefix-parents : tie.Need-array-share-prefix-parents
 array-share-prefix-parents c =
     let a = c .before .before .before .before .before .before .before .before .before .before .args in
-    let (lc, lp, lk, few, rows) = built-rows (a .n) (a .prefix .now) (a .clauses .now) (c .before .before .before .before .build-tallied .result .answer) (c .before .before .before .before .before .before .before .before .before .before .pre .2) (c .before .before .before .before .build-tallied .ensures) in
+    let (lc, lp, lk, few, rows) = built-rows (a .rule) (a .n) (a .prefix .now) (a .clauses .now) (c .before .before .before .before .build-tallied .result .answer) (c .before .before .before .before .before .before .before .before .before .before .pre .2) (c .before .before .before .before .build-tallied .ensures) in
     omega arith
 
 slice-aggregate-rows-verdict-2 : tie.Need-slice-aggregate-rows-verdict-2
 slice-aggregate-rows-verdict-2 c =
     let a = c .before .before .before .before .before .before .before .before .before .before .before .args in
-    let (lc, lp, lk, few, rows) = built-rows (a .n) (a .prefix .now) (a .clauses .now) (c .before .before .before .before .before .build-tallied .result .answer) (c .before .before .before .before .before .before .before .before .before .before .before .pre .2) (c .before .before .before .before .before .build-tallied .ensures) in
-    sym (length-take-le (a .n) (c .before .before .before .before .before .build-tallied .last .1 .1 .1 .1 .0) (omega arith))
+    let (lc, lp, lk, few, rows) = built-rows (a .rule) (a .n) (a .prefix .now) (a .clauses .now) (c .before .before .before .before .before .build-tallied .result .answer) (c .before .before .before .before .before .before .before .before .before .before .before .pre .2) (c .before .before .before .before .before .build-tallied .ensures) in
+    sym (length-take-le (a .n) (c .before .before .before .before .before .build-tallied .last .1 .1 .1 .1 .1 .0) (omega arith))
 
 array-share-prefix-counts : tie.Need-array-share-prefix-counts
 array-share-prefix-counts c =
     let a = c .before .before .before .before .before .before .before .before .before .before .before .args in
-    let (lc, lp, lk, few, rows) = built-rows (a .n) (a .prefix .now) (a .clauses .now) (c .before .before .before .before .before .build-tallied .result .answer) (c .before .before .before .before .before .before .before .before .before .before .before .pre .2) (c .before .before .before .before .before .build-tallied .ensures) in
+    let (lc, lp, lk, few, rows) = built-rows (a .rule) (a .n) (a .prefix .now) (a .clauses .now) (c .before .before .before .before .before .build-tallied .result .answer) (c .before .before .before .before .before .before .before .before .before .before .before .pre .2) (c .before .before .before .before .before .build-tallied .ensures) in
     omega arith
 
 slice-aggregate-rows-verdict-3 : tie.Need-slice-aggregate-rows-verdict-3
 slice-aggregate-rows-verdict-3 c =
     let a = c .before .before .before .before .before .before .before .before .before .before .before .before .args in
-    let (lc, lp, lk, few, rows) = built-rows (a .n) (a .prefix .now) (a .clauses .now) (c .before .before .before .before .before .before .build-tallied .result .answer) (c .before .before .before .before .before .before .before .before .before .before .before .before .pre .2) (c .before .before .before .before .before .before .build-tallied .ensures) in
-    sym (length-take-le (a .n) (c .before .before .before .before .before .before .build-tallied .last .1 .1 .1 .1 .1 .0) (omega arith))
+    let (lc, lp, lk, few, rows) = built-rows (a .rule) (a .n) (a .prefix .now) (a .clauses .now) (c .before .before .before .before .before .before .build-tallied .result .answer) (c .before .before .before .before .before .before .before .before .before .before .before .before .pre .2) (c .before .before .before .before .before .before .build-tallied .ensures) in
+    sym (length-take-le (a .n) (c .before .before .before .before .before .before .build-tallied .last .1 .1 .1 .1 .1 .1 .0) (omega arith))
 
 rows-verdict-requires : tie.Need-rows-verdict-requires
 rows-verdict-requires c κs =
     let a = c .before .before .before .before .before .before .before .before .before .before .before .before .args in
-    let (lc, lp, lk, few, rows) = built-rows (a .n) (a .prefix .now) (a .clauses .now) (c .before .before .before .before .before .before .build-tallied .result .answer) (c .before .before .before .before .before .before .before .before .before .before .before .before .pre .2) (c .before .before .before .before .before .before .build-tallied .ensures) in
+    let (lc, lp, lk, few, rows) = built-rows (a .rule) (a .n) (a .prefix .now) (a .clauses .now) (c .before .before .before .before .before .before .build-tallied .result .answer) (c .before .before .before .before .before .before .before .before .before .before .before .before .pre .2) (c .before .before .before .before .before .before .build-tallied .ensures) in
     (c .before .before .before .before .before .before .before .before .before .before .before .before .pre, rows)
 
 returns : tie.Need-returns

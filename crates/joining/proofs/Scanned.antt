@@ -1,0 +1,230 @@
+-- What the scan of a prefix under rule 2 knows at entry i, how one entry more is scanned, and that a fault found there is the first.
+use Prim.Native.Nat.{ℕ, zero, suc, _≤_, _<_, _+_, _-_}
+use mathlib.Core.Path.{_≡_, refl, sym, ap, _∙_, subst}
+use mathlib.Core.Bool.{Bool, true, false, cond, not, _&&_}
+use mathlib.Core.List.{List}
+use mathlib.Core.Logic.{_⊎_, inl, inr, ⊎-elim, _≢_}
+use native.Mathlib.Decide.{ℕ-discrete}
+use native.Mathlib.Numerals.{add-one}
+use native.Mathlib.Omega.{arith}
+use borrow.Author.Tests.{eq-eqb, ne-eqb, eqb-true}
+use lib.Dec.{eqb}
+use lib.ListN.{length, getD, set, length-set, replicate, length-replicate}
+use lib.Seq.{getD-set-same, getD-set-other}
+use Rattle.terms.specs.Refusals.{First, None}
+use Rattle.terms.proofs.Common.{below-suc, clash}
+use Rattle.terms.proofs.Verdicts.{first-at}
+use Rattle.formula.specs.Tables.{at, opens, VariableAt, EndsInside}
+use Rattle.formula.specs.Scan.{IsMark}
+use Rattle.formula.proofs.Scanned.{open-end, unnamed}
+use Rattle.joining.specs.Rules.{emptyAt, beginsAfter, lastMark, begins, begunBefore, JoinedCause, ends-inside, no-mark, too-many-blocks, outside, named-before}
+use Rattle.joining.specs.Writing.{MarkFault}
+
+-- no cause stands at entry e
+abbrev Clean : ℕ → List ℕ → ℕ → Type 0
+Clean n es e = (number : ℕ) → JoinedCause n es number e → ⊥
+
+-- Every entry before i is without fault, and the scan's variables say what stands before i.
+pub record Scanned (n : ℕ) (es : List ℕ) (i : ℕ) (opening : Bool) (last count : ℕ) (named : List Bool) : Type 0 where
+  pub within : i ≤ length es
+  pub clean : (e : ℕ) → e < i → (number : ℕ) → JoinedCause n es number e → ⊥
+  pub opening-is : opening ≡ opens es i
+  pub last-is : last ≡ lastMark es i
+  pub counted : count ≡ begunBefore es i
+  pub few : count ≤ 64
+  pub size : length named ≡ 4097
+  pub names : (v : ℕ) → getD named v false ≡ true → (b : ℕ) × (b < i) × VariableAt es b × (at es b ≡ v)
+  pub named-all : (b : ℕ) → b < i → VariableAt es b → getD named (at es b) false ≡ true
+
+-- nothing is wrong with a mark of which no number is said
+mark-fine : {entry count number : ℕ} {new : Bool} → MarkFault entry new count number → number ≡ 0 → IsMark entry × ((new ≡ false) ⊎ (count ≢ 64))
+mark-fine (MarkFault.fine _ good few) none = (good, few)
+mark-fine (MarkFault.no-mark q _ _) none = absurd (omega arith)
+mark-fine (MarkFault.too-many q _ _ _) none = absurd (omega arith)
+
+pub mark-some : (entry : ℕ) → IsMark entry → entry ≢ 0
+mark-some entry (inl q) z = omega arith
+mark-some entry (inr q) z = omega arith
+
+-- At an entry that opens a block the last mark and the count go on as the test says: a mark that begins no block is empty or the same again.
+last-cases : (empty : Bool) (a l : ℕ) → cond (not empty) a l ≡ cond (not empty && not (eqb a l)) a l
+last-cases true a l = refl
+last-cases false a l = go (ℕ-discrete a l)
+  where
+    go : Dec (a ≡ l) → a ≡ cond (not (eqb a l)) a l
+    go (yes q) = q ∙ sym (ap (λ b. cond (not b) a l) (eq-eqb a l q))
+    go (no other) = sym (ap (λ b. cond (not b) a l) (ne-eqb a l other))
+
+pub last-next : (es : List ℕ) (i : ℕ) → opens es i ≡ true → lastMark es (suc i) ≡ cond (beginsAfter es i (lastMark es i)) (at es i) (lastMark es i)
+last-next es i open′ = ap (λ o. cond (o && not (emptyAt es i)) (at es i) (lastMark es i)) open′ ∙ last-cases (emptyAt es i) (at es i) (lastMark es i)
+
+pub last-stays : (es : List ℕ) (i : ℕ) → opens es i ≡ false → lastMark es (suc i) ≡ lastMark es i
+last-stays es i shut = ap (λ o. cond (o && not (emptyAt es i)) (at es i) (lastMark es i)) shut
+
+pub begins-open : (es : List ℕ) (i : ℕ) → opens es i ≡ true → begins es i ≡ beginsAfter es i (lastMark es i)
+begins-open es i open′ = ap (λ o. o && beginsAfter es i (lastMark es i)) open′
+
+pub begun-next : (es : List ℕ) (i : ℕ) (new : Bool) → begins es i ≡ new → begunBefore es (suc i) ≡ cond new (suc (begunBefore es i)) (begunBefore es i)
+begun-next es i new q = ap (λ b. cond b (suc (begunBefore es i)) (begunBefore es i)) q
+
+pub begins-shut : (es : List ℕ) (i : ℕ) → opens es i ≡ false → begins es i ≡ false
+begins-shut es i shut = ap (λ o. o && beginsAfter es i (lastMark es i)) shut
+
+module _ {n : ℕ} {es : List ℕ} {i : ℕ} {opening : Bool} {last count : ℕ} {named : List Bool} (s : Scanned n es i opening last count named) (more : i < length es) where
+  -- the test of the code is that of the definition
+  tested : {new : Bool} → opens es i ≡ true → new ≡ beginsAfter es i last → begins es i ≡ new
+  tested open′ is = begins-open es i open′ ∙ sym (is ∙ ap (beginsAfter es i) (s .last-is))
+
+  -- What can be wrong at this entry, by the kind of its place, in the scan's own terms.
+  at-mark : {new : Bool} → opens es i ≡ true → new ≡ beginsAfter es i last → (k : ℕ) → JoinedCause n es k i → ((k ≡ 4) × (at es i ≢ 1) × (at es i ≢ 2)) ⊎ ((k ≡ 6) × (new ≡ true) × (count ≡ 64))
+  at-mark open′ is k (ends-inside _ q _) = absurd (omega arith)
+  at-mark open′ is k (no-mark q _ a b) = inl (q, a, b)
+  at-mark open′ is k (too-many-blocks q _ new many) = inr (q, sym (tested open′ is) ∙ new, s .counted ∙ many)
+  at-mark open′ is k (outside _ v _) = absurd (clash open′ (v .1))
+  at-mark open′ is k (named-before _ _ v _ _ _) = absurd (clash open′ (v .1))
+
+  at-close : opens es i ≡ false → at es i ≡ 0 → (k : ℕ) → JoinedCause n es k i → ⊥
+  at-close shut zero′ k (ends-inside _ q _) = omega arith
+  at-close shut zero′ k (no-mark _ m _ _) = clash (m .1) shut
+  at-close shut zero′ k (too-many-blocks _ m _ _) = clash (m .1) shut
+  at-close shut zero′ k (outside _ v _) = v .2 zero′
+  at-close shut zero′ k (named-before _ _ v _ _ _) = v .2 zero′
+
+  at-variable : opens es i ≡ false → at es i ≢ 0 → (k : ℕ) → JoinedCause n es k i → ((k ≡ 7) × (n < at es i)) ⊎ ((k ≡ 8) × (getD named (at es i) false ≡ true))
+  at-variable shut some k (ends-inside _ q _) = absurd (omega arith)
+  at-variable shut some k (no-mark _ m _ _) = absurd (clash (m .1) shut)
+  at-variable shut some k (too-many-blocks _ m _ _) = absurd (clash (m .1) shut)
+  at-variable shut some k (outside q _ over) = inl (q, over)
+  at-variable shut some k (named-before b q _ l v same) = inr (q, ap (λ w. getD named w false) (sym same) ∙ s .named-all b l v)
+
+  -- A mark: what it leads to, by whether it begins a block.
+  marked : {number : ℕ} (new : Bool) → opens es i ≡ true → new ≡ beginsAfter es i last → MarkFault (at es i) new count number → number ≡ 0 → Scanned n es (i + 1) false (cond new (at es i) last) (cond new (count + 1) count) named
+  marked new open′ is judged none =
+      let (good, room) = mark-fine judged none in
+      rw (add-one i, add-one count)
+      record {
+        within = more;
+        clean = below-suc (Clean n es) i (s .clean) (λ k cause. ⊎-elim (λ w. ⊎-elim (w .1) (w .2) good) (λ w. ⊎-elim (λ old. clash (w .1) old) (λ few. few (w .2)) room) (at-mark open′ is k cause));
+        opening-is = sym (ne-eqb (at es i) 0 (mark-some (at es i) good));
+        last-is = ap (λ l. cond new (at es i) l) (s .last-is) ∙ ap (λ b. cond b (at es i) (lastMark es i)) (sym (sym (begins-open es i open′) ∙ tested open′ is)) ∙ sym (last-next es i open′);
+        counted = ap (λ c. cond new (suc c) c) (s .counted) ∙ sym (begun-next es i new (tested open′ is));
+        few = most new room;
+        size = s .size;
+        names = λ v t. let (b, l, var, q) = s .names v t in (b, omega arith, var, q);
+        named-all = below-suc (λ b. VariableAt es b → getD named (at es b) false ≡ true) i (s .named-all) (λ var. absurd (clash open′ (var .1)));
+      }
+    where
+      most : (new : Bool) → (new ≡ false) ⊎ (count ≢ 64) → cond new (suc count) count ≤ 64
+      most true (inl q) = absurd (clash refl q)
+      most true (inr other) = let l = s .few in omega arith
+      most false _ = s .few
+
+  pub scan-mark : {number : ℕ} {tested : Bool} (new : Bool) → tested ≡ new → opens es i ≡ true → tested ≡ beginsAfter es i last → MarkFault (at es i) tested count number → number ≡ 0 → Scanned n es (i + 1) false (cond new (at es i) last) (cond new (count + 1) count) named
+  scan-mark {number} new told open′ is judged none = marked new open′ (sym told ∙ is) (subst (λ (b : Bool). MarkFault (at es i) b count number) told judged) none
+
+  -- A 0 that closes a block.
+  pub scan-close : opens es i ≡ false → at es i ≡ 0 → Scanned n es (i + 1) true last count named
+  scan-close shut zero′ =
+      rw (add-one i)
+      record {
+        within = more;
+        clean = below-suc (Clean n es) i (s .clean) (at-close shut zero′);
+        opening-is = sym (eq-eqb (at es i) 0 zero′);
+        last-is = s .last-is ∙ sym (last-stays es i shut);
+        counted = s .counted ∙ sym (begun-next es i false (begins-shut es i shut));
+        few = s .few;
+        size = s .size;
+        names = λ v t. let (b, l, var, q) = s .names v t in (b, omega arith, var, q);
+        named-all = below-suc (λ b. VariableAt es b → getD named (at es b) false ≡ true) i (s .named-all) (λ var. absurd (var .2 zero′));
+      }
+
+  -- A variable from 1 to n that no entry before it names: it is named from now on.
+  pub scan-variable : opens es i ≡ false → at es i ≢ 0 → at es i ≤ n → n ≤ 4096 → getD named (at es i) false ≡ false → Scanned n es (i + 1) opening last count (set named (at es i) true)
+  scan-variable shut some inside fits new =
+      rw (add-one i)
+      record {
+        within = more;
+        clean = below-suc (Clean n es) i (s .clean) (λ k cause. ⊎-elim (λ w. let over = w .1 in omega arith) (λ w. clash (w .1) new) (at-variable shut some k cause));
+        opening-is = s .opening-is ∙ shut ∙ sym (ne-eqb (at es i) 0 some);
+        last-is = s .last-is ∙ sym (last-stays es i shut);
+        counted = s .counted ∙ sym (begun-next es i false (begins-shut es i shut));
+        few = s .few;
+        size = length-set named (at es i) true ∙ s .size;
+        names = λ v t. by-dec v t (ℕ-discrete v (at es i));
+        named-all = below-suc (λ b. VariableAt es b → getD (set named (at es i) true) (at es b) false ≡ true) i (λ b l var. kept (at es b) (s .named-all b l var) (ℕ-discrete (at es b) (at es i))) (λ _. stored);
+      }
+    where
+      stored : getD (set named (at es i) true) (at es i) false ≡ true
+      stored = getD-set-same named (at es i) true false (let q = s .size in omega arith)
+
+      kept : (v : ℕ) → getD named v false ≡ true → Dec (v ≡ at es i) → getD (set named (at es i) true) v false ≡ true
+      kept v t (yes q) = ap (λ w. getD (set named (at es i) true) w false) q ∙ stored
+      kept v t (no other) = getD-set-other named (at es i) v true false other ∙ t
+
+      by-dec : (v : ℕ) → getD (set named (at es i) true) v false ≡ true → Dec (v ≡ at es i) → (b : ℕ) × (b < suc i) × VariableAt es b × (at es b ≡ v)
+      by-dec v t (yes q) = (i, omega arith, (more, shut, some), sym q)
+      by-dec v t (no other) =
+          let (b, l, var, q) = s .names v (sym (getD-set-other named (at es i) v true false other) ∙ t) in (b, omega arith, var, q)
+
+  -- A fault at this entry is the first cause: all before it is clean, and no lower number has a cause here.
+  pub fault-at-mark : {new : Bool} (number : ℕ) → opens es i ≡ true → new ≡ beginsAfter es i last → MarkFault (at es i) new count number → number ≢ 0 → First (JoinedCause n es) number i
+  fault-at-mark number open′ is (MarkFault.fine q _ _) some = absurd (some q)
+  fault-at-mark number open′ is (MarkFault.no-mark q a b) some =
+      first-at (s .clean) (no-mark q (more, open′) a b)
+      (λ k cause. ⊎-elim (λ w. let e = w .0 in omega arith) (λ w. let e = w .0 in omega arith) (at-mark open′ is k cause))
+  fault-at-mark number open′ is (MarkFault.too-many q good new many) some =
+      first-at (s .clean) (too-many-blocks q (more, open′) (tested open′ is ∙ new) (sym (s .counted) ∙ many))
+      (λ k cause. ⊎-elim (λ w. absurd (⊎-elim (w .1) (w .2) good)) (λ w. let e = w .0 in omega arith) (at-mark open′ is k cause))
+
+  pub fault-outside : opens es i ≡ false → at es i ≢ 0 → n < at es i → First (JoinedCause n es) 7 i
+  fault-outside shut some over =
+      first-at (s .clean) (outside refl (more, shut, some) over)
+      (λ k cause. ⊎-elim (λ w. let e = w .0 in omega arith) (λ w. let e = w .0 in omega arith) (at-variable shut some k cause))
+
+  pub fault-named : opens es i ≡ false → at es i ≢ 0 → at es i ≤ n → getD named (at es i) false ≡ true → First (JoinedCause n es) 8 i
+  fault-named shut some inside old =
+      let (b, l, var, q) = s .names (at es i) old in
+      first-at (s .clean) (named-before b refl (more, shut, some) l var q)
+      (λ k cause. ⊎-elim (λ w. let over = w .1 in omega arith) (λ w. let e = w .0 in omega arith) (at-variable shut some k cause))
+
+-- A prefix that ends where a block may open does not end inside one.
+shut-end : (es : List ℕ) (m : ℕ) → length es ≡ m → opens es m ≡ true → EndsInside 0 es → ⊥
+shut-end es zero q open′ (some, last) = omega arith
+shut-end es (suc m) q open′ (some, last) = last (ap (at es) (let e : length es - 1 ≡ m = omega arith in e) ∙ eqb-true (at es m) 0 open′)
+
+-- Every cause but 3 stands at an entry.
+at-entry : {n : ℕ} {es : List ℕ} (k e : ℕ) → JoinedCause n es k e → (e < length es) ⊎ ((k ≡ 3) × (e ≡ length es) × EndsInside 0 es)
+at-entry k e (ends-inside q p inside) = inr (q, p, inside)
+at-entry k e (no-mark _ m _ _) = inl (m .0)
+at-entry k e (too-many-blocks _ m _ _) = inl (m .0)
+at-entry k e (outside _ v _) = inl (v .0)
+at-entry k e (named-before _ _ v _ _ _) = inl (v .0)
+
+module _ {n : ℕ} {es : List ℕ} {i : ℕ} {opening : Bool} {last count : ℕ} {named : List Bool} (s : Scanned n es i opening last count named) (done : length es ≤ i) where
+  end : length es ≡ i
+  end = let w = s .within in omega arith
+
+  -- A prefix that is scanned to its end between two blocks has no cause, one that ends inside a block has 3.
+  pub none-in-prefix : opening ≡ true → None (JoinedCause n es)
+  none-in-prefix open′ k e cause =
+      ⊎-elim (λ l. s .clean e (omega arith) k cause) (λ w. shut-end es i end (sym (s .opening-is) ∙ open′) (w .2)) (at-entry k e cause)
+
+  pub fault-at-end : opening ≡ false → First (JoinedCause n es) 3 i
+  fault-at-end shut =
+      first-at (s .clean) (ends-inside refl (sym end) (open-end es i end (sym (s .opening-is) ∙ shut)))
+      (λ k cause. ⊎-elim (λ l. absurd (let q = end in omega arith)) (λ w. let q = w .0 in omega arith) (at-entry k i cause))
+
+-- Before the first entry nothing is scanned, and a block may open.
+pub scan-none : (n : ℕ) (es : List ℕ) → Scanned n es 0 true 0 0 (replicate 4097 false)
+scan-none n es =
+    record {
+      within = omega arith;
+      clean = λ e l. absurd (omega arith);
+      opening-is = refl;
+      last-is = refl;
+      counted = refl;
+      few = omega arith;
+      size = length-replicate 4097 false;
+      names = λ v t. absurd (clash t (unnamed 4097 v));
+      named-all = λ b l. absurd (omega arith);
+    }

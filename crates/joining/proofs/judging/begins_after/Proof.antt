@@ -1,0 +1,78 @@
+-- `joining::judging::begins_after` meets its contract.
+use Prim.Native.Nat.{ℕ, suc, _+_, _<_, _≤_}
+use mathlib.Core.Path.{_≡_, refl, sym, ap, _∙_}
+use mathlib.Core.Bool.{Bool, true, false, not, _&&_}
+use mathlib.Core.List.{List}
+use native.Mathlib.Numerals.{add-one}
+use borrow.Author.Needs.{needs}
+use borrow.Author.Tests.{lt-ltb, le-ltb, eq-eqb, ne-eqb}
+use native.Mathlib.Omega.{arith}
+use lib.Dec.{eqb, ltb}
+use lib.ListN.{length}
+use Rattle.formula.specs.Tables.{at}
+use Rattle.joining.specs.Rules.{beginsAfter}
+use Rattle.joining.proofs.judging.begins_after.Statement.{statement}
+use Rattle.joining.proofs.judging.begins_after.Tie as tie
+
+-- the block is empty if both tests say so
+module _ (es : List ℕ) (i last : ℕ) where
+  begins-by : (within zero′ : Bool) → ltb (suc i) (length es) ≡ within → eqb (at es (suc i)) 0 ≡ zero′ → (not (within && zero′) && not (eqb (at es i) last)) ≡ beginsAfter es i last
+  begins-by within zero′ p q =
+      sym (ap (λ b. not (b && eqb (at es (suc i)) 0) && not (eqb (at es i) last)) p ∙ ap (λ b. not (within && b) && not (eqb (at es i) last)) q)
+
+  next-is : at es (i + 1) ≡ at es (suc i)
+  next-is = ap (at es) (add-one i)
+
+add-next : tie.Need-add-next
+add-next c = search needs
+
+mul-if2 : tie.Need-mul-if2
+mul-if2 c = search needs
+
+shared-slice-read-if2 : tie.Need-shared-slice-read-if2
+shared-slice-read-if2 c = search needs
+
+mul-result : tie.Need-mul-result
+mul-result c = search needs
+
+shared-slice-read-result : tie.Need-shared-slice-read-result
+shared-slice-read-result c = search needs
+
+mul-result-2 : tie.Need-mul-result-2
+mul-result-2 c = search needs
+
+shared-slice-read-result-2 : tie.Need-shared-slice-read-result-2
+shared-slice-read-result-2 c = search needs
+
+returns : tie.Need-returns
+returns c =
+    let a = c .before .before .before .args in
+    let l : suc (a .i) < length (a .prefix .now) = omega (arith, c .before .before .if1 .taken) in
+    begins-by (a .prefix .now) (a .i) (a .last) true true (lt-ltb _ _ l) (eq-eqb _ 0 (sym (next-is (a .prefix .now) (a .i) (a .last)) ∙ c .if2 .taken))
+
+returns-2 : tie.Need-returns-2
+returns-2 c =
+    let a = c .before .before .before .before .args in
+    let l : suc (a .i) < length (a .prefix .now) = omega (arith, c .before .before .before .if1 .taken) in
+    begins-by (a .prefix .now) (a .i) (a .last) true false (lt-ltb _ _ l) (ne-eqb _ 0 (λ z. c .before .if2 .left (next-is (a .prefix .now) (a .i) (a .last) ∙ z)))
+
+returns-3 : tie.Need-returns-3
+returns-3 c =
+    let a = c .before .before .args in
+    let l : length (a .prefix .now) ≤ suc (a .i) = omega (arith, c .before .if1 .left) in
+    begins-by (a .prefix .now) (a .i) (a .last) false _ (le-ltb _ _ l) refl
+
+pub begins-after-spec : {M : Type 1} → statement M
+begins-after-spec =
+    tie.close
+    (tie.spec
+    add-next
+    mul-if2
+    shared-slice-read-if2
+    mul-result
+    shared-slice-read-result
+    mul-result-2
+    shared-slice-read-result-2
+    returns
+    returns-2
+    returns-3)

@@ -1,0 +1,27 @@
+-- `joining::laying::close` meets its contract.
+use native.Mathlib.Omega.{arith}
+use borrow.Author.Needs.{needs}
+use Rattle.joining.proofs.Written.{put-nothing, put-zero}
+use Rattle.joining.proofs.laying.close.Statement.{statement}
+use Rattle.joining.proofs.laying.close.Tie as tie
+
+returns : tie.Need-returns
+returns c = let a = c .before .args in put-nothing (a .out .now) (a .count) (a .last) (c .if1 .taken)
+
+mul-out : tie.Need-mul-out
+mul-out c = search needs
+
+slice-write-out : tie.Need-slice-write-out
+slice-write-out c = c .before .pre .0 (c .if1 .left)
+
+add-result : tie.Need-add-result
+add-result c = search needs
+
+same-length : tie.Need-same-length
+same-length c = search needs
+
+returns-2 : tie.Need-returns-2
+returns-2 c = let a = c .before .args in put-zero (a .out .now) (a .count) (a .last) (c .if1 .left) (c .before .pre .0 (c .if1 .left))
+
+pub close-spec : {M : Type 1} → statement M
+close-spec = tie.close (tie.spec returns mul-out slice-write-out add-result same-length returns-2)
