@@ -1,4 +1,4 @@
-/* The sixteen calls, each wrapped so that every byte that was lent is compared. */
+/* The seventeen calls, each wrapped so that every byte that was lent is compared. */
 #include "agree.h"
 #include "calls.h"
 #include "lend.h"
@@ -381,4 +381,25 @@ struct verdict call_load(const uint8_t *file, size_t file_len, struct loaded *t)
         take_rows(&t->rows, t->n);
     }
     return settle(number);
+}
+
+struct verdict call_path(const struct formula *f, uint32_t x, uint32_t y, const uint32_t *path, size_t path_len)
+{
+    struct verdict v = { 0, 0 };
+    const uint32_t *numbers;
+    size_t *wide_place, wide = 0;
+
+    lend_begin();
+    lend_prefix(f);
+    lend_clauses(f);
+    numbers = lend(path, path_len * sizeof *path);
+    wide_place = lend_wide_cell();
+    lend_end();
+    v.number = snow_path(reading_rule, lent.n, lent.prefix, lent.prefix_len, lent.clauses, lent.clauses_len, x, y, numbers, path_len, wide_place);
+    if (v.number != 0)
+        take(&wide, wide_place, sizeof wide);
+    v.place = (uint32_t)wide;
+    agree(v.place == wide, "the place is an entry");
+    agree(nothing_else_changed(), v.number != 0 ? "a refusal changes nothing but its place" : "nothing else changes");
+    return v;
 }

@@ -14,6 +14,7 @@ int main(void)
     test_stored();
     test_limits();
     test_reading();
+    test_paths();
     test_drawn();
     return agreed_all();
 }

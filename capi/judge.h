@@ -35,6 +35,17 @@ int judge_existential(const struct formula *f, uint32_t v);
 /* The number of clauses of an accepted table. */
 uint32_t judge_clause_count(const struct formula *f);
 
+/* Of an accepted formula: whether y is existential and deeper than x. */
+int judge_deeper(const struct formula *f, uint32_t x, uint32_t y);
+
+/* Of its clauses, by their numbers: one has v in either sign; one is always true; two share an existential deeper than x. */
+int judge_has(const struct formula *f, uint32_t k, uint32_t v);
+int judge_always_true(const struct formula *f, uint32_t k);
+int judge_share(const struct formula *f, uint32_t x, uint32_t k, uint32_t l);
+
+/* 13 and 24: what the path check says of a pair and a path. */
+struct verdict judge_path(const struct formula *f, uint32_t x, uint32_t y, const uint32_t *path, size_t path_len);
+
 /*
  * What a text says by the rules of the format: 15, 16, 17, or n and both
  * tables, with their lengths. The tables have room for 65,536 entries.

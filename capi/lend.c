@@ -57,6 +57,13 @@ uint32_t *lend_cell(void)
     return lend(&contents, sizeof contents);
 }
 
+size_t *lend_wide_cell(void)
+{
+    size_t contents = (size_t)0xC0DD1E00C0DD1E00u + round_number * 3 + used;
+
+    return lend(&contents, sizeof contents);
+}
+
 void lend_end(void)
 {
     memcpy(before, room, used);

@@ -40,6 +40,7 @@ static void no_rule(uint32_t rule)
         expect_refused(call_add(&f, &w, clause, LEN(clause)), 23, 0, "add");
         expect_refused(call_write(&f, text, 0, &count), 23, 0, "write");
         expect_refused(call_store(&f, 1, text, 0, &count), 23, 0, "store");
+        expect_refused(call_path(&f, 0, 0, NULL, 0), 23, 0, "path");
     }
     expect_refused(call_load(NULL, 0, &t), 23, 0, "load");
     f.n = 9;

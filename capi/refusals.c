@@ -29,7 +29,7 @@ static void prefix_calls(const struct formula *f, uint32_t number, uint32_t plac
 static void formula_calls(const struct formula *f, uint32_t number, uint32_t place)
 {
     struct forest w = forest_a();
-    uint32_t out[9] = { 0 }, count, size;
+    uint32_t out[9] = { 0 }, path[] = { 0, 0xFFFFFFFF }, count, size;
     uint8_t text[256] = { 0 };
 
     expect_refused(call_check(f), number, place, "check");
@@ -39,6 +39,9 @@ static void formula_calls(const struct formula *f, uint32_t number, uint32_t pla
     expect_refused(call_size(f, &w, 3, &size), number, place, "size");
     expect_refused_by(f, &w, 3, 9, number, place, "by a scheme");
     expect_refused(call_sets(f, &w, out, 9, &count), number, place, "all sets");
+    expect_refused(call_path(f, 3, 4, path, 1), number, place, "path");
+    expect_refused(call_path(f, 0, 0, path, 2), number, place, "path, before 13");
+    expect_refused(call_path(f, 3, 8, path, 0), number, place, "path, before 24");
     expect_refused(call_write(f, text, sizeof text, &count), number, place, "write");
     expect_refused(call_write(f, text, 0, &count), number, place, "write, before 14");
     w.parents_len = 0;

@@ -8,6 +8,7 @@ void test_texts(void);      /* texts.c: QDIMACS lines, within and outside the ru
 void test_stored(void);     /* stored.c: files of a forest, written, read and damaged */
 void test_limits(void);     /* limits.c: each limit, at it and one past it */
 void test_reading(void);    /* reading.c: reading rules for prefixes, by hand */
+void test_paths(void);      /* paths.c: paths of another tool, by hand, long, and random ones */
 void test_drawn(void);      /* drawn.c: random formulas, forests and texts, against the slow search */
 
 #endif

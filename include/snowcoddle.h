@@ -3,8 +3,9 @@
  *
  * The library takes a formula in prenex conjunctive form, builds its
  * connection forest, answers which existentials depend on a universal and how
- * many they are, takes further clauses, reads and writes QDIMACS text, and
- * stores formula and forest in a file for another site.
+ * many they are, takes further clauses, reads and writes QDIMACS text,
+ * stores formula and forest in a file for another site, and checks
+ * dependencies that another tool gives.
  * Every call is proved against its contract. There is no state between calls
  * and no allocation: all tables are the caller's, lent for the time of the
  * call.
@@ -140,11 +141,13 @@
  *  22   a file's rows or sets are not its formula's,    where the record
  *       in number or value                              begins
  *  23   rule is neither SNOW_PLAIN nor SNOW_JOINED      0
+ *  24   a path is empty, or fails                       the first entry that
+ *                                                       fails; 0 if empty
  *
  * Entries and bytes are counted from 0. Where several refusals apply, the
  * first in this order is given: 23, 1, 2, the prefix from the left, the clause
- * literals from the left, 12, 18, 13, 15 (writing), 14; at one entry the lower
- * number. snow_read gives 15, then 16 and 17 by the earliest line, then 14.
+ * literals from the left, 12, 18, 13, 24, 15 (writing), 14; at one entry the
+ * lower number. snow_read gives 15, then 16 and 17 by the earliest line, then 14.
  * snow_load gives 23, 19, 20, 21, then 1 to 11 for the formula in the file,
  * then 22, then 14; snow_store 23, 1 to 11, then 19, then 14.
  * A call skips what it does not take; the list above each prototype says
@@ -522,6 +525,33 @@ uint32_t snow_load(uint32_t rule, const uint8_t *file, size_t file_len,
                    uint32_t *parents, size_t parents_len,
                    uint32_t *counts, size_t counts_len,
                    uint32_t *with_sets, uint32_t *place);
+
+/*
+ * Path check: whether a path of clause numbers shows that y depends on x, by
+ * the standard scheme. x is universal, and y is existential and deeper than x.
+ * The path is accepted exactly if its first clause has x and its last has y,
+ * in either sign, neighbours share an existential deeper than x, and none of
+ * its clauses is always true. It may have any length, and a clause may come
+ * more than once. A pair that is accepted is in the standard set of x, and
+ * every pair of a standard set has a path that is accepted and no longer than
+ * the number of existentials.
+ *
+ * An entry fails if its clause is always true; the first if its clause has not
+ * x; any other if its clause shares no existential deeper than x with the one
+ * before; the last if its clause has not y. Since a path may be longer than
+ * 32 bits can count, *place is of the type of a length here.
+ *
+ * Of A: for x = 3, y = 8 the path 0 1 is accepted, since 3 4 7 and -4 8 share
+ * 4; 0 3 1 is refused as 24 at entry 1, since 3 4 7 and 5 9 share nothing.
+ *
+ * Refuses 23, 1 to 11, 13 (for x, y and every number of the path), and 24.
+ */
+uint32_t snow_path(uint32_t rule, uint32_t n,
+                   const uint32_t *prefix, size_t prefix_len,
+                   const int32_t *clauses, size_t clauses_len,
+                   uint32_t x, uint32_t y,
+                   const uint32_t *path, size_t path_len,
+                   size_t *place);
 
 #ifdef __cplusplus
 }

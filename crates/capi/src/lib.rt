@@ -3,6 +3,7 @@
 
 mod cells;
 pub mod files;
+pub mod pairs;
 
 use cells::lay;
 use cells::lay_tally;
