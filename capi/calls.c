@@ -1,4 +1,4 @@
-/* The seventeen calls, each wrapped so that every byte that was lent is compared. */
+/* The calls, each wrapped so that every byte that was lent is compared. */
 #include "agree.h"
 #include "calls.h"
 #include "lend.h"
@@ -402,4 +402,32 @@ struct verdict call_path(const struct formula *f, uint32_t x, uint32_t y, const 
     agree(v.place == wide, "the place is an entry");
     agree(nothing_else_changed(), v.number != 0 ? "a refusal changes nothing but its place" : "nothing else changes");
     return v;
+}
+
+struct verdict call_expand(const struct formula *f, uint32_t x, struct expanded *t)
+{
+    uint32_t *prefix_table, *n_cell, *prefix_cell, *clauses_cell, number;
+    int32_t *clause_table;
+
+    lend_begin();
+    lend_prefix(f);
+    lend_clauses(f);
+    prefix_table = lend(t->prefix, t->prefix_len * sizeof *t->prefix);
+    clause_table = lend(t->clauses, t->clauses_len * sizeof *t->clauses);
+    n_cell = lend_cell();
+    prefix_cell = lend_cell();
+    clauses_cell = lend_cell();
+    lend_place();
+    number = snow_expand(reading_rule, lent.n, lent.prefix, lent.prefix_len, lent.clauses, lent.clauses_len, x, n_cell,
+                         prefix_table, t->prefix_len, prefix_cell, clause_table, t->clauses_len, clauses_cell, place);
+    if (number == 0) {
+        take(&t->n, n_cell, sizeof t->n);
+        take(&t->prefix_count, prefix_cell, sizeof t->prefix_count);
+        take(&t->clauses_count, clauses_cell, sizeof t->clauses_count);
+        if (within(t->prefix_count, t->prefix_len))
+            take(t->prefix, prefix_table, t->prefix_count * sizeof *t->prefix);
+        if (within(t->clauses_count, t->clauses_len))
+            take(t->clauses, clause_table, t->clauses_count * sizeof *t->clauses);
+    }
+    return settle(number);
 }

@@ -1,5 +1,5 @@
 /*
- * The seventeen calls, each wrapped so that every use of it in the test also
+ * The calls, each wrapped so that every use of it in the test also
  * compares every byte that was lent: on a refusal only *place may change, on
  * acceptance *place may not, nor anything past what was written. Answers are
  * handed out on acceptance only.
@@ -76,5 +76,18 @@ struct loaded {
 struct verdict call_store(const struct formula *f, uint32_t with_sets, uint8_t *file, size_t file_len, uint32_t *count);
 struct verdict call_load(const uint8_t *file, size_t file_len, struct loaded *t);
 struct verdict call_path(const struct formula *f, uint32_t x, uint32_t y, const uint32_t *path, size_t path_len);
+
+/* What expanding fills: tables as lent, and what it says of them. */
+struct expanded {
+    uint32_t n;
+    uint32_t *prefix;
+    size_t prefix_len;
+    uint32_t prefix_count;
+    int32_t *clauses;
+    size_t clauses_len;
+    uint32_t clauses_count;
+};
+
+struct verdict call_expand(const struct formula *f, uint32_t x, struct expanded *t);
 
 #endif

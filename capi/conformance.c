@@ -16,5 +16,6 @@ int main(void)
     test_reading();
     test_paths();
     test_drawn();
+    test_expanded();
     return agreed_all();
 }

@@ -10,5 +10,6 @@ void test_limits(void);     /* limits.c: each limit, at it and one past it */
 void test_reading(void);    /* reading.c: reading rules for prefixes, by hand */
 void test_paths(void);      /* paths.c: paths of another tool, by hand, long, and random ones */
 void test_drawn(void);      /* drawn.c: random formulas, forests and texts, against the slow search */
+void test_expanded(void);   /* expanded.c: a universal expanded, with truth before and after */
 
 #endif

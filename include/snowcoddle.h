@@ -4,8 +4,8 @@
  * The library takes a formula in prenex conjunctive form, builds its
  * connection forest, answers which existentials depend on a universal and how
  * many they are, takes further clauses, reads and writes QDIMACS text,
- * stores formula and forest in a file for another site, and checks
- * dependencies that another tool gives.
+ * stores formula and forest in a file for another site, checks dependencies
+ * that another tool gives, and expands a universal.
  * Every call is proved against its contract. There is no state between calls
  * and no allocation: all tables are the caller's, lent for the time of the
  * call.
@@ -149,7 +149,9 @@
  * literals from the left, 12, 18, 13, 24, 15 (writing), 14; at one entry the
  * lower number. snow_read gives 15, then 16 and 17 by the earliest line, then 14.
  * snow_load gives 23, 19, 20, 21, then 1 to 11 for the formula in the file,
- * then 22, then 14; snow_store 23, 1 to 11, then 19, then 14.
+ * then 22, then 14; snow_store 23, 1 to 11, then 19, then 14. snow_expand
+ * gives 23, 1 to 11, 13, then 1 and 2 where the formula that it would give
+ * has over 4,096 variables or a table that is too long, then 14.
  * A call skips what it does not take; the list above each prototype says
  * which refusals it can give.
  *
@@ -552,6 +554,36 @@ uint32_t snow_path(uint32_t rule, uint32_t n,
                    uint32_t x, uint32_t y,
                    const uint32_t *path, size_t path_len,
                    size_t *place);
+
+/*
+ * Expand the universal x: the formula with x removed. Both are true or both
+ * are false, which is known of standard sets, and tested here but not proved.
+ * The standard set of x is found from the clauses, and each member gets a copy,
+ * numbered from n + 1 in ascending order. Gives the new variable count *out_n,
+ * fills both tables, and gives the counts of their entries.
+ *
+ * Prefix: each copy is placed after its original in its block, x leaves its
+ * block, empty blocks go, and equal neighbours join, so that both rules accept
+ * it. The number x stays free and unused.
+ * Clauses, in clause order: first copies with x false; then, for clauses with
+ * x or a member, second copies with x true and members renamed. A satisfied
+ * copy is left out, and an always-true clause gives none.
+ *
+ * Of A and x = 3: *out_n = 12,
+ *           prefix   1 1 2 4 10 5 0  2 6 0  1 7 11 8 12 9 0
+ *           clauses  4 7 0  -4 8 0  6 9 0  5 9 0  1 5 0  -10 12 0
+ *
+ * Refuses 23, 1 to 11, 13, 1 and 2 for the result, and 14 where a table is
+ * shorter than needed; SNOW_MOST_PREFIX and SNOW_MOST_CLAUSES entries always
+ * suffice.
+ */
+uint32_t snow_expand(uint32_t rule, uint32_t n,
+                     const uint32_t *prefix, size_t prefix_len,
+                     const int32_t *clauses, size_t clauses_len,
+                     uint32_t x, uint32_t *out_n,
+                     uint32_t *out_prefix, size_t out_prefix_len, uint32_t *prefix_count,
+                     int32_t *out_clauses, size_t out_clauses_len, uint32_t *clauses_count,
+                     uint32_t *place);
 
 #ifdef __cplusplus
 }

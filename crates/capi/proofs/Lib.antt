@@ -5,4 +5,5 @@ pub mod Rewritten
 pub mod Texts
 pub mod Writes
 pub mod Filed
+pub mod Expansions
 pub mod Tight

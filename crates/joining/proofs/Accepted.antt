@@ -21,7 +21,7 @@ use Rattle.joining.proofs.Scanned.{mark-some}
 use Rattle.joining.proofs.Passing.{startsZero, newMark, Passes, no-more, begin, go-on, close-block, name, passes}
 use Rattle.joining.proofs.Rest.{rest, rest-joined, new-mark, old-mark}
 
-good-mark : (mark last count : ℕ) → IsMark mark → mark ≢ last → count ≢ 64 → goodMark mark last count ≡ true
+pub good-mark : (mark last count : ℕ) → IsMark mark → mark ≢ last → count ≢ 64 → goodMark mark last count ≡ true
 unfolding goodMark
 good-mark mark last count good other few = first good ∙ ap (λ b. not b && not (eqb count 64)) (ne-eqb mark last other) ∙ ap not (ne-eqb count 64 few)
   where
@@ -31,7 +31,7 @@ good-mark mark last count good other few = first good ∙ ap (λ b. not b && not
         ap (λ b. cond b true (eqb mark 2) && not (eqb mark last) && not (eqb count 64)) (ne-eqb mark 1 (λ one. omega arith))
         ∙ ap (λ b. b && not (eqb mark last) && not (eqb count 64)) (eq-eqb mark 2 q)
 
-both-true : {a b : Bool} → a ≡ true → b ≡ true → (a && b) ≡ true
+pub both-true : {a b : Bool} → a ≡ true → b ≡ true → (a && b) ≡ true
 both-true {a} {b} p q = ap (λ x. x && b) p ∙ q
 
 -- What is left to write passes the test of rule 1. Where a block is not closed yet, the test stands inside it; `fresh` only where a variable follows.

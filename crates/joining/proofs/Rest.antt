@@ -24,7 +24,7 @@ rest true last (entry ∷ more) = cond (newMark entry last more) (closing last +
 rest false last (entry ∷ more) = cond (eqb entry 0) (rest true last more) (entry ∷ rest false last more)
 
 -- The table of joined blocks behind a block with the mark `last` that is not closed yet.
-unfoldable laid : ℕ → List (List ℕ) → List ℕ
+unfoldable pub laid : ℕ → List (List ℕ) → List ℕ
 laid zero joined = tableOf joined
 laid (suc last) [] = 0 ∷ []
 laid (suc last) (block ∷ later) = cond (eqb (suc last) (markOf block)) (drop 1 block ++ (0 ∷ tableOf later)) (0 ∷ tableOf (block ∷ later))
@@ -61,7 +61,7 @@ in-front (suc m) v variables (next ∷ others) some = by-test (eqb (suc m) (mark
         }
 
 -- behind a block with another mark it is a block of its own, and behind one with the same mark it goes on with that
-laid-new : (last mark v : ℕ) (variables : List ℕ) (joined : List (List ℕ)) → mark ≢ 0 → mark ≢ last → laid last (inFront (mark ∷ v ∷ variables) joined) ≡ closing last ++ (mark ∷ ((v ∷ variables) ++ laid mark joined))
+pub laid-new : (last mark v : ℕ) (variables : List ℕ) (joined : List (List ℕ)) → mark ≢ 0 → mark ≢ last → laid last (inFront (mark ∷ v ∷ variables) joined) ≡ closing last ++ (mark ∷ ((v ∷ variables) ++ laid mark joined))
 unfolding laid tableOf closing
 laid-new zero mark v variables joined some other =
     let f = in-front mark v variables joined some in
@@ -71,7 +71,7 @@ laid-new (suc last) mark v variables joined some other =
     ap (laid (suc last)) (f .is) ∙ ap (λ b. cond b ((v ∷ f .more) ++ (0 ∷ tableOf (f .later))) (0 ∷ tableOf ((mark ∷ v ∷ f .more) ∷ f .later))) (ne-eqb (suc last) mark (λ q. other (sym q)))
     ∙ ap (λ (r : List ℕ). 0 ∷ mark ∷ r) (f .table)
 
-laid-same : (mark v : ℕ) (variables : List ℕ) (joined : List (List ℕ)) → mark ≢ 0 → laid mark (inFront (mark ∷ v ∷ variables) joined) ≡ (v ∷ variables) ++ laid mark joined
+pub laid-same : (mark v : ℕ) (variables : List ℕ) (joined : List (List ℕ)) → mark ≢ 0 → laid mark (inFront (mark ∷ v ∷ variables) joined) ≡ (v ∷ variables) ++ laid mark joined
 unfolding laid tableOf
 laid-same zero v variables joined some = absurd (some refl)
 laid-same (suc m) v variables joined some =
@@ -96,7 +96,7 @@ new-mark mark last more new =
     by-test (startsZero more) (λ t. absurd (clash new (ap (λ b. not b && not (eqb mark last)) t)))
     (λ f. (f, λ q. clash new (ap (λ b. not b && not (eqb mark last)) f ∙ ap not (eq-eqb mark last q))))
 
-blocks-cons : (entry : ℕ) (more : List ℕ) → entry ≢ 0 → blocks (entry ∷ more) ≡ push entry (blocks more)
+pub blocks-cons : (entry : ℕ) (more : List ℕ) → entry ≢ 0 → blocks (entry ∷ more) ≡ push entry (blocks more)
 unfolding blocks cut
 blocks-cons entry more some = ap (λ b. cond b ([] ∷ cut isZero more) (push entry (cut isZero more))) (ne-eqb entry 0 some)
 

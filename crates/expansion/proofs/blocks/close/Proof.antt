@@ -1,0 +1,25 @@
+-- `expansion::blocks::close` meets its contract.
+use Rattle.expansion.proofs.Blocking.{closed-none, closed-zero}
+use borrow.Author.Needs.{needs}
+use Rattle.expansion.proofs.blocks.close.Statement.{statement}
+use Rattle.expansion.proofs.blocks.close.Tie as tie
+
+returns : tie.Need-returns
+returns c = let a = c .before .before .args in closed-none (a .out .now) (a .at) (a .last) (c .if1 .taken)
+
+store-entry-requires : tie.Need-store-entry-requires
+store-entry-requires c κs = search needs
+
+add-result : tie.Need-add-result
+add-result c = search needs
+
+same-length : tie.Need-same-length
+same-length c = search needs
+
+returns-2 : tie.Need-returns-2
+returns-2 c =
+    let a = c .before .before .before .before .before .before .args in
+    closed-zero (a .out .now) (a .at) (a .last) (c .before .before .before .before .if1 .left) (c .before .before .store-entry .ensures)
+
+pub close-spec : {M : Type 1} → statement M
+close-spec = tie.close (tie.spec returns store-entry-requires add-result same-length returns-2)
