@@ -85,12 +85,13 @@ static void call_build(struct subject *s)
                     s->classes, s->f.n, s->parents, s->f.n, s->counts, s->f.n, &s->tally, &count, &place), "build");
 }
 
+/* The standard set, which DepQBF gives too, and its size. */
 static uint32_t call_set(const struct subject *s, uint32_t x)
 {
     uint32_t count, place;
 
-    must(snow_set(SNOW_PLAIN, s->f.n, s->f.prefix, s->f.prefix_len, s->f.clauses, s->f.clauses_len,
-                  s->classes, s->f.n, s->parents, s->f.n, s->counts, s->f.n, x, out, SNOW_MOST_VARIABLES, &count, &place), "set");
+    must(snow_set_by(SNOW_PLAIN, SNOW_STANDARD, s->f.n, s->f.prefix, s->f.prefix_len, s->f.clauses, s->f.clauses_len,
+                     s->classes, s->f.n, s->parents, s->f.n, s->counts, s->f.n, x, out, SNOW_MOST_VARIABLES, &count, &place), "set");
     return count;
 }
 
@@ -98,18 +99,18 @@ static uint32_t call_size(const struct subject *s, uint32_t x)
 {
     uint32_t size, place;
 
-    must(snow_size(SNOW_PLAIN, s->f.n, s->f.prefix, s->f.prefix_len, s->f.clauses, s->f.clauses_len,
-                   s->classes, s->f.n, s->parents, s->f.n, s->counts, s->f.n, x, &size, &place), "size");
+    must(snow_size_by(SNOW_PLAIN, SNOW_STANDARD, s->f.n, s->f.prefix, s->f.prefix_len, s->f.clauses, s->f.clauses_len,
+                      s->classes, s->f.n, s->parents, s->f.n, s->counts, s->f.n, x, &size, &place), "size");
     return size;
 }
 
-/* The sets of all universals in one call, into a table that always suffices. */
+/* The standard sets of all universals in one call, into a table that always suffices. */
 static uint32_t call_sets(const struct subject *s)
 {
     uint32_t count, place;
 
-    must(snow_sets(SNOW_PLAIN, s->f.n, s->f.prefix, s->f.prefix_len, s->f.clauses, s->f.clauses_len,
-                   s->classes, s->f.n, s->parents, s->f.n, s->counts, s->f.n, every, sizeof every / sizeof *every, &count, &place),
+    must(snow_sets_by(SNOW_PLAIN, SNOW_STANDARD, s->f.n, s->f.prefix, s->f.prefix_len, s->f.clauses, s->f.clauses_len,
+                      s->classes, s->f.n, s->parents, s->f.n, s->counts, s->f.n, every, sizeof every / sizeof *every, &count, &place),
          "sets");
     return count;
 }

@@ -203,6 +203,16 @@ struct verdict call_sets(const struct formula *f, const struct forest *w, uint32
     return settle_listing(number, out, out_len, count);
 }
 
+struct verdict call_sets_by(uint32_t scheme, const struct formula *f, const struct forest *w, uint32_t *out, size_t out_len, uint32_t *count)
+{
+    uint32_t number;
+
+    lend_listing(f, w, out, out_len);
+    number = snow_sets_by(reading_rule, scheme, lent.n, lent.prefix, lent.prefix_len, lent.clauses, lent.clauses_len, rows.classes, rows.classes_len,
+                          rows.parents, rows.parents_len, rows.counts, rows.counts_len, list_table, out_len, count_cell, place);
+    return settle_listing(number, out, out_len, count);
+}
+
 struct verdict call_entry_points_by(uint32_t scheme, const struct formula *f, const struct forest *w, uint32_t x,
                                     uint32_t *out, size_t out_len, uint32_t *count)
 {

@@ -151,20 +151,6 @@ static uint32_t expected_list(const struct forest *rows, int own, int of_set, en
     return count;
 }
 
-/* Asks for x's entry points, its set, or its size: by a scheme, or by the call that names none. */
-static struct verdict ask_list(const struct formula *f, const struct forest *rows, int of_set, const struct scheme *by, uint32_t x,
-                               uint32_t *out, size_t out_len, uint32_t *count)
-{
-    if (by == NULL)
-        return (of_set ? call_set : call_entry_points)(f, rows, x, out, out_len, count);
-    return (of_set ? call_set_by : call_entry_points_by)(by->number, f, rows, x, out, out_len, count);
-}
-
-static struct verdict ask_size(const struct formula *f, const struct forest *rows, const struct scheme *by, uint32_t x, uint32_t *size)
-{
-    return by == NULL ? call_size(f, rows, x, size) : call_size_by(by->number, f, rows, x, size);
-}
-
 static void compare_list(const struct formula *f, const struct forest *rows, int own, int of_set, const struct scheme *by, uint32_t x)
 {
     uint32_t list[SMALL], got[SMALL + 4], count = 0, size = 0, length;
@@ -176,7 +162,7 @@ static void compare_list(const struct formula *f, const struct forest *rows, int
         expect_refused(ask_size(f, rows, by, x, &size), 13, 0, "size");
         return;
     }
-    length = expected_list(rows, own, of_set, by == NULL ? SNOW_STANDARD : by->means, x, list);
+    length = expected_list(rows, own, of_set, by == NULL ? SNOW_STRICT : by->means, x, list);
     expect_accepted(ask_list(f, rows, of_set, by, x, got, length + draw(4), &count), what);
     agree(count == length && memcmp(got, list, length * sizeof *list) == 0, "the list is the searched one");
     if (length > 0)
@@ -200,7 +186,7 @@ static int both_signs(const struct formula *f, uint32_t x)
     return positive && negative;
 }
 
-static const struct scheme strict = { SNOW_STRICT, SNOW_STRICT };
+static const struct scheme standard = { SNOW_STANDARD, SNOW_STANDARD }, strict = { SNOW_STRICT, SNOW_STRICT };
 
 /* How many strict lists were seen that are not empty and shorter than the standard one. */
 static uint32_t shorter_seen;
@@ -210,7 +196,7 @@ static void compare_strict(const struct formula *f, const struct forest *rows, i
 {
     uint32_t all[SMALL] = { 0 }, some[SMALL] = { 0 }, count = 0, fewer = 0, k, at = 0, within = 0;
 
-    ask_list(f, rows, of_set, NULL, x, all, SMALL, &count);
+    ask_list(f, rows, of_set, &standard, x, all, SMALL, &count);
     ask_list(f, rows, of_set, &strict, x, some, SMALL, &fewer);
     for (k = 0; k < fewer; k++) {
         while (at < count && all[at] != some[k])
@@ -222,7 +208,7 @@ static void compare_strict(const struct formula *f, const struct forest *rows, i
     shorter_seen += fewer > 0 && fewer < count;
 }
 
-/* Every list of x: by the calls that name no scheme, by the strict one, and by a scheme number that is drawn. */
+/* Every list of x: by the calls that name no scheme, which mean the strict one, by each scheme, and by a scheme number that is drawn. */
 static void compare_lists(const struct formula *f, const struct forest *rows, int own, uint32_t x)
 {
     const struct scheme *drawn = &schemes[draw(SCHEMES)];
@@ -230,6 +216,7 @@ static void compare_lists(const struct formula *f, const struct forest *rows, in
 
     for (of_set = 0; of_set <= 1; of_set++) {
         compare_list(f, rows, own, of_set, NULL, x);
+        compare_list(f, rows, own, of_set, &standard, x);
         compare_list(f, rows, own, of_set, &strict, x);
         compare_list(f, rows, own, of_set, drawn, x);
         if (judge_universal(f, x))
@@ -237,8 +224,13 @@ static void compare_lists(const struct formula *f, const struct forest *rows, in
     }
 }
 
-/* All sets: the searched ones, one after the other. */
-static void compare_sets(const struct formula *f, const struct forest *rows, int own)
+/* All sets, by a scheme or by the call that names none, which means the strict one: the searched ones, one after the other. */
+static struct verdict ask_sets(const struct formula *f, const struct forest *rows, const struct scheme *by, uint32_t *got, size_t room, uint32_t *count)
+{
+    return by == NULL ? call_sets(f, rows, got, room, count) : call_sets_by(by->number, f, rows, got, room, count);
+}
+
+static void compare_sets(const struct formula *f, const struct forest *rows, int own, const struct scheme *by)
 {
     static uint32_t list[SMALL * (SMALL + 2)], got[SMALL * (SMALL + 2) + 4];
     uint32_t x, length = 0, count = 0;
@@ -247,20 +239,20 @@ static void compare_sets(const struct formula *f, const struct forest *rows, int
         if (!judge_universal(f, x))
             continue;
         list[length] = x;
-        list[length + 1] = expected_list(rows, own, 1, SNOW_STANDARD, x, list + length + 2);
+        list[length + 1] = expected_list(rows, own, 1, by == NULL ? SNOW_STRICT : by->means, x, list + length + 2);
         length += 2 + list[length + 1];
     }
     memset(got, 0x5A, sizeof got);
-    expect_accepted(call_sets(f, rows, got, draw(2) ? length + draw(4) : f->n * (f->n + 2), &count), "all sets");
+    expect_accepted(ask_sets(f, rows, by, got, draw(2) ? length + draw(4) : f->n * (f->n + 2), &count), "all sets");
     agree(count == length && memcmp(got, list, length * sizeof *list) == 0, "all sets are the searched ones");
     if (length > 0)
-        expect_refused(call_sets(f, rows, got, length - 1, &count), 14, 0, "all sets");
+        expect_refused(ask_sets(f, rows, by, got, length - 1, &count), 14, 0, "all sets");
 }
 
 /* Every question about every variable, and two numbers past them. */
 static void compare_answers(const struct formula *f, const struct forest *rows, int own)
 {
-    uint32_t x, y;
+    uint32_t x, y, k;
 
     for (x = 0; x <= f->n + 1; x++) {
         compare_lists(f, rows, own, x);
@@ -268,7 +260,9 @@ static void compare_answers(const struct formula *f, const struct forest *rows, 
             if (judge_universal(f, x) || y == x)
                 compare_entry(f, rows, own, x, y);
     }
-    compare_sets(f, rows, own);
+    compare_sets(f, rows, own, NULL);
+    for (k = 0; k < SCHEMES; k++)
+        compare_sets(f, rows, own, &schemes[k]);
 }
 
 /* Add, on any well-formed forest and a tally that fits it: the searched forest of the list that the tables stand for, with the clause. */
@@ -334,7 +328,7 @@ static void compare_damaged_forest(const struct formula *f, struct forest *rows)
     expect_verdict(call_entry_points(f, rows, x, out, SMALL, &count), judged, "entry points, bad forest");
     expect_verdict(call_set(f, rows, x, out, SMALL, &count), judged, "set, bad forest");
     expect_by(f, rows, x, 9, judged, "by a scheme, bad forest");
-    expect_verdict(call_sets(f, rows, out, SMALL, &count), judged, "all sets, bad forest");
+    expect_sets(f, rows, out, SMALL, judged, "all sets, bad forest");
     expect_verdict(call_add(f, rows, NULL, 0), judged, "add, bad forest");
 }
 
@@ -352,7 +346,7 @@ static void compare_refused(const struct formula *f)
     expect_verdict(call_set(f, &rows, 1, out, 4, &count), all, "set");
     expect_verdict(call_size(f, &rows, 1, &size), all, "size");
     expect_by(f, &rows, 1, 4, all, "by a scheme");
-    expect_verdict(call_sets(f, &rows, out, 4, &count), all, "all sets");
+    expect_sets(f, &rows, out, 4, all, "all sets");
     if (prefix.number == 0)
         return;
     expect_verdict(call_entry_point(f, &rows, 1, 2, &entry, &rises), prefix, "entry point");

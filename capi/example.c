@@ -1,7 +1,7 @@
 /*
  * An example of how a C program uses the library: reads a QDIMACS file,
- * builds the forest, prints its tally and the set of each universal with its
- * size, adds a clause and prints them again.
+ * builds the forest, prints its tally and the standard set of each universal
+ * with its size, adds a clause and prints them again.
  *
  *     example FILE [LITERAL ..]
  */
@@ -63,14 +63,14 @@ static int build(struct formula *f)
     return refused("build", number, place);
 }
 
-/* Prints the set of x on one line, of which the size is known. */
+/* Prints the standard set of x on one line, of which the size is known. */
 static int print_set(const struct formula *f, uint32_t x, uint32_t size)
 {
     uint32_t set[SNOW_MOST_VARIABLES];
     uint32_t count, place, i;
-    uint32_t number = snow_set(SNOW_PLAIN, f->n, f->prefix, f->prefix_count, f->clauses, f->clauses_count,
-                               f->classes, SNOW_MOST_VARIABLES, f->parents, SNOW_MOST_VARIABLES,
-                               f->counts, SNOW_MOST_VARIABLES, x, set, size, &count, &place);
+    uint32_t number = snow_set_by(SNOW_PLAIN, SNOW_STANDARD, f->n, f->prefix, f->prefix_count, f->clauses, f->clauses_count,
+                                  f->classes, SNOW_MOST_VARIABLES, f->parents, SNOW_MOST_VARIABLES,
+                                  f->counts, SNOW_MOST_VARIABLES, x, set, size, &count, &place);
     if (refused("set", number, place))
         return 1;
     printf("%u has %u:", (unsigned)x, (unsigned)size);
@@ -84,9 +84,9 @@ static int print_set(const struct formula *f, uint32_t x, uint32_t size)
 static int print_line(const struct formula *f, uint32_t x)
 {
     uint32_t size, place;
-    uint32_t number = snow_size(SNOW_PLAIN, f->n, f->prefix, f->prefix_count, f->clauses, f->clauses_count,
-                                f->classes, SNOW_MOST_VARIABLES, f->parents, SNOW_MOST_VARIABLES,
-                                f->counts, SNOW_MOST_VARIABLES, x, &size, &place);
+    uint32_t number = snow_size_by(SNOW_PLAIN, SNOW_STANDARD, f->n, f->prefix, f->prefix_count, f->clauses, f->clauses_count,
+                                   f->classes, SNOW_MOST_VARIABLES, f->parents, SNOW_MOST_VARIABLES,
+                                   f->counts, SNOW_MOST_VARIABLES, x, &size, &place);
     if (number == 13)
         return 0;
     return refused("size", number, place) || print_set(f, x, size);

@@ -49,6 +49,19 @@ void expect_refused(struct verdict v, uint32_t number, uint32_t place, const cha
     agree(v.number == number && v.place == place, call);
 }
 
+struct verdict ask_list(const struct formula *f, const struct forest *rows, int of_set, const struct scheme *by, uint32_t x,
+                        uint32_t *out, size_t out_len, uint32_t *count)
+{
+    if (by == NULL)
+        return (of_set ? call_set : call_entry_points)(f, rows, x, out, out_len, count);
+    return (of_set ? call_set_by : call_entry_points_by)(by->number, f, rows, x, out, out_len, count);
+}
+
+struct verdict ask_size(const struct formula *f, const struct forest *rows, const struct scheme *by, uint32_t x, uint32_t *size)
+{
+    return by == NULL ? call_size(f, rows, x, size) : call_size_by(by->number, f, rows, x, size);
+}
+
 void expect_by(const struct formula *f, const struct forest *w, uint32_t x, size_t room, struct verdict expected, const char *what)
 {
     uint32_t out[9] = { 0 }, count, size;
@@ -67,6 +80,24 @@ void expect_refused_by(const struct formula *f, const struct forest *w, uint32_t
     struct verdict expected = { number, place };
 
     expect_by(f, w, x, room, expected, what);
+}
+
+void expect_sets(const struct formula *f, const struct forest *w, uint32_t *out, size_t room, struct verdict expected, const char *what)
+{
+    uint32_t count;
+    size_t k;
+
+    expect_verdict(call_sets(f, w, out, room, &count), expected, what);
+    for (k = 0; k < LEN(schemes); k++)
+        expect_verdict(call_sets_by(schemes[k].number, f, w, out, room, &count), expected, what);
+}
+
+void expect_sets_refused(const struct formula *f, const struct forest *w, uint32_t *out, size_t room, uint32_t number, uint32_t place,
+                         const char *what)
+{
+    struct verdict expected = { number, place };
+
+    expect_sets(f, w, out, room, expected, what);
 }
 
 void expect_tally(const struct forest *w, uint32_t clauses, uint32_t merges, uint32_t classes, const char *what)

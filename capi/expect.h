@@ -27,10 +27,20 @@ void expect_accepted(struct verdict v, const char *call);
 void expect_refused(struct verdict v, uint32_t number, uint32_t place, const char *call);
 void expect_verdict(struct verdict v, struct verdict expected, const char *call);
 
+/* Asks for the set of x, or, where of_set is 0, for its entry points; and for its size. By a scheme number, or, where by is NULL, by the call that names none. */
+struct verdict ask_list(const struct formula *f, const struct forest *rows, int of_set, const struct scheme *by, uint32_t x,
+                        uint32_t *out, size_t out_len, uint32_t *count);
+struct verdict ask_size(const struct formula *f, const struct forest *rows, const struct scheme *by, uint32_t x, uint32_t *size);
+
 /* Entry points, set and size of x, by every one of these numbers; `room` entries are lent for a list, nine at most. */
 void expect_by(const struct formula *f, const struct forest *w, uint32_t x, size_t room, struct verdict expected, const char *what);
 void expect_refused_by(const struct formula *f, const struct forest *w, uint32_t x, size_t room, uint32_t number, uint32_t place,
                        const char *what);
+
+/* All sets, by the call that names no scheme and by every one of these numbers; `room` entries of a table are lent for the list. */
+void expect_sets(const struct formula *f, const struct forest *w, uint32_t *out, size_t room, struct verdict expected, const char *what);
+void expect_sets_refused(const struct formula *f, const struct forest *w, uint32_t *out, size_t room, uint32_t number, uint32_t place,
+                         const char *what);
 
 void expect_tally(const struct forest *w, uint32_t clauses, uint32_t merges, uint32_t classes, const char *what);
 void expect_rows(const uint32_t *rows, const uint32_t *expected, size_t count, const char *what);

@@ -35,24 +35,24 @@ static void builds(void)
     }
 }
 
-/* The set of x is the list given, and its size the length. */
+/* The standard set of x is the list given, and its size the length. */
 static void has_set(const struct formula *f, const struct forest *w, uint32_t x, const uint32_t *list, uint32_t length,
                     const char *what)
 {
     uint32_t out[9], count = 0, size = 99;
 
     memset(out, 0x5A, sizeof out);
-    expect_accepted(call_size(f, w, x, &size), what);
+    expect_accepted(call_size_by(SNOW_STANDARD, f, w, x, &size), what);
     agree(size == length, what);
-    expect_accepted(call_set(f, w, x, out, 9, &count), what);
+    expect_accepted(call_set_by(SNOW_STANDARD, f, w, x, out, 9, &count), what);
     agree(count == length, what);
     expect_rows(out, list, length, what);
     /* a table of just that length will do */
-    expect_accepted(call_set(f, w, x, out, length, &count), what);
+    expect_accepted(call_set_by(SNOW_STANDARD, f, w, x, out, length, &count), what);
     expect_rows(out, list, length, what);
 }
 
-/* P3 and P4, and the entry points that the listing prints. */
+/* P3 and P4, and the entry points, by the standard scheme. */
 static void sets(void)
 {
     static const uint32_t set_3[] = { 4, 7, 8 }, set_6[] = { 9 }, all[] = { 3, 3, 4, 7, 8, 6, 1, 9 };
@@ -61,14 +61,14 @@ static void sets(void)
 
     has_set(&formula_a, &w, 3, set_3, 3, "P3 set of 3");
     has_set(&formula_a, &w, 6, set_6, 1, "P4 set of 6");
-    expect_accepted(call_entry_points(&formula_a, &w, 3, out, 9, &count), "entry points of 3");
+    expect_accepted(call_entry_points_by(SNOW_STANDARD, &formula_a, &w, 3, out, 9, &count), "entry points of 3");
     agree(count == 1 && out[0] == 4, "entry points of 3");
-    expect_accepted(call_entry_points(&formula_a, &w, 6, out, 1, &count), "entry points of 6");
+    expect_accepted(call_entry_points_by(SNOW_STANDARD, &formula_a, &w, 6, out, 1, &count), "entry points of 6");
     agree(count == 1 && out[0] == 9, "entry points of 6");
     memset(every, 0x5A, sizeof every);
     /* a table of just that length, and one that is long enough for any formula with as many variables */
     for (length = 8; length <= 99; length += 91) {
-        expect_accepted(call_sets(&formula_a, &w, every, length, &count), "all sets");
+        expect_accepted(call_sets_by(SNOW_STANDARD, &formula_a, &w, every, length, &count), "all sets");
         agree(count == 8, "all sets");
         expect_rows(every, all, 8, "all sets");
     }
@@ -94,36 +94,38 @@ struct answer {
     uint32_t size, set[9];
 };
 
-/* By A's forest, a scheme number gives this answer, in tables of just that length; one entry less is too little. */
-static void has_by(uint32_t scheme, const struct formula *f, uint32_t x, const struct answer *a, const char *what)
+/* By A's forest, a scheme number, or no number, gives this answer, in tables of just that length; one entry less is too little. */
+static void has_by(const struct scheme *by, const struct formula *f, uint32_t x, const struct answer *a, const char *what)
 {
     struct forest w = forest_a();
     uint32_t out[9], count = 99, size = 99;
 
     memset(out, 0x5A, sizeof out);
-    expect_accepted(call_entry_points_by(scheme, f, &w, x, out, a->entry_count, &count), what);
+    expect_accepted(ask_list(f, &w, 0, by, x, out, a->entry_count, &count), what);
     agree(count == a->entry_count, what);
     expect_rows(out, a->entries, a->entry_count, what);
-    expect_accepted(call_set_by(scheme, f, &w, x, out, a->size, &count), what);
+    expect_accepted(ask_list(f, &w, 1, by, x, out, a->size, &count), what);
     agree(count == a->size, what);
     expect_rows(out, a->set, a->size, what);
-    expect_accepted(call_size_by(scheme, f, &w, x, &size), what);
+    expect_accepted(ask_size(f, &w, by, x, &size), what);
     agree(size == a->size, what);
     if (a->entry_count > 0)
-        expect_refused(call_entry_points_by(scheme, f, &w, x, out, a->entry_count - 1, &count), 14, 0, what);
+        expect_refused(ask_list(f, &w, 0, by, x, out, a->entry_count - 1, &count), 14, 0, what);
     if (a->size > 0)
-        expect_refused(call_set_by(scheme, f, &w, x, out, a->size - 1, &count), 14, 0, what);
+        expect_refused(ask_list(f, &w, 1, by, x, out, a->size - 1, &count), 14, 0, what);
 }
 
-/* By every scheme number x has one of two answers. */
+/* By every scheme number x has one of two answers, and by the calls that name none the strict one. */
 static void has_either(const struct formula *f, uint32_t x, const struct answer *standard, const struct answer *strict, const char *what)
 {
     size_t k;
 
     for (k = 0; k < LEN(schemes); k++) {
         about("scheme", schemes[k].number);
-        has_by(schemes[k].number, f, x, schemes[k].means == SNOW_STRICT ? strict : standard, what);
+        has_by(&schemes[k], f, x, schemes[k].means == SNOW_STRICT ? strict : standard, what);
     }
+    about("no scheme", 0);
+    has_by(NULL, f, x, strict, what);
 }
 
 /* Both schemes on A, where 3 and 6 have one sign only, and on A with clauses that leave its forest as it is. */
@@ -144,6 +146,45 @@ static void by_schemes(void)
     has_either(&f, 3, &four_five, &four, "both signs have one entry point of two");
     f = with_clause(always_true, 3);
     has_either(&f, 3, &four, &none, "an always-true clause has 3 in neither sign");
+}
+
+/* All sets of f by A's forest, by every scheme number and by the call that names none, which means the strict scheme. */
+static void all_sets(const struct formula *f, const uint32_t *standard, uint32_t standard_length, const uint32_t *strict, uint32_t strict_length,
+                     const char *what)
+{
+    struct forest w = forest_a();
+    uint32_t out[16], count = 99;
+    size_t k;
+
+    memset(out, 0x5A, sizeof out);
+    expect_accepted(call_sets(f, &w, out, strict_length, &count), what);
+    agree(count == strict_length, what);
+    expect_rows(out, strict, strict_length, what);
+    expect_refused(call_sets(f, &w, out, strict_length - 1, &count), 14, 0, what);
+    for (k = 0; k < LEN(schemes); k++) {
+        int is_strict = schemes[k].means == SNOW_STRICT;
+        uint32_t length = is_strict ? strict_length : standard_length;
+
+        about("scheme", schemes[k].number);
+        expect_accepted(call_sets_by(schemes[k].number, f, &w, out, length, &count), what);
+        agree(count == length, what);
+        expect_rows(out, is_strict ? strict : standard, length, what);
+        expect_refused(call_sets_by(schemes[k].number, f, &w, out, length - 1, &count), 14, 0, what);
+    }
+}
+
+static void all_by_schemes(void)
+{
+    static const int32_t both[] = { -3, 8 }, some[] = { 3, 5, 0, -3, 8 };
+    static const uint32_t own[] = { 3, 3, 4, 7, 8, 6, 1, 9 }, none[] = { 3, 0, 6, 0 }, four[] = { 3, 3, 4, 7, 8, 6, 0 };
+    static const uint32_t more[] = { 3, 5, 4, 5, 7, 8, 9, 6, 1, 9 };
+    struct formula f;
+
+    all_sets(&formula_a, own, LEN(own), none, LEN(none), "all sets, 3 and 6 in one sign only");
+    f = with_clause(both, 2);
+    all_sets(&f, own, LEN(own), four, LEN(four), "all sets, 3 in both signs");
+    f = with_clause(some, 5);
+    all_sets(&f, more, LEN(more), four, LEN(four), "all sets, both signs of 3 have one entry point of two");
 }
 
 /* A forest of nine rows, with the merges and classes of its tally. */
@@ -280,12 +321,16 @@ static void empty(void)
         count = 99;
         expect_accepted(call_sets(&nothing, &w, NULL, 0, &count), "all sets");
         agree(count == 0, "there are none");
+        count = 99;
+        expect_accepted(call_sets_by(SNOW_STANDARD, &nothing, &w, NULL, 0, &count), "all standard sets");
+        expect_accepted(call_sets_by(SNOW_STRICT, &nothing, &w, NULL, 0, &count), "all strict sets");
+        agree(count == 0, "there are none");
         expect_accepted(call_write(&nothing, out, sizeof out, &count), "write");
         agree(count == sizeof text - 1 && memcmp(out, text, count) == 0, "the text");
         expect_accepted(call_read((const uint8_t *)text, sizeof text - 1, &n, NULL, 0, &prefix_count, NULL, 0, &clauses_count), "read");
         agree(n == 0 && prefix_count == 0 && clauses_count == 0, "the counts");
         expect_refused(call_read(NULL, 0, &n, NULL, 0, &prefix_count, NULL, 0, &clauses_count), 16, 0, "read the empty text");
-        /* 12 calls and 21 by a scheme: an odd number, so that the next round has the other pointer */
+        /* 12 calls and 23 by a scheme: an odd number, so that the next round has the other pointer */
     }
 }
 
@@ -307,7 +352,7 @@ static void empty_sets(void)
         size = 99;
         expect_accepted(call_size(&f, &w, 2, &size), "size");
         agree(size == 0, "its size");
-        expect_accepted(call_set_by(SNOW_STRICT, &f, &w, 2, NULL, 0, &count), "strict set");
+        expect_accepted(call_set_by(SNOW_STANDARD, &f, &w, 2, NULL, 0, &count), "standard set");
         agree(count == 0, "it is empty");
         expect_accepted(call_entry_points(&f, &w, 2, NULL, 0, &count), "entry points");
         agree(count == 0, "there are none");
@@ -325,6 +370,7 @@ void test_formula_a(void)
     entry_points();
     group("formula A: answers by a scheme");
     by_schemes();
+    all_by_schemes();
     group("formula A: add");
     additions();
     group("formula A: clause, write, read");

@@ -65,7 +65,7 @@ static void every_call(const struct formula *f, uint32_t number, uint32_t place)
     expect_refused(call_set(f, &w, 1, out, 1, &count), number, place, "set");
     expect_refused(call_size(f, &w, 1, &size), number, place, "size");
     expect_refused_by(f, &w, 1, 1, number, place, "by a scheme");
-    expect_refused(call_sets(f, &w, out, 1, &count), number, place, "all sets");
+    expect_sets_refused(f, &w, out, 1, number, place, "all sets");
     expect_refused(call_write(f, text, 64, &count), number, place, "write");
 }
 
@@ -123,44 +123,45 @@ static int all_deeper(uint32_t x, uint32_t count)
     return count == listed && wrong == 0;
 }
 
+/* The standard set of x, and its size. */
 static void joined_set(const struct formula *f, uint32_t x)
 {
     struct forest w = forest(SNOW_MOST_VARIABLES);
     uint32_t count = 0, size = 0;
 
-    expect_accepted(call_set(f, &w, x, out, SNOW_MOST_VARIABLES, &count), "set");
+    expect_accepted(call_set_by(SNOW_STANDARD, f, &w, x, out, SNOW_MOST_VARIABLES, &count), "standard set");
     agree(all_deeper(x, count), "the set is all that is deeper");
-    expect_accepted(call_size(f, &w, x, &size), "size");
+    expect_accepted(call_size_by(SNOW_STANDARD, f, &w, x, &size), "standard size");
     agree(size == count, "its size");
 }
 
-/* The strict set of x with both clauses of f, one in each sign, and with the first alone. */
-static void joined_strict_set(const struct formula *f, uint32_t x)
+/* The strict set of x with both clauses of f, one in each sign, and with the first alone; by its number, or by the call that names none. */
+static void joined_strict_set(const struct formula *f, const struct scheme *by, uint32_t x)
 {
     struct forest w = forest(SNOW_MOST_VARIABLES);
     struct formula first = *f;
     uint32_t count = 0, size = 0;
 
-    expect_accepted(call_set_by(SNOW_STRICT, f, &w, x, out, SNOW_MOST_VARIABLES, &count), "strict set");
+    expect_accepted(ask_list(f, &w, 1, by, x, out, SNOW_MOST_VARIABLES, &count), "strict set");
     agree(all_deeper(x, count), "the strict set is all that is deeper");
-    expect_accepted(call_size_by(SNOW_STRICT, f, &w, x, &size), "strict size");
+    expect_accepted(ask_size(f, &w, by, x, &size), "strict size");
     agree(size == count, "its size");
     first.clauses_len = f->clauses_len / 2;
-    expect_accepted(call_set_by(SNOW_STRICT, &first, &w, x, out, 0, &count), "strict set, one sign only");
+    expect_accepted(ask_list(&first, &w, 1, by, x, out, 0, &count), "strict set, one sign only");
     agree(count == 0, "it is empty");
-    expect_accepted(call_size_by(SNOW_STRICT, &first, &w, x, &size), "strict size, one sign only");
+    expect_accepted(ask_size(&first, &w, by, x, &size), "strict size, one sign only");
     agree(size == 0, "it is 0");
 }
 
-/* All sets into the large table, of which so many entries are lent. */
-static uint32_t sets_into(const struct formula *f, size_t length, uint32_t *count, uint32_t *place)
+/* All sets by a scheme into the large table, of which so many entries are lent. */
+static uint32_t sets_into(const struct formula *f, uint32_t scheme, size_t length, uint32_t *count, uint32_t *place)
 {
-    return snow_sets(SNOW_PLAIN, f->n, f->prefix, f->prefix_len, f->clauses, f->clauses_len, class_rows, SNOW_MOST_VARIABLES,
-                     parent_rows, SNOW_MOST_VARIABLES, count_rows, SNOW_MOST_VARIABLES, every, length, count, place);
+    return snow_sets_by(SNOW_PLAIN, scheme, f->n, f->prefix, f->prefix_len, f->clauses, f->clauses_len, class_rows, SNOW_MOST_VARIABLES,
+                        parent_rows, SNOW_MOST_VARIABLES, count_rows, SNOW_MOST_VARIABLES, every, length, count, place);
 }
 
-/* All sets, each as above, in a table of just the room they need and in one that always suffices; one entry less is too little. */
-static void joined_sets(const struct formula *f)
+/* All sets by a scheme, each as above, in a table of just the room they need and in one that always suffices; one entry less is too little. */
+static void joined_sets(const struct formula *f, uint32_t scheme)
 {
     static const size_t spare[] = { 0, SNOW_MOST_VARIABLES * (SNOW_MOST_VARIABLES + 2) };
     uint32_t count, place = 7, x, v, k, wrong, needed = 0;
@@ -172,7 +173,7 @@ static void joined_sets(const struct formula *f)
     for (k = 0; k < LEN(spare); k++) {
         memset(every, 0x5A, sizeof every);
         count = 7;
-        agree(sets_into(f, spare[k] == 0 ? needed : spare[k], &count, &place) == 0, "all sets");
+        agree(sets_into(f, scheme, spare[k] == 0 ? needed : spare[k], &count, &place) == 0, "all sets");
         agree(count == needed && place == 7, "the count of all sets");
         for (x = 1, at = 0, wrong = 0; x <= SNOW_MOST_VARIABLES; x++) {
             size_t first = at;
@@ -188,8 +189,23 @@ static void joined_sets(const struct formula *f)
         agree(at == needed && wrong == 0 && every[at] == 0x5A5A5A5A, "each set is all that is deeper");
     }
     memset(every, 0x5A, sizeof every);
-    agree(sets_into(f, needed - 1, &count, &place) == 14, "too little room for all sets");
+    agree(sets_into(f, scheme, needed - 1, &count, &place) == 14, "too little room for all sets");
     agree(count == needed && place == 0 && every[0] == 0x5A5A5A5A && every[needed - 2] == 0x5A5A5A5A, "nothing is written then");
+}
+
+/* Strict sets of a formula whose universals have one sign only: each is empty. */
+static void empty_records(const struct formula *f)
+{
+    struct forest w = forest(SNOW_MOST_VARIABLES);
+    uint32_t count = 0, at = 0, wrong = 0, x;
+
+    expect_accepted(call_sets(f, &w, out, SNOW_MOST_VARIABLES, &count), "all strict sets, one sign only");
+    for (x = 1; x <= SNOW_MOST_VARIABLES; x++)
+        if (joined_class(x) == 0) {
+            wrong += out[at] != x || out[at + 1] != 0;
+            at += 2;
+        }
+    agree(count == at && wrong == 0, "each is empty");
 }
 
 /* n 4,096, 64 blocks, a clause table of 16,384 entries. */
@@ -207,10 +223,11 @@ static void largest(void)
     joined_set(&f, SIDE + 1);
     joined_set(&f, 31 * SIDE + 7);
     joined_set(&f, SNOW_MOST_VARIABLES);
-    joined_sets(&f);
+    joined_sets(&f, SNOW_STANDARD);
+    empty_records(&f);
     expect_accepted(call_entry_point(&f, &w, SIDE + 1, 62 * SIDE + 1, &entry, &rises), "entry point");
     agree(entry == 2 * SIDE + 1 && rises == 30, "thirty rises");
-    expect_accepted(call_entry_points(&f, &w, SIDE + 1, out, 1, &count), "entry points");
+    expect_accepted(call_entry_points_by(SNOW_STANDARD, &f, &w, SIDE + 1, out, 1, &count), "standard entry points");
     agree(count == 1 && out[0] == 2 * SIDE + 1, "one entry point");
     expect_accepted(call_clause(&f, 0, &start, &length), "clause");
     agree(start == 0 && length == SNOW_MOST_CLAUSES - 1, "where it stands");
@@ -221,6 +238,7 @@ static void largest(void)
 /* Two clauses with all variables, each in a sign of its own, and the forest of both: that of either. */
 static void largest_strict(void)
 {
+    static const struct scheme strict = { SNOW_STRICT, SNOW_STRICT };
     struct formula f = formula(SNOW_MOST_VARIABLES, fill_prefix(SIDE, SIDE), 2 * (SNOW_MOST_VARIABLES + 1));
     struct forest w = forest(SNOW_MOST_VARIABLES);
     uint32_t count = 0;
@@ -231,11 +249,15 @@ static void largest_strict(void)
         clauses[SNOW_MOST_VARIABLES + 1 + k] = -clauses[k];
     }
     expect_accepted(call_build(&f, &w, &count), "build");
-    joined_strict_set(&f, SIDE + 1);
-    joined_strict_set(&f, 31 * SIDE + 7);
-    joined_strict_set(&f, SNOW_MOST_VARIABLES);
+    joined_strict_set(&f, &strict, SIDE + 1);
+    joined_strict_set(&f, NULL, SIDE + 1);
+    joined_strict_set(&f, &strict, 31 * SIDE + 7);
+    joined_strict_set(&f, &strict, SNOW_MOST_VARIABLES);
+    joined_sets(&f, SNOW_STRICT);
     expect_accepted(call_entry_points_by(SNOW_STRICT, &f, &w, SIDE + 1, out, 1, &count), "strict entry points");
     agree(count == 1 && out[0] == 2 * SIDE + 1, "one entry point");
+    expect_accepted(call_entry_points(&f, &w, SIDE + 1, out, 1, &count), "entry points, no scheme named");
+    agree(count == 1 && out[0] == 2 * SIDE + 1, "the same entry point");
 }
 
 /* An added clause of 16,384 literals, and one of 16,385. */

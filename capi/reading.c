@@ -36,7 +36,7 @@ static void no_rule(uint32_t rule)
         expect_refused(call_set(&f, &w, 1, out, 0, &count), 23, 0, "set");
         expect_refused(call_size(&f, &w, 3, &size), 23, 0, "size");
         expect_refused_by(&f, &w, 3, 9, 23, 0, "by a scheme");
-        expect_refused(call_sets(&f, &w, out, 0, &count), 23, 0, "sets");
+        expect_sets_refused(&f, &w, out, 0, 23, 0, "sets");
         expect_refused(call_add(&f, &w, clause, LEN(clause)), 23, 0, "add");
         expect_refused(call_write(&f, text, 0, &count), 23, 0, "write");
         expect_refused(call_store(&f, 1, text, 0, &count), 23, 0, "store");
@@ -141,7 +141,7 @@ static void spread(void)
         expect_rows(parents, a.parents, 9, "parents of A");
         expect_rows(counts, a.counts, 9, "counts of A");
     }
-    expect_accepted(call_sets(&f, &a, out, 9, &count), "sets");
+    expect_accepted(call_sets_by(SNOW_STANDARD, &f, &a, out, 9, &count), "sets");
     agree(count == LEN(listed), "their entries");
     expect_rows(out, listed, LEN(listed), "sets of A");
     expect_accepted(call_entry_point(&f, &a, 3, 8, &entry, &rises), "entry point");

@@ -38,7 +38,7 @@ static void formula_calls(const struct formula *f, uint32_t number, uint32_t pla
     expect_refused(call_set(f, &w, 3, out, 9, &count), number, place, "set");
     expect_refused(call_size(f, &w, 3, &size), number, place, "size");
     expect_refused_by(f, &w, 3, 9, number, place, "by a scheme");
-    expect_refused(call_sets(f, &w, out, 9, &count), number, place, "all sets");
+    expect_sets_refused(f, &w, out, 9, number, place, "all sets");
     expect_refused(call_path(f, 3, 4, path, 1), number, place, "path");
     expect_refused(call_path(f, 0, 0, path, 2), number, place, "path, before 13");
     expect_refused(call_path(f, 3, 8, path, 0), number, place, "path, before 24");
@@ -50,7 +50,7 @@ static void formula_calls(const struct formula *f, uint32_t number, uint32_t pla
     expect_refused(call_set(f, &w, 1, out, 0, &count), number, place, "set, before 12");
     expect_refused(call_size(f, &w, 1, &size), number, place, "size, before 12");
     expect_refused_by(f, &w, 1, 0, number, place, "by a scheme, before 12");
-    expect_refused(call_sets(f, &w, out, 0, &count), number, place, "all sets, before 12");
+    expect_sets_refused(f, &w, out, 0, number, place, "all sets, before 12");
 }
 
 /* Every call that meets the fault refuses so; a call that does not take the faulty table passes over it. */
@@ -222,8 +222,8 @@ static void refused_rows(struct forest *w, uint32_t place)
     expect_refused(call_size(&formula_a, w, 4, &size), 12, place, "size, before 13");
     expect_refused_by(&formula_a, w, 3, 9, 12, place, "by a scheme");
     expect_refused_by(&formula_a, w, 4, 0, 12, place, "by a scheme, before 13");
-    expect_refused(call_sets(&formula_a, w, out, 9, &count), 12, place, "all sets");
-    expect_refused(call_sets(&formula_a, w, out, 0, &count), 12, place, "all sets, before 14");
+    expect_sets_refused(&formula_a, w, out, 9, 12, place, "all sets");
+    expect_sets_refused(&formula_a, w, out, 0, 12, place, "all sets, before 14");
     expect_refused(call_add(&formula_a, w, clause, 2), 12, place, "add");
     w->tally.clauses = 0xFFFFFFFF;
     expect_refused(call_add(&formula_a, w, clause, 2), 12, place, "add, before 18");
@@ -401,10 +401,12 @@ static void outputs(void)
     expect_refused(call_build(&formula_a, &w, &count), 14, 0, "build, counts");
     w = forest_a();
     for (k = 0; k < 3; k++)
-        expect_refused(call_set(&formula_a, &w, 3, out, k, &count), 14, 0, "set");
+        expect_refused(call_set_by(SNOW_STANDARD, &formula_a, &w, 3, out, k, &count), 14, 0, "standard set");
     for (k = 0; k < 8; k++)
-        expect_refused(call_sets(&formula_a, &w, out, k, &count), 14, 0, "all sets");
-    expect_refused(call_entry_points(&formula_a, &w, 3, out, 0, &count), 14, 0, "entry points");
+        expect_refused(call_sets_by(SNOW_STANDARD, &formula_a, &w, out, k, &count), 14, 0, "all standard sets");
+    for (k = 0; k < 4; k++)
+        expect_sets_refused(&formula_a, &w, out, k, 14, 0, "all sets");
+    expect_refused(call_entry_points_by(SNOW_STANDARD, &formula_a, &w, 3, out, 0, &count), 14, 0, "standard entry points");
     expect_refused(call_write(&formula_a, bytes, 80, &count), 14, 0, "write");
     expect_refused(call_write(&formula_a, bytes, 0, &count), 14, 0, "write to nothing");
     for (k = 0; k < 6; k++)

@@ -91,7 +91,7 @@
  *           number is refused: every one but SNOW_STRICT means the standard
  *           scheme, so that a wrong number never loses a dependency.
  *
- * The calls that take no scheme mean the standard one.
+ * The calls that take no scheme mean the strict one.
  *
  *
  * WHAT A CALL GIVES
@@ -281,11 +281,13 @@ uint32_t snow_entry_point(uint32_t rule, uint32_t n,
                           uint32_t *entry, uint32_t *rises, uint32_t *place);
 
 /*
- * Entry points of the universal x: those for every existential deeper than x
- * that shares a clause with x. Written ascending into out; *count says how
+ * Entry points of the universal x by the strict scheme: those that are entry
+ * points both for an existential deeper than x in a clause with x and for one
+ * in a clause with its negation. Written ascending into out; *count says how
  * many.
  *
- * Of A: 4 for x = 3.
+ * Of A: none for x = 3, since no clause has -3. With the clauses 3 5 and -3 8
+ * behind those of A, which leave its forest as it is: 4 for x = 3.
  *
  * Refuses 23, 1 to 13, and 14 where out has fewer than *count entries; n of
  * them always suffice.
@@ -300,13 +302,14 @@ uint32_t snow_entry_points(uint32_t rule, uint32_t n,
                            uint32_t *count, uint32_t *place);
 
 /*
- * Set of the universal x: the members of every class at or below its entry
- * points. With the forest of the formula these are the existentials reached
- * from x: by any number of steps from variable to variable in one clause,
- * each to an existential of x's block or deeper. Written ascending into out;
- * *count says how many.
+ * Set of the universal x by the strict scheme: the members of every class at
+ * or below its entry points. With the forest of the formula these are the
+ * existentials reached from x by a first step in a clause with x and also by a
+ * first step in a clause with its negation: by any number of steps from
+ * variable to variable in one clause, each to an existential of x's block or
+ * deeper. Written ascending into out; *count says how many.
  *
- * Of A: 4 7 8 for x = 3.
+ * Of A: none for x = 3; with those two clauses 4 7 8.
  *
  * Refuses 23, 1 to 13, and 14 where out has fewer than *count entries; n of
  * them always suffice.
@@ -321,10 +324,10 @@ uint32_t snow_set(uint32_t rule, uint32_t n,
                   uint32_t *count, uint32_t *place);
 
 /*
- * Size of the set of the universal x, by the counts of its entry points: what
- * snow_set gives as *count, without the list.
+ * Size of that set, by the counts of its entry points: what snow_set gives as
+ * *count, without the list.
  *
- * Of A: 3 for x = 3.
+ * Of A: 0 for x = 3; with those two clauses 3.
  *
  * Refuses 23, 1 to 13.
  */
@@ -337,14 +340,12 @@ uint32_t snow_size(uint32_t rule, uint32_t n,
                    uint32_t x, uint32_t *size, uint32_t *place);
 
 /*
- * Entry points of the universal x by a scheme. By the strict one: those that
- * are entry points both for an existential deeper than x in a clause with x
- * and for one in a clause with its negation. By the standard one: what
- * snow_entry_points gives. Written ascending into out; *count says how many.
+ * Entry points of the universal x by a scheme. By the standard one: those for
+ * every existential deeper than x that shares a clause with x. By the strict
+ * one: what snow_entry_points gives. Written ascending into out; *count says
+ * how many.
  *
- * Of A, strict: none for x = 3, since no clause has -3. With the clauses 3 5
- * and -3 8 behind those of A, which leave its forest as it is: 4 for x = 3,
- * where the standard ones are 4 5.
+ * Of A, standard: 4 for x = 3; with those two clauses 4 5.
  *
  * Refuses 23, 1 to 13, and 14 where out has fewer than *count entries; n of
  * them always suffice.
@@ -360,14 +361,12 @@ uint32_t snow_entry_points_by(uint32_t rule, uint32_t scheme, uint32_t n,
 
 /*
  * Set of the universal x by a scheme: the members of every class at or below
- * its entry points by that scheme. With the forest of the formula the strict
- * set has the existentials reached from x, as for snow_set, by a first step in
- * a clause with x and also by a first step in a clause with its negation. By
- * the standard scheme: what snow_set gives. Written ascending into out; *count
- * says how many.
+ * its entry points by that scheme. With the forest of the formula the standard
+ * set has the existentials reached from x by such steps from a clause that has
+ * x in either sign. By the strict scheme: what snow_set gives. Written
+ * ascending into out; *count says how many.
  *
- * Of A, strict: none for x = 3; with those two clauses 4 7 8, where the
- * standard set is 4 5 7 8 9.
+ * Of A, standard: 4 7 8 for x = 3; with those two clauses 4 5 7 8 9.
  *
  * Refuses 23, 1 to 13, and 14 where out has fewer than *count entries; n of
  * them always suffice.
@@ -385,7 +384,7 @@ uint32_t snow_set_by(uint32_t rule, uint32_t scheme, uint32_t n,
  * Size of the set of the universal x by a scheme: what snow_set_by gives as
  * *count, without the list.
  *
- * Of A, strict: 0 for x = 3; with those two clauses 3.
+ * Of A, standard: 3 for x = 3; with those two clauses 5.
  *
  * Refuses 23, 1 to 13.
  */
@@ -398,12 +397,12 @@ uint32_t snow_size_by(uint32_t rule, uint32_t scheme, uint32_t n,
                       uint32_t x, uint32_t *size, uint32_t *place);
 
 /*
- * Standard sets of all universals: for each universal, ascending, its number,
- * the count of its set, and its set ascending, one after the other. *count says
- * how many entries all that is. What was lent is looked through once, so that
- * this is much faster than snow_set for one universal after the other.
+ * Strict sets of all universals: for each universal, ascending, its number, the
+ * count of its set, and its set ascending, one after the other. *count says how
+ * many entries all that is. What was lent is looked through once, so that this
+ * is much faster than a set call for one universal after the other.
  *
- * Of A: 3 3 4 7 8 6 1 9.
+ * Of A: 3 0 6 0. With the clauses 3 5 and -3 8 behind those of A: 3 3 4 7 8 6 0.
  *
  * Refuses 23, 1 to 12, and 14 where out has fewer than *count entries;
  * n * (n + 2) of them always suffice, and with as many the sets are not counted
@@ -419,6 +418,22 @@ uint32_t snow_sets(uint32_t rule, uint32_t n,
                    uint32_t *count, uint32_t *place);
 
 /*
+ * Sets of all universals by a scheme, in the same form.
+ *
+ * Of A, standard: 3 3 4 7 8 6 1 9.
+ *
+ * Refuses what snow_sets refuses.
+ */
+uint32_t snow_sets_by(uint32_t rule, uint32_t scheme, uint32_t n,
+                      const uint32_t *prefix, size_t prefix_len,
+                      const int32_t *clauses, size_t clauses_len,
+                      const uint32_t *classes, size_t classes_len,
+                      const uint32_t *parents, size_t parents_len,
+                      const uint32_t *counts, size_t counts_len,
+                      uint32_t *out, size_t out_len,
+                      uint32_t *count, uint32_t *place);
+
+/*
  * Add a clause: rewrites the n rows of the lent forest to those of the
  * forest with the clause, and updates the tally: one clause more is taken,
  * the classes that disappeared are added to its merges, and its classes are
@@ -427,7 +442,7 @@ uint32_t snow_sets(uint32_t rule, uint32_t n,
  * the formula with the clause behind its last one. An always-true clause
  * changes nothing but the number of clauses taken.
  *
- * snow_entry_points, snow_set, snow_size, the same by a scheme, and snow_sets
+ * snow_entry_points, snow_set, snow_size, snow_sets and the same by a scheme
  * take the clause table too: append the clause there as well, with its 0.
  *
  * Of A: adding 7 -9 gives classes 1 2 0 4 4 0 7 8 7, parents

@@ -1,4 +1,4 @@
-// The set of x, its size and the entry points of x, by either scheme, held against the search.
+// The set of x, its size and the entry points of x, by either scheme or with none named, held against the search.
 
 use oracle::classes::lend;
 use oracle::tables::is_universal;
@@ -36,6 +36,7 @@ fn lists(n: u32, pairs: &[bool], x: u32, rows: &[u32]) -> bool {
 fn holds(call: Call, n: u32, pairs: &[bool], x: u32, rows: &[u32]) -> bool {
     match call {
         Call::Sizes => untouched(rows, 0),
+        Call::StandardSizes => untouched(rows, 0),
         Call::StrictSizes => untouched(rows, 0),
         _ => lists(n, pairs, x, rows),
     }

@@ -166,7 +166,7 @@ fn cases_of(
     let t = within_case(
         score,
         Call::StrictSets,
-        Call::Sets,
+        Call::StandardSets,
         n,
         prefix,
         clauses,
@@ -178,7 +178,7 @@ fn cases_of(
     within_case(
         t,
         Call::StrictEntries,
-        Call::Entries,
+        Call::StandardEntries,
         n,
         prefix,
         clauses,

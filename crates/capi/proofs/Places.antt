@@ -13,9 +13,10 @@ use Rattle.formula.specs.Meaning.{clauses}
 use Rattle.formula.specs.Causes.{VariableCount, PrefixLong, ClausesLong, PrefixCause, ClauseCause, clauseOrder}
 use Rattle.tables.specs.Causes.{ForestCause, short, bad-row, bad-count}
 use Rattle.tables.specs.Formula.{variables}
+use Rattle.forest.specs.declared.Scheme.{Scheme}
 use Rattle.forest.specs.Causes.{NotUniversal, NotDeeper}
 use Rattle.forest.specs.Listed.{TooLong}
-use Rattle.sets.specs.Sets.{SetsTooLong}
+use Rattle.sets.specs.Sets.{SetsTooLongBy}
 use Rattle.growth.specs.Grown.{Standing, classNames, existentials, AddedCause, TooShort, WrongTally}
 use Rattle.joining.specs.Rules.{readAs, JoinedCause, causesIf, PrefixCauseBy, NoRule, ruledPrefix, checkOrderUnder}
 use Rattle.ruled.specs.Calls.{entryOrderUnder, readOrderUnder, listOrderUnder, setsOrderUnder, buildOrderUnder, addOrderUnder}
@@ -133,8 +134,8 @@ module _ (rule n : ℕ) (es : List ℕ) where
   pub small-list : (ls : List ℤ) (classes parents counts : List ℕ) (x : ℕ) (P : ℕ → Type 0) (before : List ℕ) → Small (listOrderUnder rule n es ls classes parents counts x P before)
   small-list ls classes parents counts x P before = small-then (readOrderUnder rule n es ls classes parents counts x) (At0 14 (TooLong P before) ∷ []) (small-read ls classes parents counts x) (λ _. small-at0 14 (TooLong P before))
 
-  pub small-sets : (ls : List ℤ) (classes parents counts before : List ℕ) → Small (setsOrderUnder rule n es ls classes parents counts before)
-  small-sets ls classes parents counts before = small-after (checkOrderUnder rule n es ls) classes parents counts 14 (SetsTooLong n read ls classes parents before) (small-check ls) (λ none. few n (none .1 .0, tt))
+  pub small-sets : (scheme : Scheme) (ls : List ℤ) (classes parents counts before : List ℕ) → Small (setsOrderUnder rule scheme n es ls classes parents counts before)
+  small-sets scheme ls classes parents counts before = small-after (checkOrderUnder rule n es ls) classes parents counts 14 (SetsTooLongBy scheme n read ls classes parents before) (small-check ls) (λ none. few n (none .1 .0, tt))
 
 pub small-clause : (n : ℕ) (ls : List ℤ) (asked : ℕ) → Small (clauseOrder n ls asked)
 small-clause n ls asked =

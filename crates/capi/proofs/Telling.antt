@@ -14,11 +14,12 @@ use Rattle.forest.specs.declared.Scheme.{Scheme}
 use Rattle.forest.specs.Answers.{Entry, SizeBy}
 use Rattle.forest.specs.Listed.{Listing, Filling}
 use Rattle.connection.specs.Listed.{Listed}
+use Rattle.sets.specs.Sets.{AllSetsBy}
 use Rattle.joining.specs.Rules.{readAs}
-use Rattle.ruled.specs.Calls.{EntryUnder, SizeUnder, entryOrderUnder, readOrderUnder, listOrderUnder}
+use Rattle.ruled.specs.Calls.{EntryUnder, SizeUnder, SetsUnder, entryOrderUnder, readOrderUnder, listOrderUnder, setsOrderUnder}
 use Rattle.capi.specs.Cells.{Fits, Laid, counted, placed}
 use Rattle.capi.specs.Told.{Told, accepted, refused, Front, Written}
-use Rattle.capi.proofs.Places.{Small, small-read, small-list}
+use Rattle.capi.proofs.Places.{Small, small-read, small-list, small-sets}
 
 module _ (order : List Causes) {given kept : Type 0} {verdict : Verdict} (place : ℕ) where
   -- a verdict that accepts, with what the call has given
@@ -82,6 +83,15 @@ module _ (rule n : ℕ) (es : List ℕ) (ls : List ℤ) (classes parents counts 
       → Told (listOrderUnder rule n es ls classes parents counts x′ (P s′ x′) out) (Written (P s′ x′) out out′ count′) ((count′ ≡ count) × (out′ ≡ out)) returned place place′
   tell-listing-by P out out′ {answer} {s} {s′} {x} p q laid listing =
       tell-listing (P s′) out out′ q laid (subst (λ (t : Scheme). Listing (listOrderUnder rule n es ls classes parents counts x (P t x) out) (P t x) out out′ answer) p listing)
+
+  -- all sets by a scheme: what is filled for one is told for an equal one
+  pub fits-sets : (s : Scheme) (out out′ : List ℕ) (answer : Filled) → SetsUnder rule s n es ls classes parents counts out out′ answer → Fits answer
+  fits-sets s out out′ answer = fits-filling (setsOrderUnder rule s n es ls classes parents counts out) (AllSetsBy s n (readAs rule es) ls classes parents) out out′ answer (small-sets rule n es s ls classes parents counts out)
+
+  pub tell-sets : (out out′ : List ℕ) {answer : Filled} {s s′ : Scheme} {count count′ place place′ returned : ℕ} → s ≡ s′ → Laid answer count count′ place place′ returned → SetsUnder rule s n es ls classes parents counts out out′ answer
+      → Told (setsOrderUnder rule s′ n es ls classes parents counts out) (Front (AllSetsBy s′ n (readAs rule es) ls classes parents) out out′ count′) ((count′ ≡ count) × (out′ ≡ out)) returned place place′
+  tell-sets out out′ {answer} {s} {s′} p laid filling =
+      tell-filling (setsOrderUnder rule s′ n es ls classes parents counts out) (AllSetsBy s′ n (readAs rule es) ls classes parents) out out′ laid (subst (λ (t : Scheme). SetsUnder rule t n es ls classes parents counts out out′ answer) p filling)
 
   sized-said : (s : Scheme) (answer : Filled) (x : ℕ) → SizeUnder rule s n es ls classes parents counts x answer → Says (readOrderUnder rule n es ls classes parents counts x) (SizeBy s n (readAs rule es) ls classes parents counts x) (Unit {0}) answer
   sized-said s (Count size) x sized = sized

@@ -20,7 +20,8 @@ ghost use mathlib.Core.Path.{_≡_};
 ghost use Rattle.formula.specs.Causes.{clauseOrder};
 ghost use Rattle.forest.specs.Answers.{Entry, Entries, EntriesBy, Members, MembersBy, Size, SizeBy};
 ghost use Rattle.tables.specs.Formula.{variables, Shares};
-ghost use Rattle.sets.specs.Sets.{AllSets};
+ghost use Rattle.forest.specs.declared.Scheme.the-variants.{Strict};
+ghost use Rattle.sets.specs.Sets.{AllSetsBy};
 ghost use Rattle.growth.specs.Grown.{standing, tableOf, many, Extended, Grown, TallyOf, Took};
 ghost use Rattle.qdimacs.specs.Reading.{ReadInto, readOrder};
 ghost use Rattle.qdimacs.specs.Stored.{Stored};
@@ -148,7 +149,7 @@ pub extern "C" fn snow_entry_point(
     }
 }
 
-// The entry points of x, ascending, with their count.
+// The strict entry points of x, ascending, with their count.
 #[no_mangle]
 pub extern "C" fn snow_entry_points(
     rule: u32,
@@ -179,7 +180,7 @@ pub extern "C" fn snow_entry_points(
     lay(answer, count, place)
 }
 
-// The set of x, ascending, with the count of its members.
+// The strict set of x, ascending, with the count of its members.
 #[no_mangle]
 pub extern "C" fn snow_set(
     rule: u32,
@@ -210,7 +211,7 @@ pub extern "C" fn snow_set(
     lay(answer, count, place)
 }
 
-// The size of the set of x.
+// The size of the strict set of x.
 #[no_mangle]
 pub extern "C" fn snow_size(
     rule: u32,
@@ -336,7 +337,8 @@ pub extern "C" fn snow_size_by(
     lay(answer, size, place)
 }
 
-// The sets of all universals: for each universal ascending its number, the count of its set and its set; with the count of all entries.
+// The sets of all universals by the strict scheme: for each universal ascending its number, the count of its set and its set; with the count of
+// all entries.
 #[no_mangle]
 pub extern "C" fn snow_sets(
     rule: u32,
@@ -350,9 +352,40 @@ pub extern "C" fn snow_sets(
     count: &mut u32,
     place: &mut u32,
 ) -> u32
-    ensures { λ r. ⌜ Told (setsOrderUnder rule n (now (prefix .entry)) (now (clauses .entry)) (now (classes .entry)) (now (parents .entry)) (now (counts .entry)) (now (out .entry))) (Front (AllSets n (readAs rule (now (prefix .entry))) (now (clauses .entry)) (now (classes .entry)) (now (parents .entry))) (now (out .entry)) (now (out .exit)) (now (count .exit))) ((now (count .exit) ≡ now (count .entry)) × (now (out .exit) ≡ now (out .entry))) r (now (place .entry)) (now (place .exit)) ⌝ }
+    ensures { λ r. ⌜ Told (setsOrderUnder rule Strict n (now (prefix .entry)) (now (clauses .entry)) (now (classes .entry)) (now (parents .entry)) (now (counts .entry)) (now (out .entry))) (Front (AllSetsBy Strict n (readAs rule (now (prefix .entry))) (now (clauses .entry)) (now (classes .entry)) (now (parents .entry))) (now (out .entry)) (now (out .exit)) (now (count .exit))) ((now (count .exit) ≡ now (count .entry)) × (now (out .exit) ≡ now (out .entry))) r (now (place .entry)) (now (place .exit)) ⌝ }
 {
     let answer = ruled::asking::sets(rule, n, prefix, clauses, classes, parents, counts, out);
+    lay(answer, count, place)
+}
+
+// The same by the scheme that a number asks for.
+#[no_mangle]
+pub extern "C" fn snow_sets_by(
+    rule: u32,
+    scheme: u32,
+    n: u32,
+    prefix: &[u32],
+    clauses: &[i32],
+    classes: &[u32],
+    parents: &[u32],
+    counts: &[u32],
+    out: &mut [u32],
+    count: &mut u32,
+    place: &mut u32,
+) -> u32
+    ensures { λ r. ⌜ Told (setsOrderUnder rule (schemeOf scheme) n (now (prefix .entry)) (now (clauses .entry)) (now (classes .entry)) (now (parents .entry)) (now (counts .entry)) (now (out .entry))) (Front (AllSetsBy (schemeOf scheme) n (readAs rule (now (prefix .entry))) (now (clauses .entry)) (now (classes .entry)) (now (parents .entry))) (now (out .entry)) (now (out .exit)) (now (count .exit))) ((now (count .exit) ≡ now (count .entry)) × (now (out .exit) ≡ now (out .entry))) r (now (place .entry)) (now (place .exit)) ⌝ }
+{
+    let answer = ruled::asking::sets_by(
+        rule,
+        scheme_in(scheme),
+        n,
+        prefix,
+        clauses,
+        classes,
+        parents,
+        counts,
+        out,
+    );
     lay(answer, count, place)
 }
 

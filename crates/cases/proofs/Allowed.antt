@@ -41,7 +41,8 @@ use Rattle.forest.specs.declared.EntryAnswer.the-variants.{At}
 use Rattle.tables.specs.Formula.{variables, universal, joined, Shares}
 use Rattle.tables.specs.Causes.{ForestCause}
 use Rattle.forest.specs.Causes.{listOrder}
-use Rattle.forest.specs.Answers.{Members, EntryAnswered, SetListed}
+use Rattle.forest.specs.declared.Scheme.the-variants.{Standard}
+use Rattle.forest.specs.Answers.{MembersBy, EntryAnswered, SetListedBy}
 use Rattle.tables.proofs.Agreeing.{lawful}
 use Rattle.forest.proofs.Demands.{universal-alone, own-forest-fine, listing-settled, entry-settled}
 use Rattle.tables.proofs.Readings.{flag-within}
@@ -202,17 +203,17 @@ module _ (n : ℕ) (es : List ℕ) where
       module _ (x : ℕ) (u : universal n es x ≡ true) where
         -- The set call lists the computed set.
         pub set-only : {list : List ℕ} → set-of X (joined ls) x ≡ list → (before : List ℕ) → length list ≤ length before → (answer : Filled) (after : List ℕ)
-            → SetListed n es ls (s .classes) (s .parents) (s .counts) x before after answer ↔ ((answer ≡ Count (length list)) × (after ≡ list ++ drop (length list) before))
+            → SetListedBy Standard n es ls (s .classes) (s .parents) (s .counts) x before after answer ↔ ((answer ≡ Count (length list)) × (after ≡ list ++ drop (length list) before))
         set-only {list} is before room answer after = (
-          λ a. listing-settled (listOrder n es ls (s .classes) (s .parents) (s .counts) x (Members n es ls (s .classes) (s .parents) x) before) (Members n es ls (s .classes) (s .parents) x) before after (list ++ drop (length list) before) answer (Count (length list)) a stated,
-          λ q. subst₂ (λ r t. SetListed n es ls (s .classes) (s .parents) (s .counts) x before t r) (sym (q .0)) (sym (q .1)) stated,
+          λ a. listing-settled (listOrder n es ls (s .classes) (s .parents) (s .counts) x (MembersBy Standard n es ls (s .classes) (s .parents) x) before) (MembersBy Standard n es ls (s .classes) (s .parents) x) before after (list ++ drop (length list) before) answer (Count (length list)) a stated,
+          λ q. subst₂ (λ r t. SetListedBy Standard n es ls (s .classes) (s .parents) (s .counts) x before t r) (sym (q .0)) (sym (q .1)) stated,
         )
           where
-            same : (y : ℕ) → Depends X (Shares ls) x y ↔ Members n es ls (s .classes) (s .parents) x y
+            same : (y : ℕ) → Depends X (Shares ls) x y ↔ MembersBy Standard n es ls (s .classes) (s .parents) x y
             same y = set-members {y = y} (lawful n es) (stands .forest) (universal-alone n es x u)
 
-            listed : Listed (Members n es ls (s .classes) (s .parents) x) list
-            listed = subst (Listed (Members n es ls (s .classes) (s .parents) x)) is (record {
+            listed : Listed (MembersBy Standard n es ls (s .classes) (s .parents) x) list
+            listed = subst (Listed (MembersBy Standard n es ls (s .classes) (s .parents) x)) is (record {
               ascending = set-ascending X (joined ls) x;
               each = λ y m. same y .0 (set-of-depends (lawful n es) .0 m);
               all = λ y m. set-of-depends (lawful n es) .1 (same y .1 m);
@@ -221,7 +222,7 @@ module _ (n : ℕ) (es : List ℕ) where
             front : list ++ drop (length list) before ≡ sets before 0 list
             front = let q : 0 + length list ≡ length list = omega arith in sym (sets-eq list before 0 (omega arith) ∙ ap (λ (k : ℕ). list ++ drop k before) q)
 
-            stated : SetListed n es ls (s .classes) (s .parents) (s .counts) x before (list ++ drop (length list) before) (Count (length list))
+            stated : SetListedBy Standard n es ls (s .classes) (s .parents) (s .counts) x before (list ++ drop (length list) before) (Count (length list))
             stated = (
               (accepted .0, (accepted .1 .0, (accepted .1 .1 .0, (accepted .1 .1 .1 .0, (fine, (at0-none 13 (clash u), (at0-none 14 (λ long. let size = ap length (listed-one (long .0) list (long .1) listed) in let over = long .2 in omega arith), tt))))))),
               (list, listed, refl, front),

@@ -1,4 +1,4 @@
--- P1 to P10 of document 01, "Two sides of each rule", as one table, with the counts and the tally of document 02, request 3: what the promise of each call allows on formula A as lent.
+-- P1 to P10 of document 01, "Two sides of each rule", as one table, with the counts and the tally of document 02, request 3: what the promise of each call allows on formula A as lent. Sets are standard ones, as request 10 says.
 use Prim.Native.Nat.{ℕ, _≤_}
 use mathlib.Core.Path.{_≡_}
 use mathlib.Core.List.{List, [], _∷_, _++_}
@@ -9,7 +9,8 @@ use Rattle.terms.specs.declared.Filled.{Filled}
 use Rattle.terms.specs.declared.Filled.the-variants.{Count}
 use Rattle.forest.specs.declared.EntryAnswer.{EntryAnswer}
 use Rattle.forest.specs.declared.EntryAnswer.the-variants.{At}
-use Rattle.forest.specs.Answers.{EntryAnswered, SetListed}
+use Rattle.forest.specs.declared.Scheme.the-variants.{Standard}
+use Rattle.forest.specs.Answers.{EntryAnswered, SetListedBy}
 use Rattle.growth.specs.Grown.{Standing, standing, Builds, Adds, withLast}
 use Rattle.cases.specs.FormulaA.{prefixA, clausesA, standA, stand79, stand12, stand-none, clause79, clause58, clause12}
 
@@ -31,10 +32,10 @@ BuildLeaves s left = (answer : Filled) (s′ : Standing) → Builds 9 prefixA cl
 abbrev pub AddLeaves : Standing → List ℤ → Standing → Type 0
 AddLeaves s clause left = (answer : Filled) (s′ : Standing) → Adds 9 prefixA s clause s′ answer ↔ ((answer ≡ Count 9) × (s′ ≡ left))
 
--- The set of x is the list: with room for it, it is counted and stands in front of what the output table had past it.
+-- The standard set of x is the list: with room for it, it is counted and stands in front of what the output table had past it.
 abbrev pub SetIs : List ℤ → Standing → ℕ → List ℕ → Type 0
 SetIs ls s x list =
-    (before : List ℕ) → length list ≤ length before → (answer : Filled) (after : List ℕ) → SetListed 9 prefixA ls (s .classes) (s .parents) (s .counts) x before after answer ↔ ((answer ≡ Count (length list)) × (after ≡ list ++ drop (length list) before))
+    (before : List ℕ) → length list ≤ length before → (answer : Filled) (after : List ℕ) → SetListedBy Standard 9 prefixA ls (s .classes) (s .parents) (s .counts) x before after answer ↔ ((answer ≡ Count (length list)) × (after ≡ list ++ drop (length list) before))
 
 -- The entry point of x for y is e, with its number of rises.
 abbrev pub EntryIs : Standing → ℕ → ℕ → ℕ → ℕ → Type 0

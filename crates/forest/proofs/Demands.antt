@@ -116,7 +116,7 @@ module _ (n : ℕ) (es : List ℕ) (ls : List ℤ) (classes parents counts : Lis
 
   module _ (forest : Forest (variables n es) (Shares ls) (lent (variables n es) classes parents)) where
     -- By the forest, the set by either scheme is what depends on x by it.
-    members-depend : (scheme : Scheme) → Universal (variables n es) x → (y : ℕ) → MembersBy scheme n es ls classes parents x y ↔ DependsBy scheme n es ls x y
+    pub members-depend : (scheme : Scheme) → Universal (variables n es) x → (y : ℕ) → MembersBy scheme n es ls classes parents x y ↔ DependsBy scheme n es ls x y
     members-depend Scheme.Standard u y = Iff·symm (set-members (lawful n es) forest u)
     members-depend Scheme.Strict u y = Iff·symm (strict-members (lawful n es) forest u)
 

@@ -15,11 +15,10 @@ use Rattle.formula.specs.Meaning.{clauses, alwaysTrue, connected}
 use Rattle.formula.specs.Lookup.{NextZero}
 use Rattle.formula.proofs.Lookups.{clauses-closed}
 use Rattle.formula.proofs.Signs.{connected-none, connected-all}
-use Rattle.connection.specs.Reach.{Joined}
 use Rattle.connection.proofs.Choice.{choice}
 use Rattle.connection.specs.Tables.{row}
 use Rattle.forest.specs.declared.marks.Signs.{Signs}
-use Rattle.tables.specs.Formula.{signed, joined, SharesBy}
+use Rattle.tables.specs.Formula.{signed, SharesBy}
 use Rattle.forest.specs.Search.{Has, HasLiteral, By, Connects, Flagged, Via}
 use Rattle.forest.proofs.Sides.{signed-variable, mem-at, one-sign}
 
@@ -123,17 +122,6 @@ module _ (ls : List ℤ) (start z : ℕ) (from : start ≤ z) (to : z ≤ length
         (Memᴰ·map variableOf (clause-literal (literalAt ls (h .place)) .1 (record { place = h .place; from = h .from; before = h .before; is = refl }))),
   )
 
--- v shares one of the clauses from `start` on with x.
-abbrev pub Rest : List ℤ → ℕ → ℕ → ℕ → Type 0
-Rest ls x start v = Joined (joined (drop start ls)) x v
-
-joined-cons : {c : List ℕ} {cs : List (List ℕ)} {a b : ℕ} → Joined (c ∷ cs) a b ↔ ((List·Memᴰ a c × List·Memᴰ b c) ⊎ Joined cs a b)
-joined-cons {c} {cs} {a} {b} = (λ j. go j (List·Memᴰ·cases-cons (j .listed)), ⊎-elim (λ m. record { clause = c; listed = List·Memᴰ·head refl; left = m .0; right = m .1 }) (λ j. record { clause = j .clause; listed = List·Memᴰ·tail (j .listed); left = j .left; right = j .right }))
-  where
-    go : (j : Joined (c ∷ cs) a b) → (j .clause ≡ c) ⊎ List·Memᴰ (j .clause) cs → (List·Memᴰ a c × List·Memᴰ b c) ⊎ Joined cs a b
-    go j (inl q) = inl (subst (λ d. List·Memᴰ a d) q (j .left), subst (λ d. List·Memᴰ b d) q (j .right))
-    go j (inr m) = inr (record { clause = j .clause; listed = m; left = j .left; right = j .right })
-
 module _ (ls : List ℤ) (start z : ℕ) (from : start ≤ z) (to : z ≤ length ls) where
   -- A clause that is not always true connects the variables it has, and any other none.
   pub connects-all : alwaysTrue (take (z - start) (drop start ls)) ≡ false → (v : ℕ) → Connects ls start z v ↔ Has ls start z v
@@ -150,17 +138,9 @@ module _ (ls : List ℤ) (start z : ℕ) (from : start ≤ z) (to : z ≤ length
   pub connects-open : (v : ℕ) → Connects ls start z v → alwaysTrue (take (z - start) (drop start ls)) ≡ false
   connects-open v m = not-eq-not {b = false} .0 (λ t. connects-none t v m)
 
-module _ (ls : List ℤ) (x start z : ℕ) (next : NextZero ls start z) (closed : z < length ls) where
-  -- The clauses from `start` on are the one up to the next 0, and those after it.
-  pub rest-split : (v : ℕ) → Rest ls x start v ↔ ((Connects ls start z x × Connects ls start z v) ⊎ Rest ls x (z + 1) v)
-  unfolding joined
-  rest-split v =
-      let cut : joined (drop start ls) ≡ connected (take (z - start) (drop start ls)) ∷ joined (drop (z + 1) ls) = ap (map connected) (clauses-closed ls start z next closed) in
-      (λ j. joined-cons .0 (subst (λ cs. Joined cs x v) cut j), λ s. subst (λ cs. Joined cs x v) (sym cut) (joined-cons .1 s))
-
--- The same of the clauses that have the literal of x with a sign.
+-- What shares one of the clauses from `start` on with the literal of x with a sign shares the one up to the next 0, or one after it.
 module _ (ls : List ℤ) (sign : Bool) (x start z : ℕ) (next : NextZero ls start z) (closed : z < length ls) where
-  signed-split : (v : ℕ) → SharesBy (drop start ls) sign x v ↔ ((HasLiteral ls start z (signed sign x) × Connects ls start z v) ⊎ SharesBy (drop (z + 1) ls) sign x v)
+  pub signed-split : (v : ℕ) → SharesBy (drop start ls) sign x v ↔ ((HasLiteral ls start z (signed sign x) × Connects ls start z v) ⊎ SharesBy (drop (z + 1) ls) sign x v)
   signed-split v = (there, back)
     where
       cut : clauses (drop start ls) ≡ take (z - start) (drop start ls) ∷ clauses (drop (z + 1) ls)
@@ -180,9 +160,9 @@ module _ (ls : List ℤ) (sign : Bool) (x start z : ℕ) (next : NextZero ls sta
           (λ s. record { clause = s .clause; listed = subst (List·Memᴰ (s .clause)) (sym cut) (List·Memᴰ·tail (s .listed)); literal = s .literal; connects = s .connects })
 
 -- A clause that connects anything has x in one sign only.
-pub sides-apart : (ls : List ℤ) (x start z : ℕ) → NextZero ls start z → z < length ls → (v : ℕ) → HasLiteral ls start z (signed true x) → HasLiteral ls start z (signed false x) → Connects ls start z v → ⊥
-sides-apart ls x start z next closed v p q c =
-    let literal = clause-literal ls start z (next .from) (omega arith) in
+pub sides-apart : (ls : List ℤ) (x start z : ℕ) → NextZero ls start z → z ≤ length ls → (v : ℕ) → HasLiteral ls start z (signed true x) → HasLiteral ls start z (signed false x) → Connects ls start z v → ⊥
+sides-apart ls x start z next to v p q c =
+    let literal = clause-literal ls start z (next .from) to in
     let some : x ≢ 0 = λ zero′. next .literals (p .place) (p .from) (p .before) (ap variableOf (p .is) ∙ signed-variable true x ∙ zero′) in
     one-sign (take (z - start) (drop start ls)) x v some (literal (signed true x) .1 p) (literal (signed false x) .1 q) c
 

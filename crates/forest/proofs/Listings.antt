@@ -12,8 +12,7 @@ use Rattle.terms.specs.declared.Verdict.{Verdict}
 use Rattle.terms.specs.declared.Verdict.the-variants.{Accepted, Refused}
 use Rattle.terms.specs.declared.Filled.{Filled}
 use Rattle.terms.proofs.Verdicts.{at0-first, at0-none, accepted-then}
-use Rattle.connection.specs.Reach.{Variables, Lawful}
-use Rattle.connection.specs.Tables.{Table, row, lent, WellFormed, EntryPointOf, Member}
+use Rattle.connection.specs.Tables.{row, lent, WellFormed}
 use Rattle.connection.specs.Listed.{Listed}
 use Rattle.connection.specs.Counts.{sum}
 use Rattle.connection.proofs.Counts.{count-most}
@@ -22,15 +21,15 @@ use Rattle.forest.specs.declared.EntryAnswer.{EntryAnswer}
 use Rattle.forest.specs.declared.Scheme.{Scheme}
 use Rattle.tables.specs.Formula.{variables}
 use Rattle.forest.specs.Causes.{readOrder}
-use Rattle.forest.specs.Answers.{Answered, EntriesBy, SizeBy}
+use Rattle.forest.specs.Answers.{Answered, EntriesBy, MembersBy, SizeBy}
 use Rattle.forest.specs.Listed.{TooLong, Listing}
 use Rattle.forest.specs.declared.listing.Asked.{Asked}
 use Rattle.forest.specs.declared.listing.Asked.the-variants.{Points, Set}
-use Rattle.forest.specs.Search.{pick, picked, Wanted, Picks, EntryRows, Flagged, Enters, Blank}
+use Rattle.forest.specs.Search.{pick, picked, Wanted, Picks, Enters}
 use Rattle.forest.proofs.Picked.{picked-listed}
 use Rattle.tables.proofs.Agreeing.{lawful, none-formed, none-counted}
 use Rattle.formula.proofs.Sound.{sound-check}
-use Rattle.forest.proofs.Entered.{flags-are, of-within, members-of}
+use Rattle.forest.proofs.Entered.{of-within, members-of}
 use Rattle.forest.proofs.Schemes.{scheme-points}
 
 -- An answer, once an order before it has accepted.
@@ -47,11 +46,14 @@ picks-listing order {P} f n before after none listed (Filled.Refused number plac
     let first : FirstOf (order ++ (At0 14 (TooLong P before) ∷ [])) 14 0 = accepted-then order (At0 14 (TooLong P before) ∷ []) {v = Accepted} (Refused 14 0) refl none (inl (at0-first 14 (picked f n, listed, picks .2))) in
     (subst₂ (FirstOf (order ++ (At0 14 (TooLong P before) ∷ []))) (sym (picks .0)) (sym (picks .1)) first, picks .3)
 
--- The set of x is what is picked by the tops, where its entry points are flagged.
-pub members-picked : {X : Variables} {W : Table} → Lawful X → WellFormed X W → X .count ≤ 4096 → {S : ℕ → ℕ → Type 0} {x : ℕ} {old entered : List Bool} (tops : List ℕ) → Blank old → EntryRows X W x tops → Flagged (EntryPointOf X W S x) old entered → Listed (Member X W S x) (picked (pick Set (X .count) entered tops) (X .count))
-unfolding pick
-members-picked {X} law formed few {entered = entered} tops blank rows f =
-    picked-listed (pick Set (X .count) entered tops) (X .count) (λ y m. law .within y (m .existential)) (λ y _ _. members-of law formed tops rows (λ e o. o) entered (λ e l. flags-are blank f e (omega arith)) y)
+-- The set by a scheme is what is picked by the rows, where the entry points by it are flagged.
+pub members-picked : (n : ℕ) (es : List ℕ) (ls : List ℤ) (classes parents : List ℕ) (x : ℕ) → WellFormed (variables n es) (lent (variables n es) classes parents) → n ≤ 4096
+    → (scheme : Scheme) {entered : List Bool} (tops : List ℕ) → Enters (variables n es) (lent (variables n es) classes parents) (EntriesBy scheme n es ls classes parents x) x tops entered Accepted
+    → Listed (MembersBy scheme n es ls classes parents x) (picked (pick Set n entered tops) n)
+unfolding pick lent
+members-picked n es ls classes parents x formed few scheme {entered} tops (entries, rows, e) =
+    picked-listed (pick Set n entered tops) n (λ y m. lawful n es .within y (m .existential))
+    (λ y _ _. let q = e .same y in let m = members-of (lawful n es) formed entries rows (scheme-points n es ls classes parents x scheme) entered (λ p l. e .tells p (omega arith)) y in (λ t. m .0 (sym q ∙ t), λ k. q ∙ m .1 k))
 
 module _ {n : ℕ} {es : List ℕ} {ls : List ℤ} {classes parents counts : List ℕ} (x : ℕ) (none : NoneOf (readOrder n es ls classes parents counts x)) where
   -- Where nothing is refused before the output, the tables are well formed and n is within its limit.
@@ -70,8 +72,7 @@ module _ {n : ℕ} {es : List ℕ} {ls : List ℤ} {classes parents counts : Lis
     pub asked-listed : (asked : Asked) → Listed (Wanted scheme asked n es ls classes parents x) (picked (pick asked n entered tops) n)
     unfolding pick lent
     asked-listed Points = picked-listed (pick Points n entered tops) n (λ e o. of-within (lawful n es) formed (scheme-points n es ls classes parents x scheme e o)) (λ e _ l. points-told e l)
-    asked-listed Set = picked-listed (pick Set n entered tops) n (λ y m. lawful n es .within y (m .existential))
-        (λ y _ _. let q = enters .2 .same y in let m = members-of (lawful n es) formed (enters .0) (enters .1) (scheme-points n es ls classes parents x scheme) entered points-told y in (λ t. m .0 (sym q ∙ t), λ k. q ∙ m .1 k))
+    asked-listed Set = members-picked n es ls classes parents x formed few scheme tops enters
 
     -- The sum of their counts is the size.
     pub entries-sized : SizeBy scheme n es ls classes parents counts x (sum (row n counts) (picked (λ v. getD entered v false) n))

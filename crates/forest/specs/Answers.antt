@@ -46,15 +46,15 @@ abbrev pub DependsBy : Scheme → ℕ → List ℕ → List ℤ → ℕ → ℕ 
 DependsBy Standard n es ls x = Depends (variables n es) (Shares ls) x
 DependsBy Strict n es ls x = StrictlyDepends (variables n es) (SharesBy ls) (Shares ls) x
 
--- entry points, set and size by the standard scheme
+-- entry points, set and size where no scheme is named: by the strict one
 abbrev pub Entries : ℕ → List ℕ → List ℤ → List ℕ → List ℕ → ℕ → ℕ → Type 0
-Entries n es ls classes parents x = EntriesBy Standard n es ls classes parents x
+Entries n es ls classes parents x = EntriesBy Strict n es ls classes parents x
 
 abbrev pub Members : ℕ → List ℕ → List ℤ → List ℕ → List ℕ → ℕ → ℕ → Type 0
-Members n es ls classes parents x = MembersBy Standard n es ls classes parents x
+Members n es ls classes parents x = MembersBy Strict n es ls classes parents x
 
 abbrev pub Size : ℕ → List ℕ → List ℤ → List ℕ → List ℕ → List ℕ → ℕ → ℕ → Type 0
-Size n es ls classes parents counts x = SizeBy Standard n es ls classes parents counts x
+Size n es ls classes parents counts x = SizeBy Strict n es ls classes parents counts x
 
 -- What each of the calls promises: its refusals in their order, its answer, and what it leaves in the lent output.
 abbrev pub EntryAnswered : ℕ → List ℕ → List ℕ → List ℕ → List ℕ → ℕ → ℕ → EntryAnswer → Type 0
@@ -72,12 +72,12 @@ abbrev pub SizedBy : Scheme → ℕ → List ℕ → List ℤ → List ℕ → L
 SizedBy scheme n es ls classes parents counts x (Count size) = NoneOf (readOrder n es ls classes parents counts x) × SizeBy scheme n es ls classes parents counts x size
 SizedBy scheme n es ls classes parents counts x (Filled.Refused number place) = FirstOf (readOrder n es ls classes parents counts x) number place
 
--- A call that names no scheme means the standard one.
+-- A call that names no scheme means the strict one.
 abbrev pub EntriesListed : ℕ → List ℕ → List ℤ → List ℕ → List ℕ → List ℕ → ℕ → List ℕ → List ℕ → Filled → Type 0
-EntriesListed n es ls classes parents counts x = EntriesListedBy Standard n es ls classes parents counts x
+EntriesListed n es ls classes parents counts x = EntriesListedBy Strict n es ls classes parents counts x
 
 abbrev pub SetListed : ℕ → List ℕ → List ℤ → List ℕ → List ℕ → List ℕ → ℕ → List ℕ → List ℕ → Filled → Type 0
-SetListed n es ls classes parents counts x = SetListedBy Standard n es ls classes parents counts x
+SetListed n es ls classes parents counts x = SetListedBy Strict n es ls classes parents counts x
 
 abbrev pub Sized : ℕ → List ℕ → List ℤ → List ℕ → List ℕ → List ℕ → ℕ → Filled → Type 0
-Sized n es ls classes parents counts x = SizedBy Standard n es ls classes parents counts x
+Sized n es ls classes parents counts x = SizedBy Strict n es ls classes parents counts x

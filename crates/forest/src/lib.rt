@@ -60,7 +60,7 @@ pub fn entry_point(
     }
 }
 
-// The entry points of x, written ascending into `out`, with their count.
+// The strict entry points of x, written ascending into `out`, with their count.
 pub fn entry_points(
     n: u32,
     prefix: &[u32],
@@ -74,7 +74,7 @@ pub fn entry_points(
     ensures { λ r. ⌜ EntriesListed n (now (prefix .entry)) (now (clauses .entry)) (now (classes .entry)) (now (parents .entry)) (now (counts .entry)) (x .0) (now (out .entry)) (now (out .exit)) r ⌝ }
 {
     entry_points_by(
-        Scheme::Standard,
+        Scheme::Strict,
         n,
         prefix,
         clauses,
@@ -86,7 +86,7 @@ pub fn entry_points(
     )
 }
 
-// The set of x, written ascending into `out`, with the count of its members.
+// The strict set of x, written ascending into `out`, with the count of its members.
 pub fn set_of(
     n: u32,
     prefix: &[u32],
@@ -100,7 +100,7 @@ pub fn set_of(
     ensures { λ r. ⌜ SetListed n (now (prefix .entry)) (now (clauses .entry)) (now (classes .entry)) (now (parents .entry)) (now (counts .entry)) (x .0) (now (out .entry)) (now (out .exit)) r ⌝ }
 {
     set_by(
-        Scheme::Standard,
+        Scheme::Strict,
         n,
         prefix,
         clauses,
@@ -112,7 +112,7 @@ pub fn set_of(
     )
 }
 
-// The size of the set of x, by the counts of its entry points.
+// The size of the strict set of x, by the counts of its strict entry points.
 pub fn set_size(
     n: u32,
     prefix: &[u32],
@@ -125,7 +125,7 @@ pub fn set_size(
     ensures { λ r. ⌜ Sized n (now (prefix .entry)) (now (clauses .entry)) (now (classes .entry)) (now (parents .entry)) (now (counts .entry)) (x .0) r ⌝ }
 {
     size_by(
-        Scheme::Standard,
+        Scheme::Strict,
         n,
         prefix,
         clauses,

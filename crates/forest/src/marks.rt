@@ -123,7 +123,7 @@ fn flag_signs(signs: Signs, n: u32, clauses: &[i32], x: Variable, tops: &[u32], 
 }
 
 // Whether the side of a clause is one of the signs.
-fn has_sign(signs: Signs, side: Side) -> bool
+pub fn has_sign(signs: Signs, side: Side) -> bool
     ensures { λ r. ⌜ r ≡ sideBy signs side ⌝ }
 {
     match side {
@@ -164,7 +164,7 @@ fn scan_clause(clauses: &[i32], start: usize, x: Variable) -> Scan
 }
 
 // The sign of a literal.
-fn side_of(literal: Literal) -> Side
+pub fn side_of(literal: Literal) -> Side
     ensures { λ r. ⌜ Sided r (λ sign. literal .0 ≡ signed sign (variableOf (literal .0))) ⌝ }
 {
     if literal.0 < 0 {

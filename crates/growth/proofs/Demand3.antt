@@ -21,7 +21,8 @@ use Rattle.formula.proofs.Signs.{connected-none}
 use Rattle.formula.proofs.Sound.{sound-clauses}
 use Rattle.tables.specs.Causes.{ForestCause}
 use Rattle.tables.specs.Formula.{variables, universal, joined, Shares}
-use Rattle.forest.specs.Answers.{Entries, Members}
+use Rattle.forest.specs.declared.Scheme.the-variants.{Standard}
+use Rattle.forest.specs.Answers.{EntriesBy, MembersBy}
 use Rattle.tables.proofs.Agreeing.{lawful, none-formed, none-counted}
 use Rattle.forest.proofs.Demands.{universal-alone}
 use Rattle.connection.specs.Reach.{Variables, Joined, Depends, From, Reach}
@@ -156,13 +157,13 @@ module _ (n : ℕ) (es : List ℕ) where
 
     module _ {x : ℕ} (u : universal n es x ≡ true) (alone : LeavesAlone X (Shares ls) (connected clause) x) where
       -- ... so does its set, by the tables and clauses before and after ...
-      pub adding-set : {y : ℕ} → Members n es ls (s′ .classes) (s′ .parents) x y ↔ Members n es (withLast ls clause) (s″ .classes) (s″ .parents) x y
+      pub adding-set : {y : ℕ} → MembersBy Standard n es ls (s′ .classes) (s′ .parents) x y ↔ MembersBy Standard n es (withLast ls clause) (s″ .classes) (s″ .parents) x y
       adding-set =
           let is = universal-alone n es x u in
           Iff·trans (Iff·symm (set-members (lawful n es) (built .leaves .1 .forest) is)) (Iff·trans (adding-depends alone) (set-members (lawful n es) added-forest is))
 
       -- ... and so do its entry points.
-      pub adding-entries : {e : ℕ} → Entries n es ls (s′ .classes) (s′ .parents) x e ↔ Entries n es (withLast ls clause) (s″ .classes) (s″ .parents) x e
+      pub adding-entries : {e : ℕ} → EntriesBy Standard n es ls (s′ .classes) (s′ .parents) x e ↔ EntriesBy Standard n es (withLast ls clause) (s″ .classes) (s″ .parents) x e
       adding-entries {e} =
           subst (λ (ds : List (List ℕ)). EntryPointOf X (tableOf X s′) (Shares ls) x e ↔ EntryPointOf X (tableOf X s″) (Joined ds) x e) (sym (joined-last accepted first))
           (entries-stay (lawful n es) (built .leaves .1 .forest) (extends (connected clause) (built .leaves .1 .forest) (added .leaves .1 .forest)) (universal-alone n es x u) alone)

@@ -30,6 +30,9 @@ REFUSED = 114 ∷ 101 ∷ 102 ∷ 117 ∷ 115 ∷ 101 ∷ 100 ∷ 32 ∷ []
 abbrev pub AT : List ℕ
 AT = 32 ∷ 97 ∷ 116 ∷ 32 ∷ []
 
+abbrev pub STRICT : List ℕ
+STRICT = 32 ∷ 115 ∷ 116 ∷ 114 ∷ 105 ∷ 99 ∷ 116 ∷ []
+
 abbrev pub END : List ℕ
 END = 10 ∷ []
 
@@ -38,11 +41,11 @@ unfoldable pub numbers : List ℕ → List ℕ
 numbers [] = []
 numbers (v ∷ vs) = 32 ∷ (decimal v ++ numbers vs)
 
--- `vars 9 blocks 5 clauses 5`
+-- `vars 9 blocks 5 clauses 5 strict`: the last word is the scheme of the lines that follow (document 02, request 10)
 unfoldable pub headLine : ℕ → ℕ → ℕ → List ℕ
-headLine n blocks clauses = (VARS ++ decimal n) ++ (BLOCKS ++ decimal blocks) ++ (CLAUSES ++ decimal clauses) ++ END
+headLine n blocks clauses = (VARS ++ decimal n) ++ (BLOCKS ++ decimal blocks) ++ (CLAUSES ++ decimal clauses) ++ (STRICT ++ END)
 
--- `3 level 2 entries 4 set 4 7 8`
+-- `3 level 2 entries 4 set 4 7 8`; with no entry point `3 level 2 entries set`
 unfoldable pub universalLine : ℕ → ℕ → List ℕ → List ℕ → List ℕ
 universalLine x level entries set = decimal x ++ (LEVEL ++ decimal level) ++ (ENTRIES ++ numbers entries) ++ (SET ++ numbers set) ++ END
 

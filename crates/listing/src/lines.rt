@@ -9,7 +9,7 @@ ghost use Rattle.qdimacs.specs.Writing.{decimal};
 ghost use Rattle.qdimacs.specs.Bytes.{Wrote};
 ghost use Rattle.listing.specs.Lines.{numbers, headLine, universalLine, refusedLine, Small, Stored};
 
-// `vars N blocks B clauses C`
+// `vars N blocks B clauses C strict`
 pub fn head_line(out: &mut [u8], n: u32, blocks: u32, clauses: u32) -> usize
     requires { ⌜ (n < 100000) × (blocks < 100000) × (clauses < 100000) ⌝ }
     ensures { λ r. ⌜ Stored 65536 (headLine n blocks clauses) (now (out .entry)) (now (out .exit)) 0 r ⌝ }
@@ -17,7 +17,7 @@ pub fn head_line(out: &mut [u8], n: u32, blocks: u32, clauses: u32) -> usize
     let a = put_named(out, 0, b"vars ", n);
     let b = put_named(out, a, b" blocks ", blocks);
     let c = put_named(out, b, b" clauses ", clauses);
-    put_byte(out, c, b'\n')
+    put_word(out, c, b" strict\n")
 }
 
 // `X level L entries .. set ..`

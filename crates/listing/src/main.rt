@@ -1,7 +1,8 @@
-// Lists the dependency sets of a QDIMACS text on standard input: a line for the formula, and one for each universal.
+// Lists the strict dependency sets of a QDIMACS text on standard input: a line for the formula, and one for each universal.
 
 mod lines;
 
+use forest::Scheme;
 use forest::listing::Asked;
 use forest::listing::list_picked;
 use forest::search::Floor;
@@ -12,7 +13,7 @@ use growth::Tally;
 use libc::STDIN_FILENO;
 use libc::STDOUT_FILENO;
 use qdimacs::Reading;
-use sets::threads::flag_along;
+use sets::threads::flag_points;
 use sets::threads::thread;
 use tables::rows::universal_at;
 use terms::Filled;
@@ -202,7 +203,7 @@ fn list_tied(
     }
 }
 
-// The line of one universal: its entry points are flagged once, along its chain, and they and its set are listed.
+// The line of one universal: its strict entry points are flagged once, along its chain, and they and its set are listed.
 fn list_universal(
     n: u32,
     clauses: &[i32],
@@ -215,7 +216,16 @@ fn list_universal(
     requires { ⌜ (n ≤ 4096) × Tied (now clauses) (now first) (now next) (x .0) ⌝ }
 {
     let mut entered = [false; 4097];
-    flag_along(n, clauses, first, next, x, tops, &mut entered);
+    flag_points(
+        Scheme::Strict,
+        n,
+        clauses,
+        first,
+        next,
+        x,
+        tops,
+        &mut entered,
+    );
     print_universal(n, x, level, &entered, tops);
 }
 

@@ -15,9 +15,10 @@ use Rattle.terms.specs.declared.Verdict.the-variants.{Accepted}
 use Rattle.terms.proofs.Verdicts.{at0-none, accepted-then, first-or-none}
 use Rattle.tables.specs.Formula.{variables, Shares}
 use Rattle.tables.specs.Causes.{ForestCause}
+use Rattle.forest.specs.declared.Scheme.the-variants.{Standard}
 use Rattle.growth.specs.declared.Tally.{Tally}
 use Rattle.growth.specs.Grown.{Standing, standing, TooShort, Grown}
-use Rattle.sets.specs.Sets.{SetsTooLong}
+use Rattle.sets.specs.Sets.{SetsTooLongBy}
 use Rattle.joining.specs.Rules.{readAs, checkOrderUnder}
 use Rattle.joining.proofs.Orders.{limits}
 use Rattle.ruled.specs.Calls.{buildOrderUnder, SetsUnder, BuildsUnder}
@@ -47,13 +48,13 @@ module _ (rule n : ℕ) (es : List ℕ) (ls : List ℤ) where
 
   module _ {cs ps ks : List ℕ} (none : NoneOf (checkOrderUnder rule n es ls)) (r : ForestRows n (readAs rule es) ls cs ps ks) where
     -- What the call for all sets writes, and what it has no room for.
-    pub sets-written : (before after : List ℕ) (count : ℕ) → SetsUnder rule n es ls cs ps ks before after (Count count)
+    pub sets-written : (before after : List ℕ) (count : ℕ) → SetsUnder rule Standard n es ls cs ps ks before after (Count count)
         → (list : List ℕ) × StandardSets n (readAs rule es) ls list × (count ≡ length list) × (after ≡ sets before 0 list) × (length list ≤ length before)
     sets-written before after count (no-cause, (list, all, is, stored)) =
         (list, own-sets n (readAs rule es) ls r list all, is, stored, by-cases (decLt (length before) (length list)) (λ l. absurd (no-cause .1 .1 .1 .1 .1 .1 .0 14 0 (refl, refl, (list, all, l)))) (λ l. omega arith))
 
-    pub sets-unwritten : (before after : List ℕ) (k p : ℕ) → SetsUnder rule n es ls cs ps ks before after (Refused k p) → (list : List ℕ) × StandardSets n (readAs rule es) ls list × (length before < length list)
-    sets-unwritten before after k p (first, same) = go (later-first (checkOrderUnder rule n es ls) (ForestCause n (readAs rule es) cs ps ks ∷ At0 14 (SetsTooLong n (readAs rule es) ls cs ps before) ∷ []) k p none first)
+    pub sets-unwritten : (before after : List ℕ) (k p : ℕ) → SetsUnder rule Standard n es ls cs ps ks before after (Refused k p) → (list : List ℕ) × StandardSets n (readAs rule es) ls list × (length before < length list)
+    sets-unwritten before after k p (first, same) = go (later-first (checkOrderUnder rule n es ls) (ForestCause n (readAs rule es) cs ps ks ∷ At0 14 (SetsTooLongBy Standard n (readAs rule es) ls cs ps before) ∷ []) k p none first)
       where
-        go : FirstOf (ForestCause n (readAs rule es) cs ps ks ∷ At0 14 (SetsTooLong n (readAs rule es) ls cs ps before) ∷ []) k p → (list : List ℕ) × StandardSets n (readAs rule es) ls list × (length before < length list)
+        go : FirstOf (ForestCause n (readAs rule es) cs ps ks ∷ At0 14 (SetsTooLongBy Standard n (readAs rule es) ls cs ps before) ∷ []) k p → (list : List ℕ) × StandardSets n (readAs rule es) ls list × (length before < length list)
         go f = ⊎-elim (λ g. absurd (own-fine n (readAs rule es) ls r k p (g .holds))) (λ later. ⊎-elim (λ g. let (list, all, l) = g .holds .2 in (list, own-sets n (readAs rule es) ls r list all, l)) (λ no′. absurd (no′ .1)) (later .1)) f

@@ -3,6 +3,7 @@
 use crate::decoding::fill_literals;
 use crate::decoding::fill_numbers;
 use crate::decoding::same_numbers;
+use forest::Scheme;
 use growth::Tally;
 use layout::places::clause_entries;
 use layout::places::fourth_at;
@@ -176,8 +177,9 @@ fn sets_hold(
     ensures { λ r. ⌜ Tells r (RightSets rule (now (file .entry))) ⌝ }
 {
     let mut list = [0u32; 131072];
-    match ruled::asking::sets(
+    match ruled::asking::sets_by(
         rule,
+        Scheme::Standard,
         n,
         prefix,
         clauses,

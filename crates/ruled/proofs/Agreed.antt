@@ -18,7 +18,7 @@ use Rattle.growth.specs.Grown.{Standing}
 use Rattle.qdimacs.specs.declared.Output.{Output}
 use Rattle.qdimacs.specs.Stored.{Stored, writeOrder}
 use Rattle.qdimacs.specs.Writing.{textOf}
-use Rattle.sets.specs.Sets.{AllSets}
+use Rattle.sets.specs.Sets.{AllSetsBy}
 use Rattle.joining.specs.Rules.{readAs, ruledPrefix}
 use Rattle.joining.proofs.Agreement.{one-to-two, two-to-one}
 use Rattle.joining.proofs.Exchange.{Carries, carry-judged}
@@ -38,9 +38,9 @@ module _ (n : ℕ) (es : List ℕ) (ls : List ℤ) (none : NoneOf (ruledPrefix 1
     lists-agree x P before after r =
         agreed (Lists 1 n es ls classes parents counts x P before after r) (λ order order′ read c h. carry-filling (Listed (P read)) before after r order order′ c h) (lists-later 1 n es ls classes parents counts x P before after r)
 
-    pub sets-agree : (before after : List ℕ) (r : Filled) → SetsUnder 1 n es ls classes parents counts before after r ↔ SetsUnder 2 n es ls classes parents counts before after r
-    sets-agree before after r =
-        agreed (All 1 n es ls classes parents counts before after r) (λ order order′ read c h. carry-filling (AllSets n read ls classes parents) before after r order order′ c h) (all-later 1 n es ls classes parents counts before after r)
+    pub sets-agree : (scheme : Scheme) (before after : List ℕ) (r : Filled) → SetsUnder 1 scheme n es ls classes parents counts before after r ↔ SetsUnder 2 scheme n es ls classes parents counts before after r
+    sets-agree scheme before after r =
+        agreed (All 1 scheme n es ls classes parents counts before after r) (λ order order′ read c h. carry-filling (AllSetsBy scheme n read ls classes parents) before after r order order′ c h) (all-later 1 scheme n es ls classes parents counts before after r)
 
     pub size-agrees : (scheme : Scheme) (x : ℕ) (r : Filled) → SizeUnder 1 scheme n es ls classes parents counts x r ↔ SizeUnder 2 scheme n es ls classes parents counts x r
     size-agrees scheme x (Count size) =

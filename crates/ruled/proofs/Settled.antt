@@ -17,7 +17,7 @@ use Rattle.formula.specs.Causes.{checkOrder}
 use Rattle.formula.specs.Meaning.{connected}
 use Rattle.forest.specs.declared.EntryAnswer.{EntryAnswer}
 use Rattle.forest.specs.declared.Scheme.{Scheme}
-use Rattle.forest.specs.Answers.{Members}
+use Rattle.forest.specs.Answers.{MembersBy}
 use Rattle.forest.specs.Causes.{entryOrder, readOrder, listOrder}
 use Rattle.tables.specs.Formula.{variables, universal, joined}
 use Rattle.forest.proofs.Demands.{filling-settled, listing-settled}
@@ -26,7 +26,7 @@ use Rattle.growth.specs.Grown.{Standing, tableOf, many, buildOrder, addOrder, T
 use Rattle.growth.proofs.Tight.{tight, tally-of-one, took-one}
 use Rattle.qdimacs.specs.declared.Output.{Output}
 use Rattle.qdimacs.proofs.Settled.{stored-same}
-use Rattle.sets.specs.Sets.{AllSets, setsOrder}
+use Rattle.sets.specs.Sets.{AllSetsBy, setsOrderBy}
 use Rattle.sets.proofs.Records.{records-one}
 use Rattle.joining.specs.Rules.{readAs, underRule}
 use Rattle.ruled.specs.Calls.{CheckedUnder, EntryUnder, ListedUnder, SizeUnder, SetsUnder, BuildsUnder, AddsUnder, writeOrderUnder, WritesUnder}
@@ -46,8 +46,8 @@ module _ (rule n : ℕ) (es : List ℕ) (ls : List ℤ) where
     pub lists-settled : (x : ℕ) (P : List ℕ → ℕ → Type 0) (before after after′ : List ℕ) (r r′ : Filled) → ListedUnder rule n es ls classes parents counts x P before after r → ListedUnder rule n es ls classes parents counts x P before after′ r′ → (r ≡ r′) × (after ≡ after′)
     lists-settled x P before = listing-settled (under (listOrder n read ls classes parents counts x (P read) before)) (P read) before
 
-    pub sets-settled : (before after after′ : List ℕ) (r r′ : Filled) → SetsUnder rule n es ls classes parents counts before after r → SetsUnder rule n es ls classes parents counts before after′ r′ → (r ≡ r′) × (after ≡ after′)
-    sets-settled before = filling-settled (under (setsOrder n read ls classes parents counts before)) (AllSets n read ls classes parents) (records-one (universal n read) (Members n read ls classes parents) n) before
+    pub sets-settled : (scheme : Scheme) (before after after′ : List ℕ) (r r′ : Filled) → SetsUnder rule scheme n es ls classes parents counts before after r → SetsUnder rule scheme n es ls classes parents counts before after′ r′ → (r ≡ r′) × (after ≡ after′)
+    sets-settled scheme before = filling-settled (under (setsOrderBy scheme n read ls classes parents counts before)) (AllSetsBy scheme n read ls classes parents) (records-one (universal n read) (MembersBy scheme n read ls classes parents) n) before
 
     pub size-settled : (scheme : Scheme) (x : ℕ) (r r′ : Filled) → SizeUnder rule scheme n es ls classes parents counts x r → SizeUnder rule scheme n es ls classes parents counts x r′ → r ≡ r′
     size-settled scheme x (Filled.Count k) (Filled.Count k′) (none, a) (none′, b) = ap Count (a .2 ∙ ap (sum (row n counts)) (listed-one (a .0) (b .0) (a .1) (b .1)) ∙ sym (b .2))

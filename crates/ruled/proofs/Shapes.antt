@@ -19,7 +19,7 @@ use Rattle.forest.specs.Answers.{Answered, Entry, EntryAnswered, SizeBy, SizedB
 use Rattle.forest.specs.Listed.{Filling, Listing}
 use Rattle.tables.specs.Formula.{variables, Shares}
 use Rattle.growth.specs.Grown.{Standing, buildOrder, addOrder, many, TallyOf, Leaves, AddLeaves, Builds, Adds}
-use Rattle.sets.specs.Sets.{AllSets, setsOrder, SetsListed}
+use Rattle.sets.specs.Sets.{AllSetsBy, setsOrderBy, SetsListedBy}
 use Rattle.joining.specs.Rules.{readAs, ruledPrefix, afterPrefix}
 use Rattle.joining.specs.Writing.{Joins}
 use Rattle.joining.proofs.Exchange.{Carries, carry-judged, under-one, under-two}
@@ -60,24 +60,24 @@ pub lists-refused : (rule n : ℕ) (es : List ℕ) (ls : List ℤ) (classes pare
 lists-refused rule n es ls classes parents counts x P before out number place is joined =
     (refused-under rule n es (length ls) (lists-later rule n es ls classes parents counts x P before before (Refused number place) (readAs rule es)) out number place is joined, refl)
 
--- the sets of all universals
-module _ (rule n : ℕ) (es : List ℕ) (ls : List ℤ) (classes parents counts before after : List ℕ) (r : Filled) where
+-- the sets of all universals by a scheme
+module _ (rule : ℕ) (scheme : Scheme) (n : ℕ) (es : List ℕ) (ls : List ℤ) (classes parents counts before after : List ℕ) (r : Filled) where
   abbrev pub All : List Causes → List ℕ → Type 0
-  All order read = Filling order (AllSets n read ls classes parents) before after r
+  All order read = Filling order (AllSetsBy scheme n read ls classes parents) before after r
 
   abbrev pub all-later : List ℕ → List Causes
-  all-later read = afterPrefix (setsOrder n read ls classes parents counts before)
+  all-later read = afterPrefix (setsOrderBy scheme n read ls classes parents counts before)
 
-  pub all-one : rule ≡ 1 → SetsListed n es ls classes parents counts before after r → SetsUnder rule n es ls classes parents counts before after r
-  all-one is holds = under-one All (λ order order′ read c h. carry-filling (AllSets n read ls classes parents) before after r order order′ c h) all-later rule n es (length ls) is holds
+  pub all-one : rule ≡ 1 → SetsListedBy scheme n es ls classes parents counts before after r → SetsUnder rule scheme n es ls classes parents counts before after r
+  all-one is holds = under-one All (λ order order′ read c h. carry-filling (AllSetsBy scheme n read ls classes parents) before after r order order′ c h) all-later rule n es (length ls) is holds
 
-  pub all-two : (out : List ℕ) (count : ℕ) {v : Filled} → v ≡ Count count → Joins rule n es (length ls) out v → SetsListed n (take (count - 0) (drop 0 out)) ls classes parents counts before after r → SetsUnder rule n es ls classes parents counts before after r
+  pub all-two : (out : List ℕ) (count : ℕ) {v : Filled} → v ≡ Count count → Joins rule n es (length ls) out v → SetsListedBy scheme n (take (count - 0) (drop 0 out)) ls classes parents counts before after r → SetsUnder rule scheme n es ls classes parents counts before after r
   all-two out count is joined holds =
-      under-two All (λ order order′ read c h. carry-filling (AllSets n read ls classes parents) before after r order order′ c h) all-later rule n es (length ls) out count (subst (Joins rule n es (length ls) out) is joined) holds
+      under-two All (λ order order′ read c h. carry-filling (AllSetsBy scheme n read ls classes parents) before after r order order′ c h) all-later rule n es (length ls) out count (subst (Joins rule n es (length ls) out) is joined) holds
 
-pub all-refused : (rule n : ℕ) (es : List ℕ) (ls : List ℤ) (classes parents counts before out : List ℕ) (number place : ℕ) {v : Filled} → v ≡ Refused number place → Joins rule n es (length ls) out v → SetsUnder rule n es ls classes parents counts before before (Refused number place)
-all-refused rule n es ls classes parents counts before out number place is joined =
-    (refused-under rule n es (length ls) (all-later rule n es ls classes parents counts before before (Refused number place) (readAs rule es)) out number place is joined, refl)
+pub all-refused : (rule : ℕ) (scheme : Scheme) (n : ℕ) (es : List ℕ) (ls : List ℤ) (classes parents counts before out : List ℕ) (number place : ℕ) {v : Filled} → v ≡ Refused number place → Joins rule n es (length ls) out v → SetsUnder rule scheme n es ls classes parents counts before before (Refused number place)
+all-refused rule scheme n es ls classes parents counts before out number place is joined =
+    (refused-under rule n es (length ls) (all-later rule scheme n es ls classes parents counts before before (Refused number place) (readAs rule es)) out number place is joined, refl)
 
 -- the size of a set
 module _ (rule : ℕ) (scheme : Scheme) (n : ℕ) (es : List ℕ) (ls : List ℤ) (classes parents counts : List ℕ) (x : ℕ) where

@@ -16,7 +16,7 @@ use Rattle.forest.specs.Causes.{entryOrder, readOrder, listOrder}
 use Rattle.forest.specs.Answers.{Answered, Entry, EntriesBy, MembersBy, SizeBy}
 use Rattle.tables.specs.Formula.{variables, Shares}
 use Rattle.forest.specs.Listed.{Filling, Listing}
-use Rattle.sets.specs.Sets.{AllSets, setsOrder}
+use Rattle.sets.specs.Sets.{AllSetsBy, setsOrderBy}
 use Rattle.growth.specs.Grown.{Standing, buildOrder, addOrder, many, TallyOf, Leaves, AddLeaves}
 use Rattle.qdimacs.specs.declared.Output.{Output}
 use Rattle.qdimacs.specs.Stored.{Stored, writeOrder}
@@ -33,8 +33,8 @@ readOrderUnder rule n es ls classes parents counts x = underRule rule n es (leng
 abbrev pub listOrderUnder : ℕ → ℕ → List ℕ → List ℤ → List ℕ → List ℕ → List ℕ → ℕ → (ℕ → Type 0) → List ℕ → List Causes
 listOrderUnder rule n es ls classes parents counts x P before = underRule rule n es (length ls) (listOrder n (readAs rule es) ls classes parents counts x P before)
 
-abbrev pub setsOrderUnder : ℕ → ℕ → List ℕ → List ℤ → List ℕ → List ℕ → List ℕ → List ℕ → List Causes
-setsOrderUnder rule n es ls classes parents counts before = underRule rule n es (length ls) (setsOrder n (readAs rule es) ls classes parents counts before)
+abbrev pub setsOrderUnder : ℕ → Scheme → ℕ → List ℕ → List ℤ → List ℕ → List ℕ → List ℕ → List ℕ → List Causes
+setsOrderUnder rule scheme n es ls classes parents counts before = underRule rule n es (length ls) (setsOrderBy scheme n (readAs rule es) ls classes parents counts before)
 
 abbrev pub buildOrderUnder : ℕ → ℕ → List ℕ → List ℤ → Standing → List Causes
 buildOrderUnder rule n es ls s = underRule rule n es (length ls) (buildOrder n (readAs rule es) ls s)
@@ -76,10 +76,10 @@ SizeUnder rule scheme n es ls classes parents counts x (Count size) =
 SizeUnder rule scheme n es ls classes parents counts x (Refused number place) =
     FirstOf (readOrderUnder rule n es ls classes parents counts x) number place
 
--- the sets of all universals
-abbrev pub SetsUnder : ℕ → ℕ → List ℕ → List ℤ → List ℕ → List ℕ → List ℕ → List ℕ → List ℕ → Filled → Type 0
-SetsUnder rule n es ls classes parents counts before =
-    Filling (setsOrderUnder rule n es ls classes parents counts before) (AllSets n (readAs rule es) ls classes parents) before
+-- the sets of all universals by a scheme
+abbrev pub SetsUnder : ℕ → Scheme → ℕ → List ℕ → List ℤ → List ℕ → List ℕ → List ℕ → List ℕ → List ℕ → Filled → Type 0
+SetsUnder rule scheme n es ls classes parents counts before =
+    Filling (setsOrderUnder rule scheme n es ls classes parents counts before) (AllSetsBy scheme n (readAs rule es) ls classes parents) before
 
 -- build
 pub record BuildsUnder (rule n : ℕ) (es : List ℕ) (ls : List ℤ) (s s′ : Standing) (answer : Filled) : Type 0 where

@@ -6,7 +6,7 @@ use forest::Scheme;
 use joining::join;
 use terms::Filled;
 use terms::Variable;
-ghost use Rattle.forest.specs.declared.Scheme.the-variants.{Standard};
+ghost use Rattle.forest.specs.declared.Scheme.the-variants.{Strict};
 ghost use Rattle.ruled.specs.Calls.{EntryUnder, EntriesUnder, SetUnder, SizeUnder, SetsUnder};
 
 // The entry point of x for y, and the number of rises from the class of y up to it.
@@ -35,7 +35,7 @@ pub fn entry_point(
     }
 }
 
-// The entry points of x, written ascending into `out`, with their count.
+// The strict entry points of x, written ascending into `out`, with their count.
 pub fn entry_points(
     rule: u32,
     n: u32,
@@ -47,11 +47,11 @@ pub fn entry_points(
     x: Variable,
     out: &mut [u32],
 ) -> Filled
-    ensures { λ r. ⌜ EntriesUnder rule Standard n (now (prefix .entry)) (now (clauses .entry)) (now (classes .entry)) (now (parents .entry)) (now (counts .entry)) (x .0) (now (out .entry)) (now (out .exit)) r ⌝ }
+    ensures { λ r. ⌜ EntriesUnder rule Strict n (now (prefix .entry)) (now (clauses .entry)) (now (classes .entry)) (now (parents .entry)) (now (counts .entry)) (x .0) (now (out .entry)) (now (out .exit)) r ⌝ }
 {
     entry_points_by(
         rule,
-        Scheme::Standard,
+        Scheme::Strict,
         n,
         prefix,
         clauses,
@@ -63,7 +63,7 @@ pub fn entry_points(
     )
 }
 
-// The set of x, written ascending into `out`, with the count of its members.
+// The strict set of x, written ascending into `out`, with the count of its members.
 pub fn set_of(
     rule: u32,
     n: u32,
@@ -75,11 +75,11 @@ pub fn set_of(
     x: Variable,
     out: &mut [u32],
 ) -> Filled
-    ensures { λ r. ⌜ SetUnder rule Standard n (now (prefix .entry)) (now (clauses .entry)) (now (classes .entry)) (now (parents .entry)) (now (counts .entry)) (x .0) (now (out .entry)) (now (out .exit)) r ⌝ }
+    ensures { λ r. ⌜ SetUnder rule Strict n (now (prefix .entry)) (now (clauses .entry)) (now (classes .entry)) (now (parents .entry)) (now (counts .entry)) (x .0) (now (out .entry)) (now (out .exit)) r ⌝ }
 {
     set_by(
         rule,
-        Scheme::Standard,
+        Scheme::Strict,
         n,
         prefix,
         clauses,
@@ -91,7 +91,7 @@ pub fn set_of(
     )
 }
 
-// The size of the set of x, by the counts of its entry points.
+// The size of the strict set of x, by the counts of its strict entry points.
 pub fn set_size(
     rule: u32,
     n: u32,
@@ -102,11 +102,11 @@ pub fn set_size(
     counts: &[u32],
     x: Variable,
 ) -> Filled
-    ensures { λ r. ⌜ SizeUnder rule Standard n (now (prefix .entry)) (now (clauses .entry)) (now (classes .entry)) (now (parents .entry)) (now (counts .entry)) (x .0) r ⌝ }
+    ensures { λ r. ⌜ SizeUnder rule Strict n (now (prefix .entry)) (now (clauses .entry)) (now (classes .entry)) (now (parents .entry)) (now (counts .entry)) (x .0) r ⌝ }
 {
     size_by(
         rule,
-        Scheme::Standard,
+        Scheme::Strict,
         n,
         prefix,
         clauses,
@@ -239,8 +239,7 @@ pub fn size_by(
     }
 }
 
-// The sets of all universals, written into `out`: for each universal ascending its number, the count of its set and its set ascending; with the
-// count of all entries.
+// The sets of all universals by the strict scheme.
 pub fn sets(
     rule: u32,
     n: u32,
@@ -251,17 +250,54 @@ pub fn sets(
     counts: &[u32],
     out: &mut [u32],
 ) -> Filled
-    ensures { λ r. ⌜ SetsUnder rule n (now (prefix .entry)) (now (clauses .entry)) (now (classes .entry)) (now (parents .entry)) (now (counts .entry)) (now (out .entry)) (now (out .exit)) r ⌝ }
+    ensures { λ r. ⌜ SetsUnder rule Strict n (now (prefix .entry)) (now (clauses .entry)) (now (classes .entry)) (now (parents .entry)) (now (counts .entry)) (now (out .entry)) (now (out .exit)) r ⌝ }
+{
+    sets_by(
+        rule,
+        Scheme::Strict,
+        n,
+        prefix,
+        clauses,
+        classes,
+        parents,
+        counts,
+        out,
+    )
+}
+
+// The sets of all universals by a scheme, written into `out`: for each universal ascending its number, the count of its set and its set
+// ascending; with the count of all entries.
+pub fn sets_by(
+    rule: u32,
+    scheme: Scheme,
+    n: u32,
+    prefix: &[u32],
+    clauses: &[i32],
+    classes: &[u32],
+    parents: &[u32],
+    counts: &[u32],
+    out: &mut [u32],
+) -> Filled
+    ensures { λ r. ⌜ SetsUnder rule scheme n (now (prefix .entry)) (now (clauses .entry)) (now (classes .entry)) (now (parents .entry)) (now (counts .entry)) (now (out .entry)) (now (out .exit)) r ⌝ }
 {
     if rule == 1 {
-        return sets::sets(n, prefix, clauses, classes, parents, counts, out);
+        return sets::sets_by(scheme, n, prefix, clauses, classes, parents, counts, out);
     }
     let mut read = [0u32; 4224];
     match join(rule, n, prefix, clauses.len(), &mut read) {
         Filled::Refused(number, place) => Filled::Refused(number, place),
         Filled::Count(count) => {
             let end = count as usize;
-            sets::sets(n, &read[0..end], clauses, classes, parents, counts, out)
+            sets::sets_by(
+                scheme,
+                n,
+                &read[0..end],
+                clauses,
+                classes,
+                parents,
+                counts,
+                out,
+            )
         }
     }
 }

@@ -1,6 +1,7 @@
 // The calls at the limit of n: 4,096 variables, of which 1 is universal, 4,096 is existential and deeper, and all others are free.
 
 use forest::EntryAnswer;
+use forest::Scheme;
 use score::Score;
 use score::library;
 use score::rows::UNTOUCHED;
@@ -31,7 +32,7 @@ fn has_rows(rows: &[u32], first: u32, inner: u32, last: u32) -> bool {
         && row_at(rows, 4096) == UNTOUCHED
 }
 
-// The set of 1, its size, its entry points, and its entry point for 4,096.
+// The standard set of 1, its size, its entry points, and its entry point for 4,096.
 fn asked_cases(
     score: Score,
     prefix: &[u32],
@@ -42,7 +43,8 @@ fn asked_cases(
     let clauses = [1i32, 4096, 0];
     let mut set = [UNTOUCHED; 1];
     let mut points = [UNTOUCHED; 1];
-    let listed = library::set_of(
+    let listed = library::set_by(
+        Scheme::Standard,
         MOST,
         prefix,
         &clauses,
@@ -52,7 +54,8 @@ fn asked_cases(
         1,
         &mut set,
     );
-    let entered = library::entry_points(
+    let entered = library::entry_points_by(
+        Scheme::Standard,
         MOST,
         prefix,
         &clauses,
@@ -67,7 +70,7 @@ fn asked_cases(
     number_cases(second, prefix, &clauses, classes, parents, counts)
 }
 
-// The size of the set of 1, and its entry point for 4,096.
+// The size of the standard set of 1, and its entry point for 4,096.
 fn number_cases(
     score: Score,
     prefix: &[u32],
@@ -76,7 +79,16 @@ fn number_cases(
     parents: &[u32],
     counts: &[u32],
 ) -> Score {
-    let size = library::set_size(MOST, prefix, clauses, classes, parents, counts, 1);
+    let size = library::size_by(
+        Scheme::Standard,
+        MOST,
+        prefix,
+        clauses,
+        classes,
+        parents,
+        counts,
+        1,
+    );
     let answer = library::entry_point(MOST, prefix, classes, parents, counts, 1, MOST);
     let first = score.count(gives(size, 1));
     first.count(is_last(answer))

@@ -20,7 +20,7 @@ use score::rows::entry_says;
 use score::rows::fills;
 use score::rows::untouched;
 
-// A case of one of the calls about x, on the forest of A as lent and with an output of so many rows. The set of 3 has three
+// A case of one of the calls about x, on the forest of A as lent and with an output of so many rows. The standard set of 3 has three
 // members and one entry point. Where the call refuses, every row stays.
 fn list_case(
     score: Score,
@@ -54,12 +54,12 @@ fn list_case(
     score.count(fills(answer, count_of(call), number, place) && kept)
 }
 
-// What a call counts for 3, which has one sign only, and so nothing by the strict scheme.
+// What a call counts for 3, which has one sign only, and so nothing by the strict scheme, nor where no scheme is named.
 fn count_of(call: Call) -> u32 {
     match call {
-        Call::Sets => 3,
-        Call::Entries => 1,
-        Call::Sizes => 3,
+        Call::StandardSets => 3,
+        Call::StandardEntries => 1,
+        Call::StandardSizes => 3,
         _ => 0,
     }
 }
@@ -68,8 +68,15 @@ fn count_of(call: Call) -> u32 {
 pub fn list_cases() -> Score {
     let sets = list_cases_of(Score::new(), Call::Sets);
     let entries = list_cases_of(sets, Call::Entries);
+    list_cases_of(entries, Call::Sizes)
+}
+
+// Every case of the same three by the standard scheme.
+pub fn standard_cases() -> Score {
+    let sets = list_cases_of(Score::new(), Call::StandardSets);
+    let entries = list_cases_of(sets, Call::StandardEntries);
     let rooms = list_room_cases(entries);
-    list_cases_of(rooms, Call::Sizes)
+    list_cases_of(rooms, Call::StandardSizes)
 }
 
 // Every case of the same three by the strict scheme.
@@ -93,7 +100,7 @@ fn list_room_cases(score: Score) -> Score {
     let clauses = CLAUSES;
     let mut t = list_case(
         score,
-        Call::Sets,
+        Call::StandardSets,
         9,
         &prefix,
         &clauses,
@@ -105,7 +112,7 @@ fn list_room_cases(score: Score) -> Score {
     );
     t = list_case(
         t,
-        Call::Entries,
+        Call::StandardEntries,
         9,
         &prefix,
         &clauses,
@@ -115,7 +122,18 @@ fn list_room_cases(score: Score) -> Score {
         14,
         0,
     );
-    list_case(t, Call::Sizes, 9, &prefix, &clauses, Lent::All, 3, 0, 0, 0)
+    list_case(
+        t,
+        Call::StandardSizes,
+        9,
+        &prefix,
+        &clauses,
+        Lent::All,
+        3,
+        0,
+        0,
+        0,
+    )
 }
 
 // Refusal 13, which comes before 14.

@@ -210,12 +210,15 @@ pub fn write(n: u32, prefix: &[u32], clauses: &[i32], out: &mut [u8]) -> Output 
     qdimacs::write(n, prefix, clauses, out)
 }
 
-// One of the calls that answer a count for x: the two that list, and the size of the set, with no scheme named; and the same by the
-// strict scheme.
+// One of the calls that answer a count for x: the two that list, and the size of the set; with no scheme named, by the standard scheme, and
+// by the strict one.
 pub enum Call {
     Sets,
     Entries,
     Sizes,
+    StandardSets,
+    StandardEntries,
+    StandardSizes,
     StrictSets,
     StrictEntries,
     StrictSizes,
@@ -237,12 +240,22 @@ pub fn ask(
         Call::Sets => set_of(n, prefix, clauses, classes, parents, counts, x, out),
         Call::Entries => entry_points(n, prefix, clauses, classes, parents, counts, x, out),
         Call::Sizes => set_size(n, prefix, clauses, classes, parents, counts, x),
-        _ => ask_strict(call, n, prefix, clauses, classes, parents, counts, x, out),
+        _ => ask_by(call, n, prefix, clauses, classes, parents, counts, x, out),
     }
 }
 
-// Asks the call about x by the strict scheme.
-fn ask_strict(
+// The scheme that a call names.
+fn scheme_of(call: Call) -> Scheme {
+    match call {
+        Call::StrictSets => Scheme::Strict,
+        Call::StrictEntries => Scheme::Strict,
+        Call::StrictSizes => Scheme::Strict,
+        _ => Scheme::Standard,
+    }
+}
+
+// Asks the call about x by the scheme that it names.
+fn ask_by(
     call: Call,
     n: u32,
     prefix: &[u32],
@@ -253,21 +266,13 @@ fn ask_strict(
     x: u32,
     out: &mut [u32],
 ) -> Filled {
-    let scheme = Scheme::Strict;
+    let scheme = scheme_of(call);
     match call {
+        Call::StandardSets => set_by(scheme, n, prefix, clauses, classes, parents, counts, x, out),
         Call::StrictSets => set_by(scheme, n, prefix, clauses, classes, parents, counts, x, out),
-        Call::StrictEntries => entry_points_by(
-            scheme,
-            n,
-            prefix,
-            clauses,
-            classes,
-            parents,
-            counts,
-            x,
-            out,
-        ),
-        _ => size_by(scheme, n, prefix, clauses, classes, parents, counts, x),
+        Call::StandardSizes => size_by(scheme, n, prefix, clauses, classes, parents, counts, x),
+        Call::StrictSizes => size_by(scheme, n, prefix, clauses, classes, parents, counts, x),
+        _ => entry_points_by(scheme, n, prefix, clauses, classes, parents, counts, x, out),
     }
 }
 

@@ -1,13 +1,13 @@
 -- The pass over all universals: what is written or counted for one joins what was before, and there is room for it.
 use Prim.Native.Nat.{ℕ, _+_, _*_, _≤_, _<_}
 use mathlib.Core.Path.{_≡_, refl, sym, ap, _∙_, subst₂}
-use mathlib.Core.Bool.{Bool, true, false, cond}
+use mathlib.Core.Bool.{Bool, true, false, cond, not-eq-not}
 use mathlib.Core.List.{List, [], _∷_, _++_}
-use mathlib.Core.Logic.{inl, inr}
+use mathlib.Core.Logic.{inl, inr, ⊎-elim}
 use native.Mathlib.Nat.{mul-le-mul-right}
 use native.Mathlib.Omega.{arith}
 use lib.IntN.{ℤ}
-use lib.ListN.{length, getD, length-append, replicate}
+use lib.ListN.{length, getD, length-append}
 use lib.Seq.{sets, length-sets}
 use Rattle.terms.specs.Refusals.{Causes, At0, FirstOf, None, NoneOf, Judged}
 use Rattle.terms.specs.declared.Verdict.{Verdict}
@@ -17,22 +17,22 @@ use Rattle.terms.proofs.Verdicts.{at0-first, at0-none, accepted-then}
 use Rattle.formula.specs.Causes.{ends-inside, checkOrder}
 use Rattle.formula.specs.Meaning.{level}
 use Rattle.connection.specs.Reach.{Variables}
-use Rattle.connection.specs.Tables.{Table, lent, WellFormed, Member}
+use Rattle.connection.specs.Tables.{Table, lent, WellFormed}
 use Rattle.connection.specs.Listed.{Listed}
 use Rattle.forest.specs.declared.listing.Asked.the-variants.{Set}
-use Rattle.tables.specs.Formula.{variables, universal, Shares}
+use Rattle.forest.specs.declared.Scheme.{Scheme}
+use Rattle.tables.specs.Formula.{variables, universal, SharesBy}
 use Rattle.tables.specs.Causes.{ForestCause}
-use Rattle.forest.specs.Answers.{Members}
+use Rattle.forest.specs.Answers.{MembersBy}
 use Rattle.forest.specs.Listed.{Filling}
-use Rattle.forest.specs.Search.{TopRows, Topless, Flagged, Via, pick, picked, NoneUpto}
-use Rattle.sets.specs.Sets.{AllSets, SetsTooLong}
-use Rattle.sets.specs.Threads.{Closed, Together}
+use Rattle.forest.specs.Search.{TopRows, Topless, Takes, Via, Entering, pick, picked, NoneUpto}
+use Rattle.sets.specs.Sets.{AllSetsBy, SetsTooLongBy}
+use Rattle.sets.specs.Threads.{Closed, Together, EnteredBy}
 use Rattle.sets.specs.Passed.{SetsUpto, PutSet, RoomFor, RoomUpto, PutAll, Fills}
-use Rattle.forest.proofs.Climbing.{tops-entries}
-use Rattle.forest.proofs.Flags.{flag-as, via-as}
+use Rattle.forest.proofs.Flags.{via-as}
+use Rattle.forest.proofs.Schemes.{over-enters}
 use Rattle.sets.proofs.Followed.{together-shares}
 use Rattle.tables.proofs.Agreeing.{lawful}
-use Rattle.forest.proofs.Entered.{fresh, flags-are, entries-of}
 use Rattle.forest.proofs.Listings.{members-picked}
 use Rattle.sets.proofs.Records.{records-one, records-most, records-set, records-other, put-more}
 
@@ -42,15 +42,20 @@ put-length true before list = length-sets before 0 list
 put-length false before list = refl
 
 -- where no variable has a top, none is picked by it
-pub topless-none : {n : ℕ} {tops : List ℕ} {P : ℕ → Type 0} (flags : List Bool) (from : ℕ) → Flagged (Via n tops P) (replicate 4097 false) flags → Topless n tops from → NoneUpto (pick Set n flags tops) from
+pub topless-none : (scheme : Scheme) (n : ℕ) (tops : List ℕ) (ls : List ℤ) (x : ℕ) (flags : List Bool) (from : ℕ) → EnteredBy scheme n tops ls x flags → Topless n tops from → NoneUpto (pick Set n flags tops) from
 unfolding pick
-topless-none flags from f none v low high = ap (λ e. getD flags e false) (none v low high) ∙ go (getD flags 0 false) refl
+topless-none scheme n tops ls x flags from f none v low high = ap (λ e. getD flags e false) (none v low high) ∙ not-eq-not {b = false} .0 (λ t. no-top scheme (f .tells 0 (omega arith) .0 t))
   where
-    go : (b : Bool) → getD flags 0 false ≡ b → b ≡ false
-    go true t = absurd (flags-are fresh f 0 (omega arith) .0 t .some refl)
-    go false t = refl
+    no-top : (scheme : Scheme) → Takes scheme (λ sign. Via n tops (Together ls sign x) 0) → ⊥
+    no-top Scheme.Standard = ⊎-elim (λ t. t .some refl) (λ t. t .some refl)
+    no-top Scheme.Strict = λ t. t .0 .some refl
 
-module _ (n : ℕ) (es : List ℕ) (ls : List ℤ) (classes parents : List ℕ) where
+-- what a scheme takes of the variables in a clause with x is what it takes of those that share one with it
+takes-as : (scheme : Scheme) {P Q : Bool → Type 0} → ((sign : Bool) → P sign → Q sign) → Takes scheme P → Takes scheme Q
+takes-as Scheme.Standard more = ⊎-elim (λ p. inl (more true p)) (λ p. inr (more false p))
+takes-as Scheme.Strict more = λ p. (more true (p .0), more false (p .1))
+
+module _ (scheme : Scheme) (n : ℕ) (es : List ℕ) (ls : List ℤ) (classes parents : List ℕ) where
   abbrev X : Variables
   X = variables n es
 
@@ -58,45 +63,47 @@ module _ (n : ℕ) (es : List ℕ) (ls : List ℤ) (classes parents : List ℕ) 
   W = lent X classes parents
 
   abbrev R : ℕ → List ℕ → Type 0
-  R = SetsUpto n es ls classes parents
+  R = SetsUpto scheme n es ls classes parents
 
-  pub sets-within : (x v : ℕ) → Member X W (Shares ls) x v → (1 ≤ v) × (v ≤ n)
+  abbrev S : ℕ → ℕ → Type 0
+  S = MembersBy scheme n es ls classes parents
+
+  pub sets-within : (x v : ℕ) → S x v → (1 ≤ v) × (v ≤ n)
   sets-within x v m = lawful n es .within v (m .existential)
 
   -- the list stays small
   pub sets-small : n ≤ 4096 → (m : ℕ) (list : List ℕ) → m ≤ n → R m list → length list < 16785409
   sets-small few m list l r =
-      let most = records-most (universal n es) (Member X W (Shares ls)) n sets-within m list r in
+      let most = records-most (universal n es) S n sets-within m list r in
       let bound : m * (n + 2) ≤ 4096 * (n + 2) = mul-le-mul-right (n + 2) (omega arith) in
       omega arith
 
-  -- The set of x, by the tops over its level and the flags of all that is in a clause with it.
-  pub set-picked : n ≤ 4096 → Closed ls → WellFormed X W → (x floor : ℕ) (tops : List ℕ) (flags : List Bool) → floor ≡ level es x → TopRows X W floor tops
-      → Flagged (Via n tops (Together ls x)) (replicate 4097 false) flags → Listed (Member X W (Shares ls) x) (picked (pick Set n flags tops) n)
+  -- The set of x by the scheme, by the tops over its level and the flags of those that it takes.
+  pub set-picked : n ≤ 4096 → Closed ls → WellFormed X W → (x floor : ℕ) (tops : List ℕ) (flags : List Bool) → floor ≡ level es x → TopRows X W floor tops → EnteredBy scheme n tops ls x flags → Listed (S x) (picked (pick Set n flags tops) n)
   set-picked few closed formed x floor tops flags low rows f =
-      let law = lawful n es in
-      let entries = tops-entries formed floor tops low rows in
-      let shared = flag-as f (λ e. (via-as (λ v t. together-shares ls x v closed .0 t), via-as (λ v s. together-shares ls x v closed .1 s))) in
-      members-picked law formed few tops fresh entries (flag-as shared (entries-of law formed tops entries))
+      let there : (e : ℕ) → Takes scheme (λ sign. Via n tops (Together ls sign x) e) → Takes scheme (λ sign. Via n tops (SharesBy ls sign x) e) = λ e. takes-as scheme (λ sign. via-as (λ v. together-shares ls sign x v closed .0)) in
+      let back : (e : ℕ) → Takes scheme (λ sign. Via n tops (SharesBy ls sign x) e) → Takes scheme (λ sign. Via n tops (Together ls sign x) e) = λ e. takes-as scheme (λ sign. via-as (λ v. together-shares ls sign x v closed .1)) in
+      let shared : Entering n (λ e. Takes scheme (λ sign. Via n tops (SharesBy ls sign x) e)) tops tops flags = record { tells = λ e l. let t = f .tells e l in (λ q. there e (t .0 q), λ p. t .1 (back e p)); same = f .same } in
+      members-picked n es ls classes parents x formed few scheme tops (over-enters n es ls classes parents x floor tops scheme formed low rows shared)
 
   module _ (few : n ≤ 4096) (closed : Closed ls) (formed : WellFormed X W) (m x floor : ℕ) (tops : List ℕ) (writing : Bool) (before : List ℕ) {out : List ℕ} {end : ℕ}
       (is : x ≡ m + 1) (p : PutAll (R m) writing before out end) where
     -- A universal adds its record ...
     module _ (u : universal n es x ≡ true) (low : floor ≡ level es x) (rows : TopRows X W floor tops) where
-      pub put-room : m < n → (writing ≡ true → RoomUpto R n (length before)) → RoomFor n tops ls x end writing out
+      pub put-room : m < n → (writing ≡ true → RoomUpto R n (length before)) → RoomFor scheme n tops ls x end writing out
       put-room less room yes′ flags f =
           let members = picked (pick Set n flags tops) n in
-          let all = records-set (universal n es) (Member X W (Shares ls)) m (p .0) (p .1) x members is u (set-picked few closed formed x floor tops flags low rows f) in
+          let all = records-set (universal n es) S m (p .0) (p .1) x members is u (set-picked few closed formed x floor tops flags low rows f) in
           let fits = room yes′ (m + 1) (p .0 ++ (x ∷ length members ∷ members)) (omega arith) all in
           let size = length-append (p .0) (x ∷ length members ∷ members) in
           let long = ap length (p .3) ∙ put-length writing before (p .0) in
           let here = p .2 in
           omega arith
 
-      pub put-next : {out′ : List ℕ} {end′ : ℕ} → PutSet n tops ls x end writing out out′ end′ → PutAll (R (m + 1)) writing before out′ end′
+      pub put-next : {out′ : List ℕ} {end′ : ℕ} → PutSet scheme n tops ls x end writing out out′ end′ → PutAll (R (m + 1)) writing before out′ end′
       put-next s =
           let members = picked (pick Set n (s .flags) tops) n in
-          let all = records-set (universal n es) (Member X W (Shares ls)) m (p .0) (p .1) x members is u (set-picked few closed formed x floor tops (s .flags) low rows (s .flagged)) in
+          let all = records-set (universal n es) S m (p .0) (p .1) x members is u (set-picked few closed formed x floor tops (s .flags) low rows (s .flagged)) in
           let size = length-append (p .0) (x ∷ length members ∷ members) in
           let here = p .2 in
           let there = s .put .0 in
@@ -104,7 +111,7 @@ module _ (n : ℕ) (es : List ℕ) (ls : List ℤ) (classes parents : List ℕ) 
 
   -- ... and any other variable nothing.
   pub put-other : (m x : ℕ) (writing : Bool) (before : List ℕ) {out : List ℕ} {end : ℕ} → x ≡ m + 1 → PutAll (R m) writing before out end → universal n es x ≡ false → PutAll (R (m + 1)) writing before out end
-  put-other m x writing before is p u = (p .0, records-other (universal n es) (Member X W (Shares ls)) m (p .0) (p .1) x is u, p .2, p .3)
+  put-other m x writing before is p u = (p .0, records-other (universal n es) S m (p .0) (p .1) x is u, p .2, p .3)
 
   -- At first there is nothing.
   pub put-none : (writing : Bool) (before : List ℕ) → PutAll (R 0) writing before before 0
@@ -112,14 +119,14 @@ module _ (n : ℕ) (es : List ℕ) (ls : List ℤ) (classes parents : List ℕ) 
   put-none false before = ([], refl, refl, refl)
 
 -- What is written, or what there is no room for, as the call promises it.
-pub fills-filling : (n : ℕ) (es : List ℕ) (ls : List ℤ) (classes parents counts : List ℕ) (before after : List ℕ) → None (ForestCause n es classes parents counts) → (r : Filled) → Fills (AllSets n es ls classes parents) before after r
-    → Filling (ForestCause n es classes parents counts ∷ At0 14 (SetsTooLong n es ls classes parents before) ∷ []) (AllSets n es ls classes parents) before after r
-fills-filling n es ls classes parents counts before after none (Filled.Count count) (list, is, size, room, stored) =
-    let fits : SetsTooLong n es ls classes parents before → ⊥ = λ long. let q = ap length (records-one (universal n es) (Members n es ls classes parents) n (long .0) list (long .1) is) in let l = long .2 in omega arith in
+pub fills-filling : (scheme : Scheme) (n : ℕ) (es : List ℕ) (ls : List ℤ) (classes parents counts : List ℕ) (before after : List ℕ) → None (ForestCause n es classes parents counts) → (r : Filled) → Fills (AllSetsBy scheme n es ls classes parents) before after r
+    → Filling (ForestCause n es classes parents counts ∷ At0 14 (SetsTooLongBy scheme n es ls classes parents before) ∷ []) (AllSetsBy scheme n es ls classes parents) before after r
+fills-filling scheme n es ls classes parents counts before after none (Filled.Count count) (list, is, size, room, stored) =
+    let fits : SetsTooLongBy scheme n es ls classes parents before → ⊥ = λ long. let q = ap length (records-one (universal n es) (MembersBy scheme n es ls classes parents) n (long .0) list (long .1) is) in let l = long .2 in omega arith in
     ((none, (at0-none 14 fits, tt)), (list, is, size, stored))
-fills-filling n es ls classes parents counts before after none (Filled.Refused number place) (k, p, long, same) =
-    let first : FirstOf (ForestCause n es classes parents counts ∷ At0 14 (SetsTooLong n es ls classes parents before) ∷ []) 14 0 = inr (none, inl (at0-first 14 (long .0, long .1, long .2))) in
-    (subst₂ (FirstOf (ForestCause n es classes parents counts ∷ At0 14 (SetsTooLong n es ls classes parents before) ∷ [])) (sym k) (sym p) first, same)
+fills-filling scheme n es ls classes parents counts before after none (Filled.Refused number place) (k, p, long, same) =
+    let first : FirstOf (ForestCause n es classes parents counts ∷ At0 14 (SetsTooLongBy scheme n es ls classes parents before) ∷ []) 14 0 = inr (none, inl (at0-first 14 (long .0, long .1, long .2))) in
+    (subst₂ (FirstOf (ForestCause n es classes parents counts ∷ At0 14 (SetsTooLongBy scheme n es ls classes parents before) ∷ [])) (sym k) (sym p) first, same)
 
 -- A list filled, once an order before it has accepted.
 pub filling-then : (order more : List Causes) (L : List ℕ → Type 0) (before after : List ℕ) {v : Verdict} → v ≡ Accepted → Judged order v → (r : Filled) → Filling more L before after r → Filling (order ++ more) L before after r

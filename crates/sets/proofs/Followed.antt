@@ -1,8 +1,9 @@
--- A chain followed to its end: the tops of all that stands beside its entries are flagged, which is all that shares a clause.
+-- A chain followed to its end: the tops of all that stands beside its entries with some signs are flagged, which is all that shares a clause with x
+-- by these signs.
 use Prim.Native.Nat.{ℕ, zero, suc, _+_, _-_, _≤_, _<_}
 use mathlib.Core.Path.{_≡_, refl, sym, ap, _∙_, subst}
 use mathlib.Core.Bool.{Bool, true, false}
-use mathlib.Core.List.{List, [], map, List·Memᴰ, List·Memᴰ·not-nil}
+use mathlib.Core.List.{List, [], List·Memᴰ, List·Memᴰ·not-nil}
 use mathlib.Core.Logic.{_≢_, _⊎_, inl, inr, ⊎-elim, _↔_, by-cases}
 use native.Mathlib.Decide.{ℕ-discrete, decLt}
 use native.Mathlib.Omega.{arith}
@@ -10,14 +11,42 @@ use lib.IntN.{ℤ}
 use lib.ListN.{length, getD, drop, drop-of-length-le}
 use Rattle.terms.specs.Literals.{variableOf}
 use Rattle.formula.specs.Tables.{literalAt, cut}
-use Rattle.formula.specs.Meaning.{clauses, connected}
+use Rattle.formula.specs.Meaning.{clauses}
 use Rattle.formula.specs.Lookup.{NextZero}
 use Rattle.formula.proofs.Lookups.{clauses-unclosed}
-use Rattle.tables.specs.Formula.{joined, Shares}
-use Rattle.forest.specs.Search.{Has, LastZero, Connects, Flagged, Via}
+use Rattle.tables.specs.Formula.{signed, SharesBy}
+use Rattle.forest.specs.declared.marks.Side.{Side}
+use Rattle.forest.specs.declared.marks.Signs.{Signs}
+use Rattle.forest.specs.Search.{Has, HasLiteral, Sided, By, LastZero, Connects, Flagged, Via}
 use Rattle.sets.specs.Threads.{Begins, first, after, Inside, Connecting, Beside, Together, On, Noted, Threaded, Closed}
 use Rattle.sets.proofs.Chains.{last-one, inside-between, on-some, on-here, on-later, on-cases}
-use Rattle.forest.proofs.Flags.{literal-past, next-none, flag-as, flag-then, via-as, via-or, connects-all, connects-has, connects-open, Rest, rest-split}
+use Rattle.forest.proofs.Sides.{signed-variable, sign-of}
+use Rattle.forest.proofs.Flags.{literal-past, next-none, flag-as, flag-then, via-as, via-or, connects-all, connects-has, connects-open, signed-split, sides-apart}
+
+-- An entry of a clause stands within the table, and before the next 0.
+inside-within : {ls : List ℤ} {s p : ℕ} → Inside ls s p → p < length ls
+inside-within {ls} {s} {p} i = by-cases (decLt p (length ls)) (λ l. l) (λ l. absurd (i .literals p (i .from) (omega arith) (literal-past ls p (omega arith))))
+
+inside-before : {ls : List ℤ} {s p z : ℕ} → NextZero ls s z → Inside ls s p → p < z
+inside-before {p = p} {z = z} next i = by-cases (decLt p z) (λ l. l) (λ l. absurd (i .literals z (next .from) (omega arith) (next-none next)))
+
+-- A clause that is not always true has a variable in one sign only.
+module _ {ls : List ℤ} {s p q : ℕ} (i : Inside ls s p) (j : Inside ls s q) (connecting : Connecting ls s) (x : ℕ) where
+  one-side : literalAt ls p ≡ signed true x → literalAt ls q ≡ signed false x → ⊥
+  one-side a b =
+      let (z, next, plain) = connecting in
+      let to : z ≤ length ls = next .within (let l = inside-within i in let f = i .from in omega arith) in
+      let here : Connects ls s z x = connects-all ls s z (next .from) to plain x .1 (record { place = p; from = i .from; before = inside-before next i; is = ap variableOf a ∙ signed-variable true x }) in
+      sides-apart ls x s z next to x (record { place = p; from = i .from; before = inside-before next i; is = a }) (record { place = q; from = j .from; before = inside-before next j; is = b }) here
+
+same-side : {ls : List ℤ} {s p q : ℕ} (sign : Bool) → Inside ls s p → Inside ls s q → Connecting ls s → (x : ℕ) → literalAt ls p ≡ signed sign x → variableOf (literalAt ls q) ≡ x → literalAt ls q ≡ signed sign x
+same-side {ls} {s} {p} {q} sign i j connecting x a own = let (other, is) = sign-of (literalAt ls q) in go sign other a (is ∙ ap (signed other) own)
+  where
+    go : (sign other : Bool) → literalAt ls p ≡ signed sign x → literalAt ls q ≡ signed other x → literalAt ls q ≡ signed sign x
+    go true true a b = b
+    go true false a b = absurd (one-side i j connecting x a b)
+    go false true a b = absurd (one-side j i connecting x b a)
+    go false false a b = b
 
 -- What stands beside an entry: the entries from it up to the next 0, and those before it back to the last.
 module _ {ls : List ℤ} {t p z s : ℕ} (inside : Inside ls t p) (connecting : Connecting ls t) (next : NextZero ls p z) (last : LastZero ls p s) where
@@ -51,37 +80,77 @@ module _ {ls : List ℤ} {t p z s : ℕ} (inside : Inside ls t p) (connecting : 
       let l = h .before in
       record { start = t; place = h .place; own = inside; other = inside-between (h .place) inside (omega arith) (omega arith); connecting = connecting; is = h .is }
 
--- What is to come along the chain from k.
-pub record Along (ls : List ℤ) (next : List ℕ) (k v : ℕ) : Type 0 where
+-- What holds of signs, as it holds of each.
+by-as : (signs : Signs) {P Q : Bool → Type 0} → ((sign : Bool) → P sign → Q sign) → By signs P → By signs Q
+by-as Signs.Either more = ⊎-elim (λ p. inl (more true p)) (λ p. inr (more false p))
+by-as Signs.Positive more = more true
+by-as Signs.Negative more = more false
+
+-- What is to come along the chain from k, where its entries have one of the signs.
+pub record Along (ls : List ℤ) (next : List ℕ) (signs : Signs) (x k v : ℕ) : Type 0 where
   pub entry : ℕ
   pub on : On next entry k
+  pub own : By signs (λ sign. literalAt ls entry ≡ signed sign x)
   pub beside : Beside ls entry v
 
-along-cases : {ls : List ℤ} {next : List ℕ} {k v : ℕ} (q : ℕ) → k ≡ suc q → Along ls next k v → Beside ls q v ⊎ Along ls next (getD next q 0) v
-along-cases {ls} {next} {k} {v} q e a = ⊎-elim (λ s. inl (subst (λ p. Beside ls p v) s (a .beside))) (λ o. inr (record { entry = a .entry; on = o; beside = a .beside })) (on-cases q e (a .on))
+module _ {ls : List ℤ} {next : List ℕ} {signs : Signs} {x k v : ℕ} (q : ℕ) (e : k ≡ suc q) where
+  along-cases : Along ls next signs x k v → (By signs (λ sign. literalAt ls q ≡ signed sign x) × Beside ls q v) ⊎ Along ls next signs x (getD next q 0) v
+  along-cases a =
+      ⊎-elim (λ s. inl (subst (λ p. By signs (λ sign. literalAt ls p ≡ signed sign x)) s (a .own), subst (λ p. Beside ls p v) s (a .beside)))
+      (λ o. inr (record { entry = a .entry; on = o; own = a .own; beside = a .beside })) (on-cases q e (a .on))
 
-along-here : {ls : List ℤ} {next : List ℕ} {k v : ℕ} (q : ℕ) → k ≡ suc q → Beside ls q v ⊎ Along ls next (getD next q 0) v → Along ls next k v
-along-here q e (inl b) = record { entry = q; on = on-here q e; beside = b }
-along-here q e (inr a) = record { entry = a .entry; on = on-later q e (a .on); beside = a .beside }
+  along-here : By signs (λ sign. literalAt ls q ≡ signed sign x) → Beside ls q v → Along ls next signs x k v
+  along-here h b = record { entry = q; on = on-here q e; own = h; beside = b }
+
+  along-past : Along ls next signs x (getD next q 0) v → Along ls next signs x k v
+  along-past a = record { entry = a .entry; on = on-later q e (a .on); own = a .own; beside = a .beside }
+
+along-of : (ls : List ℤ) (next : List ℕ) (signs : Signs) (x k v : ℕ) → By signs (λ sign. (q : ℕ) × On next q k × (literalAt ls q ≡ signed sign x) × Beside ls q v) → Along ls next signs x k v
+along-of ls next Signs.Either x k v (inl (q, on, is, b)) = record { entry = q; on = on; own = inl is; beside = b }
+along-of ls next Signs.Either x k v (inr (q, on, is, b)) = record { entry = q; on = on; own = inr is; beside = b }
+along-of ls next Signs.Positive x k v (q, on, is, b) = record { entry = q; on = on; own = is; beside = b }
+along-of ls next Signs.Negative x k v (q, on, is, b) = record { entry = q; on = on; own = is; beside = b }
+
+-- What holds of all on the chain from its head, if it is that of x.
+abbrev pub Heading : List ℤ → List ℕ → ℕ → ℕ → Type 0
+Heading ls next x head = (p : ℕ) → On next p head → Noted ls next (length ls) x p
 
 -- What is flagged, and what is to come, are the flags at first and all along the chain from its head.
-pub record Following (n : ℕ) (tops : List ℕ) (ls : List ℤ) (next : List ℕ) (x head : ℕ) (old new : List Bool) (k : ℕ) : Type 0 where
+pub record Following (n : ℕ) (tops : List ℕ) (ls : List ℤ) (next : List ℕ) (signs : Signs) (x head : ℕ) (old new : List Bool) (k : ℕ) : Type 0 where
   pub size : length new ≡ length old
-  pub noted : (p : ℕ) → On next p k → Noted ls next (length ls) x p
-  pub flags : (e : ℕ) → e < length old → ((getD new e false ≡ true) ⊎ Via n tops (Along ls next k) e) ↔ ((getD old e false ≡ true) ⊎ Via n tops (Along ls next head) e)
+  pub noted : Heading ls next x k
+  pub flags : (e : ℕ) → e < length old → ((getD new e false ≡ true) ⊎ Via n tops (Along ls next signs x k) e) ↔ ((getD old e false ≡ true) ⊎ Via n tops (Along ls next signs x head) e)
 
-pub follow-none : (n : ℕ) (tops : List ℕ) (ls : List ℤ) (next : List ℕ) (x head : ℕ) (old : List Bool) → ((p : ℕ) → On next p head → Noted ls next (length ls) x p) → Following n tops ls next x head old old head
-follow-none n tops ls next x head old noted = record { size = refl; noted = noted; flags = λ e l. (λ s. s, λ s. s) }
+pub follow-none : (n : ℕ) (tops : List ℕ) (ls : List ℤ) (next : List ℕ) (signs : Signs) (x head : ℕ) (old : List Bool) → Heading ls next x head → Following n tops ls next signs x head old old head
+follow-none n tops ls next signs x head old noted = record { size = refl; noted = noted; flags = λ e l. (λ s. s, λ s. s) }
 
-module _ {n : ℕ} {tops : List ℕ} {ls : List ℤ} {next : List ℕ} {x head : ℕ} {old new : List Bool} {k : ℕ} (f : Following n tops ls next x head old new k) where
+module _ {n : ℕ} {tops : List ℕ} {ls : List ℤ} {next : List ℕ} {signs : Signs} {x head : ℕ} {old new : List Bool} {k : ℕ} (f : Following n tops ls next signs x head old new k) where
   module _ (entry : ℕ) (is : k ≡ suc entry) where
     -- the entry that the chain stands at
     pub follow-noted : Noted ls next (length ls) x entry
     follow-noted = f .noted entry (on-here entry is)
 
-    -- One entry is passed: all beside it is flagged.
-    pub follow-more : {mid new′ : List Bool} (z s : ℕ) → NextZero ls entry z → Flagged (Via n tops (Has ls entry z)) new mid → LastZero ls entry s → Flagged (Via n tops (Has ls s entry)) mid new′ → Following n tops ls next x head old new′ (getD next entry 0)
-    follow-more z s nz right lz left =
+    -- it is a literal of x, of one sign only
+    pub follow-side : (side : Side) (z : ℤ) → z ≡ literalAt ls entry → Sided side (λ sign. z ≡ signed sign (variableOf z)) → Sided side (λ sign. literalAt ls entry ≡ signed sign x)
+    follow-side side z read s = go side s
+      where
+        own : (sign : Bool) → (z ≡ signed sign (variableOf z)) ↔ (literalAt ls entry ≡ signed sign x)
+        own sign =
+            let same = ap (signed sign) (ap variableOf read ∙ follow-noted .is) in
+            (λ q. sym read ∙ q ∙ same, λ q. read ∙ q ∙ sym same)
+
+        go : (side : Side) → Sided side (λ sign. z ≡ signed sign (variableOf z)) → Sided side (λ sign. literalAt ls entry ≡ signed sign x)
+        go Side.Neither s = λ sign q. s sign (own sign .1 q)
+        go Side.Positive s = own true .0 s
+        go Side.Negative s = own false .0 s
+
+    pub follow-apart : literalAt ls entry ≡ signed true x → literalAt ls entry ≡ signed false x → ⊥
+    follow-apart = one-side (follow-noted .inside) (follow-noted .inside) (follow-noted .connecting) x
+
+    -- One entry with one of the signs is passed: all beside it is flagged.
+    pub follow-more : {mid new′ : List Bool} (z s : ℕ) → By signs (λ sign. literalAt ls entry ≡ signed sign x) → NextZero ls entry z → Flagged (Via n tops (Has ls entry z)) new mid → LastZero ls entry s → Flagged (Via n tops (Has ls s entry)) mid new′
+        → Following n tops ls next signs x head old new′ (getD next entry 0)
+    follow-more z s own nz right lz left =
         record {
           size = left .size ∙ right .size ∙ f .size;
           noted = λ p o. f .noted p (on-later entry is o);
@@ -90,29 +159,48 @@ module _ {n : ℕ} {tops : List ℕ} {ls : List ℤ} {next : List ℕ} {x head :
               let k = flag-then right left .flags e (let q = f .size in omega arith) in
               let inside = follow-noted .inside in
               let plain = follow-noted .connecting in (
-                ⊎-elim (λ t. ⊎-elim (λ o. m .0 (inl o)) (⊎-elim (λ h. m .0 (inr (via-as (λ v g. along-here entry is (inl (beside-after inside plain nz lz v g))) h))) (λ h. m .0 (inr (via-as (λ v g. along-here entry is (inl (beside-before inside plain nz lz v g))) h)))) (k .0 t)) (λ a. m .0 (inr (via-as (λ v b. along-here entry is (inr b)) a))),
-                λ t. ⊎-elim (λ o. inl (k .1 (inl o))) (λ a. ⊎-elim (λ b. inl (k .1 (inr (via-or (via-as (λ v g. beside-split inside plain nz lz v g) b))))) inr (via-or (via-as (λ v b. along-cases entry is b) a))) (m .1 t),
+                ⊎-elim (λ t. ⊎-elim (λ o. m .0 (inl o)) (⊎-elim (λ h. m .0 (inr (via-as (λ v g. along-here entry is own (beside-after inside plain nz lz v g)) h))) (λ h. m .0 (inr (via-as (λ v g. along-here entry is own (beside-before inside plain nz lz v g)) h)))) (k .0 t)) (λ a. m .0 (inr (via-as (λ v b. along-past entry is b) a))),
+                λ t. ⊎-elim (λ o. inl (k .1 (inl o))) (λ a. ⊎-elim (λ b. inl (k .1 (inr (via-or (via-as (λ v g. beside-split inside plain nz lz v (g .1)) b))))) inr (via-or (via-as (λ v b. along-cases entry is b) a))) (m .1 t),
               );
         }
 
+    -- One with none of them is passed: nothing is.
+    pub follow-past : (By signs (λ sign. literalAt ls entry ≡ signed sign x) → ⊥) → Following n tops ls next signs x head old new (getD next entry 0)
+    follow-past none =
+        record {
+          size = f .size;
+          noted = λ p o. f .noted p (on-later entry is o);
+          flags = λ e l.
+              let m = f .flags e l in (
+                ⊎-elim (λ o. m .0 (inl o)) (λ a. m .0 (inr (via-as (λ v b. along-past entry is b) a))),
+                λ t. ⊎-elim inl (λ a. inr (via-as (λ v b. ⊎-elim (λ h. absurd (none (h .0))) (λ later. later) (along-cases entry is b)) a)) (m .1 t),
+              );
+        }
+
+  -- The chain goes on within the table, to an entry before.
+  pub follow-link : k ≢ 0 → (k - 1 < length ls) × (getD next (k - 1) 0 < k)
+  follow-link some =
+      let is : k ≡ suc (k - 1) = omega arith in
+      let here = follow-noted (k - 1) is in
+      (here .before, let l = here .falls in omega arith)
+
   -- The chain is at its end.
-  follow-end : k ≡ 0 → Flagged (Via n tops (Along ls next head)) old new
+  follow-end : k ≡ 0 → Flagged (Via n tops (Along ls next signs x head)) old new
   follow-end done = record { size = f .size; flags = λ e l. (λ t. f .flags e l .0 (inl t), λ t. ⊎-elim (λ o. o) (λ a. absurd (on-some (a .holds .on) done)) (f .flags e l .1 t)) }
 
   -- What is along the chain of a universal is what is together with it in a clause.
-  pub follow-all : (y : ℕ) (universals : List Bool) (heads : List ℕ) → head ≡ getD heads y 0 → Threaded ls universals heads next (length ls) → getD universals y false ≡ true → k ≡ 0 → Flagged (Via n tops (Together ls y)) old new
-  follow-all y universals heads is threaded u done = flag-as (follow-end done) (λ e. (via-as there, via-as back))
+  pub follow-all : (universals : List Bool) (heads : List ℕ) → head ≡ getD heads x 0 → Threaded ls universals heads next (length ls) → getD universals x false ≡ true → k ≡ 0 → Flagged (Via n tops (λ v. By signs (λ sign. Together ls sign x v))) old new
+  follow-all universals heads is threaded u done = flag-as (follow-end done) (λ e. (via-as there, via-as (λ v t. along-of ls next signs x head v (by-as signs (back v) t))))
     where
-      there : (v : ℕ) → Along ls next head v → Together ls y v
-      there v a = record { place = a .entry; is = threaded .sound y (a .entry) (subst (On next (a .entry)) is (a .on)) .is; beside = a .beside }
+      there : (v : ℕ) → Along ls next signs x head v → By signs (λ sign. Together ls sign x v)
+      there v a = by-as signs (λ sign q. record { place = a .entry; is = q; beside = a .beside }) (a .own)
 
-      back : (v : ℕ) → Together ls y v → Along ls next head v
-      back v t =
+      back : (v : ℕ) (sign : Bool) → Together ls sign x v → (q : ℕ) × On next q head × (literalAt ls q ≡ signed sign x) × Beside ls q v
+      back v sign t =
           let b = t .beside in
-          let some = b .own .literals (t .place) (b .own .from) (omega arith) in
-          let less : t .place < length ls = by-cases (decLt (t .place) (length ls)) (λ l. l) (λ l. absurd (some (literal-past ls (t .place) (omega arith)))) in
-          let (q, on, inside) = threaded .complete y (b .start) (t .place) u less (b .own) (b .connecting) (t .is) in
-          record { entry = q; on = subst (On next q) (sym is) on; beside = record { start = b .start; place = b .place; own = inside; other = b .other; connecting = b .connecting; is = b .is } }
+          let (q, on, inside) = threaded .complete x (b .start) (t .place) u (inside-within (b .own)) (b .own) (b .connecting) (ap variableOf (t .is) ∙ signed-variable sign x) in
+          let own = threaded .sound x q on .is in
+          (q, subst (On next q) (sym is) on, same-side sign (b .own) inside (b .connecting) x (t .is) own, record { start = b .start; place = b .place; own = inside; other = b .other; connecting = b .connecting; is = b .is })
 
 -- The next 0, found entry by entry.
 next-from : (ls : List ℤ) (k start : ℕ) → start + k ≡ length ls → (z : ℕ) × NextZero ls start z
@@ -134,56 +222,55 @@ next-from ls (suc k) start q = by-cases (ℕ-discrete (variableOf (literalAt ls 
 closed-next : {ls : List ℤ} {s z : ℕ} → Closed ls → s < length ls → NextZero ls s z → z < length ls
 closed-next {ls} {s} {z} closed l next = by-cases (decLt z (length ls)) (λ c. c) (λ c. absurd (closed (omega arith, λ q. next .literals (length ls - 1) (omega arith) (omega arith) (ap variableOf q))))
 
-module _ (ls : List ℤ) (x v : ℕ) where
-  has-inside : {s z w : ℕ} → Begins ls s → NextZero ls s z → (h : Has ls s z w) → Inside ls s (h .place)
-  has-inside begins next h = record { begins = begins; from = h .from; literals = λ e f g. next .literals e f (let l = h .before in omega arith) }
+module _ (ls : List ℤ) (sign : Bool) (x v : ℕ) where
+  -- v shares one of the clauses from `start` on with the literal of x
+  abbrev Rest : ℕ → Type 0
+  Rest start = SharesBy (drop start ls) sign x v
 
-  inside-has : {s p z w : ℕ} → NextZero ls s z → Inside ls s p → variableOf (literalAt ls p) ≡ w → Has ls s z w
-  inside-has {p = p} {z = z} next i is = record { place = p; from = i .from; before = by-cases (decLt p z) (λ l. l) (λ l. absurd (i .literals z (next .from) (omega arith) (next-none next))); is = is }
+  empty-rest : (start : ℕ) → clauses (drop start ls) ≡ [] → Rest start → ⊥
+  empty-rest start none r = List·Memᴰ·not-nil (subst (List·Memᴰ (r .clause)) none (r .listed))
 
-  empty-rest : (start : ℕ) → clauses (drop start ls) ≡ [] → Rest ls x start v → ⊥
-  unfolding joined
-  empty-rest start none r = List·Memᴰ·not-nil (subst (λ cs. List·Memᴰ (r .clause) (map connected cs)) none (r .listed))
-
-  no-rest : (start : ℕ) → length ls ≤ start → Rest ls x start v → ⊥
+  no-rest : (start : ℕ) → length ls ≤ start → Rest start → ⊥
   unfolding clauses cut
   no-rest start l = empty-rest start (ap clauses (drop-of-length-le ls l))
 
   -- Clause by clause, from one on with which a clause begins.
-  rest-together : (fuel start : ℕ) → length ls ≤ start + fuel → Begins ls start → Rest ls x start v → Together ls x v
+  rest-together : (fuel start : ℕ) → length ls ≤ start + fuel → Begins ls start → Rest start → Together ls sign x v
   rest-together zero start enough begins r = absurd (no-rest start (omega arith) r)
   rest-together (suc fuel) start enough begins r =
       by-cases (decLt start (length ls)) (λ l. by (next-from ls (length ls - start) start (omega arith)) (λ z low b r′. rest-together fuel (z + 1) (omega arith) b r′))
       (λ l. absurd (no-rest start (omega arith) r))
     where
-      both : (z : ℕ) → NextZero ls start z → z < length ls → Connects ls start z x → Connects ls start z v → Together ls x v
+      both : (z : ℕ) → NextZero ls start z → z < length ls → HasLiteral ls start z (signed sign x) → Connects ls start z v → Together ls sign x v
       both z next c own other =
-          let has = connects-has ls start z (next .from) (omega arith) x own in
-          let has′ = connects-has ls start z (next .from) (omega arith) v other in
-          let plain = connects-open ls start z (next .from) (omega arith) x own in
-          record { place = has .place; is = has .is; beside = record { start = start; place = has′ .place; own = has-inside begins next has; other = has-inside begins next has′; connecting = (z, next, plain); is = has′ .is } }
+          let has = connects-has ls start z (next .from) (omega arith) v other in
+          let plain = connects-open ls start z (next .from) (omega arith) v other in
+          record { place = own .place; is = own .is; beside = record { start = start; place = has .place; own = entry (own .place) (own .from) (own .before); other = entry (has .place) (has .from) (has .before); connecting = (z, next, plain); is = has .is } }
+        where
+          entry : (p : ℕ) → start ≤ p → p < z → Inside ls start p
+          entry p low high = record { begins = begins; from = low; literals = λ e f g. next .literals e f (omega arith) }
 
-      by : (z : ℕ) × NextZero ls start z → ((z : ℕ) → start ≤ z → Begins ls (z + 1) → Rest ls x (z + 1) v → Together ls x v) → Together ls x v
+      by : (z : ℕ) × NextZero ls start z → ((z : ℕ) → start ≤ z → Begins ls (z + 1) → Rest (z + 1) → Together ls sign x v) → Together ls sign x v
       by (z, next) onward =
           by-cases (decLt z (length ls))
-          (λ c. ⊎-elim (λ h. both z next c (h .0) (h .1)) (λ r′. onward z (next .from) (after start z begins next c refl) r′) (rest-split ls x start z next c v .0 r))
+          (λ c. ⊎-elim (λ h. both z next c (h .0) (h .1)) (λ r′. onward z (next .from) (after start z begins next c refl) r′) (signed-split ls sign x start z next c v .0 r))
           (λ c. absurd (empty-rest start (clauses-unclosed ls start z next (omega arith)) r))
 
   -- And back to the first.
-  rest-first : {s : ℕ} → Begins ls s → Rest ls x s v → Rest ls x 0 v
-  rest-first (first q) r = subst (λ s. Rest ls x s v) q r
-  rest-first (after b z begins next l q) r = rest-first begins (rest-split ls x b z next l v .1 (inr (subst (λ s. Rest ls x s v) q r)))
+  rest-first : {s : ℕ} → Begins ls s → Rest s → Rest 0
+  rest-first (first q) r = subst Rest q r
+  rest-first (after b z begins next l q) r = rest-first begins (signed-split ls sign x b z next l v .1 (inr (subst Rest q r)))
 
-  pub together-shares : Closed ls → Together ls x v ↔ Shares ls x v
+  pub together-shares : Closed ls → Together ls sign x v ↔ SharesBy ls sign x v
   together-shares closed = (there, λ r. rest-together (length ls) 0 (omega arith) (first refl) r)
     where
-      there : Together ls x v → Shares ls x v
+      there : Together ls sign x v → SharesBy ls sign x v
       there t =
           let b = t .beside in
-          let some = b .own .literals (t .place) (b .own .from) (omega arith) in
           let low = b .own .from in
-          let less : t .place < length ls = by-cases (decLt (t .place) (length ls)) (λ l. l) (λ l. absurd (some (literal-past ls (t .place) (omega arith)))) in
+          let less = inside-within (b .own) in
           let (z, next, plain) = b .connecting in
           let closes = closed-next closed (omega arith) next in
-          let all : (w : ℕ) → Connects ls (b .start) z w ↔ Has ls (b .start) z w = connects-all ls (b .start) z (next .from) (omega arith) plain in
-          rest-first (b .own .begins) (rest-split ls x (b .start) z next closes v .1 (inl (all x .1 (inside-has next (b .own) (t .is)), all v .1 (inside-has next (b .other) (b .is)))))
+          let own : HasLiteral ls (b .start) z (signed sign x) = record { place = t .place; from = low; before = inside-before next (b .own); is = t .is } in
+          let other : Has ls (b .start) z v = record { place = b .place; from = b .other .from; before = inside-before next (b .other); is = b .is } in
+          rest-first (b .own .begins) (signed-split ls sign x (b .start) z next closes v .1 (inl (own, connects-all ls (b .start) z (next .from) (omega arith) plain v .1 other)))

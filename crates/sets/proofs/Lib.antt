@@ -1,5 +1,6 @@
 pub mod Chains
 pub mod Followed
+pub mod Kept
 pub mod Records
 pub mod AllSets
 pub mod Settled

@@ -3,7 +3,7 @@ use Prim.Native.Nat.{ℕ, zero, suc, _+_, _-_, _*_, _≤_, _<_}
 use mathlib.Core.Path.{_≡_, refl, sym, ap, ap₂, _∙_, subst}
 use mathlib.Core.Bool.{Bool, true, false, cond}
 use mathlib.Core.List.{List, [], _∷_, _++_, append-nil, append-assoc}
-use mathlib.Core.Logic.{by-cases}
+use mathlib.Core.Logic.{_↔_, by-cases}
 use native.Mathlib.Decide.{ℕ-discrete}
 use native.Mathlib.Numerals.{add-one}
 use native.Mathlib.Omega.{arith}
@@ -12,6 +12,15 @@ use lib.Seq.{sets, set-comm}
 use Rattle.connection.specs.Listed.{Listed}
 use Rattle.connection.proofs.Listed.{listed-one, listed-most}
 use Rattle.sets.specs.Sets.{Record, Records}
+
+-- The same sets, said otherwise.
+pub records-as : {U : ℕ → Bool} {P Q : ℕ → ℕ → Type 0} → ((x : ℕ) → U x ≡ true → (v : ℕ) → P x v ↔ Q x v) → (m : ℕ) (list : List ℕ) → Records U P m list → Records U Q m list
+records-as both zero list q = q
+records-as {U} {P} {Q} both (suc m) list (before, part, r, a, q) = (before, part, records-as both m before r, go (U (suc m)) refl a, q)
+  where
+    go : (b : Bool) → U (suc m) ≡ b → Record b (suc m) (P (suc m)) part → Record b (suc m) (Q (suc m)) part
+    go true u (s, l, e) = (s, record { ascending = l .ascending; each = λ v m′. both (suc m) u v .0 (l .each v m′); all = λ v p. l .all v (both (suc m) u v .1 p) }, e)
+    go false u e = e
 
 module _ (U : ℕ → Bool) (P : ℕ → ℕ → Type 0) where
   -- Two lists of the same sets are one.

@@ -4,22 +4,23 @@ use mathlib.Core.Path.{_≡_}
 use mathlib.Core.Bool.{Bool, true, false, cond}
 use mathlib.Core.List.{List, _∷_}
 use lib.IntN.{ℤ}
-use lib.ListN.{length, replicate}
+use lib.ListN.{length}
 use lib.Seq.{sets}
 use Rattle.terms.specs.declared.Filled.{Filled}
 use Rattle.terms.specs.declared.Filled.the-variants.{Count, Refused}
 use Rattle.formula.specs.Levels.{SoundPrefix, Levelled}
 use Rattle.forest.specs.declared.listing.Asked.the-variants.{Set}
 use Rattle.tables.specs.Formula.{universal}
-use Rattle.forest.specs.Answers.{Members}
+use Rattle.forest.specs.declared.Scheme.{Scheme}
+use Rattle.forest.specs.Answers.{MembersBy}
 use Rattle.tables.specs.Counting.{FormedBy}
-use Rattle.forest.specs.Search.{Flagged, Via, pick, picked}
+use Rattle.forest.specs.Search.{pick, picked}
 use Rattle.sets.specs.Sets.{Records}
-use Rattle.sets.specs.Threads.{Together, Threaded, Closed}
+use Rattle.sets.specs.Threads.{EnteredBy, Threaded, Closed}
 
--- the sets of the universals 1 to m
-abbrev pub SetsUpto : ℕ → List ℕ → List ℤ → List ℕ → List ℕ → ℕ → List ℕ → Type 0
-SetsUpto n es ls classes parents = Records (universal n es) (Members n es ls classes parents)
+-- the sets of the universals 1 to m by a scheme
+abbrev pub SetsUpto : Scheme → ℕ → List ℕ → List ℤ → List ℕ → List ℕ → ℕ → List ℕ → Type 0
+SetsUpto scheme n es ls classes parents = Records (universal n es) (MembersBy scheme n es ls classes parents)
 
 -- what the passes over all universals stand on: an accepted prefix and its level table, well-formed rows, closed clauses, and universals that are tied to them
 pub record Ready (n : ℕ) (es levels : List ℕ) (universals : List Bool) (ls : List ℤ) (classes parents first next : List ℕ) : Type 0 where
@@ -36,16 +37,16 @@ abbrev pub Put : ℕ → List ℕ → List Bool → ℕ → ℕ → Bool → Lis
 Put n tops flags x at writing before after end =
     (end ≡ at + 2 + length (picked (pick Set n flags tops) n)) × (after ≡ cond writing (sets before at (x ∷ length (picked (pick Set n flags tops) n) ∷ picked (pick Set n flags tops) n)) before)
 
--- the same for the flags of all that shares a clause with x
-pub record PutSet (n : ℕ) (tops : List ℕ) (ls : List ℤ) (x at : ℕ) (writing : Bool) (before after : List ℕ) (end : ℕ) : Type 0 where
+-- the same for the flags of the entry points of x by a scheme
+pub record PutSet (scheme : Scheme) (n : ℕ) (tops : List ℕ) (ls : List ℤ) (x at : ℕ) (writing : Bool) (before after : List ℕ) (end : ℕ) : Type 0 where
   pub flags : List Bool
-  pub flagged : Flagged (Via n tops (Together ls x)) (replicate 4097 false) flags
+  pub flagged : EnteredBy scheme n tops ls x flags
   pub put : Put n tops flags x at writing before after end
 
 -- there is room for it, if it is to be written
-abbrev pub RoomFor : ℕ → List ℕ → List ℤ → ℕ → ℕ → Bool → List ℕ → Type 0
-RoomFor n tops ls x at writing before =
-    writing ≡ true → (flags : List Bool) → Flagged (Via n tops (Together ls x)) (replicate 4097 false) flags → at + 2 + length (picked (pick Set n flags tops) n) ≤ length before
+abbrev pub RoomFor : Scheme → ℕ → List ℕ → List ℤ → ℕ → ℕ → Bool → List ℕ → Type 0
+RoomFor scheme n tops ls x at writing before =
+    writing ≡ true → (flags : List Bool) → EnteredBy scheme n tops ls x flags → at + 2 + length (picked (pick Set n flags tops) n) ≤ length before
 
 -- R m is the list of what comes up to m: there is room for each up to n
 abbrev pub RoomUpto : (ℕ → List ℕ → Type 0) → ℕ → ℕ → Type 0

@@ -12,7 +12,9 @@ use Rattle.formula.specs.Causes.{checkOrder}
 use Rattle.connection.specs.Listed.{Listed}
 use Rattle.tables.specs.Formula.{universal}
 use Rattle.tables.specs.Causes.{ForestCause}
-use Rattle.forest.specs.Answers.{Members}
+use Rattle.forest.specs.declared.Scheme.{Scheme}
+use Rattle.forest.specs.declared.Scheme.the-variants.{Strict}
+use Rattle.forest.specs.Answers.{MembersBy}
 use Rattle.forest.specs.Listed.{Filling}
 
 -- what x adds to the list: if it is universal its number, the count of its set and its set ascending, and else nothing
@@ -25,18 +27,22 @@ abbrev pub Records : (ℕ → Bool) → (ℕ → ℕ → Type 0) → ℕ → Lis
 Records U P zero list = list ≡ []
 Records U P (suc m) list = (before : List ℕ) × (part : List ℕ) × Records U P m before × Record (U (suc m)) (suc m) (P (suc m)) part × (list ≡ before ++ part)
 
--- the sets of all universals, by the lent tables
-abbrev pub AllSets : ℕ → List ℕ → List ℤ → List ℕ → List ℕ → List ℕ → Type 0
-AllSets n es ls classes parents = Records (universal n es) (Members n es ls classes parents) n
+-- the sets of all universals by a scheme, by the lent tables
+abbrev pub AllSetsBy : Scheme → ℕ → List ℕ → List ℤ → List ℕ → List ℕ → List ℕ → Type 0
+AllSetsBy scheme n es ls classes parents = Records (universal n es) (MembersBy scheme n es ls classes parents) n
 
 -- the list needs more room than the lent table has
-abbrev pub SetsTooLong : ℕ → List ℕ → List ℤ → List ℕ → List ℕ → List ℕ → Type 0
-SetsTooLong n es ls classes parents before = (list : List ℕ) × AllSets n es ls classes parents list × (length before < length list)
+abbrev pub SetsTooLongBy : Scheme → ℕ → List ℕ → List ℤ → List ℕ → List ℕ → List ℕ → Type 0
+SetsTooLongBy scheme n es ls classes parents before = (list : List ℕ) × AllSetsBy scheme n es ls classes parents list × (length before < length list)
 
 -- the order: that of check, 12, 14
-abbrev pub setsOrder : ℕ → List ℕ → List ℤ → List ℕ → List ℕ → List ℕ → List ℕ → List Causes
-setsOrder n es ls classes parents counts before = checkOrder n es ls ++ (ForestCause n es classes parents counts ∷ At0 14 (SetsTooLong n es ls classes parents before) ∷ [])
+abbrev pub setsOrderBy : Scheme → ℕ → List ℕ → List ℤ → List ℕ → List ℕ → List ℕ → List ℕ → List Causes
+setsOrderBy scheme n es ls classes parents counts before = checkOrder n es ls ++ (ForestCause n es classes parents counts ∷ At0 14 (SetsTooLongBy scheme n es ls classes parents before) ∷ [])
 
--- what the call for all sets promises
+-- what the call for all sets by a scheme promises
+abbrev pub SetsListedBy : Scheme → ℕ → List ℕ → List ℤ → List ℕ → List ℕ → List ℕ → List ℕ → List ℕ → Filled → Type 0
+SetsListedBy scheme n es ls classes parents counts before = Filling (setsOrderBy scheme n es ls classes parents counts before) (AllSetsBy scheme n es ls classes parents) before
+
+-- A call that names no scheme means the strict one.
 abbrev pub SetsListed : ℕ → List ℕ → List ℤ → List ℕ → List ℕ → List ℕ → List ℕ → List ℕ → Filled → Type 0
-SetsListed n es ls classes parents counts before = Filling (setsOrder n es ls classes parents counts before) (AllSets n es ls classes parents) before
+SetsListed n es ls classes parents counts before = SetsListedBy Strict n es ls classes parents counts before

@@ -3,13 +3,16 @@ use Prim.Native.Nat.{ℕ, suc, _+_, _-_, _≤_, _<_}
 use mathlib.Core.Path.{_≡_}
 use mathlib.Core.Bool.{Bool, true, false}
 use mathlib.Core.List.{List}
-use mathlib.Core.Logic.{_≢_}
+use mathlib.Core.Logic.{_≢_, _↔_}
 use lib.IntN.{ℤ, pos}
 use lib.ListN.{length, getD, take, drop}
 use Rattle.terms.specs.Literals.{variableOf}
 use Rattle.formula.specs.Tables.{literalAt, EndsInside}
 use Rattle.formula.specs.Meaning.{alwaysTrue}
 use Rattle.formula.specs.Lookup.{NextZero, Stamps}
+use Rattle.tables.specs.Formula.{signed}
+use Rattle.forest.specs.declared.Scheme.{Scheme}
+use Rattle.forest.specs.Search.{Takes, Via, Entering}
 
 -- a clause begins with entry s: the first, or one behind the 0 of a clause
 pub data Begins (ls : List ℤ) : ℕ → Type 0 where
@@ -47,11 +50,19 @@ pub record Beside (ls : List ℤ) (p v : ℕ) : Type 0 where
   pub connecting : Connecting ls start
   pub is : variableOf (literalAt ls place) ≡ v
 
--- a clause that is not always true has both x and v
-pub record Together (ls : List ℤ) (x v : ℕ) : Type 0 where
+-- a clause that is not always true has the literal of x with a sign, and the variable v
+pub record Together (ls : List ℤ) (sign : Bool) (x v : ℕ) : Type 0 where
   pub place : ℕ
-  pub is : variableOf (literalAt ls place) ≡ x
+  pub is : literalAt ls place ≡ signed sign x
   pub beside : Beside ls place v
+
+-- the flags tell the tops that a scheme takes of the variables that are in a clause with x
+abbrev pub EnteredBy : Scheme → ℕ → List ℕ → List ℤ → ℕ → List Bool → Type 0
+EnteredBy scheme n tops ls x flags = Entering n (λ e. Takes scheme (λ sign. Via n tops (Together ls sign x) e)) tops tops flags
+
+-- of the flags of a table those are left that another has too
+abbrev pub Common : List Bool → List Bool → List Bool → Type 0
+Common other old new = (e : ℕ) → (getD new e false ≡ true) ↔ ((getD other e false ≡ true) × (getD old e false ≡ true))
 
 -- Entry p is on the chain from k: 0 ends it, and suc q stands for entry q, whose row in `next` goes on.
 pub data On (next : List ℕ) (p : ℕ) : ℕ → Type 0 where

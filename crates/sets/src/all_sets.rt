@@ -1,8 +1,9 @@
-// The sets of all universals, one after the other, each with its number and its count in front. The tables are judged once, and a universal
-// costs its own clauses and one pass over the rows.
+// The sets of all universals by a scheme, one after the other, each with its number and its count in front. The tables are judged once, and a
+// universal costs its own clauses and one pass over the rows.
 
-use crate::threads::flag_along;
+use crate::threads::flag_points;
 use crate::threads::thread;
+use forest::Scheme;
 use forest::listing::Asked;
 use forest::listing::count_picked;
 use forest::listing::write_picked;
@@ -26,6 +27,7 @@ ghost use Rattle.sets.specs.Passed.{SetsUpto, Ready, Put, PutSet, RoomFo
 
 // Writes the sets of all universals into the front of `out`, if there is room for all of them.
 pub fn list_sets(
+    scheme: Scheme,
     n: u32,
     prefix: &[u32],
     levels: &[u32],
@@ -36,12 +38,13 @@ pub fn list_sets(
     out: &mut [u32],
 ) -> Filled
     requires { ⌜ SoundPrefix n (now prefix) × Levelled (now prefix) (now levels) (now universals) × SoundClauses (now clauses) × Closed (now clauses) × FormedBy n (now prefix) (now classes) (now parents) ⌝ }
-    ensures { λ r. ⌜ Fills (SetsUpto n (now (prefix .entry)) (now (clauses .entry)) (now (classes .entry)) (now (parents .entry)) n) (now (out .entry)) (now (out .exit)) r ⌝ }
+    ensures { λ r. ⌜ Fills (SetsUpto scheme n (now (prefix .entry)) (now (clauses .entry)) (now (classes .entry)) (now (parents .entry)) n) (now (out .entry)) (now (out .exit)) r ⌝ }
 {
     let mut first = [0u32; 4097];
     let mut next = [0u32; 16384];
     thread(clauses, universals, &mut first, &mut next);
     write_fitting(
+        scheme,
         n,
         prefix,
         levels,
@@ -57,6 +60,7 @@ pub fn list_sets(
 
 // The same, once the universals are tied to their clauses.
 fn write_fitting(
+    scheme: Scheme,
     n: u32,
     prefix: &[u32],
     levels: &[u32],
@@ -69,9 +73,10 @@ fn write_fitting(
     out: &mut [u32],
 ) -> Filled
     requires { ⌜ Ready n (now prefix) (now levels) (now universals) (now clauses) (now classes) (now parents) (now first) (now next) ⌝ }
-    ensures { λ r. ⌜ Fills (SetsUpto n (now (prefix .entry)) (now (clauses .entry)) (now (classes .entry)) (now (parents .entry)) n) (now (out .entry)) (now (out .exit)) r ⌝ }
+    ensures { λ r. ⌜ Fills (SetsUpto scheme n (now (prefix .entry)) (now (clauses .entry)) (now (classes .entry)) (now (parents .entry)) n) (now (out .entry)) (now (out .exit)) r ⌝ }
 {
     if !sets_fit(
+        scheme,
         n,
         prefix,
         levels,
@@ -86,6 +91,7 @@ fn write_fitting(
         return Filled::Refused(14, 0);
     }
     let end = pass_sets(
+        scheme,
         n,
         prefix,
         levels,
@@ -103,6 +109,7 @@ fn write_fitting(
 
 // Whether there is room for all sets. They are counted only where there is room for less than n records of n members each.
 fn sets_fit(
+    scheme: Scheme,
     n: u32,
     prefix: &[u32],
     levels: &[u32],
@@ -115,7 +122,7 @@ fn sets_fit(
     out: &mut [u32],
 ) -> bool
     requires { ⌜ Ready n (now prefix) (now levels) (now universals) (now clauses) (now classes) (now parents) (now first) (now next) ⌝ }
-    ensures { λ r. ⌜ TellsRoom r (SetsUpto n (now (prefix .entry)) (now (clauses .entry)) (now (classes .entry)) (now (parents .entry))) n (length (now (out .entry))) ⌝ }
+    ensures { λ r. ⌜ TellsRoom r (SetsUpto scheme n (now (prefix .entry)) (now (clauses .entry)) (now (classes .entry)) (now (parents .entry))) n (length (now (out .entry))) ⌝ }
     ensures { λ r. ⌜ now (out .exit) ≡ now (out .entry) ⌝ }
 {
     let count = n as usize;
@@ -123,6 +130,7 @@ fn sets_fit(
         return true;
     }
     let needed = pass_sets(
+        scheme,
         n,
         prefix,
         levels,
@@ -144,6 +152,7 @@ fn sets_fit(
 // Passes over all universals in ascending order and writes their sets, or only counts; gives the count of all entries. The tops depend on the
 // block of the universal only, and stay while it does; at first they are those over a level that nothing is deeper than.
 fn pass_sets(
+    scheme: Scheme,
     n: u32,
     prefix: &[u32],
     levels: &[u32],
@@ -157,8 +166,8 @@ fn pass_sets(
     out: &mut [u32],
 ) -> usize
     requires { ⌜ Ready n (now prefix) (now levels) (now universals) (now clauses) (now classes) (now parents) (now first) (now next) ⌝ }
-    requires { ⌜ (writing ≡ true → RoomUpto (SetsUpto n (now prefix) (now clauses) (now classes) (now parents)) n (length (now out))) ⌝ }
-    ensures { λ r. ⌜ PutAll (SetsUpto n (now (prefix .entry)) (now (clauses .entry)) (now (classes .entry)) (now (parents .entry)) n) writing (now (out .entry)) (now (out .exit)) r ⌝ }
+    requires { ⌜ (writing ≡ true → RoomUpto (SetsUpto scheme n (now prefix) (now clauses) (now classes) (now parents)) n (length (now out))) ⌝ }
+    ensures { λ r. ⌜ PutAll (SetsUpto scheme n (now (prefix .entry)) (now (clauses .entry)) (now (classes .entry)) (now (parents .entry)) n) writing (now (out .entry)) (now (out .exit)) r ⌝ }
 {
     let mut tops = [0u32; 4096];
     let mut floor = Floor {
@@ -172,7 +181,19 @@ fn pass_sets(
         let x = Variable::new(passed);
         if universal_at(n, universals, x) {
             floor = retop(n, prefix, levels, classes, parents, floor, x, &mut tops);
-            end = put_set(n, clauses, first, next, x, &tops, floor, end, writing, out);
+            end = put_set(
+                scheme,
+                n,
+                clauses,
+                first,
+                next,
+                x,
+                &tops,
+                floor,
+                end,
+                writing,
+                out,
+            );
         }
     }
     end
@@ -180,6 +201,7 @@ fn pass_sets(
 
 // Writes the record of the universal x from the entry `at` on, or only counts; gives the entry behind it.
 fn put_set(
+    scheme: Scheme,
     n: u32,
     clauses: &[i32],
     first: &[u32],
@@ -193,11 +215,11 @@ fn put_set(
 ) -> usize
     requires { ⌜ (n ≤ 4096) × (at < 4294967296) × Tied (now clauses) (now first) (now next) (x .0) ⌝ }
     requires { ⌜ (floor .from ≤ n) × Topless n (now tops) (floor .from) ⌝ }
-    requires { ⌜ RoomFor n (now tops) (now clauses) (x .0) at writing (now out) ⌝ }
-    ensures { λ r. ⌜ PutSet n (now (tops .entry)) (now (clauses .entry)) (x .0) at writing (now (out .entry)) (now (out .exit)) r ⌝ }
+    requires { ⌜ RoomFor scheme n (now tops) (now clauses) (x .0) at writing (now out) ⌝ }
+    ensures { λ r. ⌜ PutSet scheme n (now (tops .entry)) (now (clauses .entry)) (x .0) at writing (now (out .entry)) (now (out .exit)) r ⌝ }
 {
     let mut entered = [false; 4097];
-    flag_along(n, clauses, first, next, x, tops, &mut entered);
+    flag_points(scheme, n, clauses, first, next, x, tops, &mut entered);
     if !writing {
         let count = count_picked(n, Asked::Set, &entered, tops, floor.from);
         return at + 2 + count as usize;

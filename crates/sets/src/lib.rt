@@ -4,6 +4,7 @@ mod all_sets;
 pub mod threads;
 
 use all_sets::list_sets;
+use forest::Scheme;
 use formula::levels::fill_levels;
 use tables::checking::check_forest;
 use terms::Filled;
@@ -14,11 +15,10 @@ ghost use Rattle.formula.specs.Levels.{SoundPrefix};
 ghost use Rattle.formula.specs.Lookup.{SoundClauses};
 ghost use Rattle.tables.specs.Causes.{ForestCause};
 ghost use Rattle.forest.specs.Listed.{Filling};
-ghost use Rattle.sets.specs.Sets.{AllSets, SetsTooLong, SetsListed};
+ghost use Rattle.sets.specs.Sets.{AllSetsBy, SetsTooLongBy, SetsListedBy, SetsListed};
 ghost use Rattle.sets.specs.Threads.{Closed};
 
-// The sets of all universals, written into `out`: for each universal ascending its number, the count of its set and its set ascending; with the
-// count of all entries.
+// The sets of all universals by the strict scheme.
 pub fn sets(
     n: u32,
     prefix: &[u32],
@@ -30,14 +30,41 @@ pub fn sets(
 ) -> Filled
     ensures { λ r. ⌜ SetsListed n (now (prefix .entry)) (now (clauses .entry)) (now (classes .entry)) (now (parents .entry)) (now (counts .entry)) (now (out .entry)) (now (out .exit)) r ⌝ }
 {
+    sets_by(
+        Scheme::Strict,
+        n,
+        prefix,
+        clauses,
+        classes,
+        parents,
+        counts,
+        out,
+    )
+}
+
+// The sets of all universals by a scheme, written into `out`: for each universal ascending its number, the count of its set and its set
+// ascending; with the count of all entries.
+pub fn sets_by(
+    scheme: Scheme,
+    n: u32,
+    prefix: &[u32],
+    clauses: &[i32],
+    classes: &[u32],
+    parents: &[u32],
+    counts: &[u32],
+    out: &mut [u32],
+) -> Filled
+    ensures { λ r. ⌜ SetsListedBy scheme n (now (prefix .entry)) (now (clauses .entry)) (now (classes .entry)) (now (parents .entry)) (now (counts .entry)) (now (out .entry)) (now (out .exit)) r ⌝ }
+{
     match formula::check(n, prefix, clauses) {
         Verdict::Refused(number, place) => Filled::Refused(number, place),
-        Verdict::Accepted => sound_sets(n, prefix, clauses, classes, parents, counts, out),
+        Verdict::Accepted => sound_sets(scheme, n, prefix, clauses, classes, parents, counts, out),
     }
 }
 
 // The same, once the formula is accepted.
 fn sound_sets(
+    scheme: Scheme,
     n: u32,
     prefix: &[u32],
     clauses: &[i32],
@@ -47,7 +74,7 @@ fn sound_sets(
     out: &mut [u32],
 ) -> Filled
     requires { ⌜ SoundPrefix n (now prefix) × SoundClauses (now clauses) × Closed (now clauses) ⌝ }
-    ensures { λ r. ⌜ Filling (ForestCause n (now (prefix .entry)) (now (classes .entry)) (now (parents .entry)) (now (counts .entry)) ∷ At0 14 (SetsTooLong n (now (prefix .entry)) (now (clauses .entry)) (now (classes .entry)) (now (parents .entry)) (now (out .entry))) ∷ []) (AllSets n (now (prefix .entry)) (now (clauses .entry)) (now (classes .entry)) (now (parents .entry))) (now (out .entry)) (now (out .exit)) r ⌝ }
+    ensures { λ r. ⌜ Filling (ForestCause n (now (prefix .entry)) (now (classes .entry)) (now (parents .entry)) (now (counts .entry)) ∷ At0 14 (SetsTooLongBy scheme n (now (prefix .entry)) (now (clauses .entry)) (now (classes .entry)) (now (parents .entry)) (now (out .entry))) ∷ []) (AllSetsBy scheme n (now (prefix .entry)) (now (clauses .entry)) (now (classes .entry)) (now (parents .entry))) (now (out .entry)) (now (out .exit)) r ⌝ }
 {
     let mut levels = [0u32; 4097];
     let mut universals = [false; 4097];
@@ -55,6 +82,7 @@ fn sound_sets(
     match check_forest(n, prefix, &levels, &universals, classes, parents, counts) {
         Verdict::Refused(number, place) => Filled::Refused(number, place),
         Verdict::Accepted => list_sets(
+            scheme,
             n,
             prefix,
             &levels,

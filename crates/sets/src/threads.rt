@@ -1,8 +1,13 @@
 // Chains through the clause table, one for each universal, that tie it to its clauses: its entry points are then found without a scan of all
 // clauses. A chain holds one entry of each clause that has the universal, the last clause first; k + 1 stands for entry k, and 0 ends it.
 
+use forest::Scheme;
+use forest::marks::Signs;
 use forest::marks::flag_after;
 use forest::marks::flag_before;
+use forest::marks::has_sign;
+use forest::marks::side_of;
+use formula::clauses::literal_at;
 use formula::clauses::next_zero;
 use formula::clauses::variable_at;
 use formula::truth::always_true;
@@ -16,8 +21,9 @@ ghost use lib.ListN.{length, getD};
 ghost use Rattle.terms.specs.Literals.{variableOf};
 ghost use Rattle.formula.specs.Tables.{literalAt};
 ghost use Rattle.formula.specs.Lookup.{SoundClauses};
-ghost use Rattle.forest.specs.Search.{Flagged, Via};
-ghost use Rattle.sets.specs.Threads.{Inside, Connecting, Skipping, Known, Together, Threaded, Tied};
+ghost use Rattle.forest.specs.declared.Scheme.the-variants.{Strict};
+ghost use Rattle.forest.specs.Search.{By, Flagged, Via, Blank};
+ghost use Rattle.sets.specs.Threads.{Inside, Connecting, Skipping, Known, Together, EnteredBy, Common, Threaded, Tied};
 
 // Ties every universal to its clauses, in one pass; those that are always true are left out, which is told at the first universal of a clause.
 pub fn thread(clauses: &[i32], universals: &[bool], first: &mut [u32], next: &mut [u32])
@@ -78,8 +84,74 @@ fn note(clauses: &[i32], start: usize, i: usize, first: &mut [u32], next: &mut [
     first[at] = (i + 1) as u32;
 }
 
-// Flags the tops of the variables that share a clause with the universal x, along its chain.
-pub fn flag_along(
+// Flags the entry points of the universal x by a scheme, found along its chain, in a table with no flag set: the tops that it takes of the
+// variables that share a clause with x.
+pub fn flag_points(
+    scheme: Scheme,
+    n: u32,
+    clauses: &[i32],
+    first: &[u32],
+    next: &[u32],
+    x: Variable,
+    tops: &[u32],
+    flags: &mut [bool],
+)
+    requires { ⌜ Tied (now clauses) (now first) (now next) (x .0) × Blank (now flags) ⌝ }
+    ensures { λ r. ⌜ EnteredBy scheme n (now (tops .entry)) (now (clauses .entry)) (x .0) (now (flags .exit)) ⌝ }
+{
+    match scheme {
+        Scheme::Standard => flag_along(Signs::Either, n, clauses, first, next, x, tops, flags),
+        Scheme::Strict => flag_both(n, clauses, first, next, x, tops, flags),
+    }
+}
+
+// Flags the tops that both signs of x have. The rows stay, since the universals of a block share them: each sign has flags of its own.
+fn flag_both(
+    n: u32,
+    clauses: &[i32],
+    first: &[u32],
+    next: &[u32],
+    x: Variable,
+    tops: &[u32],
+    flags: &mut [bool],
+)
+    requires { ⌜ Tied (now clauses) (now first) (now next) (x .0) × Blank (now flags) ⌝ }
+    ensures { λ r. ⌜ EnteredBy Strict n (now (tops .entry)) (now (clauses .entry)) (x .0) (now (flags .exit)) ⌝ }
+{
+    let mut positive = [false; 4097];
+    flag_along(
+        Signs::Positive,
+        n,
+        clauses,
+        first,
+        next,
+        x,
+        tops,
+        &mut positive,
+    );
+    flag_along(Signs::Negative, n, clauses, first, next, x, tops, flags);
+    keep_common(&positive, flags);
+}
+
+// Takes back every flag that the other table does not have.
+fn keep_common(other: &[bool], flags: &mut [bool])
+    requires { ⌜ length (now flags) ≤ length (now other) ⌝ }
+    ensures { λ r. ⌜ Common (now (other .entry)) (now (flags .entry)) (now (flags .exit)) ⌝ }
+{
+    let mut i = 0;
+    while i < flags.len() {
+        if other[i] {
+            i += 1;
+        } else {
+            flags[i] = false;
+            i += 1;
+        }
+    }
+}
+
+// Flags the tops of the variables that share a clause with the universal x, where it has one of the signs, along its chain.
+fn flag_along(
+    signs: Signs,
     n: u32,
     clauses: &[i32],
     first: &[u32],
@@ -89,13 +161,18 @@ pub fn flag_along(
     flags: &mut [bool],
 )
     requires { ⌜ Tied (now clauses) (now first) (now next) (x .0) ⌝ }
-    ensures { λ r. ⌜ Flagged (Via n (now (tops .entry)) (Together (now (clauses .entry)) (x .0))) (now (flags .entry)) (now (flags .exit)) ⌝ }
+    ensures { λ r. ⌜ Flagged (Via n (now (tops .entry)) (λ y. By signs (λ sign. Together (now (clauses .entry)) sign (x .0) y))) (now (flags .entry)) (now (flags .exit)) ⌝ }
 {
     let mut at = first[x.0 as usize];
     while at != 0 {
         let entry = (at - 1) as usize;
-        flag_after(n, clauses, entry, tops, flags);
-        flag_before(n, clauses, entry, tops, flags);
-        at = next[entry];
+        let side = side_of(literal_at(clauses, entry));
+        if has_sign(signs, side) {
+            flag_after(n, clauses, entry, tops, flags);
+            flag_before(n, clauses, entry, tops, flags);
+            at = next[entry];
+        } else {
+            at = next[entry];
+        }
     }
 }

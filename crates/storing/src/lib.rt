@@ -4,6 +4,7 @@ mod bytes;
 mod parts;
 mod whole;
 
+use forest::Scheme;
 use growth::Tally;
 use terms::Filled;
 use terms::Verdict;
@@ -130,8 +131,9 @@ fn store_listed(
     ensures { λ r. ⌜ StoresAccepted rule n (now (prefix .entry)) (now (clauses .entry)) true (now (file .entry)) (now (file .exit)) r ⌝ }
 {
     let mut list = [0u32; 131072];
-    match ruled::asking::sets(
+    match ruled::asking::sets_by(
         rule,
+        Scheme::Standard,
         n,
         prefix,
         clauses,

@@ -4,6 +4,7 @@ use crate::strict::strict_crossed_cases;
 use crate::strict::strict_entries_cases;
 use crate::strict::strict_set_cases;
 use crate::strict::strict_size_cases;
+use crate::strict::unnamed_cases;
 use asking::lists::listing_cases;
 use asking::lists::size_cases;
 use asking::points::point_cases;
@@ -32,16 +33,17 @@ use texts::writing::trip_cases;
 pub enum Family {
     Build,
     Adds,
-    Sets,
-    Sizes,
-    Entries,
+    StandardSets,
+    StandardSizes,
+    StandardEntries,
     Points,
-    Crossed,
+    StandardCrossed,
     StrictSets,
     StrictSizes,
     StrictEntries,
     StrictCrossed,
     StrictWithin,
+    Unnamed,
     Damaged,
     Changed,
     Tallies,
@@ -102,16 +104,17 @@ fn cases_on(
     match family {
         Family::Build => build_cases(score, n, prefix, clauses, &facts),
         Family::Adds => add_cases(score, number, n, prefix, longer, count),
-        Family::Sets => set_cases(score, n, prefix, clauses, &facts, &links),
-        Family::Sizes => set_size_cases(score, n, prefix, clauses, &facts, &links),
-        Family::Entries => entries_cases(score, n, prefix, clauses, &facts, &links),
+        Family::StandardSets => set_cases(score, n, prefix, clauses, &facts, &links),
+        Family::StandardSizes => set_size_cases(score, n, prefix, clauses, &facts, &links),
+        Family::StandardEntries => entries_cases(score, n, prefix, clauses, &facts, &links),
         Family::Points => entry_cases(score, n, prefix, &facts, &links),
-        Family::Crossed => crossed_cases(score, n, prefix, alone, &facts, &links),
+        Family::StandardCrossed => crossed_cases(score, n, prefix, alone, &facts, &links),
         Family::StrictSets => strict_set_cases(score, n, prefix, clauses, &facts, &links),
         Family::StrictSizes => strict_size_cases(score, n, prefix, clauses, &facts, &links),
         Family::StrictEntries => strict_entries_cases(score, n, prefix, clauses, &facts, &links),
         Family::StrictCrossed => strict_crossed_cases(score, n, prefix, longer, &facts, &links),
         Family::StrictWithin => strict_cases(score, n, prefix, clauses, &facts),
+        Family::Unnamed => unnamed_cases(score, n, prefix, clauses, &facts, &links),
         Family::Damaged => changed_cases(score, false, number, n, prefix, &facts),
         Family::Changed => changed_cases(score, true, number, n, prefix, &facts),
         Family::Tallies => tally_cases(score, n, prefix, clause, &facts),
@@ -119,7 +122,7 @@ fn cases_on(
     }
 }
 
-// The set of x, by the forest of the search.
+// The standard set of x, by the forest of the search.
 fn set_cases(
     score: Score,
     n: u32,
@@ -130,10 +133,10 @@ fn set_cases(
 ) -> Score {
     let mut sets = [false; 5184];
     fill_sets(n, facts, links, &mut sets);
-    listing_cases(score, Call::Sets, n, prefix, clauses, facts, &sets)
+    listing_cases(score, Call::StandardSets, n, prefix, clauses, facts, &sets)
 }
 
-// The size of the set of x, by the forest of the search.
+// The size of the standard set of x, by the forest of the search.
 fn set_size_cases(
     score: Score,
     n: u32,
@@ -144,10 +147,10 @@ fn set_size_cases(
 ) -> Score {
     let mut sets = [false; 5184];
     fill_sets(n, facts, links, &mut sets);
-    size_cases(score, Call::Sizes, n, prefix, clauses, facts, &sets)
+    size_cases(score, Call::StandardSizes, n, prefix, clauses, facts, &sets)
 }
 
-// The entry points of x, by the forest of the search.
+// The standard entry points of x, by the forest of the search.
 fn entries_cases(
     score: Score,
     n: u32,
@@ -158,10 +161,18 @@ fn entries_cases(
 ) -> Score {
     let mut entries = [false; 5184];
     fill_entries(n, facts, links, links, &mut entries);
-    listing_cases(score, Call::Entries, n, prefix, clauses, facts, &entries)
+    listing_cases(
+        score,
+        Call::StandardEntries,
+        n,
+        prefix,
+        clauses,
+        facts,
+        &entries,
+    )
 }
 
-// Entry points, sets and their sizes by a forest that comes from other clauses than those lent beside it.
+// Standard entry points, sets and their sizes by a forest that comes from other clauses than those lent beside it.
 fn crossed_cases(
     score: Score,
     n: u32,
@@ -176,9 +187,17 @@ fn crossed_cases(
     fill_joins(n, clauses, &mut joins);
     fill_entries(n, facts, links, &joins, &mut entries);
     fill_members(n, facts, links, &entries, &mut sets);
-    let t = listing_cases(score, Call::Entries, n, prefix, clauses, facts, &entries);
-    let u = listing_cases(t, Call::Sets, n, prefix, clauses, facts, &sets);
-    size_cases(u, Call::Sizes, n, prefix, clauses, facts, &sets)
+    let t = listing_cases(
+        score,
+        Call::StandardEntries,
+        n,
+        prefix,
+        clauses,
+        facts,
+        &entries,
+    );
+    let u = listing_cases(t, Call::StandardSets, n, prefix, clauses, facts, &sets);
+    size_cases(u, Call::StandardSizes, n, prefix, clauses, facts, &sets)
 }
 
 // The entry point of x for y, by the forest of the search.

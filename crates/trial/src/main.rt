@@ -30,6 +30,10 @@ fn run_rules() {
         rules::queries::list_cases(),
     );
     print_score(
+        b"refusals of standard set, size and entry points",
+        rules::queries::standard_cases(),
+    );
+    print_score(
         b"refusals of strict set, size and entry points",
         rules::queries::strict_cases(),
     );
@@ -71,17 +75,18 @@ fn run_family(name: &[u8], family: Family) {
 fn run_searched() {
     run_family(b"build", Family::Build);
     run_family(b"add", Family::Adds);
-    run_family(b"sets", Family::Sets);
-    run_family(b"sizes", Family::Sizes);
-    run_family(b"entry points", Family::Entries);
+    run_family(b"standard sets", Family::StandardSets);
+    run_family(b"standard sizes", Family::StandardSizes);
+    run_family(b"standard entry points", Family::StandardEntries);
     run_family(b"entry point for y", Family::Points);
     run_family(
-        b"entry points, sets and sizes by rows of other clauses",
-        Family::Crossed,
+        b"standard entry points, sets and sizes by rows of other clauses",
+        Family::StandardCrossed,
     );
 }
 
-// The families that hold the answers of the strict scheme against the search, and against the standard ones.
+// The families that hold the answers of the strict scheme against the search, and against the standard ones; and the answers of the calls
+// that name no scheme, which are strict.
 fn run_strict() {
     run_family(b"strict sets", Family::StrictSets);
     run_family(b"strict sizes", Family::StrictSizes);
@@ -93,6 +98,10 @@ fn run_strict() {
     run_family(
         b"strict within standard, and empty with one sign only",
         Family::StrictWithin,
+    );
+    run_family(
+        b"entry points, sets and sizes with no scheme named",
+        Family::Unnamed,
     );
 }
 

@@ -1,4 +1,4 @@
-// The families of the strict scheme that run on generated formulas.
+// The families of the strict scheme that run on generated formulas, and of the calls that name no scheme and mean the strict one.
 
 use asking::lists::listing_cases;
 use asking::lists::size_cases;
@@ -82,4 +82,22 @@ pub fn strict_crossed_cases(
     );
     let u = listing_cases(t, Call::StrictSets, n, prefix, clauses, facts, &sets);
     size_cases(u, Call::StrictSizes, n, prefix, clauses, facts, &sets)
+}
+
+// Entry points, sets and their sizes with no scheme named: the strict ones, by the forest of the search.
+pub fn unnamed_cases(
+    score: Score,
+    n: u32,
+    prefix: &[u32],
+    clauses: &[i32],
+    facts: &[u32],
+    links: &[bool],
+) -> Score {
+    let mut entries = [false; 5184];
+    let mut sets = [false; 5184];
+    fill_strict_entries(n, clauses, facts, links, &mut entries);
+    fill_strict_sets(n, clauses, facts, links, &mut sets);
+    let t = listing_cases(score, Call::Entries, n, prefix, clauses, facts, &entries);
+    let u = listing_cases(t, Call::Sets, n, prefix, clauses, facts, &sets);
+    size_cases(u, Call::Sizes, n, prefix, clauses, facts, &sets)
 }

@@ -1,10 +1,8 @@
 -- `capi::snow_sets` meets its contract.
+use mathlib.Core.Path.{refl}
 use borrow.Author.Needs.{needs}
-use Rattle.sets.specs.Sets.{AllSets}
-use Rattle.joining.specs.Rules.{readAs}
-use Rattle.ruled.specs.Calls.{setsOrderUnder}
-use Rattle.capi.proofs.Places.{small-sets}
-use Rattle.capi.proofs.Telling.{fits-filling, tell-filling}
+use Rattle.forest.specs.declared.Scheme.the-variants.{Strict}
+use Rattle.capi.proofs.Telling.{fits-sets, tell-sets}
 use Rattle.capi.proofs.snow_sets.Statement.{statement}
 use Rattle.capi.proofs.snow_sets.Tie as tie
 
@@ -15,7 +13,7 @@ lay-requires : tie.Need-lay-requires
 lay-requires c κs =
     let a = c .before .before .before .before .before .before .before .before .before .before .before .args in
     let b = c .before .before .before .before .sets in
-    fits-filling (setsOrderUnder (a .rule) (a .n) (a .prefix .now) (a .clauses .now) (a .classes .now) (a .parents .now) (a .counts .now) (a .out .now)) (AllSets (a .n) (readAs (a .rule) (a .prefix .now)) (a .clauses .now) (a .classes .now) (a .parents .now)) (a .out .now) _ (b .result) (small-sets (a .rule) (a .n) (a .prefix .now) (a .clauses .now) (a .classes .now) (a .parents .now) (a .counts .now) (a .out .now)) (b .ensures)
+    fits-sets (a .rule) (a .n) (a .prefix .now) (a .clauses .now) (a .classes .now) (a .parents .now) (a .counts .now) Strict (a .out .now) _ (b .result) (b .ensures)
 
 same-length : tie.Need-same-length
 same-length c = search needs
@@ -23,7 +21,7 @@ same-length c = search needs
 returns : tie.Need-returns
 returns c =
     let a = c .before .before .before .before .before .before .before .before .before .before .before .before .args in
-    tell-filling (setsOrderUnder (a .rule) (a .n) (a .prefix .now) (a .clauses .now) (a .classes .now) (a .parents .now) (a .counts .now) (a .out .now)) (AllSets (a .n) (readAs (a .rule) (a .prefix .now)) (a .clauses .now) (a .classes .now) (a .parents .now)) (a .out .now) _ (c .lay .ensures) (c .before .before .before .before .before .sets .ensures)
+    tell-sets (a .rule) (a .n) (a .prefix .now) (a .clauses .now) (a .classes .now) (a .parents .now) (a .counts .now) (a .out .now) _ {s = Strict} refl (c .lay .ensures) (c .before .before .before .before .before .sets .ensures)
 
 pub snow-sets-spec : {M : Type 1} → statement M
 snow-sets-spec = tie.close (tie.spec sets-requires lay-requires same-length returns)

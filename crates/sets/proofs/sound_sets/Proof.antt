@@ -4,7 +4,7 @@ use mathlib.Core.List.{[], _∷_}
 use Rattle.terms.specs.Refusals.{At0, Judged}
 use Rattle.terms.proofs.Verdicts.{refused-first}
 use Rattle.tables.specs.Causes.{ForestCause}
-use Rattle.sets.specs.Sets.{SetsTooLong}
+use Rattle.sets.specs.Sets.{SetsTooLongBy}
 use Rattle.tables.proofs.Agreeing.{none-formed}
 use Rattle.sets.proofs.AllSets.{fills-filling}
 use borrow.Author.Needs.{needs}
@@ -50,7 +50,7 @@ returns : tie.Need-returns
 returns c =
     let a = c .before .before .before .before .before .before .before .before .before .before .before .before .before .before .before .before .args in
     let judged = (c .before .before .before .check-forest .ensures) in
-    (refused-first (ForestCause (a .n) (a .prefix .now) (a .classes .now) (a .parents .now) (a .counts .now) ∷ []) (At0 14 (SetsTooLong (a .n) (a .prefix .now) (a .clauses .now) (a .classes .now) (a .parents .now) (a .out .now)) ∷ []) (c .before .number .given .1) judged, refl)
+    (refused-first (ForestCause (a .n) (a .prefix .now) (a .classes .now) (a .parents .now) (a .counts .now) ∷ []) (At0 14 (SetsTooLongBy (a .scheme) (a .n) (a .prefix .now) (a .clauses .now) (a .classes .now) (a .parents .now) (a .out .now)) ∷ []) (c .before .number .given .1) judged, refl)
 
 same-length : tie.Need-same-length
 same-length c = search needs
@@ -59,7 +59,7 @@ returns-2 : tie.Need-returns-2
 returns-2 c =
     let a = c .before .before .before .before .before .before .before .before .before .before .before .before .before .before .before .before .before .before .before .before .before .args in
     let accepted = subst (Judged (ForestCause (a .n) (a .prefix .now) (a .classes .now) (a .parents .now) (a .counts .now) ∷ [])) (c .before .before .before .before .before .before .enum-told .given .1) (c .before .before .before .before .before .before .before .before .check-forest .ensures) in
-    fills-filling (a .n) (a .prefix .now) (a .clauses .now) (a .classes .now) (a .parents .now) (a .counts .now) (a .out .now) (c .before .before .list-sets .last .1 .1 .1 .1 .1 .1 .1 .0) (accepted .0) (c .before .before .list-sets .result) (c .before .before .list-sets .ensures)
+    fills-filling (a .scheme) (a .n) (a .prefix .now) (a .clauses .now) (a .classes .now) (a .parents .now) (a .counts .now) (a .out .now) (c .before .before .list-sets .last .1 .1 .1 .1 .1 .1 .1 .1 .0) (accepted .0) (c .before .before .list-sets .result) (c .before .before .list-sets .ensures)
 
 pub sound-sets-spec : {M : Type 1} → statement M
 sound-sets-spec =

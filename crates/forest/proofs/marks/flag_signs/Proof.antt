@@ -74,7 +74,7 @@ loop-again-2 c =
     let loop = c .before .before .before .before .before .loop in
     let less = c .before .before .if1 .left in
     let none = side-not (a .signs) (scan .result .side) (λ (sign : Bool). HasLiteral (a .clauses .now) (loop .start) (scan .result .end) (signed sign (a .x .0))) (sym (c .before .has-sign .ensures) ∙ c .if2 .left) (scan .ensures .1) in
-    (share-not (loop .inv .0) (scan .result .end) (scan .ensures .0) less (λ v h k. none (λ p q. sides-apart (a .clauses .now) (a .x .0) (loop .start) (scan .result .end) (scan .ensures .0) less v p q k) h), stamps-more (loop .inv .1) (omega (arith, scan .ensures .0 .from)))
+    (share-not (loop .inv .0) (scan .result .end) (scan .ensures .0) less (λ v h k. none (λ p q. sides-apart (a .clauses .now) (a .x .0) (loop .start) (scan .result .end) (scan .ensures .0) (omega arith) v p q k) h), stamps-more (loop .inv .1) (omega (arith, scan .ensures .0 .from)))
 
 same-length-2 : tie.Need-same-length-2 Inv-loop μ-loop
 same-length-2 c = c .before .loop .inv .0 .size

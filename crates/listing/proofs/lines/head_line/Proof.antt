@@ -24,8 +24,11 @@ slice-aggregate-put-named-3 c = search needs
 put-named-requires-3 : tie.Need-put-named-requires-3
 put-named-requires-3 c κs = search needs
 
-put-byte-requires : tie.Need-put-byte-requires
-put-byte-requires c κs = search needs
+slice-aggregate-put-word : tie.Need-slice-aggregate-put-word
+slice-aggregate-put-word c = search needs
+
+put-word-requires : tie.Need-put-word-requires
+put-word-requires c κs = search needs
 
 same-length : tie.Need-same-length
 same-length c = search needs
@@ -33,13 +36,13 @@ same-length c = search needs
 returns : tie.Need-returns
 unfolding headLine
 returns c =
-    let s0 = c .before .before .before .before .before .before .before .before .before .before .before .before .before .before .before .before .put-named .ensures in
+    let s0 = c .before .before .before .before .before .before .before .before .before .before .before .before .before .before .before .before .before .put-named .ensures in
     let n0 = s0 .near in
-    let s1 = c .before .before .before .before .before .before .before .before .before .before .before .put-named2 .ensures in
+    let s1 = c .before .before .before .before .before .before .before .before .before .before .before .before .put-named2 .ensures in
     let n1 = s1 .near in
-    let s2 = c .before .before .before .before .before .before .put-named3 .ensures in
+    let s2 = c .before .before .before .before .before .before .before .put-named3 .ensures in
     let n2 = s2 .near in
-    let last = c .before .before .put-byte .ensures in
+    let last = c .before .before .put-word .ensures in
     let end = last .end in
     record { wrote = wrote-more (wrote-more (wrote-more (s0 .wrote) (s1 .wrote)) (s2 .wrote)) last; near = omega arith }
 
@@ -53,6 +56,7 @@ head-line-spec =
     put-named-requires-2
     slice-aggregate-put-named-3
     put-named-requires-3
-    put-byte-requires
+    slice-aggregate-put-word
+    put-word-requires
     same-length
     returns)

@@ -8,6 +8,7 @@ use lib.ListN.{length, take, replicate, length-replicate}
 use lib.Seq.{length-take-le, length-sets}
 use Rattle.joining.specs.Rules.{readAs}
 use Rattle.ruled.specs.Calls.{SetsUnder}
+use Rattle.forest.specs.declared.Scheme.the-variants.{Standard}
 use Rattle.records.specs.Layout.{StandardSets}
 use Rattle.records.specs.Places.{fourthAt, Holds}
 use Rattle.tables.specs.Rows.{Tells}
@@ -18,11 +19,11 @@ use borrow.Author.Needs.{needs}
 use Rattle.loading.proofs.contents.sets_hold.Statement.{statement}
 use Rattle.loading.proofs.contents.sets_hold.Tie as tie
 
-slice-aggregate-sets : tie.Need-slice-aggregate-sets
-slice-aggregate-sets c = search needs
+slice-aggregate-sets-by : tie.Need-slice-aggregate-sets-by
+slice-aggregate-sets-by c = search needs
 
-sets-requires : tie.Need-sets-requires
-sets-requires c κs = search needs
+sets-by-requires : tie.Need-sets-by-requires
+sets-by-requires c κs = search needs
 
 enum-told : tie.Need-enum-told
 enum-told c = search needs
@@ -36,8 +37,8 @@ cast-many c = search needs
 array-share-prefix-list : tie.Need-array-share-prefix-list
 array-share-prefix-list c =
     let a = c .before .before .before .before .before .before .before .before .before .before .before .args in
-    let after = c .before .before .before .before .sets .last .1 .1 .1 .1 .1 .1 .1 .0 in
-    let told′ = subst (SetsUnder (a .rule) (a .n) (a .prefix .now) (a .clauses .now) (a .classes .now) (a .parents .now) (a .counts .now) (replicate 131072 0) after) (c .before .count .given .1) (c .before .before .before .before .sets .ensures) in
+    let after = c .before .before .before .before .sets-by .last .1 .1 .1 .1 .1 .1 .1 .1 .0 in
+    let told′ = subst (SetsUnder (a .rule) Standard (a .n) (a .prefix .now) (a .clauses .now) (a .classes .now) (a .parents .now) (a .counts .now) (replicate 131072 0) after) (c .before .count .given .1) (c .before .before .before .before .sets-by .ensures) in
     let (list, standard, is, stored, fits) = sets-written (a .rule) (a .n) (a .prefix .now) (a .clauses .now) (c .before .before .before .before .before .before .before .before .before .before .before .pre .0 .2) (c .before .before .before .before .before .before .before .before .before .before .before .pre .1) (replicate 131072 0) after _ told′ in
     let full = length-replicate {A = ℕ} 131072 0 in
     let size = ap length stored ∙ length-sets (replicate 131072 0) 0 list in
@@ -46,8 +47,8 @@ array-share-prefix-list c =
 slice-aggregate-list-holds : tie.Need-slice-aggregate-list-holds
 slice-aggregate-list-holds c =
     let a = c .before .before .before .before .before .before .before .before .before .before .before .before .args in
-    let after = c .before .before .before .before .before .sets .last .1 .1 .1 .1 .1 .1 .1 .0 in
-    let told′ = subst (SetsUnder (a .rule) (a .n) (a .prefix .now) (a .clauses .now) (a .classes .now) (a .parents .now) (a .counts .now) (replicate 131072 0) after) (c .before .before .count .given .1) (c .before .before .before .before .before .sets .ensures) in
+    let after = c .before .before .before .before .before .sets-by .last .1 .1 .1 .1 .1 .1 .1 .1 .0 in
+    let told′ = subst (SetsUnder (a .rule) Standard (a .n) (a .prefix .now) (a .clauses .now) (a .classes .now) (a .parents .now) (a .counts .now) (replicate 131072 0) after) (c .before .before .count .given .1) (c .before .before .before .before .before .sets-by .ensures) in
     let (list, standard, is, stored, fits) = sets-written (a .rule) (a .n) (a .prefix .now) (a .clauses .now) (c .before .before .before .before .before .before .before .before .before .before .before .before .pre .0 .2) (c .before .before .before .before .before .before .before .before .before .before .before .before .pre .1) (replicate 131072 0) after _ told′ in
     let full = length-replicate {A = ℕ} 131072 0 in
     let size = ap length stored ∙ length-sets (replicate 131072 0) 0 list in
@@ -56,8 +57,8 @@ slice-aggregate-list-holds c =
 list-holds-requires : tie.Need-list-holds-requires
 list-holds-requires c κs =
     let a = c .before .before .before .before .before .before .before .before .before .before .before .before .args in
-    let after = c .before .before .before .before .before .sets .last .1 .1 .1 .1 .1 .1 .1 .0 in
-    let told′ = subst (SetsUnder (a .rule) (a .n) (a .prefix .now) (a .clauses .now) (a .classes .now) (a .parents .now) (a .counts .now) (replicate 131072 0) after) (c .before .before .count .given .1) (c .before .before .before .before .before .sets .ensures) in
+    let after = c .before .before .before .before .before .sets-by .last .1 .1 .1 .1 .1 .1 .1 .1 .0 in
+    let told′ = subst (SetsUnder (a .rule) Standard (a .n) (a .prefix .now) (a .clauses .now) (a .classes .now) (a .parents .now) (a .counts .now) (replicate 131072 0) after) (c .before .before .count .given .1) (c .before .before .before .before .before .sets-by .ensures) in
     let (list, standard, is, stored, fits) = sets-written (a .rule) (a .n) (a .prefix .now) (a .clauses .now) (c .before .before .before .before .before .before .before .before .before .before .before .before .pre .0 .2) (c .before .before .before .before .before .before .before .before .before .before .before .before .pre .1) (replicate 131072 0) after _ told′ in
     let full = length-replicate {A = ℕ} 131072 0 in
     let size = ap length stored ∙ length-sets (replicate 131072 0) 0 list in
@@ -67,8 +68,8 @@ list-holds-requires c κs =
 returns : tie.Need-returns
 returns c =
     let a = c .before .before .before .before .before .before .before .before .before .before .args in
-    let after = c .before .before .before .sets .last .1 .1 .1 .1 .1 .1 .1 .0 in
-    let told′ = subst (SetsUnder (a .rule) (a .n) (a .prefix .now) (a .clauses .now) (a .classes .now) (a .parents .now) (a .counts .now) (replicate 131072 0) after) (c .enum-told .given .1) (c .before .before .before .sets .ensures) in
+    let after = c .before .before .before .sets-by .last .1 .1 .1 .1 .1 .1 .1 .1 .0 in
+    let told′ = subst (SetsUnder (a .rule) Standard (a .n) (a .prefix .now) (a .clauses .now) (a .classes .now) (a .parents .now) (a .counts .now) (replicate 131072 0) after) (c .enum-told .given .1) (c .before .before .before .sets-by .ensures) in
     let (list, standard, long) = sets-unwritten (a .rule) (a .n) (a .prefix .now) (a .clauses .now) (c .before .before .before .before .before .before .before .before .before .before .pre .0 .2) (c .before .before .before .before .before .before .before .before .before .before .pre .1) (replicate 131072 0) after _ _ told′ in
     let full = length-replicate {A = ℕ} 131072 0 in
     long-sets (a .rule) (a .file .now) list (c .before .before .before .before .before .before .before .before .before .before .pre .0 .0) (held-to (c .before .before .before .before .before .before .before .before .before .before .pre .0 .1) (λ (m : ℕ) (e : List ℕ) (l : List ℤ). StandardSets m (readAs (a .rule) e) l list) standard) (omega arith)
@@ -76,8 +77,8 @@ returns c =
 returns-2 : tie.Need-returns-2
 returns-2 c =
     let a = c .before .before .before .before .before .before .before .before .before .before .before .before .before .args in
-    let after = c .before .before .before .before .before .before .sets .last .1 .1 .1 .1 .1 .1 .1 .0 in
-    let told′ = subst (SetsUnder (a .rule) (a .n) (a .prefix .now) (a .clauses .now) (a .classes .now) (a .parents .now) (a .counts .now) (replicate 131072 0) after) (c .before .before .before .count .given .1) (c .before .before .before .before .before .before .sets .ensures) in
+    let after = c .before .before .before .before .before .before .sets-by .last .1 .1 .1 .1 .1 .1 .1 .1 .0 in
+    let told′ = subst (SetsUnder (a .rule) Standard (a .n) (a .prefix .now) (a .clauses .now) (a .classes .now) (a .parents .now) (a .counts .now) (replicate 131072 0) after) (c .before .before .before .count .given .1) (c .before .before .before .before .before .before .sets-by .ensures) in
     let (list, standard, is, stored, fits) = sets-written (a .rule) (a .n) (a .prefix .now) (a .clauses .now) (c .before .before .before .before .before .before .before .before .before .before .before .before .before .pre .0 .2) (c .before .before .before .before .before .before .before .before .before .before .before .before .before .pre .1) (replicate 131072 0) after _ told′ in
     let full = length-replicate {A = ℕ} 131072 0 in
     let same = ap (take (c .before .before .before .count .given .0 .0)) stored ∙ take-stored (replicate 131072 0) list (c .before .before .before .count .given .0 .0) is fits in
@@ -88,8 +89,8 @@ pub sets-hold-spec : {M : Type 1} → statement M
 sets-hold-spec =
     tie.close
     (tie.spec
-    slice-aggregate-sets
-    sets-requires
+    slice-aggregate-sets-by
+    sets-by-requires
     enum-told
     enum-known-count
     cast-many

@@ -19,11 +19,11 @@ use Rattle.sets.proofs.all_sets.pass_sets.Statement.{statement}
 use Rattle.sets.proofs.all_sets.pass_sets.Tie as tie
 
 abbrev Inv-loop : tie.InvT-loop
-Inv-loop n prefix levels universals clauses classes parents first next writing out₀ tops₀ floor₀ end₀ passed₀ out tops floor end passed =
-    (passed ≤ n) × (length tops ≡ 4096) × TopsOver (variables n prefix) (lent (variables n prefix) classes parents) (floor .level .0) (floor .from) tops × PutAll (SetsUpto n prefix clauses classes parents passed) writing out₀ out end
+Inv-loop scheme n prefix levels universals clauses classes parents first next writing out₀ tops₀ floor₀ end₀ passed₀ out tops floor end passed =
+    (passed ≤ n) × (length tops ≡ 4096) × TopsOver (variables n prefix) (lent (variables n prefix) classes parents) (floor .level .0) (floor .from) tops × PutAll (SetsUpto scheme n prefix clauses classes parents passed) writing out₀ out end
 
 abbrev μ-loop : tie.MeasureT-loop
-μ-loop n prefix levels universals clauses classes parents first next writing out₀ tops₀ floor₀ end₀ passed₀ out tops floor end passed = n - passed
+μ-loop scheme n prefix levels universals clauses classes parents first next writing out₀ tops₀ floor₀ end₀ passed₀ out tops floor end passed = n - passed
 
 new-requires : tie.Need-new-requires Inv-loop μ-loop
 new-requires c κs = search needs
@@ -33,7 +33,7 @@ loop-holds c =
     let a = c .before .before .before .before .before .before .before .before .before .args in
     let ready = c .before .before .before .before .before .before .before .before .before .pre .0 in
     let over : (v : ℕ) → isExistential (a .n) (a .prefix .now) v ≡ true → level (a .prefix .now) v ≤ c .new .result .0 = λ v ex. let is = c .new .ensures in let own = level-agrees (ready .sound) (ready .table) v (lawful (a .n) (a .prefix .now) .within v ex .1) in omega (arith, c .before .before .before .before .before .before .before .shared-slice-known2 .given v) in
-    (omega arith, length-replicate {A = ℕ} 4096 0, tops-over {X = variables (a .n) (a .prefix .now)} {W = lent (variables (a .n) (a .prefix .now)) (a .classes .now) (a .parents .now)} (c .new .result .0) 4096 over, put-none (a .n) (a .prefix .now) (a .clauses .now) (a .classes .now) (a .parents .now) (a .writing) (a .out .now))
+    (omega arith, length-replicate {A = ℕ} 4096 0, tops-over {X = variables (a .n) (a .prefix .now)} {W = lent (variables (a .n) (a .prefix .now)) (a .classes .now) (a .parents .now)} (c .new .result .0) 4096 over, put-none (a .scheme) (a .n) (a .prefix .now) (a .clauses .now) (a .classes .now) (a .parents .now) (a .writing) (a .out .now))
 
 add-passed : tie.Need-add-passed Inv-loop μ-loop
 add-passed c = omega arith
@@ -76,9 +76,9 @@ put-set-requires c κs =
     let retop = c .before .before .before .retop in
     let u = sym (c .before .before .before .before .before .before .universal-at .ensures) ∙ c .before .before .before .before .before .if1 .taken in
     let flag = flag-within (a .n) x (getD (a .universals .now) x false) u .2 in
-    let small = sets-small (a .n) (a .prefix .now) (a .clauses .now) (a .classes .now) (a .parents .now) few m (inv .3 .0) (inv .0) (inv .3 .1) in
+    let small = sets-small (a .scheme) (a .n) (a .prefix .now) (a .clauses .now) (a .classes .now) (a .parents .now) few m (inv .3 .0) (inv .0) (inv .3 .1) in
     let size = inv .3 .2 in
-    ((few, omega arith, record { heads = omega arith; links = ready .links; universals = a .universals .now; threaded = ready .threaded; universal = flag }), ((retop .ensures .0 .most, retop .ensures .0 .none), put-room (a .n) (a .prefix .now) (a .clauses .now) (a .classes .now) (a .parents .now) few (ready .closed) (ready .formed) m x (retop .result .level .0) (retop .last .1 .1 .1 .1 .1 .1 .1 .0) (a .writing) (a .out .now) is (inv .3) (sym (universal-agrees (ready .sound) (ready .table) x) ∙ u) (retop .ensures .1) (retop .ensures .0 .rows) less (c .before .before .before .before .before .before .before .before .before .before .before .before .before .before .before .before .before .before .before .pre .1)))
+    ((few, omega arith, record { heads = omega arith; links = ready .links; universals = a .universals .now; threaded = ready .threaded; universal = flag }), ((retop .ensures .0 .most, retop .ensures .0 .none), put-room (a .scheme) (a .n) (a .prefix .now) (a .clauses .now) (a .classes .now) (a .parents .now) few (ready .closed) (ready .formed) m x (retop .result .level .0) (retop .last .1 .1 .1 .1 .1 .1 .1 .0) (a .writing) (a .out .now) is (inv .3) (sym (universal-agrees (ready .sound) (ready .table) x) ∙ u) (retop .ensures .1) (retop .ensures .0 .rows) less (c .before .before .before .before .before .before .before .before .before .before .before .before .before .before .before .before .before .before .before .pre .1)))
 
 loop-less : tie.Need-loop-less Inv-loop μ-loop
 loop-less c = omega arith
@@ -91,7 +91,7 @@ loop-again c =
     let retop = c .before .before .before .before .before .before .retop in
     let u = sym (c .before .before .before .before .before .before .before .before .before .universal-at .ensures) ∙ c .before .before .before .before .before .before .before .before .if1 .taken in
     let less = c .before .before .before .before .before .before .before .before .before .before .before .loop-test .taken in
-    (omega arith, retop .kept .1 .1 .1 .1 .1 .1 .1 .0 ∙ inv .1, retop .ensures .0, put-next (a .n) (a .prefix .now) (a .clauses .now) (a .classes .now) (a .parents .now) (ready .sound .few) (ready .closed) (ready .formed) (c .before .before .before .before .before .before .before .before .before .before .before .before .loop .passed) (c .before .before .before .before .before .before .before .before .before .before .new2 .result .0) (retop .result .level .0) (retop .last .1 .1 .1 .1 .1 .1 .1 .0) (a .writing) (a .out .now) (c .before .before .before .before .before .before .before .before .before .before .new2 .ensures) (inv .3) (sym (universal-agrees (ready .sound) (ready .table) (c .before .before .before .before .before .before .before .before .before .before .new2 .result .0)) ∙ u) (retop .ensures .1) (retop .ensures .0 .rows) (c .before .before .put-set .ensures))
+    (omega arith, retop .kept .1 .1 .1 .1 .1 .1 .1 .0 ∙ inv .1, retop .ensures .0, put-next (a .scheme) (a .n) (a .prefix .now) (a .clauses .now) (a .classes .now) (a .parents .now) (ready .sound .few) (ready .closed) (ready .formed) (c .before .before .before .before .before .before .before .before .before .before .before .before .loop .passed) (c .before .before .before .before .before .before .before .before .before .before .new2 .result .0) (retop .result .level .0) (retop .last .1 .1 .1 .1 .1 .1 .1 .0) (a .writing) (a .out .now) (c .before .before .before .before .before .before .before .before .before .before .new2 .ensures) (inv .3) (sym (universal-agrees (ready .sound) (ready .table) (c .before .before .before .before .before .before .before .before .before .before .new2 .result .0)) ∙ u) (retop .ensures .1) (retop .ensures .0 .rows) (c .before .before .put-set .ensures))
 
 loop-less-2 : tie.Need-loop-less-2 Inv-loop μ-loop
 loop-less-2 c = omega arith
@@ -100,7 +100,7 @@ loop-again-2 : tie.Need-loop-again-2 Inv-loop μ-loop
 loop-again-2 c =
     let a = c .before .before .before .before .before .before .before .before .before .before .before .before .before .before .args in
     let inv = c .before .before .before .before .loop .inv in
-    (omega arith, inv .1, inv .2, put-other (a .n) (a .prefix .now) (a .clauses .now) (a .classes .now) (a .parents .now) (c .before .before .before .before .loop .passed) (c .before .before .new2 .result .0) (a .writing) (a .out .now) (c .before .before .new2 .ensures) (inv .3) (sym (universal-agrees (c .before .before .before .before .before .before .before .before .before .before .before .before .before .before .pre .0 .sound) (c .before .before .before .before .before .before .before .before .before .before .before .before .before .before .pre .0 .table) (c .before .before .new2 .result .0)) ∙ sym (c .before .universal-at .ensures) ∙ c .if1 .left))
+    (omega arith, inv .1, inv .2, put-other (a .scheme) (a .n) (a .prefix .now) (a .clauses .now) (a .classes .now) (a .parents .now) (c .before .before .before .before .loop .passed) (c .before .before .new2 .result .0) (a .writing) (a .out .now) (c .before .before .new2 .ensures) (inv .3) (sym (universal-agrees (c .before .before .before .before .before .before .before .before .before .before .before .before .before .before .pre .0 .sound) (c .before .before .before .before .before .before .before .before .before .before .before .before .before .before .pre .0 .table) (c .before .before .new2 .result .0)) ∙ sym (c .before .universal-at .ensures) ∙ c .if1 .left))
 
 same-length : tie.Need-same-length Inv-loop μ-loop
 same-length c =
@@ -111,7 +111,7 @@ returns : tie.Need-returns Inv-loop μ-loop
 returns c =
     let a = c .before .before .before .before .before .before .before .before .before .before .before .args in
     let q : c .before .loop .passed ≡ a .n = let most = c .before .loop .inv .0 in let l = c .loop-test .left in omega arith in
-    subst (λ m. PutAll (SetsUpto (a .n) (a .prefix .now) (a .clauses .now) (a .classes .now) (a .parents .now) m) (a .writing) (a .out .now) (c .before .loop .out) (c .before .loop .end)) q (c .before .loop .inv .3)
+    subst (λ m. PutAll (SetsUpto (a .scheme) (a .n) (a .prefix .now) (a .clauses .now) (a .classes .now) (a .parents .now) m) (a .writing) (a .out .now) (c .before .loop .out) (c .before .loop .end)) q (c .before .loop .inv .3)
 
 pub pass-sets-spec : {M : Type 1} → statement M
 pass-sets-spec =

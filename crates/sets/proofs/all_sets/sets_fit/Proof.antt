@@ -6,7 +6,7 @@ use native.Mathlib.Omega.{arith}
 use lib.ListN.{length}
 use Rattle.terms.proofs.Common.{clash}
 use Rattle.tables.specs.Formula.{universal}
-use Rattle.forest.specs.Answers.{Members}
+use Rattle.forest.specs.Answers.{MembersBy}
 use Rattle.sets.proofs.AllSets.{sets-within}
 use Rattle.sets.proofs.Records.{records-most, records-room}
 use borrow.Author.Needs.{needs}
@@ -27,7 +27,7 @@ returns : tie.Need-returns
 returns c =
     let a = c .before .before .before .before .before .before .before .before .before .args in
     let enough = c .if1 .taken in
-    (λ m list l r. let most = records-most (universal (a .n) (a .prefix .now)) (Members (a .n) (a .prefix .now) (a .clauses .now) (a .classes .now) (a .parents .now)) (a .n) (sets-within (a .n) (a .prefix .now) (a .clauses .now) (a .classes .now) (a .parents .now)) m list r in let bound : m * (a .n + 2) ≤ a .n * (a .n + 2) = mul-le-mul-right (a .n + 2) l in omega arith, refl)
+    (λ m list l r. let most = records-most (universal (a .n) (a .prefix .now)) (MembersBy (a .scheme) (a .n) (a .prefix .now) (a .clauses .now) (a .classes .now) (a .parents .now)) (a .n) (sets-within (a .scheme) (a .n) (a .prefix .now) (a .clauses .now) (a .classes .now) (a .parents .now)) m list r in let bound : m * (a .n + 2) ≤ a .n * (a .n + 2) = mul-le-mul-right (a .n + 2) l in omega arith, refl)
 
 pass-sets-requires : tie.Need-pass-sets-requires
 pass-sets-requires c κs = (c .before .before .before .before .before .before .before .before .before .before .pre, λ q. absurd (clash q refl))
@@ -51,7 +51,7 @@ returns-3 c =
     let (list, r, size, same) = c .before .before .before .pass-sets .ensures in
     let long = ap length same in
     let fits = c .if2 .left in
-    (records-room (universal (a .n) (a .prefix .now)) (Members (a .n) (a .prefix .now) (a .clauses .now) (a .classes .now) (a .parents .now)) (a .n) (length (a .out .now)) list r (omega arith), same)
+    (records-room (universal (a .n) (a .prefix .now)) (MembersBy (a .scheme) (a .n) (a .prefix .now) (a .clauses .now) (a .classes .now) (a .parents .now)) (a .n) (length (a .out .now)) list r (omega arith), same)
 
 pub sets-fit-spec : {M : Type 1} → statement M
 sets-fit-spec =

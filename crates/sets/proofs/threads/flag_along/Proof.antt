@@ -1,18 +1,24 @@
 -- `sets::threads::flag_along` meets its contract.
 use Prim.Native.Nat.{ℕ, suc, _-_, _<_}
-use mathlib.Core.Path.{_≡_, refl}
+use mathlib.Core.Path.{_≡_, refl, sym, _∙_}
+use mathlib.Core.Bool.{Bool}
 use native.Mathlib.Omega.{arith}
 use lib.ListN.{getD}
-use Rattle.sets.proofs.Followed.{Following, follow-none, follow-noted, follow-more, follow-all}
+use Rattle.formula.specs.Tables.{literalAt}
+use Rattle.tables.specs.Formula.{signed}
+use Rattle.forest.proofs.Sides.{side-has, side-not}
+use Rattle.sets.proofs.Followed.{Heading, Following, follow-none, follow-side, follow-apart, follow-more, follow-past, follow-link, follow-all}
 use borrow.Author.Needs.{needs}
 use Rattle.sets.proofs.threads.flag_along.Statement.{statement}
 use Rattle.sets.proofs.threads.flag_along.Tie as tie
 
+-- the loop does not name x: the chain is that of some variable, and what is said is said of any that it is the chain of
 abbrev Inv-loop : tie.InvT-loop
-Inv-loop n clauses first next tops flags₀ at₀ flags at = (x : ℕ) × Following n tops clauses next x at₀ flags₀ flags at × (at < 4294967296)
+Inv-loop signs n clauses first next tops flags₀ at₀ flags at =
+    ((x : ℕ) → Heading clauses next x at₀ → Following n tops clauses next signs x at₀ flags₀ flags at) × ((x : ℕ) × Heading clauses next x at₀) × (at < 4294967296)
 
 abbrev μ-loop : tie.MeasureT-loop
-μ-loop n clauses first next tops flags₀ at₀ flags at = at
+μ-loop signs n clauses first next tops flags₀ at₀ flags at = at
 
 cast-at : tie.Need-cast-at Inv-loop μ-loop
 cast-at c = search needs
@@ -26,13 +32,22 @@ shared-slice-read-at c = c .before .before .before .before .before .before .pre 
 loop-holds : tie.Need-loop-holds Inv-loop μ-loop
 loop-holds c =
     let a = c .before .before .before .before .before .before .args in
-    (a .x .0, follow-none (a .n) (a .tops .now) (a .clauses .now) (a .next .now) (a .x .0) (getD (a .first .now) (a .x .0) 0) (a .flags .now) (λ p o. c .before .before .before .before .before .before .pre .threaded .sound (a .x .0) p o), omega (arith, c .shared-slice-known4 .given (a .x .0)))
+    (λ x noted. follow-none (a .n) (a .tops .now) (a .clauses .now) (a .next .now) (a .signs) x (getD (a .first .now) (a .x .0) 0) (a .flags .now) noted, (a .x .0, λ p o. c .before .before .before .before .before .before .pre .threaded .sound (a .x .0) p o), omega (arith, c .shared-slice-known4 .given (a .x .0)))
 
 sub-entry : tie.Need-sub-entry Inv-loop μ-loop
 sub-entry c = omega arith
 
 cast-entry : tie.Need-cast-entry Inv-loop μ-loop
 cast-entry c = let small = c .before .loop .inv .2 in omega arith
+
+literal-at-requires : tie.Need-literal-at-requires Inv-loop μ-loop
+literal-at-requires c κs = search needs
+
+side-of-requires : tie.Need-side-of-requires Inv-loop μ-loop
+side-of-requires c κs = search needs
+
+has-sign-requires : tie.Need-has-sign-requires Inv-loop μ-loop
+has-sign-requires c κs = search needs
 
 flag-after-requires : tie.Need-flag-after-requires Inv-loop μ-loop
 flag-after-requires c κs = search needs
@@ -42,43 +57,92 @@ flag-before-requires c κs = search needs
 
 mul-at-2 : tie.Need-mul-at-2 Inv-loop μ-loop
 mul-at-2 c =
-    let some = c .before .before .before .before .before .before .before .before .loop-test .taken in
-    let is : c .before .before .before .before .before .before .before .before .before .loop .at ≡ suc (c .before .before .before .before .before .before .before .before .before .loop .at - 1) = omega arith in
-    let less = follow-noted (c .before .before .before .before .before .before .before .before .before .loop .inv .1) (c .before .before .before .before .before .before .before .before .before .loop .at - 1) is .before in
-    let room = c .before .before .before .before .before .before .before .before .before .before .before .before .before .before .before .before .pre .links in
+    let loop = c .before .before .before .before .before .before .before .before .before .before .before .before .before .loop in
+    let some = c .before .before .before .before .before .before .before .before .before .before .before .before .loop-test .taken in
+    let (less, _) = follow-link (loop .inv .0 (loop .inv .1 .0) (loop .inv .1 .1)) (λ z. omega arith) in
+    let room = c .before .before .before .before .before .before .before .before .before .before .before .before .before .before .before .before .before .before .before .before .pre .links in
     omega arith
 
 shared-slice-read-at-2 : tie.Need-shared-slice-read-at-2 Inv-loop μ-loop
 shared-slice-read-at-2 c =
-    let some = c .before .before .before .before .before .before .before .before .before .loop-test .taken in
-    let is : c .before .before .before .before .before .before .before .before .before .before .loop .at ≡ suc (c .before .before .before .before .before .before .before .before .before .before .loop .at - 1) = omega arith in
-    let less = follow-noted (c .before .before .before .before .before .before .before .before .before .before .loop .inv .1) (c .before .before .before .before .before .before .before .before .before .before .loop .at - 1) is .before in
-    let room = c .before .before .before .before .before .before .before .before .before .before .before .before .before .before .before .before .before .pre .links in
+    let loop = c .before .before .before .before .before .before .before .before .before .before .before .before .before .before .loop in
+    let some = c .before .before .before .before .before .before .before .before .before .before .before .before .before .loop-test .taken in
+    let (less, _) = follow-link (loop .inv .0 (loop .inv .1 .0) (loop .inv .1 .1)) (λ z. omega arith) in
+    let room = c .before .before .before .before .before .before .before .before .before .before .before .before .before .before .before .before .before .before .before .before .before .pre .links in
     omega arith
 
 loop-less : tie.Need-loop-less Inv-loop μ-loop
 loop-less c =
-    let some = c .before .before .before .before .before .before .before .before .before .loop-test .taken in
-    let is : c .before .before .before .before .before .before .before .before .before .before .loop .at ≡ suc (c .before .before .before .before .before .before .before .before .before .before .loop .at - 1) = omega arith in
-    let falls = follow-noted (c .before .before .before .before .before .before .before .before .before .before .loop .inv .1) (c .before .before .before .before .before .before .before .before .before .before .loop .at - 1) is .falls in
+    let loop = c .before .before .before .before .before .before .before .before .before .before .before .before .before .before .loop in
+    let some = c .before .before .before .before .before .before .before .before .before .before .before .before .before .loop-test .taken in
+    let (_, falls) = follow-link (loop .inv .0 (loop .inv .1 .0) (loop .inv .1 .1)) (λ z. omega arith) in
     omega arith
 
+-- an entry with one of the signs
 loop-again : tie.Need-loop-again Inv-loop μ-loop
 loop-again c =
-    let some = c .before .before .before .before .before .before .before .before .before .loop-test .taken in
-    let is : c .before .before .before .before .before .before .before .before .before .before .loop .at ≡ suc (c .before .before .before .before .before .before .before .before .before .before .loop .at - 1) = omega arith in
+    let a = c .before .before .before .before .before .before .before .before .before .before .before .before .before .before .before .before .before .before .before .before .before .args in
+    let loop = c .before .before .before .before .before .before .before .before .before .before .before .before .before .before .loop in
+    let some = c .before .before .before .before .before .before .before .before .before .before .before .before .before .loop-test .taken in
+    let is : loop .at ≡ suc (loop .at - 1) = omega arith in
+    let side = c .before .before .before .before .before .before .before .before .before .before .before .side-of in
     let (z, next, right) = c .before .before .before .before .before .before .before .flag-after .ensures in
-    let (s, last, left) = c .before .before .before .flag-before .ensures in
-    (c .before .before .before .before .before .before .before .before .before .before .loop .inv .0, follow-more (c .before .before .before .before .before .before .before .before .before .before .loop .inv .1) (c .before .before .before .before .before .before .before .before .before .before .loop .at - 1) is z s next right last left, omega (arith, c .shared-slice-known5 .given (c .before .before .before .before .before .before .before .before .before .before .loop .at - 1)))
+    let (s, last, left) = c .before .before .before .flag-before .ensures in (
+      λ x noted.
+          let f = loop .inv .0 x noted in
+          let own = side-has (a .signs) (side .result) (λ (sign : Bool). literalAt (a .clauses .now) (loop .at - 1) ≡ signed sign x) (sym (c .before .before .before .before .before .before .before .before .before .before .has-sign .ensures) ∙ c .before .before .before .before .before .before .before .before .before .if1 .taken) (follow-side f (loop .at - 1) is (side .result) (c .before .before .before .before .before .before .before .before .before .before .before .before .literal-at .result .0) (c .before .before .before .before .before .before .before .before .before .before .before .before .literal-at .ensures) (side .ensures)) in
+          follow-more f (loop .at - 1) is z s own next right last left,
+      loop .inv .1,
+      omega (arith, c .shared-slice-known5 .given (loop .at - 1)),
+    )
+
+mul-at-3 : tie.Need-mul-at-3 Inv-loop μ-loop
+mul-at-3 c =
+    let loop = c .before .before .before .before .before .loop in
+    let some = c .before .before .before .before .loop-test .taken in
+    let (less, _) = follow-link (loop .inv .0 (loop .inv .1 .0) (loop .inv .1 .1)) (λ z. omega arith) in
+    let room = c .before .before .before .before .before .before .before .before .before .before .before .before .pre .links in
+    omega arith
+
+shared-slice-read-at-3 : tie.Need-shared-slice-read-at-3 Inv-loop μ-loop
+shared-slice-read-at-3 c =
+    let loop = c .before .before .before .before .before .before .loop in
+    let some = c .before .before .before .before .before .loop-test .taken in
+    let (less, _) = follow-link (loop .inv .0 (loop .inv .1 .0) (loop .inv .1 .1)) (λ z. omega arith) in
+    let room = c .before .before .before .before .before .before .before .before .before .before .before .before .before .pre .links in
+    omega arith
+
+loop-less-2 : tie.Need-loop-less-2 Inv-loop μ-loop
+loop-less-2 c =
+    let loop = c .before .before .before .before .before .before .loop in
+    let some = c .before .before .before .before .before .loop-test .taken in
+    let (_, falls) = follow-link (loop .inv .0 (loop .inv .1 .0) (loop .inv .1 .1)) (λ z. omega arith) in
+    omega arith
+
+-- an entry with none of them
+loop-again-2 : tie.Need-loop-again-2 Inv-loop μ-loop
+loop-again-2 c =
+    let a = c .before .before .before .before .before .before .before .before .before .before .before .before .before .args in
+    let loop = c .before .before .before .before .before .before .loop in
+    let some = c .before .before .before .before .before .loop-test .taken in
+    let is : loop .at ≡ suc (loop .at - 1) = omega arith in
+    let side = c .before .before .before .side-of in (
+      λ x noted.
+          let f = loop .inv .0 x noted in
+          let told = follow-side f (loop .at - 1) is (side .result) (c .before .before .before .before .literal-at .result .0) (c .before .before .before .before .literal-at .ensures) (side .ensures) in
+          follow-past f (loop .at - 1) is (side-not (a .signs) (side .result) (λ (sign : Bool). literalAt (a .clauses .now) (loop .at - 1) ≡ signed sign x) (sym (c .before .before .has-sign .ensures) ∙ c .before .if1 .left) told (follow-apart f (loop .at - 1) is)),
+      loop .inv .1,
+      omega (arith, c .shared-slice-known6 .given (loop .at - 1)),
+    )
 
 same-length : tie.Need-same-length Inv-loop μ-loop
-same-length c = c .before .loop .inv .1 .size
+same-length c = let loop = c .before .loop in loop .inv .0 (loop .inv .1 .0) (loop .inv .1 .1) .size
 
 returns : tie.Need-returns Inv-loop μ-loop
 returns c =
     let a = c .before .before .before .before .before .before .before .before .args in
     let tied = c .before .before .before .before .before .before .before .before .pre in
-    follow-all (c .before .loop .inv .1) (a .x .0) (tied .universals) (a .first .now) refl (tied .threaded) (tied .universal) (c .loop-test .left)
+    follow-all (c .before .loop .inv .0 (a .x .0) (λ p o. tied .threaded .sound (a .x .0) p o)) (tied .universals) (a .first .now) refl (tied .threaded) (tied .universal) (c .loop-test .left)
 
 pub flag-along-spec : {M : Type 1} → statement M
 flag-along-spec =
@@ -92,11 +156,18 @@ flag-along-spec =
     loop-holds
     sub-entry
     cast-entry
+    literal-at-requires
+    side-of-requires
+    has-sign-requires
     flag-after-requires
     flag-before-requires
     mul-at-2
     shared-slice-read-at-2
     loop-less
     loop-again
+    mul-at-3
+    shared-slice-read-at-3
+    loop-less-2
+    loop-again-2
     same-length
     returns)

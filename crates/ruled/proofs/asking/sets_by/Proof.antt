@@ -1,13 +1,13 @@
--- `ruled::asking::sets` meets its contract.
+-- `ruled::asking::sets_by` meets its contract.
 use native.Mathlib.Omega.{arith}
 use borrow.Author.Needs.{needs}
 use lib.ListN.{length}
 use Rattle.ruled.proofs.Shapes.{joined-room, all-one, all-two, all-refused}
-use Rattle.ruled.proofs.asking.sets.Statement.{statement}
-use Rattle.ruled.proofs.asking.sets.Tie as tie
+use Rattle.ruled.proofs.asking.sets_by.Statement.{statement}
+use Rattle.ruled.proofs.asking.sets_by.Tie as tie
 
-sets-requires : tie.Need-sets-requires
-sets-requires c κs = search needs
+sets-by-requires : tie.Need-sets-by-requires
+sets-by-requires c κs = search needs
 
 same-length : tie.Need-same-length
 same-length c = search needs
@@ -15,7 +15,7 @@ same-length c = search needs
 returns : tie.Need-returns
 returns c =
     let a = c .before .before .before .before .before .before .before .before .before .before .args in
-    all-one (a .rule) (a .n) (a .prefix .now) (a .clauses .now) (a .classes .now) (a .parents .now) (a .counts .now) (a .out .now) _ (c .before .before .sets .result) (c .before .before .before .before .if1 .taken) (c .before .before .sets .ensures)
+    all-one (a .rule) (a .scheme) (a .n) (a .prefix .now) (a .clauses .now) (a .classes .now) (a .parents .now) (a .counts .now) (a .out .now) _ (c .before .before .sets-by .result) (c .before .before .before .before .if1 .taken) (c .before .before .sets-by .ensures)
 
 slice-aggregate-join : tie.Need-slice-aggregate-join
 slice-aggregate-join c = search needs
@@ -32,24 +32,24 @@ enum-known-count c = search needs
 cast-end : tie.Need-cast-end
 cast-end c = search needs
 
-sub-sets : tie.Need-sub-sets
-sub-sets c = search needs
+sub-sets-by : tie.Need-sub-sets-by
+sub-sets-by c = search needs
 
-part-sets-start : tie.Need-part-sets-start
-part-sets-start c = search needs
+part-sets-by-start : tie.Need-part-sets-by-start
+part-sets-by-start c = search needs
 
-part-sets-end : tie.Need-part-sets-end
-part-sets-end c =
+part-sets-by-end : tie.Need-part-sets-by-end
+part-sets-by-end c =
     let a = c .before .before .before .before .before .before .before .before .before .before .before .before .before .args in
     omega (arith, joined-room (a .rule) (a .n) (a .prefix .now) (length (a .clauses .now)) _ _ (c .before .before .count .given .1) (c .before .before .before .before .before .join .ensures))
 
-sets-requires-2 : tie.Need-sets-requires-2
-sets-requires-2 c κs = search needs
+sets-by-requires-2 : tie.Need-sets-by-requires-2
+sets-by-requires-2 c κs = search needs
 
 returns-2 : tie.Need-returns-2
 returns-2 c =
     let a = c .before .before .before .before .before .before .before .before .before .before .before .before .args in
-    all-refused (a .rule) (a .n) (a .prefix .now) (a .clauses .now) (a .classes .now) (a .parents .now) (a .counts .now) (a .out .now) _ _ _ (c .before .number .given .1) (c .before .before .before .before .join .ensures)
+    all-refused (a .rule) (a .scheme) (a .n) (a .prefix .now) (a .clauses .now) (a .classes .now) (a .parents .now) (a .counts .now) (a .out .now) _ _ _ (c .before .number .given .1) (c .before .before .before .before .join .ensures)
 
 same-length-2 : tie.Need-same-length-2
 same-length-2 c = search needs
@@ -57,13 +57,13 @@ same-length-2 c = search needs
 returns-3 : tie.Need-returns-3
 returns-3 c =
     let a = c .before .before .before .before .before .before .before .before .before .before .before .before .before .before .before .before .before .before .args in
-    all-two (a .rule) (a .n) (a .prefix .now) (a .clauses .now) (a .classes .now) (a .parents .now) (a .counts .now) (a .out .now) _ (c .before .before .sets2 .result) _ _ (c .before .before .before .before .before .before .before .count .given .1) (c .before .before .before .before .before .before .before .before .before .before .join .ensures) (c .before .before .sets2 .ensures)
+    all-two (a .rule) (a .scheme) (a .n) (a .prefix .now) (a .clauses .now) (a .classes .now) (a .parents .now) (a .counts .now) (a .out .now) _ (c .before .before .sets-by2 .result) _ _ (c .before .before .before .before .before .before .before .count .given .1) (c .before .before .before .before .before .before .before .before .before .before .join .ensures) (c .before .before .sets-by2 .ensures)
 
-pub sets-spec : {M : Type 1} → statement M
-sets-spec =
+pub sets-by-spec : {M : Type 1} → statement M
+sets-by-spec =
     tie.close
     (tie.spec
-    sets-requires
+    sets-by-requires
     same-length
     returns
     slice-aggregate-join
@@ -71,10 +71,10 @@ sets-spec =
     enum-known-number
     enum-known-count
     cast-end
-    sub-sets
-    part-sets-start
-    part-sets-end
-    sets-requires-2
+    sub-sets-by
+    part-sets-by-start
+    part-sets-by-end
+    sets-by-requires-2
     returns-2
     same-length-2
     returns-3)

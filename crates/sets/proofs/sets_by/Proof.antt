@@ -1,16 +1,16 @@
--- `sets::sets` meets its contract.
+-- `sets::sets_by` meets its contract.
 use mathlib.Core.Path.{refl, subst}
 use mathlib.Core.List.{[], _∷_}
 use Rattle.terms.specs.Refusals.{At0, Judged}
 use Rattle.terms.proofs.Verdicts.{refused-first}
 use Rattle.formula.specs.Causes.{checkOrder}
 use Rattle.tables.specs.Causes.{ForestCause}
-use Rattle.sets.specs.Sets.{AllSets, SetsTooLong}
+use Rattle.sets.specs.Sets.{AllSetsBy, SetsTooLongBy}
 use Rattle.formula.proofs.Sound.{sound-check, sound-clauses}
 use Rattle.sets.proofs.AllSets.{filling-then, sound-closed}
 use borrow.Author.Needs.{needs}
-use Rattle.sets.proofs.sets.Statement.{statement}
-use Rattle.sets.proofs.sets.Tie as tie
+use Rattle.sets.proofs.sets_by.Statement.{statement}
+use Rattle.sets.proofs.sets_by.Tie as tie
 
 check-requires : tie.Need-check-requires
 check-requires c κs = search needs
@@ -30,7 +30,7 @@ sound-sets-requires c κs =
 returns : tie.Need-returns
 returns c =
     let a = c .before .before .before .before .before .before .before .before .before .args in
-    (refused-first (checkOrder (a .n) (a .prefix .now) (a .clauses .now)) (ForestCause (a .n) (a .prefix .now) (a .classes .now) (a .parents .now) (a .counts .now) ∷ At0 14 (SetsTooLong (a .n) (a .prefix .now) (a .clauses .now) (a .classes .now) (a .parents .now) (a .out .now)) ∷ []) (c .before .number .given .1) (c .before .before .before .check .ensures), refl)
+    (refused-first (checkOrder (a .n) (a .prefix .now) (a .clauses .now)) (ForestCause (a .n) (a .prefix .now) (a .classes .now) (a .parents .now) (a .counts .now) ∷ At0 14 (SetsTooLongBy (a .scheme) (a .n) (a .prefix .now) (a .clauses .now) (a .classes .now) (a .parents .now) (a .out .now)) ∷ []) (c .before .number .given .1) (c .before .before .before .check .ensures), refl)
 
 same-length : tie.Need-same-length
 same-length c = search needs
@@ -38,10 +38,10 @@ same-length c = search needs
 returns-2 : tie.Need-returns-2
 returns-2 c =
     let a = c .before .before .before .before .before .before .before .before .before .before .before .before .args in
-    filling-then (checkOrder (a .n) (a .prefix .now) (a .clauses .now)) (ForestCause (a .n) (a .prefix .now) (a .classes .now) (a .parents .now) (a .counts .now) ∷ At0 14 (SetsTooLong (a .n) (a .prefix .now) (a .clauses .now) (a .classes .now) (a .parents .now) (a .out .now)) ∷ []) (AllSets (a .n) (a .prefix .now) (a .clauses .now) (a .classes .now) (a .parents .now)) (a .out .now) (c .before .before .sound-sets .last .1 .1 .1 .1 .1 .1 .0) (c .before .before .before .before .enum-told .given .1) (c .before .before .before .before .before .before .check .ensures) (c .before .before .sound-sets .result) (c .before .before .sound-sets .ensures)
+    filling-then (checkOrder (a .n) (a .prefix .now) (a .clauses .now)) (ForestCause (a .n) (a .prefix .now) (a .classes .now) (a .parents .now) (a .counts .now) ∷ At0 14 (SetsTooLongBy (a .scheme) (a .n) (a .prefix .now) (a .clauses .now) (a .classes .now) (a .parents .now) (a .out .now)) ∷ []) (AllSetsBy (a .scheme) (a .n) (a .prefix .now) (a .clauses .now) (a .classes .now) (a .parents .now)) (a .out .now) (c .before .before .sound-sets .last .1 .1 .1 .1 .1 .1 .1 .0) (c .before .before .before .before .enum-told .given .1) (c .before .before .before .before .before .before .check .ensures) (c .before .before .sound-sets .result) (c .before .before .sound-sets .ensures)
 
-pub sets-spec : {M : Type 1} → statement M
-sets-spec =
+pub sets-by-spec : {M : Type 1} → statement M
+sets-by-spec =
     tie.close
     (tie.spec
     check-requires
