@@ -10,7 +10,7 @@ use Rattle.connection.specs.Tables.{Table, row, lent, WellFormed, start,
 use Rattle.connection.specs.Forest.{Forest}
 use Rattle.connection.specs.Growth.{Represents, Single, Fused}
 use Rattle.connection.specs.Fusing.{fill, Rows, table-of, rows-by, fuse, fuse-all, singles, forest-of}
-use Rattle.connection.proofs.Reach.{reach-along, Within, reach-same, joined-added, joined-sym}
+use Rattle.connection.proofs.Reach.{reach-along, joined-added, joined-sym}
 use Rattle.connection.proofs.Climb.{top-class}
 use Rattle.connection.proofs.Joins.{represents-itself}
 use Rattle.connection.proofs.Forest.{forest-one, same-rows, represents-forest, represents-rows, represents-reach}
@@ -78,10 +78,6 @@ module _ {X : Variables} (lawful : Lawful X) where
   -- Conversely, any table that is the forest of a list represents it.
   pub forest-is : {cs : List (List ℕ)} {W : Table} → Forest X (Joined cs) W ↔ Represents X (Joined cs) W
   forest-is {cs} = (λ f. represents-rows (forest-one joined-sym (forest-exists cs) f) (forest-represents cs), represents-forest)
-
-  -- The forest is blind to the order and repeats of the clauses.
-  pub forest-same : {cs ds : List (List ℕ)} {W : Table} → Within cs ds → Within ds cs → Forest X (Joined cs) W → Forest X (Joined ds) W
-  forest-same to back f = represents-forest (represents-reach (λ i v y fv fy. reach-same to back) (forest-is .0 f))
 
   -- Demand 3, first sentence: a clause put into the forest of a list gives the forest of the longer list.
   pub forest-grows : {cs : List (List ℕ)} {C : List ℕ} {W W′ : Table} → Forest X (Joined cs) W → Fused X W C W′ → Forest X (Joined (cs ++ (C ∷ []))) W′

@@ -1,4 +1,4 @@
--- The laws of reach: transitive, simulated, monotone, symmetric, and blind to the order and repeats of the joins.
+-- The laws of reach: transitive, simulated, monotone and symmetric; and of a clause added to the joins.
 use Prim.Native.Nat.{ℕ, _≤_}
 use mathlib.Core.Path.{_≡_, refl, sym, _∙_}
 use mathlib.Core.Bool.{true, true≢false}
@@ -84,25 +84,6 @@ depends-follows {X} {J} {x} {y} u = (λ d. go d (reach-first (d .reached)), λ f
 -- Sharing a clause is symmetric.
 pub joined-sym : {cs : List (List ℕ)} → Symmetric (Joined cs)
 joined-sym a b j = record { clause = j .clause; listed = j .listed; left = j .right; right = j .left }
-
--- Every clause of the one list has its variables in some clause of the other.
-abbrev pub Within : List (List ℕ) → List (List ℕ) → Type 0
-Within cs ds = (c : List ℕ) → List·Memᴰ c cs → (d : List ℕ) × List·Memᴰ d ds × ((v : ℕ) → List·Memᴰ v c → List·Memᴰ v d)
-
--- Then what one clause of the first has, one clause of the second has.
-pub joined-within : {cs ds : List (List ℕ)} → Within cs ds → (a b : ℕ) → Joined cs a b → Joined ds a b
-joined-within w a b j =
-    let to = w (j .clause) (j .listed) in
-    record { clause = to .0; listed = to .1; left = to .2 a (j .left); right = to .2 b (j .right) }
-
--- Neither the order nor repeats matter, of clauses in the list or of variables in a clause.
-pub reach-same : {cs ds : List (List ℕ)} {E : ℕ → Type 0} {v y : ℕ} → Within cs ds → Within ds cs
-    → Reach (Joined cs) E v y ↔ Reach (Joined ds) E v y
-reach-same to back = (reach-along (joined-within to), reach-along (joined-within back))
-
--- A list with the same clauses, in any order and number, is within.
-pub within-members : {cs ds : List (List ℕ)} → ((c : List ℕ) → List·Memᴰ c cs → List·Memᴰ c ds) → Within cs ds
-within-members h c m = (c, h c m, λ v l. l)
 
 -- A clause at the end of the list is a clause added.
 pub joined-added : {cs : List (List ℕ)} {C : List ℕ} (a b : ℕ) → Joined (cs ++ (C ∷ [])) a b ↔ Added (Joined cs) C a b

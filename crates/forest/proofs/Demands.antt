@@ -101,7 +101,7 @@ same-refusal q = (cc, cc)
 one-variable : (a b : Variable) → a .0 ≡ b .0 → a ≡ b
 one-variable a b q = λ i. record { 0 = q i }
 
-listed-as : {P Q : ℕ → Type 0} {list : List ℕ} → ((v : ℕ) → P v ↔ Q v) → Listed P list → Listed Q list
+pub listed-as : {P Q : ℕ → Type 0} {list : List ℕ} → ((v : ℕ) → P v ↔ Q v) → Listed P list → Listed Q list
 listed-as same l = record { ascending = l .ascending; each = λ v m. same v .0 (l .each v m); all = λ v q. l .all v (same v .1 q) }
 
 -- a flag that is not false
