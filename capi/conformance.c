@@ -17,5 +17,7 @@ int main(void)
     test_paths();
     test_drawn();
     test_expanded();
+    test_dependent();
+    test_listed();
     return agreed_all();
 }

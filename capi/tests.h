@@ -11,5 +11,7 @@ void test_reading(void);    /* reading.c: reading rules for prefixes, by hand */
 void test_paths(void);      /* paths.c: paths of another tool, by hand, long, and random ones */
 void test_drawn(void);      /* drawn.c: random formulas, forests and texts, against the slow search */
 void test_expanded(void);   /* expanded.c: a universal expanded, with truth before and after */
+void test_dependent(void);  /* dependent.c: dependency lists, by hand and drawn, against a slow search of its own */
+void test_listed(void);     /* listed.c: text with dependency lists, by hand and drawn, against a judge of lines of its own */
 
 #endif

@@ -94,6 +94,19 @@
  * The calls that take no scheme mean the strict one.
  *
  *
+ * DEPENDENCY LISTS
+ *
+ * lists     For the two calls that take them. An existential in no block may
+ *           have a list of the universals that it may depend on: in the
+ *           table its number, those universals, then 0, one list after the
+ *           other; at most 16,384 entries. An existential in a block has all
+ *           universals of the blocks before it, and one with neither has
+ *           none. No forest is needed: y depends on x if y's list has x, and
+ *           y is reached from x, by steps from variable to variable in one
+ *           clause, through existentials whose lists have x. Where no list
+ *           is lent that is what the forest of the formula says.
+ *
+ *
  * WHAT A CALL GIVES
  *
  * Each call returns 0 if it accepts, else the number of the refusal. On a
@@ -103,8 +116,8 @@
  *
  *  no.  given exactly when                              *place
  *   1   n is over 4,096                                 0
- *   2   prefix over 8,192 entries; clause table or
- *       added clause over 16,384                        0
+ *   2   prefix over 8,192 entries; clause table,
+ *       added clause or table of lists over 16,384      0
  *   3   prefix ends inside a block                      its length
  *   4   a mark is neither 1 nor 2                       the entry
  *   5   a mark equals that of the block before          the entry
@@ -114,7 +127,8 @@
  *   9   0 stands directly after a mark                  the entry
  *  10   a literal's variable is outside 1 to n;
  *       0 in an added clause                            the entry
- *  11   clause table ends inside a clause               its length
+ *  11   clause table ends inside a clause; table of
+ *       lists ends inside a list                        its length
  *  12   forest tables lent as input are not well        the variable of the
  *       formed, or shorter than n                       first bad row; 0 if
  *                                                       shorter. A bad count
@@ -143,11 +157,16 @@
  *  23   rule is neither SNOW_PLAIN nor SNOW_JOINED      0
  *  24   a path is empty, or fails                       the first entry that
  *                                                       fails; 0 if empty
+ *  25   y of a list is outside 1 to n or already
+ *       placed, in a block or with a list before        the entry
+ *  26   an x of a list is no universal, or comes twice
+ *       in its list                                     the entry
  *
  * Entries and bytes are counted from 0. Where several refusals apply, the
  * first in this order is given: 23, 1, 2, the prefix from the left, the clause
- * literals from the left, 12, 18, 13, 24, 15 (writing), 14; at one entry the
- * lower number. snow_read gives 15, then 16 and 17 by the earliest line, then 14.
+ * literals from the left, the lists from the left (25, 26, 11), 12, 18, 13, 24,
+ * 15 (writing), 14; at one entry the lower number. snow_read and
+ * snow_read_lists give 15, then 16 and 17 by the earliest line, then 14.
  * snow_load gives 23, 19, 20, 21, then 1 to 11 for the formula in the file,
  * then 22, then 14; snow_store 23, 1 to 11, then 19, then 14. snow_expand
  * gives 23, 1 to 11, 13, then 1 and 2 where the formula that it would give
@@ -189,6 +208,7 @@ extern "C" {
 #define SNOW_MOST_BLOCKS 64
 #define SNOW_MOST_PREFIX 8192
 #define SNOW_MOST_CLAUSES 16384
+#define SNOW_MOST_LISTS 16384
 #define SNOW_MOST_TEXT 65536
 #define SNOW_MOST_FILE 262144
 
@@ -434,6 +454,38 @@ uint32_t snow_sets_by(uint32_t rule, uint32_t scheme, uint32_t n,
                       uint32_t *count, uint32_t *place);
 
 /*
+ * Check with dependency lists: whether a formula and its lists keep every
+ * rule.
+ *
+ * Refuses 23, 1 to 11, 25 and 26.
+ */
+uint32_t snow_check_lists(uint32_t rule, uint32_t n,
+                          const uint32_t *prefix, size_t prefix_len,
+                          const int32_t *clauses, size_t clauses_len,
+                          const uint32_t *lists, size_t lists_len,
+                          uint32_t *place);
+
+/*
+ * Set of the universal x by dependency lists and by a scheme: the existentials
+ * that depend on x by their lists, as said above. By the strict scheme they
+ * are reached by a first step in a clause with x, and also by a first step in
+ * a clause with its negation. Written ascending into out; *count says how
+ * many.
+ *
+ * With the prefix 2 1 2 0, the clauses 1 3 0 3 4 0 and the lists 3 1 0 4 2 0:
+ * 3 for x = 1, since the list of 4 has not 1.
+ *
+ * Refuses 23, 1 to 11, 25, 26, 13, and 14 where out has fewer than *count
+ * entries; n of them always suffice.
+ */
+uint32_t snow_listed_set_by(uint32_t rule, uint32_t scheme, uint32_t n,
+                            const uint32_t *prefix, size_t prefix_len,
+                            const int32_t *clauses, size_t clauses_len,
+                            const uint32_t *lists, size_t lists_len,
+                            uint32_t x, uint32_t *out, size_t out_len,
+                            uint32_t *count, uint32_t *place);
+
+/*
  * Add a clause: rewrites the n rows of the lent forest to those of the
  * forest with the clause, and updates the tally: one clause more is taken,
  * the classes that disappeared are added to its merges, and its classes are
@@ -497,6 +549,39 @@ uint32_t snow_write(uint32_t rule, uint32_t n,
                     const int32_t *clauses, size_t clauses_len,
                     uint8_t *text, size_t text_len,
                     uint32_t *count, uint32_t *place);
+
+/*
+ * Read DQDIMACS text: QDIMACS with lines `d y x1 .. 0` after the quantifier
+ * lines and before the clause lines, each with the universals on which y may
+ * depend, or none. Fills lists too, with y, its universals and 0 for each such
+ * line; *lists_count says how many entries it took. It does not check the
+ * tables that it fills: snow_check_lists does.
+ *
+ * In a list line the last number, and no other, is 0, and y stands before it:
+ * `d 0` is refused. So is a quantifier line after a list line.
+ *
+ * Refuses as snow_read does, 14 for any of the three tables; 16,384 entries of
+ * lists take all that snow_check_lists can accept.
+ */
+uint32_t snow_read_lists(const uint8_t *text, size_t text_len, uint32_t *n,
+                         uint32_t *prefix, size_t prefix_len, uint32_t *prefix_count,
+                         int32_t *clauses, size_t clauses_len, uint32_t *clauses_count,
+                         uint32_t *lists, size_t lists_len, uint32_t *lists_count,
+                         uint32_t *place);
+
+/*
+ * Write DQDIMACS text: as snow_write does, with a line `d y x1 .. 0` for each
+ * list between the quantifier lines and the clause lines. snow_read_lists gives
+ * the same n, prefix, clauses and lists back.
+ *
+ * Refuses 23, 1 to 11, 25, 26, and 15 and 14 as snow_write does.
+ */
+uint32_t snow_write_lists(uint32_t rule, uint32_t n,
+                          const uint32_t *prefix, size_t prefix_len,
+                          const int32_t *clauses, size_t clauses_len,
+                          const uint32_t *lists, size_t lists_len,
+                          uint8_t *text, size_t text_len,
+                          uint32_t *count, uint32_t *place);
 
 /*
  * Store: the file of a formula and its forest, for another site to load. The

@@ -3,7 +3,9 @@ pub mod Places
 pub mod Telling
 pub mod Rewritten
 pub mod Texts
+pub mod Depending
 pub mod Writes
 pub mod Filed
 pub mod Expansions
+pub mod Listing
 pub mod Tight

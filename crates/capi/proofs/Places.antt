@@ -77,7 +77,7 @@ forest-place k p (bad-count _ _ l _ _) = l
 few : (n : ℕ) → NoneOf (VariableCount n ∷ []) → n ≤ 4096
 few n none = let over : ¬ (4096 < n) = λ l. none .0 1 0 (refl, refl, l) in omega arith
 
-small-clauses : (n : ℕ) (ls : List ℤ) → length ls ≤ 16384 → Small (ClauseCause n ls ∷ [])
+pub small-clauses : (n : ℕ) (ls : List ℤ) → length ls ≤ 16384 → Small (ClauseCause n ls ∷ [])
 small-clauses n ls l = small-within (ClauseCause n ls) 16384 (omega arith) (λ k p cause. let m = clause-place k p cause in omega arith)
 
 small-added : (n : ℕ) (ls : List ℤ) → length ls ≤ 16384 → Small (AddedCause n ls ∷ [])
@@ -96,7 +96,7 @@ module _ (rule n : ℕ) (es : List ℕ) where
   small-prefix l = small-within (PrefixCauseBy rule n es) 8192 (omega arith) (λ k p cause. let m = ruled-place (eqb rule 2) n es k p cause in omega arith)
 
   -- 23, 1, 2 and the prefix; and then causes in a table of literals
-  small-first : (entries : ℕ) → Small (ruledPrefix rule n es entries)
+  pub small-first : (entries : ℕ) → Small (ruledPrefix rule n es entries)
   small-first entries =
       small-then (At0 23 (NoRule rule) ∷ []) (VariableCount n ∷ At0 2 (PrefixLong es ⊎ ClausesLong entries) ∷ PrefixCauseBy rule n es ∷ []) (small-at0 23 (NoRule rule))
       (λ _. small-then (VariableCount n ∷ []) (At0 2 (PrefixLong es ⊎ ClausesLong entries) ∷ PrefixCauseBy rule n es ∷ []) (small-at0 1 (4096 < n))

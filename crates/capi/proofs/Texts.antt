@@ -43,7 +43,7 @@ filled-few [] = omega arith
 filled-few ([] ∷ more) = let l = filled-few more in omega arith
 filled-few ((byte ∷ bytes) ∷ more) = let l = filled-few more in omega arith
 
-words-few : (line : List ℕ) → length (words line) ≤ length line + 1
+pub words-few : (line : List ℕ) → length (words line) ≤ length line + 1
 unfolding words
 words-few line = let l = filled-few (pieces SPACE line) in let q = pieces-place SPACE line in omega arith
 
@@ -75,7 +75,7 @@ module _ {A : Type 0} where
   sized-few kind [] = omega arith
   sized-few kind (word ∷ more) = let l = entry-few kind (itemOf word) more (entriesOf kind more) (sized-few kind more) in omega arith
 
-  entries-few : (kind : Kind A) (ws : List (List ℕ)) {entries : List A} → entriesOf kind ws ≡ some entries → length entries ≤ length ws
+  pub entries-few : (kind : Kind A) (ws : List (List ℕ)) {entries : List A} → entriesOf kind ws ≡ some entries → length entries ≤ length ws
   unfolding sized
   entries-few kind ws {entries} q = let l = sized-few kind ws in let r : sized (entriesOf kind ws) ≡ length entries = ap sized q in omega arith
 
@@ -87,7 +87,7 @@ quantifier-few {line} (a-line {more = more} q r) = let w = words-few line in let
 clause-few : {line : List ℕ} {entries : List ℤ} → ClauseLine line entries → length entries ≤ length line + 1
 clause-few {line} (literals-line q) = let w = words-few line in let l = entries-few _ (words line) q in omega arith
 
-line-few : {stage next : Stage} {line p : List ℕ} {c : List ℤ} → Line stage line next p c → length p + length c ≤ length line + 1
+pub line-few : {stage next : Stage} {line p : List ℕ} {c : List ℤ} → Line stage line next p c → length p + length c ≤ length line + 1
 line-few (a-comment _) = omega arith
 line-few (the-problem _) = omega arith
 line-few (a-block _ block) = let l = quantifier-few block in omega arith
@@ -102,13 +102,16 @@ lines-few (one-more {p = p} {P = P} {c = c} {C = C} line lines) =
     let r = length-append c C in
     omega arith
 
-pub text-few : {n : ℕ} {P : List ℕ} {C : List ℤ} {text : List ℕ} → TextOf n P C text → length P + length C ≤ length text
-text-few {text = text} t =
-    let l = lines-few (t .follow) in
-    let q = place-append (t .lines) ([] ∷ []) in
-    let r : placeAfter (pieces LF text) ≡ placeAfter (t .lines ++ ([] ∷ [])) = ap placeAfter (t .cut) in
+-- the place after lines of a text, of which something is left
+pub place-few : (text : List ℕ) (lines left : List (List ℕ)) → pieces LF text ≡ lines ++ left → 0 < placeAfter left → placeAfter lines ≤ length text
+place-few text lines left cut some-left =
+    let q = place-append lines left in
+    let r : placeAfter (pieces LF text) ≡ placeAfter (lines ++ left) = ap placeAfter cut in
     let s = pieces-place LF text in
     omega arith
+
+pub text-few : {n : ℕ} {P : List ℕ} {C : List ℤ} {text : List ℕ} → TextOf n P C text → length P + length C ≤ length text
+text-few {text = text} t = let l = lines-few (t .follow) in let m = place-few text (t .lines) ([] ∷ []) (t .cut) (omega arith) in omega arith
 
 -- A fault stands in what is left of a text, which has a piece at least.
 fault-some : {k : ℕ} {stage : Stage} {left : List (List ℕ)} → Fault k stage left → 0 < placeAfter left
@@ -119,13 +122,7 @@ fault-some (many _) = omega arith
 fault-some (few _) = omega arith
 
 fault-place : (text : List ℕ) (k p : ℕ) → FaultIn text k p → p ≤ length text
-fault-place text k p f =
-    let some-left = fault-some (f .fault) in
-    let q = place-append (f .lines) (f .left) in
-    let r : placeAfter (pieces LF text) ≡ placeAfter (f .lines ++ f .left) = ap placeAfter (f .cut) in
-    let s = pieces-place LF text in
-    let at = f .at in
-    omega arith
+fault-place text k p f = let m = place-few text (f .lines) (f .left) (f .cut) (fault-some (f .fault)) in let at = f .at in omega arith
 
 pub overlong-place : {text : List ℕ} {k p : ℕ} → Overlong text k p → p ≤ 65536
 overlong-place (overlong l) = omega arith

@@ -2,8 +2,10 @@
 // a length there, a `&mut` to a number is a cell, and that to the three numbers of a tally is a pointer to its struct.
 
 mod cells;
+pub mod dependent;
 pub mod expanding;
 pub mod files;
+pub mod listed;
 pub mod pairs;
 
 use cells::lay;

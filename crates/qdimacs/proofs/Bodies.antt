@@ -37,14 +37,29 @@ filled-last (b ∷ bs) h e = go (byte b) e
         absurd no
     go (letter s l) q = record { first = b; rest = front (pieces LF bs); is = rw l (front-onto b LF bs) }
 
+-- What is left of a text at a place: a last line without LF, or the line that stands there and what follows it.
+pub record LastLine (text : List ℕ) (at : ℕ) : Type 0 where
+  pub byte : ℕ
+  pub bytes : List ℕ
+  pub is : pieces LF (drop at text) ≡ (byte ∷ bytes) ∷ []
+
+module _ (text : List ℕ) (at : ℕ) where
+  pub last-line : at < length text → afterAt text at ≡ [] → LastLine text at
+  last-line h e =
+      let left = length-drop at text in
+      let f = filled-last (drop at text) (omega arith) e in
+      record { byte = f .first; bytes = f .rest; is = front-later LF (drop at text) ∙ ap (λ (l : List ℕ). l ∷ afterAt text at) (f .is) ∙ ap (λ (ls : List (List ℕ)). (f .first ∷ f .rest) ∷ ls) e }
+
+  pub line-then : {left : List (List ℕ)} → afterAt text at ≡ left → pieces LF (drop at text) ≡ lineAt text at ∷ left
+  line-then e = front-later LF (drop at text) ∙ ap (λ (ls : List (List ℕ)). lineAt text at ∷ ls) e
+
+  pub line-passed : (next : ℕ) → Passed text at next → pieces LF (drop at text) ≡ lineAt text at ∷ lineAt text next ∷ afterAt text next
+  line-passed next passed = line-then (passed .after ∙ front-later LF (drop next text))
+
 module _ (stage : Stage) (text : List ℕ) (at : ℕ) where
   -- no LF
   fault-endless : at < length text → afterAt text at ≡ [] → Fault 16 stage (pieces LF (drop at text))
-  fault-endless h e =
-      let left = length-drop at text in
-      let f = filled-last (drop at text) (omega arith) e in
-      subst (Fault 16 stage) (sym (front-later LF (drop at text) ∙ ap (λ (l : List ℕ). l ∷ afterAt text at) (f .is) ∙ ap (λ (ls : List (List ℕ)). (f .first ∷ f .rest) ∷ ls) e))
-      (unended {stage = stage} {byte = f .first} {bytes = f .rest})
+  fault-endless h e = let l = last-line text at h e in subst (Fault 16 stage) (sym (l .is)) (unended {stage = stage} {byte = l .byte} {bytes = l .bytes})
 
   -- a line that may not stand there
   fault-outside : at < length text → ((after : Stage) (p : List ℕ) (c : List ℤ) → Line stage (lineAt text at) after p c → ⊥) → (TooMany stage (lineAt text at) → ⊥) → Fault 16 stage (pieces LF (drop at text))
@@ -52,12 +67,11 @@ module _ (stage : Stage) (text : List ℕ) (at : ℕ) where
     where
       go : (ls : List (List ℕ)) → afterAt text at ≡ ls → Fault 16 stage (pieces LF (drop at text))
       go [] e = fault-endless h e
-      go (next ∷ more) e = subst (Fault 16 stage) (sym (front-later LF (drop at text) ∙ ap (λ (ls : List (List ℕ)). lineAt text at ∷ ls) e)) (outside no-line no-many)
+      go (next ∷ more) e = subst (Fault 16 stage) (sym (line-then text at e)) (outside no-line no-many)
 
   -- one clause line too many
   pub fault-many : (next : ℕ) → Passed text at next → TooMany stage (lineAt text at) → Fault 17 stage (pieces LF (drop at text))
-  fault-many next passed t =
-      subst (Fault 17 stage) (sym (front-later LF (drop at text) ∙ ap (λ (ls : List (List ℕ)). lineAt text at ∷ ls) (passed .after ∙ front-later LF (drop next text)))) (many t)
+  fault-many next passed t = subst (Fault 17 stage) (sym (line-passed text at next passed)) (many t)
 
 -- The opening: comments and the problem line.
 no-opening-line : {line : List ℕ} → (CommentLine line → ⊥) → ((n m : ℕ) → ProblemLine line n m → ⊥) → (after : Stage) (p : List ℕ) (c : List ℤ) → Line Opening line after p c → ⊥

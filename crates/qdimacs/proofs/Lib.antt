@@ -11,6 +11,7 @@ pub mod Openings
 pub mod Bodies
 pub mod Scans
 -- A text is read in one way, and so has one answer.
+pub mod Paths
 pub mod Unique
 pub mod Readings
 -- The text that is written.

@@ -7,17 +7,14 @@ use native.Mathlib.Omega.{arith}
 use native.Mathlib.Nat.{zero-add}
 use lib.ListN.{length, take, drop}
 use lib.Seq.{sets-eq, length-sets, take-at, drop-at}
-use lib.IntN.{ℤ}
 use Rattle.terms.specs.declared.Verdict.{Verdict}
-use Rattle.terms.specs.Refusals.{FirstOf, None, NoneOf}
+use Rattle.terms.specs.Refusals.{Causes, FirstOf, None, NoneOf}
 use Rattle.terms.proofs.Verdicts.{accepted-then}
-use Rattle.formula.specs.Causes.{checkOrder}
 use Rattle.qdimacs.specs.declared.Output.{Output}
 use Rattle.qdimacs.specs.declared.Output.the-variants.{Written, Refused}
 use Rattle.qdimacs.specs.Reading.{TEXT-MOST}
-use Rattle.qdimacs.specs.Writing.{textOf}
 use Rattle.qdimacs.specs.Bytes.{Wrote}
-use Rattle.qdimacs.specs.Stored.{ShortOut, short-out, writeOrder, WriteIs, Writes}
+use Rattle.qdimacs.specs.Stored.{ShortOut, short-out, writeOrder, WriteIs, WritesAfter}
 use Rattle.qdimacs.proofs.Readings.{not-overlong}
 
 module _ (text out : List ℕ) (fits : length text ≤ TEXT-MOST) where
@@ -43,9 +40,7 @@ module _ (text out : List ℕ) (fits : length text ≤ TEXT-MOST) where
       not-short : None (ShortOut text out)
       not-short number place (short-out h) = omega arith
 
--- Once the tables are accepted, the writer's answer is write's.
-pub writes-accepted : (n : ℕ) (es : List ℕ) (ls : List ℤ) (out out′ : List ℕ) (r : Output) → NoneOf (checkOrder n es ls) → WriteIs (textOf n es ls) out out′ r → Writes n es ls out out′ r
-writes-accepted n es ls out out′ (Written count) none w =
-    (accepted-then (checkOrder n es ls) (writeOrder (textOf n es ls) out) {v = Verdict.Accepted} Verdict.Accepted refl none (w .0), w .1)
-writes-accepted n es ls out out′ (Refused number place) none w =
-    (accepted-then (checkOrder n es ls) (writeOrder (textOf n es ls) out) {v = Verdict.Accepted} (Verdict.Refused number place) refl none (w .0), w .1)
+-- Once the tables are accepted, the writer's answer is that of the call.
+pub writes-accepted : (order : List Causes) (text out out′ : List ℕ) (r : Output) → NoneOf order → WriteIs text out out′ r → WritesAfter order text out out′ r
+writes-accepted order text out out′ (Written count) none w = (accepted-then order (writeOrder text out) {v = Verdict.Accepted} Verdict.Accepted refl none (w .0), w .1)
+writes-accepted order text out out′ (Refused number place) none w = (accepted-then order (writeOrder text out) {v = Verdict.Accepted} (Verdict.Refused number place) refl none (w .0), w .1)

@@ -19,7 +19,7 @@ use Rattle.qdimacs.proofs.Lines.{front-later, line-length}
 use Rattle.qdimacs.proofs.Rows.{sets-append}
 
 -- No line lets more clause lines stand than were announced.
-line-sound : {s s′ : Stage} {l p : List ℕ} {c : List ℤ} → Line s l s′ p c → Sound s → Sound s′
+pub line-sound : {s s′ : Stage} {l p : List ℕ} {c : List ℤ} → Line s l s′ p c → Sound s → Sound s′
 line-sound (a-comment x) h = tt
 line-sound (the-problem x) h = omega arith
 line-sound (a-block z x) h = h
@@ -35,7 +35,7 @@ lines-more {t = t} {t′ = t′} {l = l} {p = p} {c = c} no-line line = subst₂
 lines-more {s = s} {t′ = t′} {l = l} {p = p} {c = c} (one-more {line = first} {lines = lines} {p = p₁} {P = P₁} {c = c₁} {C = C₁} first-line more) line =
     subst₂ (λ (x : List ℕ) (y : List ℤ). Lines s (first ∷ (lines ++ (l ∷ []))) t′ x y) (sym (append-assoc p₁ P₁ p)) (sym (append-assoc c₁ C₁ c)) (one-more first-line (lines-more more line))
 
-place-more : (ls : List (List ℕ)) (l : List ℕ) → placeAfter (ls ++ (l ∷ [])) ≡ placeAfter ls + length l + 1
+pub place-more : (ls : List (List ℕ)) (l : List ℕ) → placeAfter (ls ++ (l ∷ [])) ≡ placeAfter ls + length l + 1
 place-more [] l = omega arith
 place-more (x ∷ ls) l = let e = place-more ls l in omega arith
 
@@ -74,7 +74,7 @@ reached-none text before =
     }
 
 -- what one more run of stores adds to a table
-stored-more : {A : Type 0} (before now now′ P p : List A) (k : ℕ) → now ≡ sets before 0 P → k ≡ length P → now′ ≡ sets now k p → now′ ≡ sets before 0 (P ++ p)
+pub stored-more : {A : Type 0} (before now now′ P p : List A) (k : ℕ) → now ≡ sets before 0 P → k ≡ length P → now′ ≡ sets now k p → now′ ≡ sets before 0 (P ++ p)
 stored-more before now now′ P p k is counted more =
     more ∙ ap (λ (t : List _). sets t k p) is ∙ ap (λ (n : ℕ). sets (sets before 0 P) n p) (counted ∙ sym (zero-add (length P))) ∙ sym (sets-append before 0 P p)
 

@@ -6,15 +6,16 @@ use native.Mathlib.Omega.{arith}
 use lib.ListN.{length, take, drop, take-append-drop}
 use lib.Seq.{length-take-le}
 use lib.IntN.{ℤ}
+use Rattle.terms.specs.Refusals.{Causes}
 use Rattle.terms.proofs.Verdicts.{firstOf-same, first-or-none}
 use Rattle.qdimacs.specs.declared.Reading.{Reading}
 use Rattle.qdimacs.specs.declared.Output.{Output}
 use Rattle.qdimacs.specs.Reading.{readOrder, ReadInto, ReadIs}
-use Rattle.qdimacs.specs.Stored.{Stored, tablesOrder, Writes}
+use Rattle.qdimacs.specs.Stored.{Stored, writeOrder, WritesAfter}
 use Rattle.qdimacs.proofs.Unique.{text-same}
 
 -- A table by its rows in front and those behind.
-rows-same : {A : Type 0} (k k′ : ℕ) (xs ys : List A) → take k xs ≡ take k′ ys → drop k xs ≡ drop k′ ys → xs ≡ ys
+pub rows-same : {A : Type 0} (k k′ : ℕ) (xs ys : List A) → take k xs ≡ take k′ ys → drop k xs ≡ drop k′ ys → xs ≡ ys
 rows-same k k′ xs ys t d = sym (take-append-drop k xs) ∙ ap₂ (λ (a b : List _). a ++ b) t d ∙ take-append-drop k′ ys
 
 -- What two answers of read have in common.
@@ -54,17 +55,17 @@ module _ (text prefix : List ℕ) (clauses : List ℤ) where
       let same = firstOf-same (readOrder text prefix clauses) k q k′ q′ (a .0) (b .0) in
       record { answer = ap₂ Reading.Refused (same .0) (same .1); prefix-rows = a .1 ∙ sym (b .1); clause-rows = a .2 ∙ sym (b .2) }
 
-module _ (n : ℕ) (es : List ℕ) (ls : List ℤ) (out : List ℕ) where
-  -- the bytes that hold a text
-  pub stored-same : {text out₁ out₂ : List ℕ} {k k′ : ℕ} → Stored text out out₁ k → Stored text out out₂ k′ → (Output.Written k ≡ Output.Written k′) × (out₁ ≡ out₂)
-  stored-same {out₁ = out₁} {out₂ = out₂} {k = k} {k′ = k′} a b =
-      let count = a .counted ∙ sym (b .counted) in
-      (ap Output.Written count, rows-same k k′ out₁ out₂ (a .written ∙ sym (b .written)) (a .kept ∙ ap (λ (i : ℕ). drop i out) count ∙ sym (b .kept)))
+-- the bytes that hold a text
+stored-same : {text out out₁ out₂ : List ℕ} {k k′ : ℕ} → Stored text out out₁ k → Stored text out out₂ k′ → (Output.Written k ≡ Output.Written k′) × (out₁ ≡ out₂)
+stored-same {out = out} {out₁ = out₁} {out₂ = out₂} {k = k} {k′ = k′} a b =
+    let count = a .counted ∙ sym (b .counted) in
+    (ap Output.Written count, rows-same k k′ out₁ out₂ (a .written ∙ sym (b .written)) (a .kept ∙ ap (λ (i : ℕ). drop i out) count ∙ sym (b .kept)))
 
-  pub write-settled : (out₁ out₂ : List ℕ) (r r′ : Output) → Writes n es ls out out₁ r → Writes n es ls out out₂ r′ → (r ≡ r′) × (out₁ ≡ out₂)
-  write-settled out₁ out₂ (Output.Written k) (Output.Written k′) a b = stored-same (a .1) (b .1)
-  write-settled out₁ out₂ (Output.Written c) (Output.Refused k q) a b = absurd (first-or-none (tablesOrder n es ls out) k q (b .0) (a .0))
-  write-settled out₁ out₂ (Output.Refused k q) (Output.Written c) a b = absurd (first-or-none (tablesOrder n es ls out) k q (a .0) (b .0))
-  write-settled out₁ out₂ (Output.Refused k q) (Output.Refused k′ q′) a b =
-      let same = firstOf-same (tablesOrder n es ls out) k q k′ q′ (a .0) (b .0) in
-      (ap₂ Output.Refused (same .0) (same .1), a .1 ∙ sym (b .1))
+-- Whatever stands in the order before 15 and 14, and whatever the text is.
+pub write-settled : (order : List Causes) (text out out₁ out₂ : List ℕ) (r r′ : Output) → WritesAfter order text out out₁ r → WritesAfter order text out out₂ r′ → (r ≡ r′) × (out₁ ≡ out₂)
+write-settled order text out out₁ out₂ (Output.Written k) (Output.Written k′) a b = stored-same (a .1) (b .1)
+write-settled order text out out₁ out₂ (Output.Written c) (Output.Refused k q) a b = absurd (first-or-none (order ++ writeOrder text out) k q (b .0) (a .0))
+write-settled order text out out₁ out₂ (Output.Refused k q) (Output.Written c) a b = absurd (first-or-none (order ++ writeOrder text out) k q (a .0) (b .0))
+write-settled order text out out₁ out₂ (Output.Refused k q) (Output.Refused k′ q′) a b =
+    let same = firstOf-same (order ++ writeOrder text out) k q k′ q′ (a .0) (b .0) in
+    (ap₂ Output.Refused (same .0) (same .1), a .1 ∙ sym (b .1))

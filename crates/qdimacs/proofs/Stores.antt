@@ -61,7 +61,7 @@ literal-positive (pos n) e = refl
 literal-positive (negsuc n) e = let no : _≡_ {A = ℕ} 0 1 = cc in let no : ⊥ = omega arith in absurd no
 
 -- The text of a table, entry by entry.
-ended-split : (b : Bool) (word : List ℕ) (rest : List ℕ) → word ++ ended b rest ≡ (word ++ ended b []) ++ rest
+pub ended-split : (b : Bool) (word : List ℕ) (rest : List ℕ) → word ++ ended b rest ≡ (word ++ ended b []) ++ rest
 unfolding ended
 ended-split true word rest = sym (append-assoc word (LF ∷ []) rest)
 ended-split false word rest = sym (append-assoc word [] rest)
@@ -80,7 +80,7 @@ clause-split true entry more = ended-split (eqb (natAbs entry) 0) (literalWord e
 clause-split false entry more = ap (λ (xs : List ℕ). SPACE ∷ xs) (ended-split (eqb (natAbs entry) 0) (literalWord entry) (clauseText (eqb (natAbs entry) 0) more))
 
 -- No entry takes more than eight bytes.
-ended-most : (b : Bool) → length (ended b []) ≤ 1
+pub ended-most : (b : Bool) → length (ended b []) ≤ 1
 unfolding ended
 ended-most true = omega arith
 ended-most false = omega arith
@@ -143,6 +143,15 @@ module _ {A : Type 0} (default : A) (textFrom : Bool → List A → List ℕ) (b
   upto-all table before now at i next first empty u h =
       subst (λ (xs : List ℕ). Wrote xs before now at next)
       (sym (u .is ∙ ap (λ (xs : List ℕ). u .bytes ++ xs) (ap (textFrom first) (drop-of-length-le table h) ∙ empty first) ∙ append-nil (u .bytes))) (u .wrote)
+
+  -- how long it is at most
+  pub text-most : ((b : Bool) → textFrom b [] ≡ []) → (first : Bool) (table : List A) → ((b : Bool) (i : ℕ) → i < length table → length (bytesOf b (getD table i default)) ≤ 8) → length (textFrom first table) ≤ 8 * length table
+  text-most empty first [] most = let e = ap length (empty first) in omega arith
+  text-most empty first (x ∷ more) most =
+      let e = ap length (split first x more) ∙ length-append (bytesOf first x) (textFrom (nextOf first x) more) in
+      let one = most first 0 (omega arith) in
+      let rest = text-most empty (nextOf first x) more (λ b i h. most b (suc i) (omega arith)) in
+      omega arith
 
 pub wrote-length : (bytes before after : List ℕ) (at next : ℕ) → Wrote bytes before after at next → length after ≡ length before
 wrote-length bytes before after at next w = ap length (w .stored) ∙ length-sets before at bytes
@@ -214,13 +223,7 @@ problem-most n m hn hm =
     omega (arith, length-append (decimal n) (SPACE ∷ (decimal m ++ (LF ∷ []))), length-append (decimal m) (LF ∷ []), digits n 4 hn .most, digits m 4 hm .most)
 
 pub prefix-most : (first : Bool) (prefix : List ℕ) → SmallEntries prefix → length (prefixText first prefix) ≤ 8 * length prefix
-prefix-most first [] small = let e = ap length (no-prefix first) in omega arith
-prefix-most first (entry ∷ more) small =
-    let next = nextFirst first entry in
-    let e = ap length (prefix-split first entry more) ∙ length-append (entryBytes first entry) (prefixText next more) in
-    let one = entry-most first entry (small 0 (omega arith)) in
-    let rest = prefix-most next more (λ i h. small (suc i) (omega arith)) in
-    omega arith
+prefix-most first prefix small = text-most 0 prefixText entryBytes nextFirst prefix-split no-prefix first prefix (λ b i h. entry-most b (getD prefix i 0) (small i h))
 
 pub count-most : (clauses : List ℤ) → clauseCount clauses ≤ length clauses
 unfolding clauseCount

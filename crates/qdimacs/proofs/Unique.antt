@@ -13,6 +13,7 @@ use Rattle.qdimacs.specs.Grammar.{variables, CommentLine, comment, Probl
 use Rattle.qdimacs.specs.Places.{front, later}
 use Rattle.qdimacs.proofs.Lines.{front-later}
 use Rattle.qdimacs.proofs.Bodies.{exclusive}
+use Rattle.qdimacs.proofs.Paths.{Path, here, step, Stops, stops-last, one-path}
 
 -- A line that begins with c is no problem line: its first word does.
 c-word : (bs : List ℕ) → words (LETTER-C ∷ bs) ≡ (LETTER-C ∷ front (pieces SPACE bs)) ∷ filled (later (pieces SPACE bs))
@@ -49,12 +50,12 @@ block-same (a-line {entries = es} {more = a} e r) (a-line {entries = es′} {mor
 clause-same : {line : List ℕ} {cs cs′ : List ℤ} → ClauseLine line cs → ClauseLine line cs′ → cs ≡ cs′
 clause-same (literals-line r) (literals-line r′) = cc
 
-record OneWay (s s′ : Stage) (p p′ : List ℕ) (c c′ : List ℤ) : Type 0 where
-  stage : s ≡ s′
-  prefix : p ≡ p′
-  clauses : c ≡ c′
+pub record OneWay (s s′ : Stage) (p p′ : List ℕ) (c c′ : List ℤ) : Type 0 where
+  pub stage : s ≡ s′
+  pub prefix : p ≡ p′
+  pub clauses : c ≡ c′
 
-line-same : {s t t′ : Stage} {l p p′ : List ℕ} {c c′ : List ℤ} → Line s l t p c → Line s l t′ p′ c′ → OneWay t t′ p p′ c c′
+pub line-same : {s t t′ : Stage} {l p p′ : List ℕ} {c c′ : List ℤ} → Line s l t p c → Line s l t′ p′ c′ → OneWay t t′ p p′ c c′
 line-same (a-comment x) (a-comment y) = record { stage = refl; prefix = refl; clauses = refl }
 line-same (a-comment x) (the-problem y) = absurd (comment-problem x y)
 line-same (the-problem x) (a-comment y) = absurd (comment-problem y x)
@@ -66,67 +67,36 @@ line-same (a-block z x) (a-clause h y) = absurd (exclusive x y)
 line-same (a-clause h x) (a-block z y) = absurd (exclusive y x)
 line-same (a-clause h x) (a-clause h′ y) = record { stage = refl; prefix = refl; clauses = clause-same x y }
 
--- What is left of a text at a stage, where no line can go on: there is a first piece, and if another follows it, it may not stand there.
-record Stops (s : Stage) (left : List (List ℕ)) : Type 0 where
-  head : List ℕ
-  tail : List (List ℕ)
-  is : left ≡ head ∷ tail
-  stuck : {t : Stage} {p : List ℕ} {c : List ℤ} (next : List ℕ) (more : List (List ℕ)) → tail ≡ next ∷ more → Line s head t p c → ⊥
+-- What a line adds, and lines together.
+abbrev Added : Type 0
+Added = List ℕ × List ℤ
 
-stops-last : (s : Stage) (l : List ℕ) → Stops s (l ∷ [])
-stops-last s l = record { head = l; tail = []; is = refl; stuck = λ next more e line. let no : _≡_ {A = ℕ} 0 1 = cc in omega arith }
+abbrev nothing : Added
+nothing = ([], [])
 
-many-stuck : {s t : Stage} {l p : List ℕ} {c : List ℤ} → TooMany s l → Line s l t p c → ⊥
+abbrev together : Added → Added → Added
+together a b = (a .0 ++ b .0, a .1 ++ b .1)
+
+abbrev Leads : Stage → List ℕ → Stage → Added → Type 0
+Leads s l t a = Line s l t (a .0) (a .1)
+
+path : {s t : Stage} {ls : List (List ℕ)} {P : List ℕ} {C : List ℤ} → Lines s ls t P C → Path nothing together Leads s ls t (P, C)
+path no-line = here
+path (one-more line more) = step line (path more)
+
+leads-same : (s t t′ : Stage) (l : List ℕ) (a a′ : Added) → Leads s l t a → Leads s l t′ a′ → (t ≡ t′) × (a ≡ a′)
+leads-same s t t′ l a a′ x y = let w = line-same x y in (w .stage, ap₂ (λ (p : List ℕ) (c : List ℤ). (p, c)) (w .prefix) (w .clauses))
+
+pub many-stuck : {s t : Stage} {l p : List ℕ} {c : List ℤ} → TooMany s l → Line s l t p c → ⊥
 many-stuck (too-many e x) (a-block z y) = exclusive y x
 many-stuck (too-many e x) (a-clause h y) = omega arith
 
-stops : {k : ℕ} {s : Stage} {left : List (List ℕ)} → Fault k s left → Stops s left
-stops (outside {line = line} {next = next} {more = more} none no-many) = record { head = line; tail = next ∷ more; is = refl; stuck = λ {t} {p} {c} next′ more′ e line′. none t p c line′ }
-stops {s = s} (unended {byte = byte} {bytes = bytes}) = stops-last s (byte ∷ bytes)
-stops {s = s} no-problem = stops-last s []
+stops : {k : ℕ} {s : Stage} {left : List (List ℕ)} → Fault k s left → Stops nothing together Leads s left
+stops (outside {line = line} {next = next} {more = more} none no-many) = record { head = line; tail = next ∷ more; is = refl; stuck = λ {t} {a} next′ more′ e line′. none t (a .0) (a .1) line′ }
+stops {s = s} (unended {byte = byte} {bytes = bytes}) = stops-last nothing together Leads s (byte ∷ bytes)
+stops {s = s} no-problem = stops-last nothing together Leads s []
 stops (many {line = line} {next = next} {more = more} t) = record { head = line; tail = next ∷ more; is = refl; stuck = λ next′ more′ e line′. many-stuck t line′ }
-stops {s = s} (few h) = stops-last s []
-
--- Two ways to a stop are one.
-record OnePath (ls ls′ left left′ : List (List ℕ)) (t t′ : Stage) (P P′ : List ℕ) (C C′ : List ℤ) : Type 0 where
-  lines : ls ≡ ls′
-  rest : left ≡ left′
-  stage : t ≡ t′
-  prefix : P ≡ P′
-  clauses : C ≡ C′
-
--- a stop is no line's beginning
-goes-past : {s t u : Stage} {l p : List ℕ} {c : List ℤ} (left ls left′ : List (List ℕ)) → Stops s left → Stops u left′ → left ≡ l ∷ (ls ++ left′) → Line s l t p c → ⊥
-goes-past {s = s} {t = t} {l = l} {p = p} {c = c} left ls left′ a b e line = go ls e
-  where
-    step : (next : List ℕ) (more : List (List ℕ)) → left ≡ l ∷ next ∷ more → ⊥
-    step next more q =
-        let i = a .is in
-        let h : l ≡ a .head = cc in
-        let n : a .tail ≡ next ∷ more = cc in
-        a .stuck next more n (subst (λ (x : List ℕ). Line s x t p c) h line)
-
-    go : (ls : List (List ℕ)) → left ≡ l ∷ (ls ++ left′) → ⊥
-    go [] q = step (b .head) (b .tail) (q ∙ ap (λ (x : List (List ℕ)). l ∷ x) (b .is))
-    go (next ∷ more) q = step next (more ++ left′) q
-
-one-path : {s t t′ : Stage} {ls ls′ : List (List ℕ)} {P P′ : List ℕ} {C C′ : List ℤ} (left left′ : List (List ℕ)) → Lines s ls t P C → Lines s ls′ t′ P′ C′ → Stops t left → Stops t′ left′ → ls ++ left ≡ ls′ ++ left′
-    → OnePath ls ls′ left left′ t t′ P P′ C C′
-one-path left left′ no-line no-line a b e = record { lines = refl; rest = e; stage = refl; prefix = refl; clauses = refl }
-one-path left left′ no-line (one-more {lines = ls′} line more) a b e = absurd (goes-past left ls′ left′ a b e line)
-one-path left left′ (one-more {lines = ls} line more) no-line a b e = absurd (goes-past left′ ls left b a (sym e) line)
-one-path left left′ (one-more {next = n} {last = t} {line = l} {lines = ls} {p = p} {P = P} {c = c} {C = C} line more) (one-more {stage = s} {next = n′} {line = l′} {lines = ls′} {p = p′} {P = P′} {c = c′} {C = C′} line′ more′) a b e =
-    let q : l ≡ l′ = cc in
-    let r : ls ++ left ≡ ls′ ++ left′ = cc in
-    let w = line-same line (subst (λ (x : List ℕ). Line s x n′ p′ c′) (sym q) line′) in
-    let o = one-path left left′ (subst (λ (x : Stage). Lines x ls t P C) (w .stage) more) more′ a b r in
-    record {
-      lines = ap₂ (λ (x : List ℕ) (xs : List (List ℕ)). x ∷ xs) q (o .lines);
-      rest = o .rest;
-      stage = o .stage;
-      prefix = ap₂ (λ (x y : List ℕ). x ++ y) (w .prefix) (o .prefix);
-      clauses = ap₂ (λ (x y : List ℤ). x ++ y) (w .clauses) (o .clauses);
-    }
+stops {s = s} (few h) = stops-last nothing together Leads s []
 
 -- One fault at one place.
 number-same : {k k′ : ℕ} {s : Stage} {left : List (List ℕ)} → Fault k s left → Fault k′ s left → k ≡ k′
@@ -140,7 +110,7 @@ number-same (few h) (few h′) = refl
 
 pub fault-same : {text : List ℕ} {k k′ p p′ : ℕ} → FaultIn text k p → FaultIn text k′ p′ → (k ≡ k′) × (p ≡ p′)
 fault-same {k = k} {k′ = k′} a b =
-    let o = one-path (a .left) (b .left) (a .follow) (b .follow) (stops (a .fault)) (stops (b .fault)) (sym (a .cut) ∙ b .cut) in
+    let o = one-path nothing together Leads leads-same (a .left) (b .left) (path (a .follow)) (path (b .follow)) (stops (a .fault)) (stops (b .fault)) (sym (a .cut) ∙ b .cut) in
     let there : Fault k′ (a .stage) (a .left) = subst (λ (s : Stage). Fault k′ s (a .left)) (sym (o .stage)) (subst (Fault k′ (b .stage)) (sym (o .rest)) (b .fault)) in
     (number-same (a .fault) there, a .at ∙ ap placeAfter (o .lines) ∙ sym (b .at))
 
@@ -154,7 +124,7 @@ full-stop {n = n} {m = m} s left (few {m = a} {k = b} h) e f = let p : a ≡ m =
 
 pub text-fault : {text P : List ℕ} {C : List ℤ} {n k p : ℕ} → TextOf n P C text → FaultIn text k p → ⊥
 text-fault {n = n} t f =
-    let o = one-path ([] ∷ []) (f .left) (t .follow) (f .follow) (stops-last (Body n (t .announced) (t .announced)) []) (stops (f .fault)) (sym (t .cut) ∙ f .cut) in
+    let o = one-path nothing together Leads leads-same ([] ∷ []) (f .left) (path (t .follow)) (path (f .follow)) (stops-last nothing together Leads (Body n (t .announced) (t .announced)) []) (stops (f .fault)) (sym (t .cut) ∙ f .cut) in
     full-stop (f .stage) (f .left) (f .fault) (sym (o .stage)) (sym (o .rest))
 
 -- A text is the text of one n and two tables.
@@ -165,6 +135,6 @@ pub record SameTables (n n′ : ℕ) (P P′ : List ℕ) (C C′ : List ℤ) : T
 
 pub text-same : {text P P′ : List ℕ} {C C′ : List ℤ} {n n′ : ℕ} → TextOf n P C text → TextOf n′ P′ C′ text → SameTables n n′ P P′ C C′
 text-same {n = n} {n′ = n′} a b =
-    let o = one-path ([] ∷ []) ([] ∷ []) (a .follow) (b .follow) (stops-last (Body n (a .announced) (a .announced)) []) (stops-last (Body n′ (b .announced) (b .announced)) []) (sym (a .cut) ∙ b .cut) in
+    let o = one-path nothing together Leads leads-same ([] ∷ []) ([] ∷ []) (path (a .follow)) (path (b .follow)) (stops-last nothing together Leads (Body n (a .announced) (a .announced)) []) (stops-last nothing together Leads (Body n′ (b .announced) (b .announced)) []) (sym (a .cut) ∙ b .cut) in
     let s = o .stage in
-    record { number = cc; prefix = o .prefix; clauses = o .clauses }
+    record { number = cc; prefix = ap (λ (a : Added). a .0) (o .added); clauses = ap (λ (a : Added). a .1) (o .added) }

@@ -22,12 +22,12 @@ use Rattle.qdimacs.proofs.Lines.{filled-some}
 use Rattle.qdimacs.proofs.Decimal.{Digits, digits, decimal-number}
 
 -- Bytes among which a mark does not stand.
-data Without (mark : ℕ) : List ℕ → Type 0 where
+pub data Without (mark : ℕ) : List ℕ → Type 0 where
   without-none : Without mark []
   without-more : {b : ℕ} {bs : List ℕ} → eqb b mark ≡ false → Without mark bs → Without mark (b ∷ bs)
 
 -- Such bytes in front go into the first piece; and a mark after them ends it.
-pieces-front : (mark : ℕ) {w : List ℕ} (x l : List ℕ) (ps : List (List ℕ)) → Without mark w → pieces mark x ≡ l ∷ ps → pieces mark (w ++ x) ≡ (w ++ l) ∷ ps
+pub pieces-front : (mark : ℕ) {w : List ℕ} (x l : List ℕ) (ps : List (List ℕ)) → Without mark w → pieces mark x ≡ l ∷ ps → pieces mark (w ++ x) ≡ (w ++ l) ∷ ps
 unfolding pieces onto
 pieces-front mark x l ps without-none e = e
 pieces-front mark x l ps (without-more b r) e = rw (b, pieces-front mark x l ps r e)
@@ -41,7 +41,7 @@ unfolding pieces
 pieces-last mark {w} r = ap (pieces mark) (sym (append-nil w)) ∙ pieces-front mark [] [] [] r refl ∙ ap (λ (l : List ℕ). l ∷ []) (append-nil w)
 
 -- A word, and the words after it.
-words-more : {w : List ℕ} (x : List ℕ) → Without SPACE w → 1 ≤ length w → words (w ++ (SPACE ∷ x)) ≡ w ∷ words x
+pub words-more : {w : List ℕ} (x : List ℕ) → Without SPACE w → 1 ≤ length w → words (w ++ (SPACE ∷ x)) ≡ w ∷ words x
 unfolding words
 words-more {w} x r h = ap filled (pieces-mark SPACE x refl r) ∙ filled-some w (pieces SPACE x) h
 
@@ -59,10 +59,10 @@ digits-without mark h (x ∷ xs) e =
     without-more (ne-eqb x mark (λ z. omega arith)) (digits-without mark h xs more)
 
 module _ (value : ℕ) (h : value < 100000) where
-  decimal-digits : Digits value 5
+  pub decimal-digits : Digits value 5
   decimal-digits = digits value 4 h
 
-  decimal-without : (mark : ℕ) → mark < ZERO → Without mark (decimal value)
+  pub decimal-without : (mark : ℕ) → mark < ZERO → Without mark (decimal value)
   decimal-without mark low = digits-without mark low (decimal value) (decimal-digits .all)
 
 -- A number's word is its item.
@@ -81,12 +81,12 @@ unfolding itemOf negatedItem
 negated-word value h positive = ap negatedItem (decimal-number value h) ∙ rw (ne-eqb value 0 positive)
 
 -- The closing 0 alone.
-zero-row : {A : Type 0} (kind : Kind A) → entriesOf kind (words (ZERO ∷ [])) ≡ some (kind .positive 0 ∷ [])
+pub zero-row : {A : Type 0} (kind : Kind A) → entriesOf kind (words (ZERO ∷ [])) ≡ some (kind .positive 0 ∷ [])
 unfolding entriesOf entry closed itemOf plainItem numberOf isNumber allDigits spelt words filled pieces onto
 zero-row kind = refl
 
 -- A line in two parts, and a space or none in front.
-pieces-spaced : (first : Bool) (x l : List ℕ) (ps : List (List ℕ)) → pieces LF x ≡ l ∷ ps → pieces LF (spaced first x) ≡ spaced first l ∷ ps
+pub pieces-spaced : (first : Bool) (x l : List ℕ) (ps : List (List ℕ)) → pieces LF x ≡ l ∷ ps → pieces LF (spaced first x) ≡ spaced first l ∷ ps
 unfolding spaced pieces onto
 pieces-spaced true x l ps e = e
 pieces-spaced false x l ps e = rw e
@@ -96,19 +96,24 @@ variable-text : (v : ℕ) (more : List ℕ) → (v ≡ 0 → ⊥) → prefixText
 unfolding prefixText spaced ended
 variable-text v more positive = rw (ne-eqb v 0 positive)
 
-variable-taken : (v : ℕ) (body vs : List ℕ) → (v ≡ 0 → ⊥) → v < 100000 → entriesOf variables (words body) ≡ some vs → entriesOf variables (words (decimal v ++ (SPACE ∷ body))) ≡ some (v ∷ vs)
+pub variable-taken : (v : ℕ) (body vs : List ℕ) → (v ≡ 0 → ⊥) → v < 100000 → entriesOf variables (words body) ≡ some vs → entriesOf variables (words (decimal v ++ (SPACE ∷ body))) ≡ some (v ∷ vs)
 unfolding entriesOf entry prepend
 variable-taken v body vs positive small e =
     ap (entriesOf variables) (words-more body (decimal-without v small SPACE (omega arith)) (decimal-digits v small .some)) ∙ rw (plain-word v small positive, e)
 
+-- A letter in front of a line.
+pub letter-words : (letter : ℕ) (body : List ℕ) → eqb letter SPACE ≡ false → words (letter ∷ spaced false body) ≡ (letter ∷ []) ∷ words body
+unfolding spaced
+letter-words letter body plain = words-more {w = letter ∷ []} body (without-more plain without-none) (omega arith)
+
 -- The blocks of a prefix, before a text that goes on.
 module _ (n m : ℕ) (rest : List ℕ) where
-  record BlockLines (P : List ℕ) : Type 0 where
-    lines : List (List ℕ)
-    cut : pieces LF (prefixText true P ++ rest) ≡ lines ++ pieces LF rest
-    follow : Lines (Body n m 0) lines (Body n m 0) P []
+  pub record BlockLines (P : List ℕ) : Type 0 where
+    pub lines : List (List ℕ)
+    pub cut : pieces LF (prefixText true P ++ rest) ≡ lines ++ pieces LF rest
+    pub follow : Lines (Body n m 0) lines (Body n m 0) P []
 
-  record BlockRest (es : List ℕ) : Type 0 where
+  pub record BlockRest (es : List ℕ) : Type 0 where
     body : List ℕ
     entries : List ℕ
     after : List ℕ
@@ -118,7 +123,7 @@ module _ (n m : ℕ) (rest : List ℕ) where
     read : entriesOf variables (words body) ≡ some entries
     follow : Lines (Body n m 0) lines (Body n m 0) after []
 
-  abbrev BlocksAre : Bool → List ℕ → Type 0
+  abbrev pub BlocksAre : Bool → List ℕ → Type 0
   BlocksAre true P = BlockLines P
   BlocksAre false es = BlockRest es
 
@@ -132,11 +137,7 @@ module _ (n m : ℕ) (rest : List ℕ) where
         follow = subst (λ (P : List ℕ). Lines (Body n m 0) ((letter ∷ spaced false (r .body)) ∷ r .lines) (Body n m 0) (mark ∷ P) []) (sym (r .is)) (one-more (a-block refl line) (r .follow));
       }
 
-  letter-words : (letter : ℕ) (body : List ℕ) → eqb letter SPACE ≡ false → words (letter ∷ spaced false body) ≡ (letter ∷ []) ∷ words body
-  unfolding spaced
-  letter-words letter body plain = words-more {w = letter ∷ []} body (without-more plain without-none) (omega arith)
-
-  blocks : {first : Bool} {P : List ℕ} → Blocks first P → BlocksAre first P
+  pub blocks : {first : Bool} {P : List ℕ} → Blocks first P → BlocksAre first P
   unfolding prefixText markWord spaced ended decimal digitsOf pieces onto
   blocks no-block = record { lines = []; cut = refl; follow = no-line }
   blocks (block {mark} {more} which b) =
@@ -197,12 +198,12 @@ literal-taken z body zs positive small e =
 
 -- The clauses of a table, of which k have stood before.
 module _ (n m : ℕ) where
-  record ClauseLines (k : ℕ) (C : List ℤ) : Type 0 where
-    lines : List (List ℕ)
-    cut : pieces LF (clauseText true C) ≡ lines ++ ([] ∷ [])
-    follow : Lines (Body n m k) lines (Body n m m) [] C
+  pub record ClauseLines (k : ℕ) (C : List ℤ) : Type 0 where
+    pub lines : List (List ℕ)
+    pub cut : pieces LF (clauseText true C) ≡ lines ++ ([] ∷ [])
+    pub follow : Lines (Body n m k) lines (Body n m m) [] C
 
-  record ClauseRest (first : Bool) (k : ℕ) (zs : List ℤ) : Type 0 where
+  pub record ClauseRest (first : Bool) (k : ℕ) (zs : List ℤ) : Type 0 where
     body : List ℕ
     entries : List ℤ
     after : List ℤ
@@ -213,7 +214,7 @@ module _ (n m : ℕ) where
     less : k < m
     follow : Lines (Body n m (suc k)) lines (Body n m m) [] after
 
-  abbrev ClausesAre : Bool → ℕ → List ℤ → Type 0
+  abbrev pub ClausesAre : Bool → ℕ → List ℤ → Type 0
   ClausesAre true k C = ClauseLines k C
   ClausesAre false k zs = ClauseRest false k zs
 
@@ -228,7 +229,7 @@ module _ (n m : ℕ) where
       }
   clause-whole false k zs r = r
 
-  clauses : {first : Bool} {C : List ℤ} (k : ℕ) → Clauses first C → k + clauseCount C ≡ m → ClausesAre first k C
+  pub clauses : {first : Bool} {C : List ℤ} (k : ℕ) → Clauses first C → k + clauseCount C ≡ m → ClausesAre first k C
   unfolding clauseText clauseCount literalWord spaced ended decimal digitsOf pieces onto
   clauses k no-clause e = let all : k ≡ m = omega arith in record { lines = []; cut = refl; follow = subst (λ (j : ℕ). Lines (Body n m k) [] (Body n m j) [] []) all no-line }
   clauses k (clause-end {first} {more} b) e =
@@ -268,7 +269,7 @@ module _ (n m : ℕ) where
       count-same z more positive = rw (ne-eqb (natAbs z) 0 positive)
 
 -- The problem line.
-problem-bytes : ℕ → ℕ → List ℕ
+pub problem-bytes : ℕ → ℕ → List ℕ
 problem-bytes n m = LETTER-P ∷ SPACE ∷ LETTER-C ∷ LETTER-N ∷ LETTER-F ∷ SPACE ∷ (decimal n ++ (SPACE ∷ decimal m))
 
 problem-text : (n m : ℕ) (rest : List ℕ) → problemBytes n m ++ rest ≡ LETTER-P ∷ SPACE ∷ LETTER-C ∷ LETTER-N ∷ LETTER-F ∷ SPACE ∷ (decimal n ++ (SPACE ∷ (decimal m ++ (LF ∷ rest))))
@@ -276,14 +277,14 @@ unfolding problemBytes
 problem-text n m rest = simp append-assoc
 
 module _ (n m : ℕ) (small-n : n < 100000) (small-m : m < 100000) where
-  problem-cut : (rest : List ℕ) → pieces LF (problemBytes n m ++ rest) ≡ problem-bytes n m ∷ pieces LF rest
+  pub problem-cut : (rest : List ℕ) → pieces LF (problemBytes n m ++ rest) ≡ problem-bytes n m ∷ pieces LF rest
   unfolding problem-bytes pieces onto
   problem-cut rest =
       ap (pieces LF) (problem-text n m rest)
       ∙ rw (pieces-front LF (SPACE ∷ (decimal m ++ (LF ∷ rest))) (SPACE ∷ decimal m) (pieces LF rest) (decimal-without n small-n LF (omega arith))
       (rw (pieces-mark LF rest refl (decimal-without m small-m LF (omega arith)))))
 
-  problem-words : words (problem-bytes n m) ≡ (LETTER-P ∷ []) ∷ (LETTER-C ∷ LETTER-N ∷ LETTER-F ∷ []) ∷ decimal n ∷ decimal m ∷ []
+  pub problem-words : words (problem-bytes n m) ≡ (LETTER-P ∷ []) ∷ (LETTER-C ∷ LETTER-N ∷ LETTER-F ∷ []) ∷ decimal n ∷ decimal m ∷ []
   unfolding problem-bytes
   problem-words =
       words-more {w = LETTER-P ∷ []} _ (without-more refl without-none) (omega arith)

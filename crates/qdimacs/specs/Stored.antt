@@ -31,11 +31,11 @@ abbrev pub WriteIs : List ℕ → List ℕ → List ℕ → Output → Type 0
 WriteIs text out out′ (Written count) = NoneOf (writeOrder text out) × Stored text out out′ count
 WriteIs text out out′ (Refused number place) = FirstOf (writeOrder text out) number place × (out′ ≡ out)
 
--- The order of write: that of check, then 15 and 14.
-abbrev pub tablesOrder : ℕ → List ℕ → List ℤ → List ℕ → List Causes
-tablesOrder n prefix clauses out = checkOrder n prefix clauses ++ writeOrder (textOf n prefix clauses) out
+-- What a call promises that writes a text, with an order of causes before 15 and 14: the text stands in front, or nothing is changed.
+abbrev pub WritesAfter : List Causes → List ℕ → List ℕ → List ℕ → Output → Type 0
+WritesAfter order text out out′ (Written count) = NoneOf (order ++ writeOrder text out) × Stored text out out′ count
+WritesAfter order text out out′ (Refused number place) = FirstOf (order ++ writeOrder text out) number place × (out′ ≡ out)
 
--- What write promises: the text of n and the two tables stands in front, or nothing is changed.
+-- What write promises: the text is that of n and the two tables, and the order that of check, then 15 and 14.
 abbrev pub Writes : ℕ → List ℕ → List ℤ → List ℕ → List ℕ → Output → Type 0
-Writes n prefix clauses out out′ (Written count) = NoneOf (tablesOrder n prefix clauses out) × Stored (textOf n prefix clauses) out out′ count
-Writes n prefix clauses out out′ (Refused number place) = FirstOf (tablesOrder n prefix clauses out) number place × (out′ ≡ out)
+Writes n prefix clauses = WritesAfter (checkOrder n prefix clauses) (textOf n prefix clauses)

@@ -2,11 +2,11 @@
 
 mod body;
 pub mod bytes;
-mod expected;
+pub mod expected;
 mod items;
 mod opening;
-mod scanning;
-mod tables;
+pub mod scanning;
+pub mod tables;
 mod words;
 pub mod writing;
 
@@ -129,7 +129,7 @@ pub enum Number {
 }
 
 // What a line makes of a stage: the number of the refusal if it may not stand there, or the stage and the counts of entries that it leads to.
-enum Step {
+pub enum Step {
     Wrong(u32),
     On {
         stage: Stage,
@@ -153,7 +153,7 @@ enum Mark {
 }
 
 // A line of entries: where the next line stands, and the count of entries with it.
-enum Row {
+pub enum Row {
     Broken,
     Whole { next: usize, count: usize },
 }
@@ -167,19 +167,19 @@ enum Entry {
 }
 
 // Whether the next word of a line is the one looked for, and where the line goes on.
-enum Spelt {
+pub enum Spelt {
     Missing,
     Spelled(usize),
 }
 
 // Whether the next word of a line is a number, and where the line goes on.
-enum Counted {
+pub enum Counted {
     Uncounted,
     Count { value: u32, next: usize },
 }
 
 // Where the next line stands, if nothing but spaces stands before the LF of this one.
-enum Ended {
+pub enum Ended {
     Nowhere,
     Next(usize),
 }

@@ -40,7 +40,7 @@ pub fn scan(text: &[u8], prefix: &mut [u32], clauses: &mut [i32]) -> Reading
 }
 
 // The line at a place, at a stage.
-fn line_at(
+pub fn line_at(
     text: &[u8],
     at: usize,
     stage: Stage,
@@ -91,7 +91,7 @@ fn line_at(
 }
 
 // What the end of a text makes of the stage that its lines led to.
-fn finish(stage: Stage, at: usize, entries: usize, literals: usize) -> Reading
+pub fn finish(stage: Stage, at: usize, entries: usize, literals: usize) -> Reading
     requires { ⌜ Sound stage ⌝ }
     ensures { λ r. ⌜ FinishIs stage at entries literals r ⌝ }
 {

@@ -21,7 +21,7 @@ pub fn block_at(text: &[u8], at: usize, mark: u32, prefix: &mut [u32], from: usi
 }
 
 // The variables of a quantifier line and its 0, stored in the prefix table from a row on.
-fn variables_at(text: &[u8], at: usize, prefix: &mut [u32], from: usize) -> Row
+pub fn variables_at(text: &[u8], at: usize, prefix: &mut [u32], from: usize) -> Row
     requires { ⌜ from ≤ at ⌝ }
     ensures { λ r. ⌜ RowIs variables (now (text .entry)) at from (now (prefix .entry)) (now (prefix .exit)) r ⌝ }
 {

@@ -61,7 +61,7 @@ fn put_text(out: &mut [u8], n: u32, prefix: &[u32], clauses: &[i32]) -> usize
 }
 
 // The problem line.
-fn put_problem(out: &mut [u8], n: u32, count: u32) -> usize
+pub fn put_problem(out: &mut [u8], n: u32, count: u32) -> usize
     requires { ⌜ (n < 100000) × (count < 100000) ⌝ }
     ensures { λ r. ⌜ Wrote (problemBytes n count) (now (out .entry)) (now (out .exit)) 0 r ⌝ }
 {
@@ -85,7 +85,7 @@ fn put_cnf(out: &mut [u8]) -> usize
 }
 
 // How many clauses a clause table has.
-fn count_clauses(clauses: &[i32]) -> u32
+pub fn count_clauses(clauses: &[i32]) -> u32
     requires { ⌜ (length (now clauses) ≤ 16384) × SmallLiterals (now clauses) ⌝ }
     ensures { λ r. ⌜ r ≡ clauseCount (now (clauses .entry)) ⌝ }
 {
@@ -110,7 +110,7 @@ fn count_more(count: u32, literal: i32) -> u32
 }
 
 // The lines of the prefix table.
-fn put_prefix(out: &mut [u8], at: usize, prefix: &[u32]) -> usize
+pub fn put_prefix(out: &mut [u8], at: usize, prefix: &[u32]) -> usize
     requires { ⌜ (at < 4096) × (length (now prefix) ≤ 8192) × SmallEntries (now prefix) ⌝ }
     ensures { λ r. ⌜ Wrote (prefixText true (now (prefix .entry))) (now (out .entry)) (now (out .exit)) at r ⌝ }
 {
@@ -127,7 +127,7 @@ fn put_prefix(out: &mut [u8], at: usize, prefix: &[u32]) -> usize
 }
 
 // One entry of the prefix table: a mark as its letter, or a number after a space, with LF after the closing 0.
-fn put_entry(out: &mut [u8], at: usize, first: bool, entry: u32) -> usize
+pub fn put_entry(out: &mut [u8], at: usize, first: bool, entry: u32) -> usize
     requires { ⌜ (at < 4294967000) × (entry < 100000) ⌝ }
     ensures { λ r. ⌜ Wrote (entryBytes first entry) (now (out .entry)) (now (out .exit)) at r ⌝ }
 {
@@ -156,7 +156,7 @@ fn starts(first: bool, entry: u32) -> bool
 }
 
 // The lines of the clause table.
-fn put_clauses(out: &mut [u8], at: usize, clauses: &[i32]) -> usize
+pub fn put_clauses(out: &mut [u8], at: usize, clauses: &[i32]) -> usize
     requires { ⌜ (at < 1048576) × (length (now clauses) ≤ 16384) × SmallLiterals (now clauses) ⌝ }
     ensures { λ r. ⌜ Wrote (clauseText true (now (clauses .entry))) (now (out .entry)) (now (out .exit)) at r ⌝ }
 {

@@ -25,11 +25,12 @@ use Rattle.tables.proofs.Agreeing.{none-formed}
 use Rattle.growth.specs.Grown.{Standing, tableOf, many, buildOrder, addOrder, TallyOf, Took}
 use Rattle.growth.proofs.Tight.{tight, tally-of-one, took-one}
 use Rattle.qdimacs.specs.declared.Output.{Output}
-use Rattle.qdimacs.proofs.Settled.{stored-same}
+use Rattle.qdimacs.specs.Writing.{textOf}
+use Rattle.qdimacs.proofs.Settled as written
 use Rattle.sets.specs.Sets.{AllSetsBy, setsOrderBy}
 use Rattle.sets.proofs.Records.{records-one}
-use Rattle.joining.specs.Rules.{readAs, underRule}
-use Rattle.ruled.specs.Calls.{CheckedUnder, EntryUnder, ListedUnder, SizeUnder, SetsUnder, BuildsUnder, AddsUnder, writeOrderUnder, WritesUnder}
+use Rattle.joining.specs.Rules.{readAs, underRule, checkOrderUnder}
+use Rattle.ruled.specs.Calls.{CheckedUnder, EntryUnder, ListedUnder, SizeUnder, SetsUnder, BuildsUnder, AddsUnder, WritesUnder}
 
 module _ (rule n : ℕ) (es : List ℕ) (ls : List ℤ) where
   -- the prefix as it is read, and an order under the rule
@@ -66,12 +67,7 @@ module _ (rule n : ℕ) (es : List ℕ) (ls : List ℤ) where
       tight n read (under (addOrder n read s ls)) (joins X (tableOf X s) ++ (connected ls ∷ [])) (Took X s) (took-one X s) s a b x y (f .judged) (g .judged) (f .leaves) (g .leaves)
 
   pub write-settled : (out out₁ out₂ : List ℕ) (r r′ : Output) → WritesUnder rule n es ls out out₁ r → WritesUnder rule n es ls out out₂ r′ → (r ≡ r′) × (out₁ ≡ out₂)
-  write-settled out out₁ out₂ (Output.Written k) (Output.Written k′) a b = stored-same n es ls out (a .1) (b .1)
-  write-settled out out₁ out₂ (Output.Written c) (Output.Refused k q) a b = absurd (first-or-none (writeOrderUnder rule n es ls out) k q (b .0) (a .0))
-  write-settled out out₁ out₂ (Output.Refused k q) (Output.Written c) a b = absurd (first-or-none (writeOrderUnder rule n es ls out) k q (a .0) (b .0))
-  write-settled out out₁ out₂ (Output.Refused k q) (Output.Refused k′ q′) a b =
-      let same = firstOf-same (writeOrderUnder rule n es ls out) k q k′ q′ (a .0) (b .0) in
-      (ap₂ Output.Refused (same .0) (same .1), a .1 ∙ sym (b .1))
+  write-settled = written.write-settled (checkOrderUnder rule n es ls) (textOf n es ls)
 
 module _ (rule n : ℕ) (es classes parents counts : List ℕ) (x y : ℕ) where
   abbrev pointOrder : List Causes

@@ -9,20 +9,17 @@ use native.Mathlib.Omega.{arith}
 use lib.IntN.{ℤ}
 use lib.ListN.{length, take}
 use Rattle.terms.specs.Refusals.{None, NoneOf}
-use Rattle.terms.specs.declared.Verdict.{Verdict}
-use Rattle.terms.proofs.Verdicts.{at0-none, accepted-then}
+use Rattle.terms.proofs.Verdicts.{at0-none}
 use Rattle.formula.specs.Causes.{PrefixCause, checkOrder}
 use Rattle.formula.specs.Tables.{at, opens}
 use Rattle.formula.proofs.Scanned.{scan-none, none-in-prefix}
 use Rattle.joining.specs.Rules.{JoinedCause, checkOrderUnder}
 use Rattle.joining.proofs.Orders.{limits, by-rule}
 use Rattle.joining.proofs.Passing.{Passes, no-more, begin, go-on, close-block, name, passes, mark-is, by-test}
-use Rattle.qdimacs.specs.declared.Output.{Output}
-use Rattle.qdimacs.specs.declared.Output.the-variants.{Written, Refused}
+use Rattle.qdimacs.specs.declared.Output.the-variants.{Written}
 use Rattle.qdimacs.specs.declared.Reading.{Reading}
 use Rattle.qdimacs.specs.Bytes.{SmallEntries, SmallLiterals}
 use Rattle.qdimacs.specs.Reading.{TEXT-MOST, overlong, ReadIs}
-use Rattle.qdimacs.specs.Stored.{writeOrder, WriteIs}
 use Rattle.qdimacs.specs.Writing.{textOf}
 use Rattle.qdimacs.proofs.Accepted.{small-entries, small-literals, holdable}
 use Rattle.qdimacs.proofs.Holdable.{Blocks, no-block, block, block-end, variable, Holdable}
@@ -52,7 +49,7 @@ module _ (rule n : ℕ) (es : List ℕ) (ls : List ℤ) (none : NoneOf (checkOrd
       let (few, _, _) = limits rule n es ls none in
       (⊎-elim (λ (one : None (PrefixCause n es)). small-entries few one) (λ (two : None (JoinedCause n es)). small-two few two) (by-rule rule n es ls none), small-literals few (none .1 .1 .1 .1 .0))
 
-  held : Holdable n es ls
+  pub held : Holdable n es ls
   held =
       let (few, _, short) = limits rule n es ls none in
       let rest : NoneOf (checkOrder n [] ls) = (none .1 .0, (at0-none 2 (⊎-elim (λ l. omega arith) (λ l. omega arith)), (none-in-prefix (scan-none n []) (omega arith) refl, (none .1 .1 .1 .1 .0, tt)))) in
@@ -63,13 +60,6 @@ module _ (rule n : ℕ) (es : List ℕ) (ls : List ℤ) (none : NoneOf (checkOrd
         blocks = ⊎-elim (λ (one : None (PrefixCause n es)). holdable n es ls few short (none .1 .0, (none .1 .1 .0, (one, (none .1 .1 .1 .1 .0, tt)))) .blocks) (λ (two : None (JoinedCause n es)). blocks-two few (passes two)) (by-rule rule n es ls none);
         all-clauses = without .all-clauses;
       }
-
--- Once the tables are accepted, the writer's answer is write's.
-pub writes-accepted : (rule n : ℕ) (es : List ℕ) (ls : List ℤ) (out out′ : List ℕ) (r : Output) → NoneOf (checkOrderUnder rule n es ls) → WriteIs (textOf n es ls) out out′ r → WritesUnder rule n es ls out out′ r
-writes-accepted rule n es ls out out′ (Written count) none w =
-    (accepted-then (checkOrderUnder rule n es ls) (writeOrder (textOf n es ls) out) {v = Verdict.Accepted} Verdict.Accepted refl none (w .0), w .1)
-writes-accepted rule n es ls out out′ (Refused number place) none w =
-    (accepted-then (checkOrderUnder rule n es ls) (writeOrder (textOf n es ls) out) {v = Verdict.Accepted} (Verdict.Refused number place) refl none (w .0), w .1)
 
 -- What write leaves in front in the buffer reads back as the tables that were lent, under either rule.
 pub written-reads-back : (rule n : ℕ) (es : List ℕ) (ls : List ℤ) (prefix prefix′ : List ℕ) (clauses clauses′ : List ℤ) → length es ≤ length prefix → length ls ≤ length clauses

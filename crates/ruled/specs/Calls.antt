@@ -19,7 +19,7 @@ use Rattle.forest.specs.Listed.{Filling, Listing}
 use Rattle.sets.specs.Sets.{AllSetsBy, setsOrderBy}
 use Rattle.growth.specs.Grown.{Standing, buildOrder, addOrder, many, TallyOf, Leaves, AddLeaves}
 use Rattle.qdimacs.specs.declared.Output.{Output}
-use Rattle.qdimacs.specs.Stored.{Stored, writeOrder}
+use Rattle.qdimacs.specs.Stored.{writeOrder, WritesAfter}
 use Rattle.qdimacs.specs.Writing.{textOf}
 use Rattle.joining.specs.Rules.{readAs, underRule, checkOrderUnder}
 
@@ -93,5 +93,4 @@ pub record AddsUnder (rule n : ℕ) (es : List ℕ) (s : Standing) (ls : List �
 
 -- write
 abbrev pub WritesUnder : ℕ → ℕ → List ℕ → List ℤ → List ℕ → List ℕ → Output → Type 0
-WritesUnder rule n es ls out out′ (Output.Written count) = NoneOf (writeOrderUnder rule n es ls out) × Stored (textOf n es ls) out out′ count
-WritesUnder rule n es ls out out′ (Output.Refused number place) = FirstOf (writeOrderUnder rule n es ls out) number place × (out′ ≡ out)
+WritesUnder rule n es ls = WritesAfter (checkOrderUnder rule n es ls) (textOf n es ls)

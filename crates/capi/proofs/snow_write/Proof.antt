@@ -2,8 +2,11 @@
 use mathlib.Core.Path.{refl, subst}
 use native.Mathlib.Omega.{arith}
 use borrow.Author.Needs.{needs}
+use Rattle.joining.specs.Rules.{checkOrderUnder}
+use Rattle.qdimacs.specs.Writing.{textOf}
 use Rattle.ruled.specs.Calls.{WritesUnder}
 use Rattle.capi.specs.Told.{accepted, refused}
+use Rattle.capi.proofs.Places.{small-check}
 use Rattle.capi.proofs.Writes.{small-write, written-few}
 use Rattle.capi.proofs.snow_write.Statement.{statement}
 use Rattle.capi.proofs.snow_write.Tie as tie
@@ -18,7 +21,7 @@ cast-count : tie.Need-cast-count
 cast-count c =
     let a = c .before .before .before .before .before .before .before .before .before .args in
     let said = subst (WritesUnder (a .rule) (a .n) (a .prefix .now) (a .clauses .now) (a .text .now) _) (c .before .written .given .1) (c .before .before .before .before .before .write .ensures) in
-    let few = written-few (a .rule) (a .n) (a .prefix .now) (a .clauses .now) (a .text .now) _ _ (said .0) (said .1) in
+    let few = written-few (checkOrderUnder (a .rule) (a .n) (a .prefix .now) (a .clauses .now)) (textOf (a .n) (a .prefix .now) (a .clauses .now)) (a .text .now) _ _ (said .0) (said .1) in
     omega arith
 
 enum-known-number : tie.Need-enum-known-number
@@ -28,7 +31,7 @@ cast-place : tie.Need-cast-place
 cast-place c =
     let a = c .before .before .before .before .before .before .before .before .before .args in
     let said = subst (WritesUnder (a .rule) (a .n) (a .prefix .now) (a .clauses .now) (a .text .now) _) (c .before .number .given .1) (c .before .before .before .before .before .write .ensures) in
-    record { fits = small-write (a .rule) (a .n) (a .prefix .now) (a .clauses .now) (a .text .now) _ _ (said .0) }
+    record { fits = small-write (checkOrderUnder (a .rule) (a .n) (a .prefix .now) (a .clauses .now)) (textOf (a .n) (a .prefix .now) (a .clauses .now)) (a .text .now) (small-check (a .rule) (a .n) (a .prefix .now) (a .clauses .now)) _ _ (said .0) }
 
 same-length : tie.Need-same-length
 same-length c = search needs

@@ -41,7 +41,7 @@ returns-2 c =
     let a = c .before .before .before .before .before .before .before .before .before .args in
     let w = c .before .before .write-accepted in
     let none = subst (Judged (checkOrder (a .n) (a .prefix .now) (a .clauses .now))) (c .before .before .before .before .enum-told .given .1) (c .before .before .before .before .before .before .check .ensures) in
-    writes-accepted (a .n) (a .prefix .now) (a .clauses .now) (a .out .now) (w .last .1 .1 .1 .0) (w .result) none (w .ensures)
+    writes-accepted (checkOrder (a .n) (a .prefix .now) (a .clauses .now)) (textOf (a .n) (a .prefix .now) (a .clauses .now)) (a .out .now) (w .last .1 .1 .1 .0) (w .result) none (w .ensures)
 
 pub write-spec : {M : Type 1} → statement M
 write-spec =

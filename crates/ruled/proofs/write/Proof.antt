@@ -8,7 +8,8 @@ use Rattle.joining.proofs.Orders.{limits}
 use Rattle.qdimacs.specs.Stored.{writeOrder}
 use Rattle.qdimacs.specs.Writing.{textOf}
 use Rattle.ruled.specs.Calls.{CheckedUnder}
-use Rattle.ruled.proofs.Texts.{small, writes-accepted}
+use Rattle.qdimacs.proofs.Outputs.{writes-accepted}
+use Rattle.ruled.proofs.Texts.{small}
 use Rattle.ruled.proofs.write.Statement.{statement}
 use Rattle.ruled.proofs.write.Tie as tie
 
@@ -42,7 +43,7 @@ returns-2 c =
     let a = c .before .before .before .before .before .before .before .before .before .args in
     let w = c .before .before .write-accepted in
     let none = subst (CheckedUnder (a .rule) (a .n) (a .prefix .now) (a .clauses .now)) (c .before .before .before .before .enum-told .given .1) (c .before .before .before .before .before .before .check .ensures) in
-    writes-accepted (a .rule) (a .n) (a .prefix .now) (a .clauses .now) (a .out .now) _ (w .result) none (w .ensures)
+    writes-accepted (checkOrderUnder (a .rule) (a .n) (a .prefix .now) (a .clauses .now)) (textOf (a .n) (a .prefix .now) (a .clauses .now)) (a .out .now) _ (w .result) none (w .ensures)
 
 pub write-spec : {M : Type 1} → statement M
 write-spec =

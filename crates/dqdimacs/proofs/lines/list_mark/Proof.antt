@@ -1,0 +1,33 @@
+-- `dqdimacs::lines::list_mark` meets its contract.
+use Prim.Native.Nat.{ℕ}
+use mathlib.Core.Path.{_≡_, sym, ap, _∙_}
+use native.Mathlib.Omega.{arith}
+use Rattle.qdimacs.specs.declared.Stage.the-variants.{Opening, Body}
+use Rattle.dqdimacs.proofs.Faults.{list-mark}
+use borrow.Author.Needs.{needs}
+use Rattle.dqdimacs.proofs.lines.list_mark.Statement.{statement}
+use Rattle.dqdimacs.proofs.lines.list_mark.Tie as tie
+
+enum-told : tie.Need-enum-told
+enum-told c = search needs
+
+enum-known-stage : tie.Need-enum-known-stage
+enum-known-stage c = search needs
+
+returns : tie.Need-returns
+returns c =
+    let v = c .before .before .stage .given in
+    λ n m l e x. let same : Body (v .0 .0) (v .0 .1 .0) (v .0 .1 .1 .0) ≡ Body n m 0 = sym (v .1) ∙ e in let none : v .0 .1 .1 .0 ≡ 0 = cc in c .if1 .taken none
+
+letter-at-requires : tie.Need-letter-at-requires
+letter-at-requires c κs = search needs
+
+returns-2 : tie.Need-returns-2
+returns-2 c = λ n m l e x. let same : Opening ≡ Body n m 0 = sym (c .enum-told .given .1) ∙ e in let no : _≡_ {A = ℕ} 0 1 = cc in omega arith
+
+returns-3 : tie.Need-returns-3
+returns-3 c = let v = c .before .before .before .stage .given in let a = c .before .before .before .before .before .before .args in list-mark (a .text .now) (a .at) (v .1 ∙ ap (Body (v .0 .0) (v .0 .1 .0)) (c .before .if1 .left)) (c .letter-at .result) (c .letter-at .ensures)
+
+pub list-mark-spec : {M : Type 1} → statement M
+list-mark-spec =
+    tie.close (tie.spec enum-told enum-known-stage returns letter-at-requires returns-2 returns-3)

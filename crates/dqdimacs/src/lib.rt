@@ -1,0 +1,113 @@
+// DQDIMACS text: QDIMACS text with lists of the universals on which existentials may depend, read into lent tables and written into a lent buffer.
+
+mod lines;
+mod scanning;
+pub mod writing;
+
+use qdimacs::Output;
+use qdimacs::Stage;
+use qdimacs::TEXT_MOST;
+use scanning::scan;
+use terms::Verdict;
+use writing::write_accepted;
+ghost use Rattle.dqdimacs.specs.Reading.{ReadIs};
+ghost use Rattle.dqdimacs.specs.Stored.{WritesListed};
+
+// What reading a text answers: n and the counts of entries of the prefix, the clauses and the lists, or the number of the refusal and its place.
+pub enum Reading {
+    Read {
+        n: u32,
+        prefix: usize,
+        clauses: usize,
+        lists: usize,
+    },
+    Refused {
+        number: u32,
+        place: usize,
+    },
+}
+
+// Reads a text into three lent tables: n and the counts of entries, or the refusal. A first scan stores in tables of its own that no one sees,
+// so that nothing is written before it is known that the text is within the rules and that all three tables have room.
+pub fn read(text: &[u8], prefix: &mut [u32], clauses: &mut [i32], lists: &mut [u32]) -> Reading
+    ensures { λ r. ⌜ ReadIs (now (text .entry)) (now (prefix .entry), now (clauses .entry), now (lists .entry)) (now (prefix .exit), now (clauses .exit), now (lists .exit)) r ⌝ }
+{
+    if TEXT_MOST < text.len() {
+        return Reading::Refused {
+            number: 15,
+            place: TEXT_MOST,
+        };
+    }
+    let mut unseen_entries = [0u32; 1];
+    let mut unseen_literals = [0i32; 1];
+    let mut unseen_rows = [0u32; 1];
+    match scan(
+        text,
+        &mut unseen_entries,
+        &mut unseen_literals,
+        &mut unseen_rows,
+    ) {
+        Reading::Refused { number, place } => Reading::Refused { number, place },
+        Reading::Read {
+            n: _,
+            prefix: entries,
+            clauses: literals,
+            lists: rows,
+        } => {
+            if prefix.len() < entries {
+                return Reading::Refused {
+                    number: 14,
+                    place: 0,
+                };
+            }
+            if clauses.len() < literals {
+                return Reading::Refused {
+                    number: 14,
+                    place: 0,
+                };
+            }
+            if lists.len() < rows {
+                return Reading::Refused {
+                    number: 14,
+                    place: 0,
+                };
+            }
+            scan(text, prefix, clauses, lists)
+        }
+    }
+}
+
+// Writes the text of a formula with dependency lists, its prefix as it is lent, into a lent buffer: refused as the check of lists refuses it under the
+// rule, where the text is too long, or where it does not fit.
+pub fn write(
+    rule: u32,
+    n: u32,
+    prefix: &[u32],
+    clauses: &[i32],
+    lists: &[u32],
+    out: &mut [u8],
+) -> Output
+    ensures { λ r. ⌜ WritesListed rule n (now (prefix .entry)) (now (clauses .entry)) (now (lists .entry)) (now (out .entry)) (now (out .exit)) r ⌝ }
+{
+    match lists::check(rule, n, prefix, clauses, lists) {
+        Verdict::Refused(number, place) => Output::Refused { number, place },
+        Verdict::Accepted => write_accepted(n, prefix, clauses, lists, out),
+    }
+}
+
+// The letter that list lines begin with.
+const LETTER_D: u8 = 100;
+
+// What a line makes of a stage: the number of the refusal if it may not stand there, or the stage that it leads to, whether a list line has stood
+// by then, and the counts of entries.
+enum Onward {
+    Wrong(u32),
+    On {
+        listed: bool,
+        stage: Stage,
+        next: usize,
+        entries: usize,
+        literals: usize,
+        rows: usize,
+    },
+}

@@ -1,0 +1,9 @@
+pub mod Named
+pub mod Checked
+pub mod Opened
+pub mod Ordering
+pub mod Under
+pub mod Classed
+pub mod Members
+pub mod Agreement
+pub mod Sample

@@ -1,0 +1,4 @@
+pub mod Lists
+pub mod Causes
+pub mod Answers
+pub mod Inner
