@@ -19,5 +19,6 @@ int main(void)
     test_expanded();
     test_dependent();
     test_listed();
+    test_resolving();
     return agreed_all();
 }

@@ -13,5 +13,6 @@ void test_drawn(void);      /* drawn.c: random formulas, forests and texts, agai
 void test_expanded(void);   /* expanded.c: a universal expanded, with truth before and after */
 void test_dependent(void);  /* dependent.c: dependency lists, by hand and drawn, against a slow search of its own */
 void test_listed(void);     /* listed.c: text with dependency lists, by hand and drawn, against a judge of lines of its own */
+void test_resolving(void);  /* resolving.c: resolution-path sets, against a walk by the rule's words */
 
 #endif

@@ -12,8 +12,8 @@
  *
  * Link target/staticlib/libcapi.a, which `rt staticlib capi` writes. It is
  * for x86-64 Linux, and calls nothing but memset and memcpy. A call keeps its
- * own tables on the stack, some 160 KiB at most (snow_sets), but snow_store
- * and snow_load some 820 KiB.
+ * own tables on the stack, some 160 KiB at most (snow_sets), but
+ * snow_resolution_set some 300 KiB, and snow_store and snow_load some 820 KiB.
  *
  *
  * THE FORMULA
@@ -161,11 +161,12 @@
  *       placed, in a block or with a list before        the entry
  *  26   an x of a list is no universal, or comes twice
  *       in its list                                     the entry
+ *  27   n is over 512, for snow_resolution_set          0
  *
  * Entries and bytes are counted from 0. Where several refusals apply, the
  * first in this order is given: 23, 1, 2, the prefix from the left, the clause
  * literals from the left, the lists from the left (25, 26, 11), 12, 18, 13, 24,
- * 15 (writing), 14; at one entry the lower number. snow_read and
+ * 27, 15 (writing), 14; at one entry the lower number. snow_read and
  * snow_read_lists give 15, then 16 and 17 by the earliest line, then 14.
  * snow_load gives 23, 19, 20, 21, then 1 to 11 for the formula in the file,
  * then 22, then 14; snow_store 23, 1 to 11, then 19, then 14. snow_expand
@@ -211,6 +212,12 @@ extern "C" {
 #define SNOW_MOST_LISTS 16384
 #define SNOW_MOST_TEXT 65536
 #define SNOW_MOST_FILE 262144
+
+/*
+ * The most variables of a formula that snow_resolution_set takes: one more is
+ * refused as 27.
+ */
+#define SNOW_MOST_PATH_VARIABLES 512
 
 /*
  * The most clauses that a tally takes: at so many, snow_add refuses it as 18.
@@ -484,6 +491,28 @@ uint32_t snow_listed_set_by(uint32_t rule, uint32_t scheme, uint32_t n,
                             const uint32_t *lists, size_t lists_len,
                             uint32_t x, uint32_t *out, size_t out_len,
                             uint32_t *count, uint32_t *place);
+
+/*
+ * Resolution-path set of the universal x: the existentials deeper than x to
+ * which paths run from x and from its negation, to opposite literals of one.
+ * A path from a literal first enters a clause by that literal. It leaves a
+ * clause by a literal of another variable, goes on to the complement of that
+ * literal and by it into a clause, and ends at the literal by which it leaves
+ * its last clause. Only existentials deeper than x are passed; clauses that
+ * are always true take no part. The set lies within the strict one. It takes
+ * no forest. Written ascending into out; *count says how many.
+ *
+ * With n 4, prefix 2 1 0  1 2 3 4 0, clauses 1 2 0  -2 3 0  -1 -3 0  -1 4 0
+ * 1 4 0: 2 3 for x = 1, where the strict set is 2 3 4.
+ *
+ * Refuses 23, 1 to 11, 13, 27, and 14 where out has fewer than *count entries;
+ * n of them always suffice.
+ */
+uint32_t snow_resolution_set(uint32_t rule, uint32_t n,
+                             const uint32_t *prefix, size_t prefix_len,
+                             const int32_t *clauses, size_t clauses_len,
+                             uint32_t x, uint32_t *out, size_t out_len,
+                             uint32_t *count, uint32_t *place);
 
 /*
  * Add a clause: rewrites the n rows of the lent forest to those of the

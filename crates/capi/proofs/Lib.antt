@@ -8,4 +8,5 @@ pub mod Writes
 pub mod Filed
 pub mod Expansions
 pub mod Listing
+pub mod ResolutionTold
 pub mod Tight

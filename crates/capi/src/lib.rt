@@ -7,6 +7,7 @@ pub mod expanding;
 pub mod files;
 pub mod listed;
 pub mod pairs;
+pub mod resolving;
 
 use cells::lay;
 use cells::lay_tally;

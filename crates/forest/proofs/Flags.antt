@@ -95,7 +95,7 @@ module _ (ls : List ℤ) (start z : ℕ) (from : start ≤ z) (to : z ≤ length
   clause-entry : (i : ℕ) → i < z - start → getD (take (z - start) (drop start ls)) i (pos 0) ≡ literalAt ls (start + i)
   clause-entry i l = getD-take (z - start) (drop start ls) i (pos 0) l ∙ getD-drop start ls i (pos 0)
 
-  clause-literal : (literal : ℤ) → List·Memᴰ literal (take (z - start) (drop start ls)) ↔ HasLiteral ls start z literal
+  pub clause-literal : (literal : ℤ) → List·Memᴰ literal (take (z - start) (drop start ls)) ↔ HasLiteral ls start z literal
   clause-literal literal = (there, back)
     where
       there : List·Memᴰ literal (take (z - start) (drop start ls)) → HasLiteral ls start z literal

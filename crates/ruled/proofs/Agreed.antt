@@ -14,6 +14,7 @@ use Rattle.connection.specs.Listed.{Listed}
 use Rattle.formula.specs.Causes.{ClauseCause}
 use Rattle.forest.specs.declared.EntryAnswer.{EntryAnswer}
 use Rattle.forest.specs.declared.Scheme.{Scheme}
+use Rattle.forest.specs.Listed.{Filling}
 use Rattle.growth.specs.Grown.{Standing}
 use Rattle.qdimacs.specs.declared.Output.{Output}
 use Rattle.qdimacs.specs.Stored.{Stored, writeOrder}
@@ -23,7 +24,7 @@ use Rattle.joining.specs.Rules.{readAs, ruledPrefix}
 use Rattle.joining.proofs.Agreement.{one-to-two, two-to-one}
 use Rattle.joining.proofs.Exchange.{Carries, carry-judged}
 use Rattle.ruled.specs.Calls.{CheckedUnder, EntryUnder, ListedUnder, SizeUnder, SetsUnder, BuildsUnder, AddsUnder, WritesUnder}
-use Rattle.ruled.proofs.Shapes.{carry-filling, Lists, lists-later, All, all-later, Sizes, carry-sizes, size-later, Points, carry-points, point-later, Built, carry-built, build-later, Added, carry-added, add-later}
+use Rattle.ruled.proofs.Shapes.{Fills, carry-fills, lists-later, all-later, Sizes, carry-sizes, size-later, Points, carry-points, point-later, Built, carry-built, build-later, Added, carry-added, add-later}
 
 module _ (n : ℕ) (es : List ℕ) (ls : List ℤ) (none : NoneOf (ruledPrefix 1 n es (length ls))) where
   -- one promise, both ways
@@ -33,14 +34,15 @@ module _ (n : ℕ) (es : List ℕ) (ls : List ℤ) (none : NoneOf (ruledPrefix 1
   pub check-agrees : (v : Verdict) → CheckedUnder 1 n es ls v ↔ CheckedUnder 2 n es ls v
   check-agrees v = agreed (λ order read. Judged order v) (λ order order′ read c judged. carry-judged order order′ c v judged) (λ read. ClauseCause n ls ∷ [])
 
+  pub fills-agree : (L : List ℕ → List ℕ → Type 0) (later : List ℕ → List Causes) (before after : List ℕ) (r : Filled) → Filling (ruledPrefix 1 n es (length ls) ++ later (readAs 1 es)) (L (readAs 1 es)) before after r ↔ Filling (ruledPrefix 2 n es (length ls) ++ later (readAs 2 es)) (L (readAs 2 es)) before after r
+  fills-agree L later before after r = agreed (Fills 1 n es (length ls) L later before after r) (carry-fills 1 n es (length ls) L later before after r) later
+
   module _ (classes parents counts : List ℕ) where
     pub lists-agree : (x : ℕ) (P : List ℕ → ℕ → Type 0) (before after : List ℕ) (r : Filled) → ListedUnder 1 n es ls classes parents counts x P before after r ↔ ListedUnder 2 n es ls classes parents counts x P before after r
-    lists-agree x P before after r =
-        agreed (Lists 1 n es ls classes parents counts x P before after r) (λ order order′ read c h. carry-filling (Listed (P read)) before after r order order′ c h) (lists-later 1 n es ls classes parents counts x P before after r)
+    lists-agree x P before after r = fills-agree (λ read. Listed (P read)) (lists-later 1 n es ls classes parents counts x P before) before after r
 
     pub sets-agree : (scheme : Scheme) (before after : List ℕ) (r : Filled) → SetsUnder 1 scheme n es ls classes parents counts before after r ↔ SetsUnder 2 scheme n es ls classes parents counts before after r
-    sets-agree scheme before after r =
-        agreed (All 1 scheme n es ls classes parents counts before after r) (λ order order′ read c h. carry-filling (AllSetsBy scheme n read ls classes parents) before after r order order′ c h) (all-later 1 scheme n es ls classes parents counts before after r)
+    sets-agree scheme before after r = fills-agree (λ read. AllSetsBy scheme n read ls classes parents) (all-later 1 scheme n es ls classes parents counts before) before after r
 
     pub size-agrees : (scheme : Scheme) (x : ℕ) (r : Filled) → SizeUnder 1 scheme n es ls classes parents counts x r ↔ SizeUnder 2 scheme n es ls classes parents counts x r
     size-agrees scheme x (Count size) =

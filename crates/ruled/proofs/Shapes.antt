@@ -11,6 +11,7 @@ use Rattle.terms.specs.declared.Filled.the-variants.{Count, Refused}
 use Rattle.terms.specs.declared.Verdict.{Verdict}
 use Rattle.terms.proofs.Verdicts.{refused-first}
 use Rattle.connection.specs.Listed.{Listed}
+use Rattle.formula.specs.Causes.{prefixOrder}
 use Rattle.forest.specs.declared.EntryAnswer.{EntryAnswer}
 use Rattle.forest.specs.declared.EntryAnswer.the-variants.{At}
 use Rattle.forest.specs.declared.Scheme.{Scheme}
@@ -39,45 +40,54 @@ pub carry-filling : (L : List ℕ → Type 0) (before after : List ℕ) (r : Fil
 carry-filling L before after (Count count) order order′ c (none, list) = (c .none none, list)
 carry-filling L before after (Refused number place) order order′ c (first, same) = (c .first number place first, same)
 
--- a call that lists, for x
-module _ (rule n : ℕ) (es : List ℕ) (ls : List ℤ) (classes parents counts : List ℕ) (x : ℕ) (P : List ℕ → ℕ → Type 0) (before after : List ℕ) (r : Filled) where
-  abbrev pub Lists : List Causes → List ℕ → Type 0
-  Lists order read = Listing order (P read) before after r
+-- a call that fills a table with a list of which L holds by the prefix as it is read
+module _ (rule n : ℕ) (es : List ℕ) (entries : ℕ) (L : List ℕ → List ℕ → Type 0) (later : List ℕ → List Causes) (before after : List ℕ) (r : Filled) where
+  abbrev pub Fills : List Causes → List ℕ → Type 0
+  Fills order read = Filling order (L read) before after r
 
+  pub carry-fills : (order order′ : List Causes) (read : List ℕ) → Carries order order′ → Fills order read → Fills order′ read
+  carry-fills order order′ read c h = carry-filling (L read) before after r order order′ c h
+
+  pub fills-one : rule ≡ 1 → Fills (prefixOrder n es entries ++ later es) es → Fills (ruledPrefix rule n es entries ++ later (readAs rule es)) (readAs rule es)
+  fills-one is holds = under-one Fills carry-fills later rule n es entries is holds
+
+  pub fills-two : (out : List ℕ) (count : ℕ) {v : Filled} → v ≡ Count count → Joins rule n es entries out v
+      → Fills (prefixOrder n (take (count - 0) (drop 0 out)) entries ++ later (take (count - 0) (drop 0 out))) (take (count - 0) (drop 0 out))
+      → Fills (ruledPrefix rule n es entries ++ later (readAs rule es)) (readAs rule es)
+  fills-two out count is joined holds = under-two Fills carry-fills later rule n es entries out count (subst (Joins rule n es entries out) is joined) holds
+
+pub fills-refused : (rule n : ℕ) (es : List ℕ) (entries : ℕ) (L : List ℕ → List ℕ → Type 0) (later : List ℕ → List Causes) (before out : List ℕ) (number place : ℕ) {v : Filled} → v ≡ Refused number place → Joins rule n es entries out v → Filling (ruledPrefix rule n es entries ++ later (readAs rule es)) (L (readAs rule es)) before before (Refused number place)
+fills-refused rule n es entries L later before out number place is joined = (refused-under rule n es entries (later (readAs rule es)) out number place is joined, refl)
+
+-- a call that lists, for x
+module _ (rule n : ℕ) (es : List ℕ) (ls : List ℤ) (classes parents counts : List ℕ) (x : ℕ) (P : List ℕ → ℕ → Type 0) (before : List ℕ) where
   abbrev pub lists-later : List ℕ → List Causes
   lists-later read = afterPrefix (listOrder n read ls classes parents counts x (P read) before)
 
-  pub lists-one : rule ≡ 1 → Lists (listOrder n es ls classes parents counts x (P es) before) es → ListedUnder rule n es ls classes parents counts x P before after r
-  lists-one is holds = under-one Lists (λ order order′ read c h. carry-filling (Listed (P read)) before after r order order′ c h) lists-later rule n es (length ls) is holds
+  pub lists-one : (after : List ℕ) (r : Filled) → rule ≡ 1 → Listing (listOrder n es ls classes parents counts x (P es) before) (P es) before after r → ListedUnder rule n es ls classes parents counts x P before after r
+  lists-one after r is holds = fills-one rule n es (length ls) (λ read. Listed (P read)) lists-later before after r is holds
 
-  pub lists-two : (out : List ℕ) (count : ℕ) {v : Filled} → v ≡ Count count → Joins rule n es (length ls) out v
-      → Lists (listOrder n (take (count - 0) (drop 0 out)) ls classes parents counts x (P (take (count - 0) (drop 0 out))) before) (take (count - 0) (drop 0 out))
+  pub lists-two : (after : List ℕ) (r : Filled) (out : List ℕ) (count : ℕ) {v : Filled} → v ≡ Count count → Joins rule n es (length ls) out v
+      → Listing (listOrder n (take (count - 0) (drop 0 out)) ls classes parents counts x (P (take (count - 0) (drop 0 out))) before) (P (take (count - 0) (drop 0 out))) before after r
       → ListedUnder rule n es ls classes parents counts x P before after r
-  lists-two out count is joined holds =
-      under-two Lists (λ order order′ read c h. carry-filling (Listed (P read)) before after r order order′ c h) lists-later rule n es (length ls) out count (subst (Joins rule n es (length ls) out) is joined) holds
+  lists-two after r out count is joined holds = fills-two rule n es (length ls) (λ read. Listed (P read)) lists-later before after r out count is joined holds
 
-pub lists-refused : (rule n : ℕ) (es : List ℕ) (ls : List ℤ) (classes parents counts : List ℕ) (x : ℕ) (P : List ℕ → ℕ → Type 0) (before out : List ℕ) (number place : ℕ) {v : Filled} → v ≡ Refused number place → Joins rule n es (length ls) out v → ListedUnder rule n es ls classes parents counts x P before before (Refused number place)
-lists-refused rule n es ls classes parents counts x P before out number place is joined =
-    (refused-under rule n es (length ls) (lists-later rule n es ls classes parents counts x P before before (Refused number place) (readAs rule es)) out number place is joined, refl)
+  pub lists-refused : (out : List ℕ) (number place : ℕ) {v : Filled} → v ≡ Refused number place → Joins rule n es (length ls) out v → ListedUnder rule n es ls classes parents counts x P before before (Refused number place)
+  lists-refused out number place is joined = fills-refused rule n es (length ls) (λ read. Listed (P read)) lists-later before out number place is joined
 
 -- the sets of all universals by a scheme
-module _ (rule : ℕ) (scheme : Scheme) (n : ℕ) (es : List ℕ) (ls : List ℤ) (classes parents counts before after : List ℕ) (r : Filled) where
-  abbrev pub All : List Causes → List ℕ → Type 0
-  All order read = Filling order (AllSetsBy scheme n read ls classes parents) before after r
-
+module _ (rule : ℕ) (scheme : Scheme) (n : ℕ) (es : List ℕ) (ls : List ℤ) (classes parents counts before : List ℕ) where
   abbrev pub all-later : List ℕ → List Causes
   all-later read = afterPrefix (setsOrderBy scheme n read ls classes parents counts before)
 
-  pub all-one : rule ≡ 1 → SetsListedBy scheme n es ls classes parents counts before after r → SetsUnder rule scheme n es ls classes parents counts before after r
-  all-one is holds = under-one All (λ order order′ read c h. carry-filling (AllSetsBy scheme n read ls classes parents) before after r order order′ c h) all-later rule n es (length ls) is holds
+  pub all-one : (after : List ℕ) (r : Filled) → rule ≡ 1 → SetsListedBy scheme n es ls classes parents counts before after r → SetsUnder rule scheme n es ls classes parents counts before after r
+  all-one after r is holds = fills-one rule n es (length ls) (λ read. AllSetsBy scheme n read ls classes parents) all-later before after r is holds
 
-  pub all-two : (out : List ℕ) (count : ℕ) {v : Filled} → v ≡ Count count → Joins rule n es (length ls) out v → SetsListedBy scheme n (take (count - 0) (drop 0 out)) ls classes parents counts before after r → SetsUnder rule scheme n es ls classes parents counts before after r
-  all-two out count is joined holds =
-      under-two All (λ order order′ read c h. carry-filling (AllSetsBy scheme n read ls classes parents) before after r order order′ c h) all-later rule n es (length ls) out count (subst (Joins rule n es (length ls) out) is joined) holds
+  pub all-two : (after : List ℕ) (r : Filled) (out : List ℕ) (count : ℕ) {v : Filled} → v ≡ Count count → Joins rule n es (length ls) out v → SetsListedBy scheme n (take (count - 0) (drop 0 out)) ls classes parents counts before after r → SetsUnder rule scheme n es ls classes parents counts before after r
+  all-two after r out count is joined holds = fills-two rule n es (length ls) (λ read. AllSetsBy scheme n read ls classes parents) all-later before after r out count is joined holds
 
-pub all-refused : (rule : ℕ) (scheme : Scheme) (n : ℕ) (es : List ℕ) (ls : List ℤ) (classes parents counts before out : List ℕ) (number place : ℕ) {v : Filled} → v ≡ Refused number place → Joins rule n es (length ls) out v → SetsUnder rule scheme n es ls classes parents counts before before (Refused number place)
-all-refused rule scheme n es ls classes parents counts before out number place is joined =
-    (refused-under rule n es (length ls) (all-later rule scheme n es ls classes parents counts before before (Refused number place) (readAs rule es)) out number place is joined, refl)
+  pub all-refused : (out : List ℕ) (number place : ℕ) {v : Filled} → v ≡ Refused number place → Joins rule n es (length ls) out v → SetsUnder rule scheme n es ls classes parents counts before before (Refused number place)
+  all-refused out number place is joined = fills-refused rule n es (length ls) (λ read. AllSetsBy scheme n read ls classes parents) all-later before out number place is joined
 
 -- the size of a set
 module _ (rule : ℕ) (scheme : Scheme) (n : ℕ) (es : List ℕ) (ls : List ℤ) (classes parents counts : List ℕ) (x : ℕ) where

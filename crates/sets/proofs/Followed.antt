@@ -203,7 +203,7 @@ module _ {n : ℕ} {tops : List ℕ} {ls : List ℤ} {next : List ℕ} {signs : 
           (q, subst (On next q) (sym is) on, same-side sign (b .own) inside (b .connecting) x (t .is) own, record { start = b .start; place = b .place; own = inside; other = b .other; connecting = b .connecting; is = b .is })
 
 -- The next 0, found entry by entry.
-next-from : (ls : List ℤ) (k start : ℕ) → start + k ≡ length ls → (z : ℕ) × NextZero ls start z
+pub next-from : (ls : List ℤ) (k start : ℕ) → start + k ≡ length ls → (z : ℕ) × NextZero ls start z
 next-from ls zero start q = (start, record { from = omega arith; within = λ w. w; literals = λ e f l. absurd (omega arith); closes = λ l. absurd (omega arith) })
 next-from ls (suc k) start q = by-cases (ℕ-discrete (variableOf (literalAt ls start)) 0) (λ z. (start, record { from = omega arith; within = λ w. w; literals = λ e f l. absurd (omega arith); closes = λ _. z })) (λ some. more some (next-from ls k (suc start) (omega arith)))
   where
@@ -219,7 +219,7 @@ next-from ls (suc k) start q = by-cases (ℕ-discrete (variableOf (literalAt ls 
     )
 
 -- In a table that does not end inside a clause every clause is closed.
-closed-next : {ls : List ℤ} {s z : ℕ} → Closed ls → s < length ls → NextZero ls s z → z < length ls
+pub closed-next : {ls : List ℤ} {s z : ℕ} → Closed ls → s < length ls → NextZero ls s z → z < length ls
 closed-next {ls} {s} {z} closed l next = by-cases (decLt z (length ls)) (λ c. c) (λ c. absurd (closed (omega arith, λ q. next .literals (length ls - 1) (omega arith) (omega arith) (ap variableOf q))))
 
 module _ (ls : List ℤ) (sign : Bool) (x v : ℕ) where

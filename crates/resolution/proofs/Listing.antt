@@ -1,0 +1,64 @@
+-- From flags of what depends on x to the list that the call promises, and what check gives to the walk.
+use Prim.Native.Nat.{ℕ, _≤_}
+use mathlib.Core.Path.{_≡_, refl, sym, ap, _∙_}
+use mathlib.Core.Bool.{Bool, true, false}
+use mathlib.Core.List.{List}
+use mathlib.Core.Logic.{_↔_, by-cases}
+use native.Mathlib.Decide.{decLt, decLe}
+use native.Mathlib.Omega.{arith}
+use lib.IntN.{ℤ, pos, negℤ, negℤ-negℤ}
+use lib.ListN.{length, getD, replicate, length-replicate, getD-replicate, List·getD-eq-default}
+use Rattle.terms.specs.Literals.{variableOf}
+use Rattle.terms.specs.Refusals.{NoneOf}
+use Rattle.formula.specs.Tables.{literalAt}
+use Rattle.formula.specs.Causes.{ClauseCause, checkOrder}
+use Rattle.formula.specs.Levels.{SoundPrefix, Levelled}
+use Rattle.formula.proofs.Sound.{sound-clauses}
+use Rattle.connection.specs.Listed.{Listed}
+use Rattle.tables.specs.Formula.{variables, tabled, universalIn, signed}
+use Rattle.tables.proofs.Agreeing.{lawful, same-back, tables-agree, level-agrees, universal-agrees, universal-within}
+use Rattle.forest.specs.declared.listing.Asked.the-variants.{Points}
+use Rattle.forest.specs.Search.{pick, picked}
+use Rattle.forest.proofs.Flags.{literal-past}
+use Rattle.forest.proofs.Picked.{picked-listed}
+use Rattle.sets.proofs.AllSets.{sound-closed}
+use Rattle.resolution.specs.Paths.{DependsByPaths}
+use Rattle.resolution.specs.Walk.{ReadClauses}
+use Rattle.resolution.proofs.Reaching.{depends-same}
+
+-- A table of zeros.
+pub zeros : (size v : ℕ) → getD {A = ℕ} (replicate size 0) v 0 ≡ 0
+zeros size v = by-cases (decLt v size) (λ l. getD-replicate size v 0 0 l) (λ l. List·getD-eq-default (replicate size 0) 0 {n = v} (let q = length-replicate {A = ℕ} size 0 in omega arith))
+
+-- The two literals of x are each other's complement.
+pub complement-plain : (x : ℕ) → negℤ (signed true x) ≡ signed false x
+unfolding signed
+complement-plain x = refl
+
+pub complement-negation : (x : ℕ) → negℤ (signed false x) ≡ signed true x
+unfolding signed
+complement-negation x = negℤ-negℤ (pos x)
+
+-- A clause table that check accepts.
+pub read-clauses : {n : ℕ} {es : List ℕ} {ls : List ℤ} → NoneOf (checkOrder n es ls) → ReadClauses n ls
+read-clauses {n} {ls = ls} none = record { sound = sound-clauses none; upto = upto′; closed = sound-closed none }
+  where
+    upto′ : (e : ℕ) → variableOf (literalAt ls e) ≤ n
+    upto′ e =
+        by-cases (decLt e (length ls))
+        (λ l. by-cases (decLe (variableOf (literalAt ls e)) n) (λ low. low) (λ over. absurd (none .1 .1 .1 .0 10 e (ClauseCause.outside refl l (λ z. let q = ap variableOf z in omega arith) (omega arith)))))
+        (λ l. let past = literal-past ls e (omega arith) in omega arith)
+
+module _ {n : ℕ} {es levels : List ℕ} {universals : List Bool} (sound : SoundPrefix n es) (table : Levelled es levels universals) {x : ℕ} (u : universalIn n universals x ≡ true) where
+  -- x is one of the variables.
+  pub own-within : (1 ≤ x) × (x ≤ n)
+  own-within = let w = universal-within n es x (sym (universal-agrees sound table x) ∙ u) in (w .0, w .1)
+
+  -- What is flagged by the level table is the list of all that depends on x by the prefix.
+  pub dependents-listed : {ls : List ℤ} (flags : List Bool) (tops : List ℕ) → ((v : ℕ) → 1 ≤ v → v ≤ n → (getD flags v false ≡ true) ↔ DependsByPaths (tabled n levels universals) ls x v) → Listed (DependsByPaths (variables n es) ls x) (picked (pick Points n flags tops) n)
+  unfolding pick
+  dependents-listed flags tops told =
+      let s = tables-agree sound table in
+      let own = level-agrees sound table x (own-within .1) in
+      picked-listed (pick Points n flags tops) n (λ v d. lawful n es .within v (d .deeper .existential))
+      (λ v low high. let t = told v low high in (λ f. depends-same s own (t .0 f), λ d. t .1 (depends-same (same-back s) (sym own) d)))

@@ -1,0 +1,23 @@
+-- `resolution::ends::plain` meets its contract.
+use Prim.Native.Nat.{_<_}
+use mathlib.Core.Path.{_∙_}
+use native.Mathlib.Omega.{arith}
+use mir.Syntax.{w32}
+use mir.Facts.{toZ-pos}
+use borrow.Author.Needs.{needs}
+use Rattle.tables.specs.Formula.{signed}
+use Rattle.resolution.proofs.ends.plain.Statement.{statement}
+use Rattle.resolution.proofs.ends.plain.Tie as tie
+
+cast-new : tie.Need-cast-new
+cast-new c = search needs
+
+new-requires : tie.Need-new-requires
+new-requires c κs = search needs
+
+returns : tie.Need-returns
+unfolding signed
+returns c = let l = c .before .before .pre in let p : c .before .before .args .x .0 < 2147483648 = omega arith in c .new .ensures ∙ toZ-pos w32 p
+
+pub plain-spec : {M : Type 1} → statement M
+plain-spec = tie.close (tie.spec cast-new new-requires returns)

@@ -1,0 +1,64 @@
+-- Resolution paths, what depends on a universal by them, and what the call for the resolution-path set promises: document 02, request 13, whose words
+-- decide over document 004.
+use Prim.Native.Nat.{ℕ, _<_}
+use mathlib.Core.Path.{_≡_}
+use mathlib.Core.Bool.{Bool, true, false, not}
+use mathlib.Core.List.{List, [], _∷_, _++_, List·Memᴰ}
+use mathlib.Core.Logic.{_≢_}
+use lib.IntN.{ℤ, negℤ}
+use lib.ListN.{length}
+use Rattle.terms.specs.Literals.{variableOf}
+use Rattle.terms.specs.Refusals.{Causes, At0}
+use Rattle.terms.specs.declared.Filled.{Filled}
+use Rattle.formula.specs.Meaning.{clauses, alwaysTrue}
+use Rattle.formula.specs.Causes.{checkOrder}
+use Rattle.connection.specs.Reach.{Variables}
+use Rattle.tables.specs.Formula.{variables, signed}
+use Rattle.forest.specs.Causes.{NotUniversal}
+use Rattle.forest.specs.Listed.{TooLong, Listing}
+use Rattle.joining.specs.Rules.{readAs, underRule}
+
+-- v is an existential deeper than x
+pub record Deeper (X : Variables) (x v : ℕ) : Type 0 where
+  pub existential : X .ex v ≡ true
+  pub deep : X .lev x < X .lev v
+
+-- A clause, not an always-true one, is entered by one literal and left by a literal of another variable.
+pub record Crosses (ls : List ℤ) (enter leave : ℤ) : Type 0 where
+  pub clause : List ℤ
+  pub listed : List·Memᴰ clause (clauses ls)
+  pub takes-part : alwaysTrue clause ≡ false
+  pub entered : List·Memᴰ enter clause
+  pub left : List·Memᴰ leave clause
+  pub another : variableOf enter ≢ variableOf leave
+
+-- A path from a literal first enters a clause by that literal, and ends at the literal by which it leaves its last clause. From a literal it goes to
+-- the complement, and from the complement to a clause, which it enters by it. Only existentials deeper than x are passed on the way.
+pub data Path (X : Variables) (ls : List ℤ) (x : ℕ) (from : ℤ) : ℤ → Type 0 where
+  enters : {leave : ℤ} → Crosses ls from leave → Path X ls x from leave
+  goes-on : {at leave : ℤ} → Path X ls x from at → Deeper X x (variableOf at) → Crosses ls (negℤ at) leave → Path X ls x from leave
+
+-- y, an existential deeper than x, depends on x if paths run from x and from its negation to opposite literals of y.
+pub record DependsByPaths (X : Variables) (ls : List ℤ) (x y : ℕ) : Type 0 where
+  pub deeper : Deeper X x y
+  pub sign : Bool
+  pub from-x : Path X ls x (signed true x) (signed sign y)
+  pub from-negation : Path X ls x (signed false x) (signed (not sign) y)
+
+-- the most variables that a formula may have for this scheme
+abbrev pub mostPathVariables : ℕ
+mostPathVariables = 512
+
+-- the order of the call by the prefix as it is read: that of check, 13: x not universal, 27: n over 512, 14
+abbrev pub resolutionOrder : ℕ → List ℕ → List ℤ → ℕ → List ℕ → List Causes
+resolutionOrder n es ls x before =
+    checkOrder n es ls ++ (At0 13 (NotUniversal n es x) ∷ At0 27 (mostPathVariables < n) ∷ At0 14 (TooLong (DependsByPaths (variables n es) ls x) before) ∷ [])
+
+-- the same under a rule: 23, 1, 2, the prefix by the rule, and then what the call looks for by the prefix as it is read
+abbrev pub resolutionOrderUnder : ℕ → ℕ → List ℕ → List ℤ → ℕ → List ℕ → List Causes
+resolutionOrderUnder rule n es ls x before = underRule rule n es (length ls) (resolutionOrder n (readAs rule es) ls x before)
+
+-- What the call promises: its refusals in their order, the ascending list of all that depends on x by the prefix as it is read, and what it leaves in the
+-- lent output.
+abbrev pub ResolutionListed : ℕ → ℕ → List ℕ → List ℤ → ℕ → List ℕ → List ℕ → Filled → Type 0
+ResolutionListed rule n es ls x before = Listing (resolutionOrderUnder rule n es ls x before) (DependsByPaths (variables n (readAs rule es)) ls x) before

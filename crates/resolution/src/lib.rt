@@ -1,0 +1,79 @@
+// Resolution-path sets: the existentials that resolution paths tie to a universal, from x and from its negation to opposite literals.
+
+mod ends;
+mod walking;
+
+use ends::flag_dependent;
+use forest::listing::Asked;
+use forest::listing::list_picked;
+use formula::levels::fill_levels;
+use joining::join;
+use tables::rows::universal_at;
+use terms::Filled;
+use terms::Variable;
+use terms::Verdict;
+ghost use mathlib.Core.List.{[], _∷_};
+ghost use Rattle.terms.specs.Refusals.{At0};
+ghost use Rattle.formula.specs.Levels.{SoundPrefix};
+ghost use Rattle.tables.specs.Formula.{variables};
+ghost use Rattle.forest.specs.Causes.{NotUniversal};
+ghost use Rattle.forest.specs.Listed.{TooLong, Listing};
+ghost use Rattle.resolution.specs.Paths.{DependsByPaths, mostPathVariables, resolutionOrder, ResolutionListed};
+ghost use Rattle.resolution.specs.Walk.{ReadClauses};
+ghost use Prim.Native.Nat.{_<_};
+
+// The most variables that a formula may have for this scheme.
+pub const VARIABLES_MOST: u32 = 512;
+
+// The resolution-path set of x under a reading rule, written ascending into `out`, with the count of its members.
+pub fn resolution_set(
+    rule: u32,
+    n: u32,
+    prefix: &[u32],
+    clauses: &[i32],
+    x: Variable,
+    out: &mut [u32],
+) -> Filled
+    ensures { λ r. ⌜ ResolutionListed rule n (now (prefix .entry)) (now (clauses .entry)) (x .0) (now (out .entry)) (now (out .exit)) r ⌝ }
+{
+    if rule == 1 {
+        return set_as_read(n, prefix, clauses, x, out);
+    }
+    let mut read = [0u32; 4224];
+    match join(rule, n, prefix, clauses.len(), &mut read) {
+        Filled::Refused(number, place) => Filled::Refused(number, place),
+        Filled::Count(count) => {
+            let end = count as usize;
+            set_as_read(n, &read[0..end], clauses, x, out)
+        }
+    }
+}
+
+// The same, of a prefix that stands as it is read.
+fn set_as_read(n: u32, prefix: &[u32], clauses: &[i32], x: Variable, out: &mut [u32]) -> Filled
+    ensures { λ r. ⌜ Listing (resolutionOrder n (now (prefix .entry)) (now (clauses .entry)) (x .0) (now (out .entry))) (DependsByPaths (variables n (now (prefix .entry))) (now (clauses .entry)) (x .0)) (now (out .entry)) (now (out .exit)) r ⌝ }
+{
+    match formula::check(n, prefix, clauses) {
+        Verdict::Refused(number, place) => Filled::Refused(number, place),
+        Verdict::Accepted => sound_set(n, prefix, clauses, x, out),
+    }
+}
+
+// The same, once the formula is accepted.
+fn sound_set(n: u32, prefix: &[u32], clauses: &[i32], x: Variable, out: &mut [u32]) -> Filled
+    requires { ⌜ SoundPrefix n (now prefix) × ReadClauses n (now clauses) ⌝ }
+    ensures { λ r. ⌜ Listing (At0 13 (NotUniversal n (now (prefix .entry)) (x .0)) ∷ At0 27 (mostPathVariables < n) ∷ At0 14 (TooLong (DependsByPaths (variables n (now (prefix .entry))) (now (clauses .entry)) (x .0)) (now (out .entry))) ∷ []) (DependsByPaths (variables n (now (prefix .entry))) (now (clauses .entry)) (x .0)) (now (out .entry)) (now (out .exit)) r ⌝ }
+{
+    let mut levels = [0u32; 4097];
+    let mut universals = [false; 4097];
+    fill_levels(prefix, &mut levels, &mut universals);
+    if !universal_at(n, &universals, x) {
+        return Filled::Refused(13, 0);
+    }
+    if VARIABLES_MOST < n {
+        return Filled::Refused(27, 0);
+    }
+    let mut flags = [false; 513];
+    flag_dependent(n, clauses, &levels, &universals, x, &mut flags);
+    list_picked(n, Asked::Points, &flags, &[], out)
+}
