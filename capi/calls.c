@@ -356,7 +356,7 @@ struct verdict call_write(const struct formula *f, uint8_t *text, size_t text_le
     return settle(number);
 }
 
-struct verdict call_store(const struct formula *f, uint32_t with_sets, uint8_t *file, size_t file_len, uint32_t *count)
+struct verdict call_store(const struct formula *f, uint8_t *file, size_t file_len, uint32_t *count)
 {
     uint8_t *table;
     uint32_t *cell, number;
@@ -367,7 +367,7 @@ struct verdict call_store(const struct formula *f, uint32_t with_sets, uint8_t *
     table = lend(file, file_len);
     cell = lend_cell();
     lend_place();
-    number = snow_store(reading_rule, lent.n, lent.prefix, lent.prefix_len, lent.clauses, lent.clauses_len, with_sets, table, file_len, cell, place);
+    number = snow_store(reading_rule, lent.n, lent.prefix, lent.prefix_len, lent.clauses, lent.clauses_len, table, file_len, cell, place);
     if (number == 0) {
         take(count, cell, sizeof *count);
         if (within(*count, file_len))

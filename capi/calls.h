@@ -75,7 +75,7 @@ struct loaded {
     uint32_t with_sets;
 };
 
-struct verdict call_store(const struct formula *f, uint32_t with_sets, uint8_t *file, size_t file_len, uint32_t *count);
+struct verdict call_store(const struct formula *f, uint8_t *file, size_t file_len, uint32_t *count);
 struct verdict call_load(const uint8_t *file, size_t file_len, struct loaded *t);
 struct verdict call_path(const struct formula *f, uint32_t x, uint32_t y, const uint32_t *path, size_t path_len);
 

@@ -39,7 +39,7 @@ static void no_rule(uint32_t rule)
         expect_sets_refused(&f, &w, out, 0, 23, 0, "sets");
         expect_refused(call_add(&f, &w, clause, LEN(clause)), 23, 0, "add");
         expect_refused(call_write(&f, text, 0, &count), 23, 0, "write");
-        expect_refused(call_store(&f, 1, text, 0, &count), 23, 0, "store");
+        expect_refused(call_store(&f, text, 0, &count), 23, 0, "store");
         expect_refused(call_path(&f, 0, 0, NULL, 0), 23, 0, "path");
     }
     expect_refused(call_load(NULL, 0, &t), 23, 0, "load");
@@ -167,9 +167,9 @@ static void kept(void)
     expect_accepted(call_read(bytes, count, &n, prefix, LEN(prefix), &prefix_count, clauses, LEN(clauses), &clauses_count), "read");
     agree(n == 9 && prefix_count == LEN(spread_prefix), "the prefix in the text is as long as it was");
     expect_rows(prefix, spread_prefix, LEN(spread_prefix), "the prefix in the text");
-    expect_accepted(call_store(&f, 1, bytes, sizeof bytes, &count), "store");
+    expect_accepted(call_store(&f, bytes, sizeof bytes, &count), "store");
     expect_accepted(call_load(bytes, count, &t), "load");
-    agree(t.n == 9 && t.prefix_count == LEN(spread_prefix) && t.with_sets == 1, "the prefix in the file is as long as it was");
+    agree(t.n == 9 && t.prefix_count == LEN(spread_prefix) && t.with_sets == 0, "the prefix in the file is as long as it was");
     expect_rows(loaded_prefix, spread_prefix, LEN(spread_prefix), "the prefix in the file");
     a = forest_a();
     expect_rows(class_rows, a.classes, 9, "classes of A");

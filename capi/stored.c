@@ -1,7 +1,8 @@
 /*
  * Files of a forest: written ones against the bytes that the rules say, read
- * ones against the judge, damaged in any place with the sum closed again or
- * not; and each refusal by hand.
+ * ones, with sets and without, against the judge, damaged in any place with
+ * the sum closed again or not; every file that is accepted written again; and
+ * each refusal by hand.
  */
 #include <string.h>
 
@@ -14,7 +15,7 @@
 
 enum { ROUNDS = 400, DAMAGES = 12 };
 
-static uint8_t file[MOST_FILE + 2], made[MOST_FILE + 2];
+static uint8_t file[MOST_FILE + 2], made[MOST_FILE + 2], again[MOST_FILE + 2], without[MOST_FILE + 2];
 static struct filed judged;
 
 /* What reading fills: tables with some rows more than are needed. */
@@ -45,6 +46,34 @@ static int same_rows(const uint8_t *from, uint32_t n)
     return memcmp(rows, from, at) == 0;
 }
 
+/* A file without its record of kind 4, if it has one, and with the sum closed again; gives its length. */
+static size_t drop_sets(const uint8_t *from, size_t length, uint8_t *to)
+{
+    size_t at, size, kept = 0;
+
+    for (at = 0; at < length; at += size) {
+        size = 6 + (from[at] | (size_t)from[at + 1] << 8 | (size_t)from[at + 2] << 16 | (size_t)from[at + 3] << 24);
+        if (from[at + 4] == 4 && from[at + 5] == 0)
+            continue;
+        memcpy(to + kept, from + at, size);
+        kept += size;
+    }
+    close_sum(to, kept);
+    return kept;
+}
+
+/* Writes again what was read from a file: the same bytes, but for kind 4 and the closing word that goes with it. */
+static void compare_again(const uint8_t *from, size_t length, const struct loaded *t)
+{
+    struct formula f = { t->n, t->prefix, t->prefix_count, t->clauses, t->clauses_count };
+    size_t kept = drop_sets(from, length, without);
+    uint32_t count = 0;
+
+    expect_accepted(call_store(&f, again, kept, &count), "store again");
+    agree(count == kept && memcmp(again, without, kept) == 0, "the bytes of the file written again");
+    agree(t->with_sets == (kept != length) && (t->with_sets || memcmp(again, from, length) == 0), "a file without sets stays as it is");
+}
+
 /* Reads a file that the judge knows, and compares all that it fills. */
 static void compare_load(const uint8_t *from, size_t length)
 {
@@ -63,6 +92,7 @@ static void compare_load(const uint8_t *from, size_t length)
           && memcmp(clauses, judged.clauses, judged.f.clauses_len * sizeof *clauses) == 0, "the prefix and the clauses");
     third = 8 + 2 * judged.f.prefix_len + 6 + 4 * judged.f.clauses_len + 6;
     agree(same_rows(from + third, t.n), "the rows");
+    compare_again(from, length, &t);
 }
 
 /* 14: each table one row too short; and where all just suffice, none is. */
@@ -97,17 +127,15 @@ static void compare_rooms(const uint8_t *from, size_t length, const struct formu
 }
 
 /* Store, against the bytes of the rules; and with a table that is one byte too short. */
-static size_t compare_store(const struct formula *f, uint32_t with_sets)
+static void compare_store(const struct formula *f)
 {
     uint32_t count = 0;
-    size_t length = file_of(f, with_sets != 0, made);
+    size_t length = file_of(f, 0, made);
 
     memset(file, 0x5A, length + 2);
-    expect_accepted(call_store(f, with_sets, file, length + draw(3), &count), "store");
+    expect_accepted(call_store(f, file, length + draw(3), &count), "store");
     agree(count == length && memcmp(file, made, length) == 0, "the bytes of the file");
-    expect_refused(call_store(f, with_sets, file, length - 1, &count), 14, 0, "store");
-    memcpy(file, made, length);
-    return length;
+    expect_refused(call_store(f, file, length - 1, &count), 14, 0, "store");
 }
 
 /* A byte or a word changed, a tail cut off, or bytes put behind; gives the length. */
@@ -146,13 +174,15 @@ static void compare_word(size_t length)
     compare_load(file, length);
 }
 
-static void compare_file(const struct formula *f, uint32_t with_sets)
+static void compare_file(const struct formula *f, int with_sets)
 {
-    size_t length = compare_store(f, with_sets), now;
+    size_t length, now;
     uint32_t times;
 
-    compare_load(file, length);
-    compare_rooms(file, length, f);
+    compare_store(f);
+    length = file_of(f, with_sets, made);
+    compare_load(made, length);
+    compare_rooms(made, length, f);
     compare_word(length);
     for (times = 0; times < DAMAGES; times++) {
         memcpy(file, made, length);
@@ -201,16 +231,49 @@ static void refused_by_hand(void)
     file[238] = 5;
     close_sum(file, with);
     expect_refused(call_load(file, with, &t), 22, 230, "load, a set");
-    expect_refused(call_store(&formula_a, 0, file, 237, &t.n), 14, 0, "store");
+    expect_refused(call_store(&formula_a, file, 237, &t.n), 14, 0, "store");
+}
+
+/* Puts a two-byte number at a place of a file. */
+static void put_two(uint8_t *at, size_t number)
+{
+    at[0] = (uint8_t)number;
+    at[1] = (uint8_t)(number >> 8);
+}
+
+/* A file with a record of kind 4 in front of its last one: for each of so many universals the thousand existentials behind them. Gives its length. */
+static size_t insert_sets(uint8_t *bytes, size_t length, uint32_t universals)
+{
+    size_t size = 2004 * (size_t)universals;
+    uint8_t *at = bytes + length - 8;
+    uint32_t x, k;
+
+    memmove(at + 6 + size, at, 8);
+    put_two(at, size);
+    put_two(at + 2, size >> 16);
+    put_two(at + 4, 4);
+    at += 6;
+    for (x = 1; x <= universals; x++) {
+        put_two(at, x);
+        put_two(at + 2, 1000);
+        for (k = 1; k <= 1000; k++)
+            put_two(at + 2 + 2 * k, universals + k);
+        at += 2004;
+    }
+    close_sum(bytes, length + 6 + size);
+    return length + 6 + size;
 }
 
 /* Universals that all share a clause with one of a thousand existentials of one class: every set has all thousand. */
-static void compare_wide(uint32_t universals, int fits)
+static void compare_wide(uint32_t universals)
 {
-    static uint32_t entries[1500];
+    static uint32_t entries[1500], rows[3][1500];
     static int32_t literals[1500];
+    static uint8_t wide[2 * MOST_FILE];
     uint32_t v, n = universals + 1000, count = 0;
     struct formula f = { n, entries, 0, literals, 0 };
+    struct loaded t = { 0, entries, LEN(entries), 0, literals, LEN(literals), 0, { rows[0], n, rows[1], n, rows[2], n, { 0, 0, 0 } }, 9 };
+    size_t length;
 
     about("universals", universals);
     entries[f.prefix_len++] = 2;
@@ -230,14 +293,19 @@ static void compare_wide(uint32_t universals, int fits)
         }
     }
     literals[f.clauses_len++] = 0;
-    expect_accepted(call_store(&f, 0, file, sizeof file, &count), "store, without sets");
-    if (!fits) {
-        expect_refused(call_store(&f, 1, file, sizeof file, &count), 19, 0, "store, with sets");
-        expect_refused(call_store(&f, 1, file, 0, &count), 19, 0, "store, 19 before 14");
+    expect_accepted(call_store(&f, wide, MOST_FILE, &count), "store");
+    agree(count == 8 + 2 * f.prefix_len + 6 + 4 * f.clauses_len + 6 + 12 * n + 8, "the length of the file");
+    length = insert_sets(wide, count, universals);
+    if (length > MOST_FILE) {
+        expect_refused(call_load(wide, length, &t), 19, 0, "load, with sets");
         return;
     }
-    expect_accepted(call_store(&f, 1, file, sizeof file, &count), "store, with sets");
-    agree(count == 8 + 2 * f.prefix_len + 6 + 4 * f.clauses_len + 6 + 12 * n + 6 + 2004 * universals + 8, "the length of the file");
+    expect_accepted(call_load(wide, length, &t), "load, with sets");
+    agree(t.with_sets == 1, "sets were there");
+    compare_again(wide, length, &t);
+    put_two(wide + length - 10, n - 1);
+    close_sum(wide, length);
+    expect_refused(call_load(wide, length, &t), 22, count - 8, "load, the last number of a set");
 }
 
 /* Files of random formulas by the rule that the calls are asked for, and formulas that it refuses. */
@@ -253,7 +321,7 @@ static void random_files(const char *files, const char *refused)
         if (reading_rule == SNOW_JOINED && round % 4 != 0)
             draw_spread(&d);
         if (judge_formula(&d.f).number == 0 && d.f.n <= SMALL)
-            compare_file(&d.f, round % 3 == 0 ? 0 : round);
+            compare_file(&d.f, round % 3 != 0);
     }
     group(refused);
     for (round = 0; round < ROUNDS; round++) {
@@ -263,7 +331,7 @@ static void random_files(const char *files, const char *refused)
             draw_spread(&d);
         damage_formula(&d);
         if (judge_formula(&d.f).number != 0)
-            expect_verdict(call_store(&d.f, round % 2, file, 4, &count), judge_formula(&d.f), "store");
+            expect_verdict(call_store(&d.f, file, 4, &count), judge_formula(&d.f), "store");
     }
 }
 
@@ -272,9 +340,8 @@ void test_stored(void)
     group("files of formula A");
     refused_by_hand();
     group("files with long sets");
-    compare_wide(120, 1);
-    compare_wide(130, 0);
-    compare_wide(300, 0);
+    compare_wide(120);
+    compare_wide(130);
     random_files("files of random formulas, and damaged", "files of formulas that are refused");
     reading_rule = SNOW_JOINED;
     random_files("files with joined prefixes, and damaged", "files of formulas with joined prefixes that are refused");

@@ -148,7 +148,7 @@
  *  19   of a file: the length of a record cut or odd,   where the record
  *       kind 1 under two bytes, kind 2 not whole        begins; 0 for a file
  *       literals, kind 65,535 not two bytes; or over    too long
- *       262,144 bytes, read or to be written
+ *       262,144 bytes
  *  20   of a file: an unknown kind, a wrong order or    where the record
  *       a kind missing                                  begins, or would
  *  21   a file's words do not sum to zero               0
@@ -169,9 +169,9 @@
  * 27, 15 (writing), 14; at one entry the lower number. snow_read and
  * snow_read_lists give 15, then 16 and 17 by the earliest line, then 14.
  * snow_load gives 23, 19, 20, 21, then 1 to 11 for the formula in the file,
- * then 22, then 14; snow_store 23, 1 to 11, then 19, then 14. snow_expand
- * gives 23, 1 to 11, 13, then 1 and 2 where the formula that it would give
- * has over 4,096 variables or a table that is too long, then 14.
+ * then 22, then 14; snow_store 23, 1 to 11, then 14: its file is never too long.
+ * snow_expand gives 23, 1 to 11, 13, then 1 and 2 where the formula that it
+ * would give has over 4,096 variables or a table that is too long, then 14.
  * A call skips what it does not take; the list above each prototype says
  * which refusals it can give.
  *
@@ -614,27 +614,27 @@ uint32_t snow_write_lists(uint32_t rule, uint32_t n,
 
 /*
  * Store: the file of a formula and its forest, for another site to load. The
- * forest is built here; with_sets other than 0 puts the standard sets of all
- * universals beside it. *count says how many bytes.
+ * forest is built here. *count says how many bytes.
  *
  * A file is records, one after the other: the length of the payload in four
  * bytes, the kind in two, and the payload, every number with its lowest byte
  * first. Kind 1: n, then the prefix, two bytes a number. Kind 2: the clauses,
  * four bytes a literal. Kind 3: n class names, n parents and n counts, four
- * bytes a number. Kind 4, if asked for: for each universal ascending its
- * number, the count of its set and its set, two bytes each. Kind 65,535: a
- * two-byte word, with which the 16-bit words of the whole file sum to zero
- * when the sum is let wrap.
+ * bytes a number. Kind 65,535: a two-byte word, with which the 16-bit words of
+ * the whole file sum to zero when the sum is let wrap. Kind 4, which is no
+ * longer written and may stand in front of the last one in files that are
+ * loaded: for each universal ascending its number, the count of its standard
+ * set and the set, two bytes each.
  *
- * Of A: 238 bytes without sets, 260 with them.
+ * Of A: 238 bytes.
  *
- * Refuses 23, 1 to 11, 19 where the file would be longer than 262,144 bytes,
- * and 14 where file has fewer than *count; 262,144 bytes always suffice.
+ * Refuses 23, 1 to 11, and 14 where file has fewer than *count bytes; 131,100
+ * always suffice.
  */
 uint32_t snow_store(uint32_t rule, uint32_t n,
                     const uint32_t *prefix, size_t prefix_len,
                     const int32_t *clauses, size_t clauses_len,
-                    uint32_t with_sets, uint8_t *file, size_t file_len,
+                    uint8_t *file, size_t file_len,
                     uint32_t *count, uint32_t *place);
 
 /*
@@ -642,8 +642,10 @@ uint32_t snow_store(uint32_t rule, uint32_t n,
  * forest built anew, and the file is accepted only if its rows, and its sets
  * where it has them, are the same. Gives *n, fills prefix and clauses, with
  * their counts, and n rows of classes, of parents and of counts; *with_sets is
- * 1 if the file has sets, else 0. What snow_store wrote is loaded back the
- * same by the same rule, and a file with one 16-bit word changed is refused.
+ * 1 if the file has sets (kind 4), else 0. What snow_store wrote is loaded back
+ * the same by the same rule, and a file with one 16-bit word changed is refused.
+ * Storing what was loaded gives the file again: without its kind 4, if it had
+ * one, with the closing word refitted, and with nothing else changed.
  *
  * Refuses 23, 19, 20, 21, 1 to 11 for the formula in the file, with places in
  * its tables, 22, and 14 where a table is too short.

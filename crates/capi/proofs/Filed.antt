@@ -13,7 +13,7 @@ use Rattle.records.specs.declared.Loaded.{Loaded}
 use Rattle.records.specs.declared.Loaded.the-variants.{Formula, Refused}
 use Rattle.records.specs.Layout.{SumsToZero}
 use Rattle.records.specs.Places.{countIn, prefixIn, clausesIn}
-use Rattle.records.specs.Causes.{TooLarge, RecordCause, OrderCause, wrong, missing, ForestFileCause, rows-disagree, sets-disagree, Lent, NoRoom, FileTooLarge, FileTooLong, fileOrder, loadOrder, storeOrder}
+use Rattle.records.specs.Causes.{fileBytes, TooLarge, RecordCause, OrderCause, wrong, missing, ForestFileCause, rows-disagree, sets-disagree, Lent, NoRoom, FileTooLarge, FileTooLong, fileOrder, afterRule, loadOrder, storeOrder}
 use Rattle.records.specs.Promises.{Loads}
 use Rattle.layout.specs.Laid.{Laid}
 use Rattle.layout.proofs.Walks.{record-cause, reached-within}
@@ -22,10 +22,10 @@ use Rattle.layout.proofs.Laying.{file-laid}
 use Rattle.capi.specs.Filed.{tellsSets, Given}
 use Rattle.capi.proofs.Places.{Small, small-then, small-within, small-at0, small-check}
 
-pub small-store : (rule n : ℕ) (es : List ℕ) (ls : List ℤ) (asked : Bool) (before : List ℕ) → Small (storeOrder rule n es ls asked before)
-small-store rule n es ls asked before =
-    small-then (checkOrderUnder rule n es ls) (At0 19 (FileTooLarge rule n es ls asked) ∷ At0 14 (FileTooLong rule n es ls asked before) ∷ []) (small-check rule n es ls)
-    (λ _. small-then (At0 19 (FileTooLarge rule n es ls asked) ∷ []) (At0 14 (FileTooLong rule n es ls asked before) ∷ []) (small-at0 19 (FileTooLarge rule n es ls asked)) (λ _. small-at0 14 (FileTooLong rule n es ls asked before)))
+pub small-store : (rule n : ℕ) (es : List ℕ) (ls : List ℤ) (before : List ℕ) → Small (storeOrder rule n es ls before)
+small-store rule n es ls before =
+    small-then (checkOrderUnder rule n es ls) (At0 19 (FileTooLarge rule n es ls) ∷ At0 14 (FileTooLong rule n es ls before) ∷ []) (small-check rule n es ls)
+    (λ _. small-then (At0 19 (FileTooLarge rule n es ls) ∷ []) (At0 14 (FileTooLong rule n es ls before) ∷ []) (small-at0 19 (FileTooLarge rule n es ls)) (λ _. small-at0 14 (FileTooLong rule n es ls before)))
 
 module _ (file : List ℕ) where
   -- records begin within the file, and those of rows and sets within the longest one
@@ -36,7 +36,7 @@ module _ (file : List ℕ) where
   order-place (wrong _ _ r _ _) = reached-within file r
   order-place (missing _ _ r _ _) = reached-within file r
 
-  forest-place : {rule k p : ℕ} → Laid file → ForestFileCause rule file k p → p ≤ 262144
+  forest-place : {rule k p : ℕ} → Laid file → ForestFileCause rule file k p → p ≤ fileBytes
   forest-place laid (rows-disagree _ q _) = let ends = laid-ends file laid in omega (arith, ends .third, ends .fourth)
   forest-place laid (sets-disagree _ q _ _) = let ends = laid-ends file laid in omega (arith, ends .fourth)
 
@@ -44,19 +44,19 @@ module _ (file : List ℕ) where
   small-file =
       small-then (At0 19 (TooLarge file) ∷ []) (RecordCause file ∷ OrderCause file ∷ At0 21 (SumsToZero file → ⊥) ∷ []) (small-at0 19 (TooLarge file))
       (λ none.
-      let long : ¬ (262144 < length file) = λ l. none .0 19 0 (refl, refl, l) in
-      small-then (RecordCause file ∷ []) (OrderCause file ∷ At0 21 (SumsToZero file → ⊥) ∷ []) (small-within (RecordCause file) 262144 (omega arith) (λ k p cause. let l = record-place cause in omega arith))
-      (λ _. small-then (OrderCause file ∷ []) (At0 21 (SumsToZero file → ⊥) ∷ []) (small-within (OrderCause file) 262144 (omega arith) (λ k p cause. let l = order-place cause in omega arith))
+      let long : ¬ (fileBytes < length file) = λ l. none .0 19 0 (refl, refl, l) in
+      small-then (RecordCause file ∷ []) (OrderCause file ∷ At0 21 (SumsToZero file → ⊥) ∷ []) (small-within (RecordCause file) fileBytes (omega arith) (λ k p cause. let l = record-place cause in omega arith))
+      (λ _. small-then (OrderCause file ∷ []) (At0 21 (SumsToZero file → ⊥) ∷ []) (small-within (OrderCause file) fileBytes (omega arith) (λ k p cause. let l = order-place cause in omega arith))
       (λ _. small-at0 21 (SumsToZero file → ⊥))))
 
   pub small-load : (rule : ℕ) (lent : Lent) → Small (loadOrder rule file lent)
   small-load rule lent =
-      let order = checkOrderUnder rule (countIn file) (prefixIn file) (clausesIn file) in
+      let order = afterRule (checkOrderUnder rule (countIn file) (prefixIn file) (clausesIn file)) in
       let last = At0 14 (NoRoom file lent) ∷ [] in
       small-then (At0 23 (NoRule rule) ∷ []) (fileOrder file ++ (order ++ (ForestFileCause rule file ∷ last))) (small-at0 23 (NoRule rule))
-      (λ _. small-then (fileOrder file) (order ++ (ForestFileCause rule file ∷ last)) small-file
-      (λ none. small-then order (ForestFileCause rule file ∷ last) (small-check rule (countIn file) (prefixIn file) (clausesIn file))
-      (λ _. small-then (ForestFileCause rule file ∷ []) last (small-within (ForestFileCause rule file) 262144 (omega arith) (λ k p cause. forest-place (file-laid file none) cause))
+      (λ ruled. small-then (fileOrder file) (order ++ (ForestFileCause rule file ∷ last)) small-file
+      (λ none. small-then order (ForestFileCause rule file ∷ last) (λ k p first. small-check rule (countIn file) (prefixIn file) (clausesIn file) k p (inr (ruled .0, first)))
+      (λ _. small-then (ForestFileCause rule file ∷ []) last (small-within (ForestFileCause rule file) fileBytes (omega arith) (λ k p cause. forest-place (file-laid file none) cause))
       (λ _. small-at0 14 (NoRoom file lent)))))
 
 -- What loading says: the entries of an accepted formula are few, and with a number that tells of its sets it is what C is given.
@@ -65,8 +65,8 @@ module _ (rule : ℕ) (file : List ℕ) (lent lent′ : Lent) {answer : Loaded} 
     pub loaded-few : (entries ≤ 8192) × (literals ≤ 16384)
     loaded-few =
         let s = subst (Loads rule file lent lent′) q said in
-        let long : ¬ (8192 < length (prefixIn file)) = λ l. s .0 .1 .1 .1 .1 .1 .1 .1 .0 2 0 (refl, refl, inl l) in
-        let large : ¬ (16384 < length (clausesIn file)) = λ l. s .0 .1 .1 .1 .1 .1 .1 .1 .0 2 0 (refl, refl, inr l) in
+        let long : ¬ (8192 < length (prefixIn file)) = λ l. s .0 .1 .1 .1 .1 .1 .1 .0 2 0 (refl, refl, inl l) in
+        let large : ¬ (16384 < length (clausesIn file)) = λ l. s .0 .1 .1 .1 .1 .1 .1 .0 2 0 (refl, refl, inr l) in
         let many = s .2 in
         let more = s .3 in
         (omega arith, omega arith)

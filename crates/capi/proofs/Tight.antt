@@ -2,7 +2,6 @@
 -- build and add, and the bytes, tables and cells after store and load. (What else is given on acceptance is settled as the library's calls settle it.)
 use Prim.Native.Nat.{ℕ}
 use mathlib.Core.Path.{_≡_, refl, sym, ap, _∙_}
-use mathlib.Core.Bool.{Bool}
 use mathlib.Core.List.{List}
 use lib.IntN.{ℤ}
 use lib.ListN.{length}
@@ -72,10 +71,10 @@ module _ (rule n : ℕ) (es : List ℕ) (ls : List ℤ) (s : Standing) {classes 
       added a (grown, took) = record { judged = none; leaves = (refl, grown, took) }
 
 -- what store gives: the count and every byte
-pub stored-tight : (rule n : ℕ) (es : List ℕ) (ls : List ℤ) (asked : Bool) (before : List ℕ) {after after′ : List ℕ} {count count′ : ℕ}
-    → Front (FileOf rule n es ls asked) before after count → Front (FileOf rule n es ls asked) before after′ count′ → (count ≡ count′) × (after ≡ after′)
-stored-tight rule n es ls asked before (file, f, q, r) (file′, g, q′, r′) =
-    let same = file-unique rule n es ls asked file file′ f g in
+pub stored-tight : (rule n : ℕ) (es : List ℕ) (ls : List ℤ) (before : List ℕ) {after after′ : List ℕ} {count count′ : ℕ}
+    → Front (FileOf rule n es ls) before after count → Front (FileOf rule n es ls) before after′ count′ → (count ≡ count′) × (after ≡ after′)
+stored-tight rule n es ls before (file, f, q, r) (file′, g, q′, r′) =
+    let same = file-unique rule n es ls file file′ f g in
     (q ∙ ap length same ∙ sym q′, r ∙ ap (sets before 0) same ∙ sym r′)
 
 -- what load gives: the cells and the tables

@@ -1,17 +1,12 @@
--- What the calls for the file of a forest tell C: whether sets are asked for, and what a file that is loaded gives.
+-- What the calls for the file of a forest tell C: what a file that is loaded gives.
 use Prim.Native.Nat.{ℕ}
 use mathlib.Core.Path.{_≡_}
-use mathlib.Core.Bool.{Bool, cond, not}
+use mathlib.Core.Bool.{Bool, cond}
 use mathlib.Core.List.{List}
-use lib.Dec.{eqb}
 use lib.ListN.{length}
 use Rattle.records.specs.Places.{countIn, prefixIn, clausesIn, hasSets}
 use Rattle.records.specs.Causes.{Lent}
 use Rattle.records.specs.Promises.{FilledFrom}
-
--- every number but 0 asks for sets
-abbrev pub asksSets : ℕ → Bool
-asksSets number = not (eqb number 0)
 
 -- the number that tells of sets: 1 where they are, else 0
 unfoldable pub tellsSets : Bool → ℕ

@@ -7,23 +7,22 @@ ghost use mathlib.Core.Path.{_≡_};
 ghost use Rattle.records.specs.Layout.{FileOf};
 ghost use Rattle.records.specs.Causes.{lentTables, loadOrder, storeOrder};
 ghost use Rattle.capi.specs.Told.{Told, Front};
-ghost use Rattle.capi.specs.Filed.{asksSets, Given};
+ghost use Rattle.capi.specs.Filed.{Given};
 
-// Store: the file of a formula and its forest, with its sets if they are asked for, and with the count of its bytes.
+// Store: the file of a formula and its forest, with the count of its bytes.
 #[no_mangle]
 pub extern "C" fn snow_store(
     rule: u32,
     n: u32,
     prefix: &[u32],
     clauses: &[i32],
-    with_sets: u32,
     file: &mut [u8],
     count: &mut u32,
     place: &mut u32,
 ) -> u32
-    ensures { λ r. ⌜ Told (storeOrder rule n (now (prefix .entry)) (now (clauses .entry)) (asksSets «with_sets») (now (file .entry))) (Front (FileOf rule n (now (prefix .entry)) (now (clauses .entry)) (asksSets «with_sets»)) (now (file .entry)) (now (file .exit)) (now (count .exit))) ((now (count .exit) ≡ now (count .entry)) × (now (file .exit) ≡ now (file .entry))) r (now (place .entry)) (now (place .exit)) ⌝ }
+    ensures { λ r. ⌜ Told (storeOrder rule n (now (prefix .entry)) (now (clauses .entry)) (now (file .entry))) (Front (FileOf rule n (now (prefix .entry)) (now (clauses .entry))) (now (file .entry)) (now (file .exit)) (now (count .exit))) ((now (count .exit) ≡ now (count .entry)) × (now (file .exit) ≡ now (file .entry))) r (now (place .entry)) (now (place .exit)) ⌝ }
 {
-    let answer = storing::store(rule, n, prefix, clauses, with_sets != 0, file);
+    let answer = storing::store(rule, n, prefix, clauses, file);
     lay(answer, count, place)
 }
 

@@ -11,9 +11,9 @@ use lib.ListN.{length}
 use Rattle.terms.specs.Refusals.{At0, NoneOf, Judged}
 use Rattle.terms.specs.declared.Verdict.{Verdict}
 use Rattle.terms.proofs.Verdicts.{at0-none, accepted-then}
-use Rattle.records.specs.Layout.{prefixKind, closingKind, SumsToZero}
+use Rattle.records.specs.Layout.{prefixKind, clausesKind, rowsKind, closingKind, SumsToZero}
 use Rattle.records.specs.Places.{sizeAt, kindAt, nextAt, secondAt, thirdAt, fourthAt, Reached, start, behind, mayFollow}
-use Rattle.records.specs.Causes.{TooLarge, RecordCause, cut, no-count, OrderCause, wrong, missing, fileOrder}
+use Rattle.records.specs.Causes.{fileBytes, TooLarge, RecordCause, cut, no-count, OrderCause, wrong, missing, fileOrder}
 use Rattle.layout.specs.Laid.{Laid}
 use Rattle.layout.proofs.Heads.{after-start, after-prefix, after-clauses}
 use Rattle.layout.proofs.Walks.{reached-within}
@@ -39,29 +39,31 @@ module _ (file : List ℕ) (none : NoneOf (fileOrder file)) where
       whole : nextAt file place ≤ length file
       whole = by-cases (decLt (length file) (nextAt file place)) (λ l. absurd (none .1 .0 19 place (cut refl (record { before = before; reached = r; goes-on = on }) l))) (λ l. omega arith)
 
-  next-reached : {before place kind : ℕ} → Reached file before place → Follows before place → kindAt file place ≡ kind → (next : ℕ) → next ≡ nextAt file place → Reached file kind next
+  pub next-reached : {before place kind : ℕ} → Reached file before place → Follows before place → kindAt file place ≡ kind → (next : ℕ) → next ≡ nextAt file place → Reached file kind next
   next-reached {before} {place} r f is next at = behind before place r (f .fits) (sym is) at
 
   -- The kinds 1, 2 and 3 in their order, and what stands behind them.
-  first-kind : kindAt file 0 ≡ prefixKind
+  pub first-kind : kindAt file 0 ≡ prefixKind
   first-kind = let f = follows (start refl refl) (λ q. omega arith) in eqb-true (kindAt file 0) 1 (sym (after-start 0 (kindAt file 0) refl) ∙ f .may)
 
-  second-reached : Reached file 1 (secondAt file)
+  pub second-reached : Reached file 1 (secondAt file)
   second-reached = next-reached (start refl refl) (follows (start refl refl) (λ q. omega arith)) first-kind (secondAt file) (second-is file)
 
-  third-reached : Reached file 2 (thirdAt file)
-  third-reached =
-      let f = follows second-reached (λ q. omega arith) in
-      next-reached second-reached f (eqb-true (kindAt file (secondAt file)) 2 (sym (after-prefix 1 (kindAt file (secondAt file)) refl) ∙ f .may)) (thirdAt file) (third-is file)
+  pub second-kind : kindAt file (secondAt file) ≡ clausesKind
+  second-kind = let f = follows second-reached (λ q. omega arith) in eqb-true (kindAt file (secondAt file)) 2 (sym (after-prefix 1 (kindAt file (secondAt file)) refl) ∙ f .may)
+
+  pub third-reached : Reached file 2 (thirdAt file)
+  third-reached = next-reached second-reached (follows second-reached (λ q. omega arith)) second-kind (thirdAt file) (third-is file)
+
+  pub third-kind : kindAt file (thirdAt file) ≡ rowsKind
+  third-kind = let f = follows third-reached (λ q. omega arith) in eqb-true (kindAt file (thirdAt file)) 3 (sym (after-clauses 2 (kindAt file (thirdAt file)) refl) ∙ f .may)
 
   pub fourth-reached : Reached file 3 (fourthAt file)
-  fourth-reached =
-      let f = follows third-reached (λ q. omega arith) in
-      next-reached third-reached f (eqb-true (kindAt file (thirdAt file)) 3 (sym (after-clauses 2 (kindAt file (thirdAt file)) refl) ∙ f .may)) (fourthAt file) (fourth-is file)
+  fourth-reached = next-reached third-reached (follows third-reached (λ q. omega arith)) third-kind (fourthAt file) (fourth-is file)
 
   pub file-laid : Laid file
   file-laid =
-      let small : length file ≤ 262144 = by-cases (decLt 262144 (length file)) (λ l. absurd (none .0 19 0 (refl, refl, l))) (λ l. omega arith) in
+      let small : length file ≤ fileBytes = by-cases (decLt fileBytes (length file)) (λ l. absurd (none .0 19 0 (refl, refl, l))) (λ l. omega arith) in
       let last = follows fourth-reached (λ q. omega arith) .fits in
       let first = follows (start refl refl) (λ q. omega arith) in
       record {
@@ -70,5 +72,5 @@ module _ (file : List ℕ) (none : NoneOf (fileOrder file)) where
       }
 
 -- Once a file is not too long, its records and its sum decide.
-pub size-then : (file : List ℕ) → length file ≤ 262144 → (v : Verdict) → Judged (RecordCause file ∷ OrderCause file ∷ At0 21 (SumsToZero file → ⊥) ∷ []) v → Judged (fileOrder file) v
+pub size-then : (file : List ℕ) → length file ≤ fileBytes → (v : Verdict) → Judged (RecordCause file ∷ OrderCause file ∷ At0 21 (SumsToZero file → ⊥) ∷ []) v → Judged (fileOrder file) v
 size-then file fits v judged = accepted-then (At0 19 (TooLarge file) ∷ []) (RecordCause file ∷ OrderCause file ∷ At0 21 (SumsToZero file → ⊥) ∷ []) v refl (at0-none 19 (λ l. omega arith), tt) judged

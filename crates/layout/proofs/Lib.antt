@@ -3,3 +3,6 @@ pub mod Heads
 pub mod Walks
 pub mod Spans
 pub mod Laying
+pub mod Encoded
+pub mod Recorded
+pub mod Rewritten

@@ -7,6 +7,7 @@ use lib.Dec.{eqb}
 use lib.ListN.{length, length-map}
 use Rattle.records.specs.Numbers.{numberAt, numbersAt, literalOf}
 use Rattle.records.specs.Places.{sizeAt, kindAt, nextAt, payloadAt, secondAt, thirdAt, fourthAt, hasSets, countIn, prefixIn, clausesIn}
+use Rattle.records.specs.Causes.{fileBytes}
 use Rattle.layout.specs.Laid.{Laid}
 use Rattle.layout.proofs.Heads.{next-read}
 
@@ -54,7 +55,7 @@ module _ (file : List ℕ) where
     pub first : secondAt file ≡ 6 + sizeAt file 0
     pub second : thirdAt file ≡ secondAt file + 6 + sizeAt file (secondAt file)
     pub third : fourthAt file ≡ thirdAt file + 6 + sizeAt file (thirdAt file)
-    pub fourth : fourthAt file + 6 + sizeAt file (fourthAt file) ≤ 262144
+    pub fourth : fourthAt file + 6 + sizeAt file (fourthAt file) ≤ fileBytes
 
   pub laid-ends : Laid file → Ends
   laid-ends laid =

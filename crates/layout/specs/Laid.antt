@@ -5,6 +5,7 @@ use mathlib.Core.List.{List}
 use mathlib.Core.Logic.{_⊎_, _≢_}
 use Rattle.records.specs.Layout.{prefixKind, clausesKind, closingKind}
 use Rattle.records.specs.Places.{sizeAt, nextAt, fourthAt}
+use Rattle.records.specs.Causes.{fileBytes}
 
 -- a payload length does not fit a kind
 abbrev pub WrongSize : ℕ → ℕ → Type 0
@@ -14,4 +15,4 @@ WrongSize kind size =
 -- The records of a file with the kinds in their order end within the longest file, and kind 1 has n.
 pub record Laid (file : List ℕ) : Type 0 where
   pub counted : 2 ≤ sizeAt file 0
-  pub ends : nextAt file (fourthAt file) ≤ 262144
+  pub ends : nextAt file (fourthAt file) ≤ fileBytes

@@ -16,7 +16,7 @@ ghost use Rattle.terms.specs.Refusals.{At0, None, Judged};
 ghost use Rattle.tables.specs.Rows.{Tells};
 ghost use Rattle.records.specs.Layout.{SumsToZero};
 ghost use Rattle.records.specs.Places.{RecordAt, mayFollow};
-ghost use Rattle.records.specs.Causes.{RecordCause, OrderCause, fileOrder};
+ghost use Rattle.records.specs.Causes.{fileBytes, RecordCause, OrderCause, fileOrder};
 ghost use Rattle.layout.specs.Laid.{WrongSize};
 
 // The first cause of refusals 19 to 21 in a file.
@@ -34,7 +34,7 @@ pub fn layout_verdict(file: &[u8]) -> Verdict
 
 // Refusals 20 and 21, once every record is whole.
 fn order_and_sum(file: &[u8]) -> Verdict
-    requires { ⌜ (length (now file) ≤ 262144) × None (RecordCause (now file)) ⌝ }
+    requires { ⌜ (length (now file) ≤ fileBytes) × None (RecordCause (now file)) ⌝ }
     ensures { λ r. ⌜ Judged (OrderCause (now (file .entry)) ∷ At0 21 (SumsToZero (now (file .entry)) → ⊥) ∷ []) r ⌝ }
 {
     match order_verdict(file) {
@@ -50,7 +50,7 @@ fn order_and_sum(file: &[u8]) -> Verdict
 
 // The first record that is cut, or whose length does not fit its kind.
 fn shape_verdict(file: &[u8]) -> Verdict
-    requires { ⌜ length (now file) ≤ 262144 ⌝ }
+    requires { ⌜ length (now file) ≤ fileBytes ⌝ }
     ensures { λ r. ⌜ Judged (RecordCause (now (file .entry)) ∷ []) r ⌝ }
 {
     let mut at = 0;
@@ -65,7 +65,7 @@ fn shape_verdict(file: &[u8]) -> Verdict
 
 // Whether the record at a place is cut by the end of the file, or its length does not fit its kind.
 fn bad_record(file: &[u8], at: usize) -> bool
-    requires { ⌜ (length (now file) ≤ 262144) × RecordAt (now file) at ⌝ }
+    requires { ⌜ (length (now file) ≤ fileBytes) × RecordAt (now file) at ⌝ }
     ensures { λ r. ⌜ Tells r (RecordCause (now (file .entry)) 19 at) ⌝ }
 {
     if file.len() < next_at(file, at) {
@@ -97,7 +97,7 @@ fn wrong_size(kind: u32, size: u32) -> bool
 
 // The first record of a kind that may not come there, or the end of the file where a kind is missing.
 fn order_verdict(file: &[u8]) -> Verdict
-    requires { ⌜ (length (now file) ≤ 262144) × None (RecordCause (now file)) ⌝ }
+    requires { ⌜ (length (now file) ≤ fileBytes) × None (RecordCause (now file)) ⌝ }
     ensures { λ r. ⌜ Judged (OrderCause (now (file .entry)) ∷ []) r ⌝ }
 {
     let mut at = 0;

@@ -1,22 +1,18 @@
 -- The numbers that a record holds: in parts, and whether they are those of a list.
-use Prim.Native.Nat.{ℕ, zero, suc, _+_, _*_, _≤_}
+use Prim.Native.Nat.{ℕ, zero, suc, _+_, _*_}
 use mathlib.Core.Path.{_≡_, refl, sym, ap, ap₂, _∙_}
 use mathlib.Core.Bool.{Bool}
 use mathlib.Core.List.{List, _∷_, _++_, map}
 use mathlib.Core.Logic.{_↔_, _≢_}
 use native.Mathlib.Omega.{arith}
 use lib.ListN.{length, take, drop, length-append}
-use lib.Seq.{sets, sets-eq, take-append-seam, take-at, drop-at}
+use lib.Seq.{take-append-seam, take-at, drop-at}
 use Rattle.tables.specs.Rows.{Tells}
 use Rattle.tables.proofs.Readings.{told-both}
 use Rattle.records.specs.Numbers.{numberAt, numbersAt, literalOf}
 use Rattle.records.specs.Places.{sizeAt, payloadAt, secondAt, thirdAt, countIn, prefixIn, clausesIn, Holds}
 use Rattle.loading.specs.Inner.{classesIn, parentsIn, countsIn}
 use Rattle.layout.proofs.Spans.{numbers-length, prefix-length, clauses-length}
-
--- What was stored in front of a table is what stands there.
-pub take-stored : {A : Type 0} (table xs : List A) (k : ℕ) → k ≡ length xs → length xs ≤ length table → take k (sets table 0 xs) ≡ xs
-take-stored table xs k is fits = ap (λ (j : ℕ). take j (sets table 0 xs)) is ∙ ap (take (length xs)) (sets-eq xs table 0 (omega arith)) ∙ take-append-seam xs (drop (0 + length xs) table)
 
 -- The prefix, the clauses and the rows of a file, as so many numbers from a place on.
 module _ (file : List ℕ) where

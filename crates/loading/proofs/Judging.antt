@@ -12,8 +12,9 @@ use Rattle.terms.specs.declared.Verdict.{Verdict}
 use Rattle.terms.specs.declared.Verdict.the-variants.{Accepted, Refused}
 use Rattle.terms.proofs.Verdicts.{at0-first, at0-none, refused-first, accepted-then}
 use Rattle.joining.specs.Rules.{NoRule, checkOrderUnder}
+use Rattle.joining.proofs.Exchange.{Carries, exchanged, behind, carries-then}
 use Rattle.records.specs.Places.{countIn, prefixIn, clausesIn}
-use Rattle.records.specs.Causes.{ForestFileCause, Lent, NoRoom, fileOrder, loadOrder}
+use Rattle.records.specs.Causes.{ForestFileCause, Lent, NoRoom, fileOrder, afterRule, loadOrder}
 use Rattle.records.specs.Promises.{FilledFrom, Loads}
 use Rattle.records.specs.declared.Loaded.{Loaded}
 use Rattle.loading.specs.Inner.{IsRule, HeldIn, Judges, JudgesRows, contentsOrder, classesIn, parentsIn, countsIn, OwnRows, Room, saidOf, stored, LoadsBy, laidOrder, LoadsRuled, LoadsLaid, LoadsRight}
@@ -59,13 +60,18 @@ module _ (rule : ℕ) (file : List ℕ) (lent lent′ : Lent) where
   pub loads-laid : (answer : Loaded) → NoneOf (fileOrder file) → LoadsLaid rule file lent lent′ answer → LoadsRuled rule file lent lent′ answer
   loads-laid answer none a = loads-then (fileOrder file) (laidOrder rule file lent) (FilledFrom rule file lent) answer none a
 
-  loads-all : (answer : Loaded) → LoadsBy (loadOrder rule file lent) (FilledFrom rule file lent) file lent lent′ answer → Loads rule file lent lent′ answer
-  loads-all (Loaded.Formula n entries literals with-sets) a = a
-  loads-all (Loaded.Refused k p) a = a
+  -- 23 goes from in front of the table refusals to where it comes before all others
+  loads-all : {order : List Causes} (answer : Loaded) → Carries order (loadOrder rule file lent) → LoadsBy order (FilledFrom rule file lent) file lent lent′ answer → Loads rule file lent lent′ answer
+  loads-all (Loaded.Formula n entries literals with-sets) to a = (to .none (a .0), a .1, a .2, a .3, a .4, a .5)
+  loads-all (Loaded.Refused k p) to a = (to .first k p (a .0), a .1)
 
   pub loads-ruled : (answer : Loaded) → IsRule rule → LoadsRuled rule file lent lent′ answer → Loads rule file lent lent′ answer
   loads-ruled answer is a =
-      loads-all answer (loads-then (At0 23 (NoRule rule) ∷ []) (fileOrder file ++ laidOrder rule file lent) (FilledFrom rule file lent) answer (rule-none is, tt) a)
+      let rule-first = At0 23 (NoRule rule) ∷ [] in
+      let tables = afterRule (laidOrder rule file lent) in
+      loads-all answer
+      (carries-then (behind (fileOrder file) (exchanged rule-first [] tables (rule-none is, tt) tt)) (exchanged [] rule-first (fileOrder file ++ tables) tt (rule-none is, tt)))
+      a
 
 -- 14: a table is too short, or all are filled.
 pub no-room : (file : List ℕ) (lent : Lent) → (Room file lent → ⊥) → NoRoom file lent

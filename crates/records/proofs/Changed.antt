@@ -55,7 +55,7 @@ same-sum (a ∷ b ∷ more) (suc (suc p)) low high before even within bytes l h 
     (same-sum more p low high (before + (a + 256 * b)) (omega arith) (omega arith) (λ i less. bytes (suc (suc i)) (omega arith)) l h (wrapped (push before (a + 256 * b) (wordSum more)) ∙ sum ∙ sym (wrapped (push before (a + 256 * b) (wordSum (sets more p (low ∷ high ∷ [])))))))
 
 -- a file that has no cause sums to zero
-sums : (rule : ℕ) (file : List ℕ) (lent : Lent) → NoneOf (loadOrder rule file lent) → SumsToZero file
+pub sums : (rule : ℕ) (file : List ℕ) (lent : Lent) → NoneOf (loadOrder rule file lent) → SumsToZero file
 sums rule file lent none = by-cases (ℕ-discrete (wordSum file % 65536) 0) (λ is. is) (λ other. absurd (none .1 .1 .1 .1 .0 21 0 (refl, refl, other)))
 
 pub changed-word-refused : (rule rule′ : ℕ) (file : List ℕ) (p low high : ℕ) → Bytes file → p % 2 ≡ 0 → p + 1 < length file → low < 256 → high < 256 → sets file p (low ∷ high ∷ []) ≢ file

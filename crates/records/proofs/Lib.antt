@@ -4,6 +4,7 @@ pub mod Orders
 pub mod Bits
 pub mod WordSums
 pub mod Lengths
+pub mod Short
 pub mod Taken
 pub mod Unique
 pub mod Settled

@@ -1,4 +1,5 @@
--- What is written under a rule reads back the same under it: the formula as it was lent, its rows, and whether sets are there.
+-- What is written under a rule reads back the same under it: the formula as it was lent, and its rows. A file with kind 4, as it was written before request 14,
+-- is still accepted, and reading tells that sets were there.
 use Prim.Native.Nat.{ℕ, _+_, _-_, _/_, _<_, _≤_}
 use mathlib.Core.Path.{_≡_, refl, sym, ap, _∙_, subst}
 use mathlib.Core.Bool.{Bool, true, false, false≢true}
@@ -7,8 +8,8 @@ use mathlib.Core.Logic.{⊎-elim}
 use native.Mathlib.Omega.{arith}
 use borrow.Author.Tests.{eq-eqb, ne-eqb}
 use lib.IntN.{ℤ}
-use lib.ListN.{length, take, drop, length-append, length-map}
-use lib.Seq.{sets, sets-eq, take-at}
+use lib.ListN.{length, take, length-append, length-map}
+use lib.Seq.{sets}
 use Rattle.terms.specs.Refusals.{At0, None, NoneOf}
 use Rattle.terms.specs.declared.Filled.the-variants.{Count}
 use Rattle.terms.specs.declared.Verdict.the-variants.{Accepted}
@@ -17,12 +18,12 @@ use Rattle.joining.specs.Rules.{readAs, checkOrderUnder}
 use Rattle.records.specs.declared.Loaded.{Loaded}
 use Rattle.records.specs.declared.Loaded.the-variants.{Formula, Refused}
 use Rattle.records.specs.Numbers.{numberBytes, bytesOf, numbersAt, literalNumber, literalOf}
-use Rattle.records.specs.Layout.{prefixKind, clausesKind, rowsKind, setsKind, closingKind, prefixRecord, clausesRecord, rowsRecord, closingRecord, recordBytes, ForestRows, StandardSets, SetsRecord, FileOf}
+use Rattle.records.specs.Layout.{prefixKind, clausesKind, rowsKind, setsKind, closingKind, prefixRecord, clausesRecord, rowsRecord, closingRecord, recordBytes, ForestRows, StandardSets, SetsRecord, FileWith}
 use Rattle.records.specs.Places.{sizeAt, kindAt, secondAt, thirdAt, fourthAt, hasSets, countIn, prefixIn, clausesIn, Holds}
-use Rattle.records.specs.Causes.{fileBytes, RightRows, RightSets, ForestFileCause, Lent, lentTables, NoRoom, fileOrder, loadOrder, FileTooLarge, FileTooLong}
+use Rattle.records.specs.Causes.{fileBytes, RightRows, RightSets, ForestFileCause, Lent, lentTables, NoRoom, fileOrder, afterRule, loadOrder, FileTooLarge, FileTooLong}
 use Rattle.records.specs.Promises.{Stores, Loads}
-use Rattle.joining.proofs.Exchange.{none-later}
 use Rattle.records.proofs.Orders.{none-first}
+use Rattle.records.proofs.Short.{file-short, in-front}
 use Rattle.records.proofs.Lengths.{number-length, bytes-length, record-length}
 use Rattle.records.proofs.Unique.{rows-unique}
 use Rattle.records.proofs.Decoded.{StandsAt, number-at, numbers-at, record-at, Fit}
@@ -34,12 +35,12 @@ stands-holds : {file : List ℕ} {p kind : ℕ} (width : ℕ) (numbers : List �
 stands-holds {p = p} width numbers stands fit =
     record { size = stands .size ∙ bytes-length width numbers; values = numbers-at width numbers (stands .front) (stands .back) (p + 6) (stands .is) (stands .at) fit }
 
-module _ (rule n : ℕ) (es : List ℕ) (ls : List ℤ) (asked : Bool) (file : List ℕ) (none : NoneOf (checkOrderUnder rule n es ls)) (f : FileOf rule n es ls asked file) (fits : length file ≤ fileBytes) where
+module _ (rule n : ℕ) (es : List ℕ) (ls : List ℤ) (sets-record file : List ℕ) (none : NoneOf (checkOrderUnder rule n es ls)) (f : FileWith rule n es ls sets-record file) (fits : length file ≤ fileBytes) where
   abbrev rows : List ℕ
   rows = f .classes ++ (f .parents ++ f .counts)
 
   abbrev rest : List ℕ
-  rest = f .sets-record ++ closingRecord (f .word)
+  rest = sets-record ++ closingRecord (f .word)
 
   -- the records of kinds 1 to 3, and the one behind them
   first : StandsAt file 0 prefixKind (bytesOf 2 (n ∷ es))
@@ -137,7 +138,7 @@ module _ (rule n : ℕ) (es : List ℕ) (ls : List ℤ) (asked : Bool) (file : L
   closing-name : closingKind ≡ setsKind → ⊥
   closing-name q = omega arith
 
-  sets-told : (b : Bool) → SetsRecord b n (readAs rule es) ls (f .sets-record) → (hasSets file ≡ b) × (b ≡ true → RightSets rule file)
+  sets-told : (there : Bool) → SetsRecord there n (readAs rule es) ls sets-record → (hasSets file ≡ there) × (there ≡ true → RightSets rule file)
   unfolding hasSets closingRecord
   sets-told true (list, are, is) =
       let stands = fourth setsKind (bytesOf 2 list) (closingRecord (f .word)) (ap (λ (xs : List ℕ). xs ++ closingRecord (f .word)) is) (omega arith) in
@@ -146,12 +147,8 @@ module _ (rule n : ℕ) (es : List ℕ) (ls : List ℤ) (asked : Bool) (file : L
       let stands = fourth closingKind (numberBytes 2 (f .word)) [] (ap (λ (xs : List ℕ). xs ++ closingRecord (f .word)) is ∙ sym (append-nil (closingRecord (f .word)))) (omega arith) in
       (ne-eqb (kindAt file (fourthAt file)) setsKind (λ q. closing-name (sym (stands .kind-is) ∙ q)), λ on. absurd (false≢true on))
 
-  no-disagreement : None (ForestFileCause rule file)
-  no-disagreement number place (ForestFileCause.rows-disagree q p wrong) = wrong (f .classes) (f .parents) (f .counts) right-rows
-  no-disagreement number place (ForestFileCause.sets-disagree q p on wrong) = wrong (sets-told asked (f .sets) .1 (sym (sets-told asked (f .sets) .0) ∙ on))
-
-  -- No cause of reading it is there, where the lent tables have room.
-  module _ (lent : Lent) (room : (length es ≤ length (lent .prefix)) × (length ls ≤ length (lent .clauses)) × (n ≤ length (lent .classes)) × (n ≤ length (lent .parents)) × (n ≤ length (lent .counts))) where
+  -- No cause of reading it is there, with its sets or without, where the lent tables have room.
+  module _ (there : Bool) (are : SetsRecord there n (readAs rule es) ls sets-record) (lent : Lent) (room : (length es ≤ length (lent .prefix)) × (length ls ≤ length (lent .clauses)) × (n ≤ length (lent .classes)) × (n ≤ length (lent .parents)) × (n ≤ length (lent .counts))) where
     roomy : NoRoom file lent → ⊥
     roomy short =
         let c = count-is in
@@ -164,45 +161,47 @@ module _ (rule n : ℕ) (es : List ℕ) (ls : List ℤ) (asked : Bool) (file : L
         let g = room .4 in
         ⊎-elim (λ over. omega arith) (⊎-elim (λ over. omega arith) (⊎-elim (λ over. omega arith) (⊎-elim (λ over. omega arith) (λ over. omega arith)))) short
 
+    no-disagreement : None (ForestFileCause rule file)
+    no-disagreement number place (ForestFileCause.rows-disagree q p wrong) = wrong (f .classes) (f .parents) (f .counts) right-rows
+    no-disagreement number place (ForestFileCause.sets-disagree q p on wrong) = wrong (sets-told there are .1 (sym (sets-told there are .0) ∙ on))
+
     file-clear : NoneOf (fileOrder file)
     file-clear =
-        let good = run-good file (omega arith) (subst (Run 0) (sym (f .bytes)) (file-run n es ls (f .classes) (f .parents) (f .counts) (readAs rule es) asked (f .sets-record) (f .word) (f .sets))) in
+        let good = run-good file (omega arith) (subst (Run 0) (sym (f .bytes)) (file-run n es ls (f .classes) (f .parents) (f .counts) (readAs rule es) there sets-record (f .word) are)) in
         (at0-none 19 (λ over. omega arith), (no-record-cause file good, (no-order-cause file good, (at0-none 21 (λ wrong. wrong (f .sum)), tt))))
 
     pub clear : NoneOf (loadOrder rule file lent)
     clear =
         let later = ForestFileCause rule file ∷ At0 14 (NoRoom file lent) ∷ [] in
-        let order = checkOrderUnder rule (countIn file) (prefixIn file) (clausesIn file) in (
+        let order = afterRule (checkOrderUnder rule (countIn file) (prefixIn file) (clausesIn file)) in (
           none .0,
           accepted-then (fileOrder file) (order ++ later) Accepted refl file-clear
-              (accepted-then order later Accepted refl (as-read (λ k xs zs. NoneOf (checkOrderUnder rule k xs zs)) none) (no-disagreement, (at0-none 14 roomy, tt))),
+              (accepted-then order later Accepted refl (as-read (λ k xs zs. NoneOf (checkOrderUnder rule k xs zs)) none .1) (no-disagreement, (at0-none 14 roomy, tt))),
         )
 
-    -- So reading it gives the formula back, its rows, and whether sets were asked for.
+    -- So reading it gives the formula back, its rows, and whether sets are there.
     pub reads-back : (lent′ : Lent) (answer : Loaded) → Loads rule file lent lent′ answer
-        → (answer ≡ Formula n (length es) (length ls) asked)
+        → (answer ≡ Formula n (length es) (length ls) there)
         × (lent′ ≡ lentTables (sets (lent .prefix) 0 es) (sets (lent .clauses) 0 ls) (sets (lent .classes) 0 (f .classes)) (sets (lent .parents) 0 (f .parents)) (sets (lent .counts) 0 (f .counts)))
     reads-back lent′ (Formula m entries literals with-sets) (none′, count, prefix, clauses, told, filled) =
         let m-is = count ∙ count-is in
         let e-is = prefix ∙ ap length prefix-is in
         let l-is = clauses ∙ ap length clauses-is in
-        let s-is = told ∙ sets-told asked (f .sets) .0 in
+        let s-is = told ∙ sets-told there are .0 in
         let (c, p, k) = rows-unique (countIn file) (readAs rule (prefixIn file)) (clausesIn file) (filled .rows .0) (right-rows .0) in
         (λ i. Formula (m-is i) (e-is i) (l-is i) (s-is i), filled .left ∙ (λ i. lentTables (sets (lent .prefix) 0 (prefix-is i)) (sets (lent .clauses) 0 (clauses-is i)) (sets (lent .classes) 0 (c i)) (sets (lent .parents) 0 (p i)) (sets (lent .counts) 0 (k i))))
     reads-back lent′ (Refused number place) (first′, same) = absurd (first-or-none (loadOrder rule file lent) number place first′ clear)
 
--- What writing leaves in front in its table, read into tables with room for it, gives the same formula, the rows of its forest, and sets if they were asked for.
-pub written-reads-back : (rule n : ℕ) (es : List ℕ) (ls : List ℤ) (asked : Bool) (before after : List ℕ) (count : ℕ) → Stores rule n es ls asked before after (Count count)
+-- What writing leaves in front in its table, read into tables with room for it, gives the same formula and the rows of its forest.
+pub written-reads-back : (rule n : ℕ) (es : List ℕ) (ls : List ℤ) (before after : List ℕ) (count : ℕ) → Stores rule n es ls before after (Count count)
     → (lent : Lent) → (length es ≤ length (lent .prefix)) × (length ls ≤ length (lent .clauses)) × (n ≤ length (lent .classes)) × (n ≤ length (lent .parents)) × (n ≤ length (lent .counts))
     → (lent′ : Lent) (answer : Loaded) → Loads rule (take count after) lent lent′ answer
-    → (answer ≡ Formula n (length es) (length ls) asked)
+    → (answer ≡ Formula n (length es) (length ls) false)
     × ((classes : List ℕ) × (parents : List ℕ) × (counts : List ℕ) × ForestRows n (readAs rule es) ls classes parents counts
     × (lent′ ≡ lentTables (sets (lent .prefix) 0 es) (sets (lent .clauses) 0 ls) (sets (lent .classes) 0 classes) (sets (lent .parents) 0 parents) (sets (lent .counts) 0 counts)))
-written-reads-back rule n es ls asked before after count (none, (file, f, size, stored)) lent room lent′ answer loads =
-    let later = At0 19 (FileTooLarge rule n es ls asked) ∷ At0 14 (FileTooLong rule n es ls asked before) ∷ [] in
-    let clear = none-later (checkOrderUnder rule n es ls) later none in
-    let small : ¬ (fileBytes < length file) = λ over. clear .0 19 0 (refl, refl, (file, f, over)) in
-    let fits : ¬ (length before < length file) = λ over. clear .1 .0 14 0 (refl, refl, (file, f, over)) in
-    let read : take count after ≡ file = ap (take count) (stored ∙ sets-eq file before 0 (omega arith)) ∙ take-at file (drop (0 + length file) before) count (sym size) in
-    let back = reads-back rule n es ls asked file (none-first (checkOrderUnder rule n es ls) later none) f (omega arith) lent room lent′ answer (subst (λ (xs : List ℕ). Loads rule xs lent lent′ answer) read loads) in
+written-reads-back rule n es ls before after count stores lent room lent′ answer loads =
+    let (file, f, read) = in-front rule n es ls before after count stores in
+    let none = none-first (checkOrderUnder rule n es ls) (At0 19 (FileTooLarge rule n es ls) ∷ At0 14 (FileTooLong rule n es ls before) ∷ []) (stores .0) in
+    let short = file-short rule n es ls none file f in
+    let back = reads-back rule n es ls [] file none f (omega arith) false refl lent room lent′ answer (subst (λ (xs : List ℕ). Loads rule xs lent lent′ answer) read loads) in
     (back .0, (f .classes, f .parents, f .counts, f .rows, back .1))

@@ -1,7 +1,6 @@
 -- What was lent settles what writing and reading answer and every entry that they leave.
 use Prim.Native.Nat.{ℕ}
 use mathlib.Core.Path.{_≡_, sym, ap₂, _∙_}
-use mathlib.Core.Bool.{Bool}
 use mathlib.Core.List.{List}
 use lib.IntN.{ℤ}
 use lib.Seq.{sets}
@@ -17,9 +16,9 @@ use Rattle.records.specs.Causes.{Lent, lentTables, loadOrder, storeOrder
 use Rattle.records.specs.Promises.{Stores, FilledFrom, Loads}
 use Rattle.records.proofs.Unique.{rows-unique, file-unique}
 
-pub store-settled : (rule n : ℕ) (es : List ℕ) (ls : List ℤ) (asked : Bool) (before after after′ : List ℕ) (r r′ : Filled)
-    → Stores rule n es ls asked before after r → Stores rule n es ls asked before after′ r′ → (r ≡ r′) × (after ≡ after′)
-store-settled rule n es ls asked before after after′ r r′ = filling-settled (storeOrder rule n es ls asked before) (FileOf rule n es ls asked) (file-unique rule n es ls asked) before after after′ r r′
+pub store-settled : (rule n : ℕ) (es : List ℕ) (ls : List ℤ) (before after after′ : List ℕ) (r r′ : Filled)
+    → Stores rule n es ls before after r → Stores rule n es ls before after′ r′ → (r ≡ r′) × (after ≡ after′)
+store-settled rule n es ls before after after′ r r′ = filling-settled (storeOrder rule n es ls before) (FileOf rule n es ls) (file-unique rule n es ls) before after after′ r r′
 
 left-one : {rule : ℕ} {file : List ℕ} {lent a b : Lent} → FilledFrom rule file lent a → FilledFrom rule file lent b → a ≡ b
 left-one {rule} {file} {lent} {a} {b} f g =

@@ -1,7 +1,6 @@
 -- A formula has one forest, one list of sets and so, under a reading rule, one file.
 use Prim.Native.Nat.{ℕ, _+_, _%_, _<_, _≤_}
 use mathlib.Core.Path.{_≡_, sym, ap, _∙_, subst}
-use mathlib.Core.Bool.{Bool, true, false}
 use mathlib.Core.List.{List, _++_}
 use native.Mathlib.Omega.{arith}
 use lib.IntN.{ℤ}
@@ -17,10 +16,10 @@ use Rattle.tables.specs.Formula.{variables, universal, joined, Shares}
 use Rattle.tables.proofs.Agreeing.{lawful}
 use Rattle.sets.proofs.Records.{records-one}
 use Rattle.joining.specs.Rules.{readAs}
-use Rattle.records.specs.Numbers.{bytesOf, wordSum}
-use Rattle.records.specs.Layout.{setsKind, recordBytes, prefixRecord, clausesRecord, rowsRecord, closingRecord, ForestRows, StandardSets, SetsRecord, FileOf}
+use Rattle.records.specs.Numbers.{wordSum}
+use Rattle.records.specs.Layout.{prefixRecord, clausesRecord, rowsRecord, closingRecord, ForestRows, StandardSets, FileOf}
 use Rattle.records.proofs.WordSums.{sum-append, closing-sum}
-use Rattle.records.proofs.Lengths.{bytes-length, record-length, prefix-length, clauses-length, rows-length}
+use Rattle.records.proofs.Lengths.{prefix-length, clauses-length, rows-length}
 
 -- rows past n of tables with n rows read alike
 past-alike : {n : ℕ} (rows rows′ : List ℕ) → length rows ≡ n → length rows′ ≡ n → (i : ℕ) → n ≤ i → getD rows i 0 ≡ getD rows′ i 0
@@ -41,49 +40,37 @@ module _ (n : ℕ) (es : List ℕ) (ls : List ℤ) where
   pub sets-unique : (list other : List ℕ) → StandardSets n es ls list → StandardSets n es ls other → list ≡ other
   sets-unique list other = records-one (universal n es) (Depends (variables n es) (Shares ls)) n list other
 
-  sets-record-unique : (asked : Bool) (bytes bytes′ : List ℕ) → SetsRecord asked n es ls bytes → SetsRecord asked n es ls bytes′ → bytes ≡ bytes′
-  sets-record-unique true bytes bytes′ (list, are, is) (list′, are′, is′) = is ∙ ap (λ (l : List ℕ). recordBytes setsKind (bytesOf 2 l)) (sets-unique list list′ are are′) ∙ sym is′
-  sets-record-unique false bytes bytes′ is is′ = is ∙ sym is′
-
   -- all records, by what they hold
-  abbrev whole : List ℕ → List ℕ → List ℕ → List ℕ → ℕ → List ℕ
-  whole classes parents counts sets-record word = prefixRecord n es ++ (clausesRecord ls ++ (rowsRecord classes parents counts ++ (sets-record ++ closingRecord word)))
+  abbrev whole : List ℕ → List ℕ → List ℕ → ℕ → List ℕ
+  whole classes parents counts word = prefixRecord n es ++ (clausesRecord ls ++ (rowsRecord classes parents counts ++ closingRecord word))
 
   -- no byte of a record is left over, so that the words of a file are those of its records
-  sets-even : (asked : Bool) (bytes : List ℕ) → SetsRecord asked n es ls bytes → length bytes % 2 ≡ 0
-  sets-even true bytes (list, are, is) = let l = ap length is ∙ record-length setsKind (bytesOf 2 list) in let b = bytes-length 2 list in omega arith
-  sets-even false bytes is = let l = ap length is in omega arith
-
-  module _ (classes parents counts sets-record : List ℕ) (even : length sets-record % 2 ≡ 0) where
+  module _ (classes parents counts : List ℕ) where
     file-sum : (word : ℕ) → word < 65536
-        → wordSum (whole classes parents counts sets-record word)
-        ≡ wordSum (prefixRecord n es) + (wordSum (clausesRecord ls) + (wordSum (rowsRecord classes parents counts) + (wordSum sets-record + (65537 + word))))
+        → wordSum (whole classes parents counts word) ≡ wordSum (prefixRecord n es) + (wordSum (clausesRecord ls) + (wordSum (rowsRecord classes parents counts) + (65537 + word)))
     file-sum word fits =
         let r = rowsRecord classes parents counts in
         let p = prefix-length n es in
         let c = clauses-length ls in
         let l = rows-length classes parents counts in
-        sum-append (prefixRecord n es) (clausesRecord ls ++ (r ++ (sets-record ++ closingRecord word))) (omega arith)
+        sum-append (prefixRecord n es) (clausesRecord ls ++ (r ++ closingRecord word)) (omega arith)
         ∙ ap (λ (k : ℕ). wordSum (prefixRecord n es) + k)
-        (sum-append (clausesRecord ls) (r ++ (sets-record ++ closingRecord word)) (omega arith)
-        ∙ ap (λ (k : ℕ). wordSum (clausesRecord ls) + k)
-        (sum-append r (sets-record ++ closingRecord word) (omega arith)
-        ∙ ap (λ (k : ℕ). wordSum r + k) (sum-append sets-record (closingRecord word) even ∙ ap (λ (k : ℕ). wordSum sets-record + k) (closing-sum word fits))))
+        (sum-append (clausesRecord ls) (r ++ closingRecord word) (omega arith)
+        ∙ ap (λ (k : ℕ). wordSum (clausesRecord ls) + k) (sum-append r (closingRecord word) (omega arith) ∙ ap (λ (k : ℕ). wordSum r + k) (closing-sum word fits)))
 
     -- the word that closes the sum is one
     word-unique : {file file′ : List ℕ} (word word′ : ℕ) → word < 65536 → word′ < 65536
-        → file ≡ whole classes parents counts sets-record word
-        → file′ ≡ whole classes parents counts sets-record word′
+        → file ≡ whole classes parents counts word
+        → file′ ≡ whole classes parents counts word′
         → wordSum file % 65536 ≡ 0 → wordSum file′ % 65536 ≡ 0 → word ≡ word′
     word-unique word word′ fits fits′ is is′ sum sum′ =
         let a = ap wordSum is ∙ file-sum word fits in
         let b = ap wordSum is′ ∙ file-sum word′ fits′ in
         omega arith
 
-pub file-unique : (rule n : ℕ) (es : List ℕ) (ls : List ℤ) (asked : Bool) (file file′ : List ℕ) → FileOf rule n es ls asked file → FileOf rule n es ls asked file′ → file ≡ file′
-file-unique rule n es ls asked file file′ f g =
+pub file-unique : (rule n : ℕ) (es : List ℕ) (ls : List ℤ) (file file′ : List ℕ) → FileOf rule n es ls file → FileOf rule n es ls file′ → file ≡ file′
+file-unique rule n es ls file file′ f g =
     let (classes, parents, counts) = rows-unique n (readAs rule es) ls (f .rows) (g .rows) in
-    let sets = sets-record-unique n (readAs rule es) ls asked (f .sets-record) (g .sets-record) (f .sets) (g .sets) in
-    let same : whole n es ls (f .classes) (f .parents) (f .counts) (f .sets-record) (f .word) ≡ whole n es ls (g .classes) (g .parents) (g .counts) (g .sets-record) (f .word) = λ i. whole n es ls (classes i) (parents i) (counts i) (sets i) (f .word) in
-    let word = word-unique n es ls (g .classes) (g .parents) (g .counts) (g .sets-record) (sets-even n (readAs rule es) ls asked (g .sets-record) (g .sets)) (f .word) (g .word) (f .word-fits) (g .word-fits) (f .bytes ∙ same) (g .bytes) (f .sum) (g .sum) in
-    f .bytes ∙ same ∙ ap (whole n es ls (g .classes) (g .parents) (g .counts) (g .sets-record)) word ∙ sym (g .bytes)
+    let same : whole n es ls (f .classes) (f .parents) (f .counts) (f .word) ≡ whole n es ls (g .classes) (g .parents) (g .counts) (f .word) = λ i. whole n es ls (classes i) (parents i) (counts i) (f .word) in
+    let word = word-unique n es ls (g .classes) (g .parents) (g .counts) (f .word) (g .word) (f .word-fits) (g .word-fits) (f .bytes ∙ same) (g .bytes) (f .sum) (g .sum) in
+    f .bytes ∙ same ∙ ap (whole n es ls (g .classes) (g .parents) (g .counts)) word ∙ sym (g .bytes)

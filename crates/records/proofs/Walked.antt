@@ -157,15 +157,15 @@ module _ (n : ℕ) (es : List ℕ) (ls : List ℤ) (classes parents counts : Lis
   unfolding closingRecord
   last-run word before follows = next closingKind (numberBytes 2 word) [] (sym (append-nil (closingRecord word))) (omega arith) follows (word-shape word) (over refl refl)
 
-  sets-run : (read : List ℕ) (asked : Bool) (sets-record : List ℕ) (word : ℕ) → SetsRecord asked n read ls sets-record → Run rowsKind (sets-record ++ closingRecord word)
+  sets-run : (read : List ℕ) (there : Bool) (sets-record : List ℕ) (word : ℕ) → SetsRecord there n read ls sets-record → Run rowsKind (sets-record ++ closingRecord word)
   unfolding mayFollow
   sets-run read true sets-record word (list, are, is) = next setsKind (bytesOf 2 list) (closingRecord word) (ap (λ (xs : List ℕ). xs ++ closingRecord word) is) (omega arith) refl (sets-shape list) (last-run word setsKind refl)
   sets-run read false sets-record word is = subst (λ (xs : List ℕ). Run rowsKind (xs ++ closingRecord word)) (sym is) (last-run word rowsKind refl)
 
   -- with sets of the prefix however it is read
-  pub file-run : (read : List ℕ) (asked : Bool) (sets-record : List ℕ) (word : ℕ) → SetsRecord asked n read ls sets-record → Run 0 (prefixRecord n es ++ (clausesRecord ls ++ (rowsRecord classes parents counts ++ (sets-record ++ closingRecord word))))
+  pub file-run : (read : List ℕ) (there : Bool) (sets-record : List ℕ) (word : ℕ) → SetsRecord there n read ls sets-record → Run 0 (prefixRecord n es ++ (clausesRecord ls ++ (rowsRecord classes parents counts ++ (sets-record ++ closingRecord word))))
   unfolding mayFollow prefixRecord clausesRecord rowsRecord
-  file-run read asked sets-record word are =
+  file-run read there sets-record word are =
       next prefixKind (bytesOf 2 (n ∷ es)) (clausesRecord ls ++ (rowsRecord classes parents counts ++ (sets-record ++ closingRecord word))) refl (omega arith) refl prefix-shape
       (next clausesKind (bytesOf 4 (map literalNumber ls)) (rowsRecord classes parents counts ++ (sets-record ++ closingRecord word)) refl (omega arith) refl clauses-shape
-      (next rowsKind (bytesOf 4 (classes ++ (parents ++ counts))) (sets-record ++ closingRecord word) refl (omega arith) refl rows-shape (sets-run read asked sets-record word are)))
+      (next rowsKind (bytesOf 4 (classes ++ (parents ++ counts))) (sets-record ++ closingRecord word) refl (omega arith) refl rows-shape (sets-run read there sets-record word are)))

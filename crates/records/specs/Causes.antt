@@ -2,7 +2,7 @@
 -- which take a rule number (request 7).
 use Prim.Native.Nat.{ℕ, _+_, _<_, _%_}
 use mathlib.Core.Path.{_≡_}
-use mathlib.Core.Bool.{Bool, true, false}
+use mathlib.Core.Bool.{true, false}
 use mathlib.Core.List.{List, [], _∷_, _++_}
 use mathlib.Core.Logic.{_⊎_, _≢_}
 use lib.IntN.{ℤ}
@@ -71,22 +71,26 @@ NoRoom file lent =
     ⊎ ((length (lent .clauses) < length (clausesIn file))
     ⊎ ((length (lent .classes) < countIn file) ⊎ ((length (lent .parents) < countIn file) ⊎ (length (lent .counts) < countIn file))))
 
--- the order of reading: 23, which comes before all others (request 7), 19 (too long), 19, 20, 21 (sum), table refusals, 22, 14. The order of the table refusals
--- begins with 23 too, which is never given there.
+-- the order of reading: 23, which comes before all others (request 7), 19 (too long), 19, 20, 21 (sum), table refusals, 22, 14
 abbrev pub fileOrder : List ℕ → List Causes
 fileOrder file = At0 19 (TooLarge file) ∷ RecordCause file ∷ OrderCause file ∷ At0 21 (SumsToZero file → ⊥) ∷ []
 
+-- what an order that begins with 23 has after it
+abbrev pub afterRule : List Causes → List Causes
+afterRule [] = []
+afterRule (rule ∷ later) = later
+
 abbrev pub loadOrder : ℕ → List ℕ → Lent → List Causes
 loadOrder rule file lent =
-    At0 23 (NoRule rule) ∷ (fileOrder file ++ (checkOrderUnder rule (countIn file) (prefixIn file) (clausesIn file) ++ (ForestFileCause rule file ∷ At0 14 (NoRoom file lent) ∷ [])))
+    At0 23 (NoRule rule) ∷ (fileOrder file ++ (afterRule (checkOrderUnder rule (countIn file) (prefixIn file) (clausesIn file)) ++ (ForestFileCause rule file ∷ At0 14 (NoRoom file lent) ∷ [])))
 
--- 19 and 14, for writing: the file of the formula is too long; it is longer than the table that is lent for it
-abbrev pub FileTooLarge : ℕ → ℕ → List ℕ → List ℤ → Bool → Type 0
-FileTooLarge rule n es ls asked = (file : List ℕ) × FileOf rule n es ls asked file × TooLarge file
+-- 19 and 14, for writing: the file of the formula is too long, which within the limits it never is (proofs/Short); it is longer than the table that is lent for it
+abbrev pub FileTooLarge : ℕ → ℕ → List ℕ → List ℤ → Type 0
+FileTooLarge rule n es ls = (file : List ℕ) × FileOf rule n es ls file × TooLarge file
 
-abbrev pub FileTooLong : ℕ → ℕ → List ℕ → List ℤ → Bool → List ℕ → Type 0
-FileTooLong rule n es ls asked before = (file : List ℕ) × FileOf rule n es ls asked file × (length before < length file)
+abbrev pub FileTooLong : ℕ → ℕ → List ℕ → List ℤ → List ℕ → Type 0
+FileTooLong rule n es ls before = (file : List ℕ) × FileOf rule n es ls file × (length before < length file)
 
 -- the order of writing: 23 and the table refusals, 19, 14
-abbrev pub storeOrder : ℕ → ℕ → List ℕ → List ℤ → Bool → List ℕ → List Causes
-storeOrder rule n es ls asked before = checkOrderUnder rule n es ls ++ (At0 19 (FileTooLarge rule n es ls asked) ∷ At0 14 (FileTooLong rule n es ls asked before) ∷ [])
+abbrev pub storeOrder : ℕ → ℕ → List ℕ → List ℤ → List ℕ → List Causes
+storeOrder rule n es ls before = checkOrderUnder rule n es ls ++ (At0 19 (FileTooLarge rule n es ls) ∷ At0 14 (FileTooLong rule n es ls before) ∷ [])

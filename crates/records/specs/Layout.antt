@@ -1,4 +1,4 @@
--- The records of a file, and the file of a formula (document 02, request 6). A record is its payload length in four bytes, its kind in two, and the payload.
+-- The records of a file, and the file of a formula (document 02, requests 6 and 14). A record is its payload length in four bytes, its kind in two, and the payload.
 use Prim.Native.Nat.{ℕ, _+_, _<_, _%_}
 use mathlib.Core.Path.{_≡_}
 use mathlib.Core.Bool.{Bool, true, false}
@@ -58,7 +58,7 @@ clausesRecord ls = recordBytes clausesKind (bytesOf 4 (map literalNumber ls))
 unfoldable pub rowsRecord : List ℕ → List ℕ → List ℕ → List ℕ
 rowsRecord classes parents counts = recordBytes rowsKind (bytesOf 4 (classes ++ (parents ++ counts)))
 
--- kind 4: the sets, two bytes a number, if they are asked for
+-- kind 4, which may be absent: the sets, two bytes a number, if they are there
 abbrev pub SetsRecord : Bool → ℕ → List ℕ → List ℤ → List ℕ → Type 0
 SetsRecord true n es ls bytes = (sets : List ℕ) × StandardSets n es ls sets × (bytes ≡ recordBytes setsKind (bytesOf 2 sets))
 SetsRecord false n es ls bytes = bytes ≡ []
@@ -71,16 +71,18 @@ closingRecord word = recordBytes closingKind (numberBytes 2 word)
 abbrev pub SumsToZero : List ℕ → Type 0
 SumsToZero file = wordSum file % 65536 ≡ 0
 
--- The file of a formula under a reading rule, with its sets if they are asked for: the records in the order of their kinds, of which the last has the word that
--- closes the sum. The prefix is kept as it is lent (request 7); rows and sets are those of the prefix as the rule reads it.
-pub record FileOf (rule n : ℕ) (es : List ℕ) (ls : List ℤ) (asked : Bool) (file : List ℕ) : Type 0 where
+-- A file of a formula under a reading rule, with these bytes for its kind 4: the records in the order of their kinds, of which the last has the word that
+-- closes the sum. The prefix is kept as it is lent (request 7); the rows are those of the prefix as the rule reads it.
+pub record FileWith (rule n : ℕ) (es : List ℕ) (ls : List ℤ) (sets-record file : List ℕ) : Type 0 where
   pub classes : List ℕ
   pub parents : List ℕ
   pub counts : List ℕ
   pub rows : ForestRows n (readAs rule es) ls classes parents counts
-  pub sets-record : List ℕ
-  pub sets : SetsRecord asked n (readAs rule es) ls sets-record
   pub word : ℕ
   pub word-fits : word < 65536
   pub bytes : file ≡ prefixRecord n es ++ (clausesRecord ls ++ (rowsRecord classes parents counts ++ (sets-record ++ closingRecord word)))
   pub sum : SumsToZero file
+
+-- The file that is written: it has no kind 4 (request 14).
+abbrev pub FileOf : ℕ → ℕ → List ℕ → List ℤ → List ℕ → Type 0
+FileOf rule n es ls = FileWith rule n es ls []

@@ -1,8 +1,8 @@
--- What writing and reading a file promise, each under a reading rule (document 02, requests 6 and 7).
+-- What writing and reading a file promise, each under a reading rule (document 02, requests 6, 7 and 14).
 use Prim.Native.Nat.{ℕ}
 use mathlib.Core.Path.{_≡_}
-use mathlib.Core.Bool.{Bool}
-use mathlib.Core.List.{List}
+use mathlib.Core.Bool.{Bool, true, false}
+use mathlib.Core.List.{List, _++_}
 use lib.IntN.{ℤ}
 use lib.ListN.{length}
 use lib.Seq.{sets}
@@ -11,13 +11,13 @@ use Rattle.terms.specs.declared.Filled.{Filled}
 use Rattle.forest.specs.Listed.{Filling}
 use Rattle.records.specs.declared.Loaded.{Loaded}
 use Rattle.records.specs.declared.Loaded.the-variants.{Formula, Refused}
-use Rattle.records.specs.Layout.{FileOf}
-use Rattle.records.specs.Places.{countIn, prefixIn, clausesIn, hasSets}
+use Rattle.records.specs.Layout.{setsKind, recordBytes, closingRecord, SumsToZero, FileOf}
+use Rattle.records.specs.Places.{fourthAt, countIn, prefixIn, clausesIn, hasSets}
 use Rattle.records.specs.Causes.{Lent, lentTables, RightRows, loadOrder, storeOrder}
 
 -- What writing promises: the file of the formula stands in front in the lent table, nothing past it is changed, and the count is its length; or nothing is changed at all.
-abbrev pub Stores : ℕ → ℕ → List ℕ → List ℤ → Bool → List ℕ → List ℕ → Filled → Type 0
-Stores rule n es ls asked before = Filling (storeOrder rule n es ls asked before) (FileOf rule n es ls asked) before
+abbrev pub Stores : ℕ → ℕ → List ℕ → List ℤ → List ℕ → List ℕ → Filled → Type 0
+Stores rule n es ls before = Filling (storeOrder rule n es ls before) (FileOf rule n es ls) before
 
 -- What reading leaves: prefix, clauses and rows stand in front in the lent tables, and nothing past them is changed.
 pub record FilledFrom (rule : ℕ) (file : List ℕ) (lent lent′ : Lent) : Type 0 where
@@ -32,3 +32,9 @@ abbrev pub Loads : ℕ → List ℕ → Lent → Lent → Loaded → Type 0
 Loads rule file lent lent′ (Formula n entries literals with-sets) =
     NoneOf (loadOrder rule file lent) × (n ≡ countIn file) × (entries ≡ length (prefixIn file)) × (literals ≡ length (clausesIn file)) × (with-sets ≡ hasSets file) × FilledFrom rule file lent lent′
 Loads rule file lent lent′ (Refused number place) = FirstOf (loadOrder rule file lent) number place × (lent′ ≡ lent)
+
+-- A file without its kind 4 (request 14), by whether it has one: the record goes, the closing word is refitted, and nothing else changes; or it stays as it is.
+pub data WithoutSets (file : List ℕ) : Bool → List ℕ → Type 0 where
+  as-it-is : {without : List ℕ} → without ≡ file → WithoutSets file false without
+  refitted : {without : List ℕ} (head sets : List ℕ) (word word′ : ℕ) → length head ≡ fourthAt file
+      → file ≡ head ++ (recordBytes setsKind sets ++ closingRecord word) → without ≡ head ++ closingRecord word′ → SumsToZero without → WithoutSets file true without

@@ -1,18 +1,17 @@
 -- The records of a file, put together from the runs of bytes that are stored for each, and the file from its records.
 use Prim.Native.Nat.{ℕ, _+_, _*_, _-_, _<_, _≤_, _%_}
 use mathlib.Core.Path.{_≡_, sym, ap, _∙_, subst}
-use mathlib.Core.Bool.{Bool, true, false}
 use mathlib.Core.List.{List, _∷_, _++_, append-assoc, map}
 use native.Mathlib.Omega.{arith}
 use lib.IntN.{ℤ}
 use lib.ListN.{length, take, drop, length-append, length-map}
 use lib.Seq.{sets-eq, take-at, length-take-le}
 use Rattle.qdimacs.specs.Bytes.{Wrote}
-use Rattle.qdimacs.proofs.Stores.{wrote-none, wrote-more}
+use Rattle.qdimacs.proofs.Stores.{wrote-more}
 use Rattle.records.specs.Numbers.{numberBytes, bytesOf, literalNumber, wordSum}
-use Rattle.records.specs.Layout.{prefixKind, clausesKind, rowsKind, setsKind, closingKind, recordBytes, prefixRecord, clausesRecord, rowsRecord, closingRecord}
+use Rattle.records.specs.Layout.{prefixKind, clausesKind, rowsKind, closingKind, recordBytes, prefixRecord, clausesRecord, rowsRecord, closingRecord}
 use Rattle.records.proofs.Lengths.{number-length, bytes-length, bytes-append}
-use Rattle.storing.specs.Parts.{headBytes, setsPart, formulaPart, forestPart, closing, frontOf, wholeOf}
+use Rattle.storing.specs.Parts.{headBytes, formulaPart, closing, frontOf, wholeOf}
 
 -- bytes stored are those that are meant
 pub wrote-as : {xs ys before after : List ℕ} {at next : ℕ} → xs ≡ ys → Wrote xs before after at next → Wrote ys before after at next
@@ -47,10 +46,6 @@ module _ {before mid after : List ℕ} {at start next : ℕ} where
       let l′ = length-append parents counts in
       omega arith)
 
-  pub sets-wrote : (size : ℕ) {asked : Bool} (list : List ℕ) → asked ≡ true → size ≡ 2 * length list → Wrote (headBytes size setsKind) before mid at start → Wrote (bytesOf 2 list) mid after start next → Wrote (setsPart asked list) before after at next
-  unfolding setsPart
-  sets-wrote size list on q h p = wrote-as (sym (ap (λ (b : Bool). setsPart b list) on)) (record-wrote size setsKind (let b = bytes-length 2 list in omega arith) h p)
-
   pub closing-wrote : (word : ℕ) → Wrote (headBytes 2 closingKind) before mid at start → Wrote (numberBytes 2 word) mid after start next → Wrote (closingRecord word) before after at next
   unfolding closingRecord
   closing-wrote word = record-wrote 2 closingKind (sym (number-length 2 word))
@@ -58,15 +53,6 @@ module _ {before mid after : List ℕ} {at start next : ℕ} where
   pub formula-wrote : (n : ℕ) (es : List ℕ) (ls : List ℤ) → Wrote (prefixRecord n es) before mid at start → Wrote (clausesRecord ls) mid after start next → Wrote (formulaPart n es ls) before after at next
   unfolding formulaPart
   formula-wrote n es ls = wrote-more
-
-  pub forest-wrote : (classes parents counts : List ℕ) (asked : Bool) (list : List ℕ) → Wrote (rowsRecord classes parents counts) before mid at start → Wrote (setsPart asked list) mid after start next → Wrote (forestPart classes parents counts asked list) before after at next
-  unfolding forestPart
-  forest-wrote classes parents counts asked list = wrote-more
-
--- no sets
-pub sets-none : {asked : Bool} (list buffer : List ℕ) (at : ℕ) → asked ≡ false → Wrote (setsPart asked list) buffer buffer at at
-unfolding setsPart
-sets-none list buffer at off = wrote-as (sym (ap (λ (b : Bool). setsPart b list) off)) (wrote-none buffer at)
 
 -- n and the prefix
 pub prefix-wrote : (size n : ℕ) (es : List ℕ) {before mid mid′ after : List ℕ} {at start start′ next : ℕ} → size ≡ 2 * length es + 2
@@ -84,13 +70,13 @@ unfolding closing
 closing-is front sum word q fits zero = omega arith
 
 -- The whole file.
-pub whole-wrote : (n : ℕ) (es : List ℕ) (ls : List ℤ) (classes parents counts : List ℕ) (asked : Bool) (list : List ℕ) {before mid mid′ after : List ℕ} {start last next : ℕ}
-    → length (frontOf n es ls classes parents counts asked list) ≤ length before
-    → Wrote (formulaPart n es ls) before mid 0 start → Wrote (forestPart classes parents counts asked list) mid mid′ start last → Wrote (closingRecord (closing (take last mid′))) mid′ after last next
-    → Wrote (wholeOf n es ls classes parents counts asked list) before after 0 next
+pub whole-wrote : (n : ℕ) (es : List ℕ) (ls : List ℤ) (classes parents counts : List ℕ) {before mid mid′ after : List ℕ} {start last next : ℕ}
+    → length (frontOf n es ls classes parents counts) ≤ length before
+    → Wrote (formulaPart n es ls) before mid 0 start → Wrote (rowsRecord classes parents counts) mid mid′ start last → Wrote (closingRecord (closing (take last mid′))) mid′ after last next
+    → Wrote (wholeOf n es ls classes parents counts) before after 0 next
 unfolding wholeOf frontOf
-whole-wrote n es ls classes parents counts asked list {mid′ = mid′} {last = last} room a b c =
-    let front = formulaPart n es ls ++ forestPart classes parents counts asked list in
+whole-wrote n es ls classes parents counts {mid′ = mid′} {last = last} room a b c =
+    let front = formulaPart n es ls ++ rowsRecord classes parents counts in
     let w = wrote-more a b in
     let is : take last mid′ ≡ front = front-stored w (omega arith) in
     wrote-as (ap (λ (xs : List ℕ). front ++ closingRecord (closing xs)) is) (wrote-more w c)

@@ -3,5 +3,4 @@ pub mod Runs
 pub mod Sizes
 pub mod Composed
 pub mod Filed
-pub mod SetLists
 pub mod Built

@@ -27,7 +27,7 @@ pub fn put_number(out: &mut [u8], at: usize, width: u32, number: u32) -> usize
 
 // Numbers one after the other, each of so many bytes.
 pub fn put_numbers(out: &mut [u8], at: usize, width: u32, numbers: &[u32]) -> usize
-    requires { ⌜ (at < 1048576) × (width ≤ 4) × (length (now numbers) ≤ 131072) ⌝ }
+    requires { ⌜ (at < 1048576) × (width ≤ 4) × (length (now numbers) ≤ 8192) ⌝ }
     ensures { λ r. ⌜ Wrote (bytesOf width (now (numbers .entry))) (now (out .entry)) (now (out .exit)) at r ⌝ }
 {
     let mut next = at;
@@ -41,7 +41,7 @@ pub fn put_numbers(out: &mut [u8], at: usize, width: u32, numbers: &[u32]) -> us
 
 // Literals one after the other, each of four bytes.
 pub fn put_literals(out: &mut [u8], at: usize, clauses: &[i32]) -> usize
-    requires { ⌜ (at < 1048576) × (length (now clauses) ≤ 131072) ⌝ }
+    requires { ⌜ (at < 1048576) × (length (now clauses) ≤ 16384) ⌝ }
     ensures { λ r. ⌜ Wrote (bytesOf 4 (map literalNumber (now (clauses .entry)))) (now (out .entry)) (now (out .exit)) at r ⌝ }
 {
     let mut next = at;

@@ -12,7 +12,7 @@ ghost use lib.ListN.{length, take};
 ghost use Rattle.qdimacs.specs.Bytes.{Wrote};
 ghost use Rattle.records.specs.Numbers.{bytesOf};
 ghost use Rattle.records.specs.Layout.{prefixRecord, clausesRecord, rowsRecord, closingRecord};
-ghost use Rattle.storing.specs.Parts.{setsPart, closing};
+ghost use Rattle.storing.specs.Parts.{closing};
 
 // Kind 1: n and the prefix.
 pub fn put_prefix(out: &mut [u8], n: u32, prefix: &[u32]) -> usize
@@ -59,19 +59,6 @@ fn put_tables(out: &mut [u8], at: usize, classes: &[u32], parents: &[u32], count
     let second = put_numbers(out, at, 4, classes);
     let third = put_numbers(out, second, 4, parents);
     put_numbers(out, third, 4, counts)
-}
-
-// Kind 4: the sets, if they are asked for.
-pub fn put_sets(out: &mut [u8], at: usize, asked: bool, list: &[u32]) -> usize
-    requires { ⌜ (at < 524288) × (length (now list) ≤ 131072) ⌝ }
-    ensures { λ r. ⌜ Wrote (setsPart asked (now (list .entry))) (now (out .entry)) (now (out .exit)) at r ⌝ }
-{
-    if !asked {
-        return at;
-    }
-    let size = 2 * (list.len() as u32);
-    let start = put_head(out, at, size, 4);
-    put_numbers(out, start, 2, list)
 }
 
 // Kind 65,535: the word that lets the sum of all words wrap to zero.

@@ -4,16 +4,14 @@ use crate::parts::put_clauses;
 use crate::parts::put_closing;
 use crate::parts::put_prefix;
 use crate::parts::put_rows;
-use crate::parts::put_sets;
-use records::FILE_BYTES;
 use terms::Filled;
-ghost use Prim.Native.Nat.{_<_, _≤_};
+ghost use Prim.Native.Nat.{_≤_};
 ghost use mathlib.Core.Path.{_≡_};
 ghost use lib.ListN.{length};
 ghost use Rattle.qdimacs.specs.Bytes.{Wrote};
-ghost use Rattle.storing.specs.Parts.{formulaPart, forestPart, wholeOf, sizeOf, StoresWhole};
+ghost use Rattle.storing.specs.Parts.{formulaPart, wholeOf, sizeOf, StoresWhole};
 
-// Writes the file of a formula, these rows and, if they are asked for, these sets; nothing is written where it is too long or does not fit.
+// Writes the file of a formula and these rows; nothing is written where it does not fit. Within the limits it is never too long.
 pub fn store_file(
     n: u32,
     prefix: &[u32],
@@ -21,48 +19,24 @@ pub fn store_file(
     classes: &[u32],
     parents: &[u32],
     counts: &[u32],
-    asked: bool,
-    list: &[u32],
     file: &mut [u8],
 ) -> Filled
-    requires { ⌜ (length (now prefix) ≤ 8192) × (length (now clauses) ≤ 16384) × (length (now classes) ≤ 4096) × (length (now parents) ≡ length (now classes)) × (length (now counts) ≡ length (now classes)) × (length (now list) ≤ 131072) ⌝ }
-    ensures { λ r. ⌜ StoresWhole (wholeOf n (now (prefix .entry)) (now (clauses .entry)) (now (classes .entry)) (now (parents .entry)) (now (counts .entry)) asked (now (list .entry))) (now (file .entry)) (now (file .exit)) r ⌝ }
+    requires { ⌜ (length (now prefix) ≤ 8192) × (length (now clauses) ≤ 16384) × (length (now classes) ≤ 4096) × (length (now parents) ≡ length (now classes)) × (length (now counts) ≡ length (now classes)) ⌝ }
+    ensures { λ r. ⌜ StoresWhole (wholeOf n (now (prefix .entry)) (now (clauses .entry)) (now (classes .entry)) (now (parents .entry)) (now (counts .entry))) (now (file .entry)) (now (file .exit)) r ⌝ }
 {
-    let size = size_of(
-        prefix.len(),
-        clauses.len(),
-        classes.len(),
-        asked,
-        list.len(),
-    );
-    if size > FILE_BYTES {
-        return Filled::Refused(19, 0);
-    }
+    let size = size_of(prefix.len(), clauses.len(), classes.len());
     if file.len() < size {
         return Filled::Refused(14, 0);
     }
-    let written = put_file(
-        file,
-        n,
-        prefix,
-        clauses,
-        classes,
-        parents,
-        counts,
-        asked,
-        list,
-    );
+    let written = put_file(file, n, prefix, clauses, classes, parents, counts);
     Filled::Count(written as u32)
 }
 
-// How many bytes a file has, by its prefix entries, literals, rows of each table, and numbers in its sets.
-fn size_of(entries: usize, literals: usize, rows: usize, asked: bool, numbers: usize) -> usize
-    requires { ⌜ (entries ≤ 8192) × (literals ≤ 16384) × (rows ≤ 4096) × (numbers ≤ 131072) ⌝ }
-    ensures { λ r. ⌜ r ≡ sizeOf entries literals rows asked numbers ⌝ }
+// How many bytes a file has, by its prefix entries, literals, and rows of each table.
+fn size_of(entries: usize, literals: usize, rows: usize) -> usize
+    requires { ⌜ (entries ≤ 8192) × (literals ≤ 16384) × (rows ≤ 4096) ⌝ }
+    ensures { λ r. ⌜ r ≡ sizeOf entries literals rows ⌝ }
 {
-    if asked {
-        return 2 * entries + 4 * literals + 12 * rows + 2 * numbers + 34;
-    }
     2 * entries + 4 * literals + 12 * rows + 28
 }
 
@@ -75,14 +49,12 @@ fn put_file(
     classes: &[u32],
     parents: &[u32],
     counts: &[u32],
-    asked: bool,
-    list: &[u32],
 ) -> usize
-    requires { ⌜ (length (now prefix) ≤ 8192) × (length (now clauses) ≤ 16384) × (length (now classes) ≤ 4096) × (length (now parents) ≡ length (now classes)) × (length (now counts) ≡ length (now classes)) × (length (now list) ≤ 131072) × (sizeOf (length (now prefix)) (length (now clauses)) (length (now classes)) asked (length (now list)) ≤ length (now out)) ⌝ }
-    ensures { λ r. ⌜ Wrote (wholeOf n (now (prefix .entry)) (now (clauses .entry)) (now (classes .entry)) (now (parents .entry)) (now (counts .entry)) asked (now (list .entry))) (now (out .entry)) (now (out .exit)) 0 r ⌝ }
+    requires { ⌜ (length (now prefix) ≤ 8192) × (length (now clauses) ≤ 16384) × (length (now classes) ≤ 4096) × (length (now parents) ≡ length (now classes)) × (length (now counts) ≡ length (now classes)) × (sizeOf (length (now prefix)) (length (now clauses)) (length (now classes)) ≤ length (now out)) ⌝ }
+    ensures { λ r. ⌜ Wrote (wholeOf n (now (prefix .entry)) (now (clauses .entry)) (now (classes .entry)) (now (parents .entry)) (now (counts .entry))) (now (out .entry)) (now (out .exit)) 0 r ⌝ }
 {
     let forest = put_formula(out, n, prefix, clauses);
-    let last = put_forest(out, forest, classes, parents, counts, asked, list);
+    let last = put_rows(out, forest, classes, parents, counts);
     put_closing(out, last)
 }
 
@@ -93,21 +65,4 @@ fn put_formula(out: &mut [u8], n: u32, prefix: &[u32], clauses: &[i32]) -> usize
 {
     let next = put_prefix(out, n, prefix);
     put_clauses(out, next, clauses)
-}
-
-// The records of its forest.
-fn put_forest(
-    out: &mut [u8],
-    at: usize,
-    classes: &[u32],
-    parents: &[u32],
-    counts: &[u32],
-    asked: bool,
-    list: &[u32],
-) -> usize
-    requires { ⌜ (at < 131072) × (length (now classes) ≤ 4096) × (length (now parents) ≡ length (now classes)) × (length (now counts) ≡ length (now classes)) × (length (now list) ≤ 131072) ⌝ }
-    ensures { λ r. ⌜ Wrote (forestPart (now (classes .entry)) (now (parents .entry)) (now (counts .entry)) asked (now (list .entry))) (now (out .entry)) (now (out .exit)) at r ⌝ }
-{
-    let next = put_rows(out, at, classes, parents, counts);
-    put_sets(out, next, asked, list)
 }

@@ -28,7 +28,7 @@ store-sound-requires c κs =
 returns : tie.Need-returns
 returns c =
     let a = c .before .before .before .before .before .before .args in
-    (refused-first (checkOrderUnder (a .rule) (a .n) (a .prefix .now) (a .clauses .now)) (At0 19 (FileTooLarge (a .rule) (a .n) (a .prefix .now) (a .clauses .now) (a .asked)) ∷ At0 14 (FileTooLong (a .rule) (a .n) (a .prefix .now) (a .clauses .now) (a .asked) (a .file .now)) ∷ []) (c .before .number .given .1) (c .before .before .before .check .ensures), refl)
+    (refused-first (checkOrderUnder (a .rule) (a .n) (a .prefix .now) (a .clauses .now)) (At0 19 (FileTooLarge (a .rule) (a .n) (a .prefix .now) (a .clauses .now)) ∷ At0 14 (FileTooLong (a .rule) (a .n) (a .prefix .now) (a .clauses .now) (a .file .now)) ∷ []) (c .before .number .given .1) (c .before .before .before .check .ensures), refl)
 
 same-length : tie.Need-same-length
 same-length c = search needs
@@ -37,7 +37,7 @@ returns-2 : tie.Need-returns-2
 returns-2 c =
     let a = c .before .before .before .before .before .before .before .before .before .args in
     let o = c .before .before .store-sound in
-    filling-then (checkOrderUnder (a .rule) (a .n) (a .prefix .now) (a .clauses .now)) (At0 19 (FileTooLarge (a .rule) (a .n) (a .prefix .now) (a .clauses .now) (a .asked)) ∷ At0 14 (FileTooLong (a .rule) (a .n) (a .prefix .now) (a .clauses .now) (a .asked) (a .file .now)) ∷ []) (FileOf (a .rule) (a .n) (a .prefix .now) (a .clauses .now) (a .asked)) (a .file .now) (o .last .1 .1 .1 .1 .1 .0) (c .before .before .before .before .enum-told .given .1) (c .before .before .before .before .before .before .check .ensures) (o .result) (o .ensures)
+    filling-then (checkOrderUnder (a .rule) (a .n) (a .prefix .now) (a .clauses .now)) (At0 19 (FileTooLarge (a .rule) (a .n) (a .prefix .now) (a .clauses .now)) ∷ At0 14 (FileTooLong (a .rule) (a .n) (a .prefix .now) (a .clauses .now) (a .file .now)) ∷ []) (FileOf (a .rule) (a .n) (a .prefix .now) (a .clauses .now)) (a .file .now) (o .last .1 .1 .1 .1 .0) (c .before .before .before .before .enum-told .given .1) (c .before .before .before .before .before .before .check .ensures) (o .result) (o .ensures)
 
 pub store-spec : {M : Type 1} → statement M
 store-spec =

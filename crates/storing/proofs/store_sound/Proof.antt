@@ -1,10 +1,11 @@
 -- `storing::store_sound` meets its contract.
 use Prim.Native.Nat.{ℕ}
 use mathlib.Core.Path.{sym}
-use lib.ListN.{replicate, length-replicate}
+use lib.ListN.{take, replicate, length-replicate}
 use lib.Seq.{length-take-le}
 use Rattle.growth.specs.Grown.{Standing, standing}
 use Rattle.storing.proofs.Built.{never-refused, within, built-rows}
+use Rattle.storing.proofs.Filed.{within-limits, of-formula}
 use borrow.Author.Needs.{needs}
 use Rattle.storing.proofs.store_sound.Statement.{statement}
 use Rattle.storing.proofs.store_sound.Tie as tie
@@ -41,8 +42,8 @@ array-share-prefix-classes c =
     let o = c .before .before .before .before .before .before .build-tallied in
     within (a .rule) (a .n) (a .prefix .now) (a .clauses .now) (k .pre) empty (standing (o .last .1 .1 .1 .1 .0) (o .last .1 .1 .1 .1 .1 .0) (o .last .1 .1 .1 .1 .1 .1 .0) (o .result .tally)) (length-replicate {A = ℕ} 4096 0) (length-replicate {A = ℕ} 4096 0) (length-replicate {A = ℕ} 4096 0) (o .result .answer) (o .ensures) (c .before .answer2 .given .1) .0
 
-slice-aggregate-store-built : tie.Need-slice-aggregate-store-built
-slice-aggregate-store-built c =
+slice-aggregate-store-file : tie.Need-slice-aggregate-store-file
+slice-aggregate-store-file c =
     let k = c .before .before .before .before .before .before .before .before .before .before .before .before .before in
     let a = k .args in
     let o = c .before .before .before .before .before .before .before .build-tallied in
@@ -55,8 +56,8 @@ array-share-prefix-parents c =
     let o = c .before .before .before .before .before .before .before .build-tallied in
     within (a .rule) (a .n) (a .prefix .now) (a .clauses .now) (k .pre) empty (standing (o .last .1 .1 .1 .1 .0) (o .last .1 .1 .1 .1 .1 .0) (o .last .1 .1 .1 .1 .1 .1 .0) (o .result .tally)) (length-replicate {A = ℕ} 4096 0) (length-replicate {A = ℕ} 4096 0) (length-replicate {A = ℕ} 4096 0) (o .result .answer) (o .ensures) (c .before .before .answer2 .given .1) .1
 
-slice-aggregate-store-built-2 : tie.Need-slice-aggregate-store-built-2
-slice-aggregate-store-built-2 c =
+slice-aggregate-store-file-2 : tie.Need-slice-aggregate-store-file-2
+slice-aggregate-store-file-2 c =
     let k = c .before .before .before .before .before .before .before .before .before .before .before .before .before .before in
     let a = k .args in
     let o = c .before .before .before .before .before .before .before .before .build-tallied in
@@ -69,19 +70,21 @@ array-share-prefix-counts c =
     let o = c .before .before .before .before .before .before .before .before .build-tallied in
     within (a .rule) (a .n) (a .prefix .now) (a .clauses .now) (k .pre) empty (standing (o .last .1 .1 .1 .1 .0) (o .last .1 .1 .1 .1 .1 .0) (o .last .1 .1 .1 .1 .1 .1 .0) (o .result .tally)) (length-replicate {A = ℕ} 4096 0) (length-replicate {A = ℕ} 4096 0) (length-replicate {A = ℕ} 4096 0) (o .result .answer) (o .ensures) (c .before .before .before .answer2 .given .1) .2
 
-slice-aggregate-store-built-3 : tie.Need-slice-aggregate-store-built-3
-slice-aggregate-store-built-3 c =
+slice-aggregate-store-file-3 : tie.Need-slice-aggregate-store-file-3
+slice-aggregate-store-file-3 c =
     let k = c .before .before .before .before .before .before .before .before .before .before .before .before .before .before .before in
     let a = k .args in
     let o = c .before .before .before .before .before .before .before .before .before .build-tallied in
     sym (length-take-le (c .before .before .before .before .answer2 .given .0 .0) (o .last .1 .1 .1 .1 .1 .1 .0) (within (a .rule) (a .n) (a .prefix .now) (a .clauses .now) (k .pre) empty (standing (o .last .1 .1 .1 .1 .0) (o .last .1 .1 .1 .1 .1 .0) (o .last .1 .1 .1 .1 .1 .1 .0) (o .result .tally)) (length-replicate {A = ℕ} 4096 0) (length-replicate {A = ℕ} 4096 0) (length-replicate {A = ℕ} 4096 0) (o .result .answer) (o .ensures) (c .before .before .before .before .answer2 .given .1) .2))
 
-store-built-requires : tie.Need-store-built-requires
-store-built-requires c κs =
+store-file-requires : tie.Need-store-file-requires
+store-file-requires c κs =
     let k = c .before .before .before .before .before .before .before .before .before .before .before .before .before .before .before .before in
     let a = k .args in
     let o = c .before .before .before .before .before .before .before .before .before .before .build-tallied in
-    (k .pre, built-rows (a .rule) (a .n) (a .prefix .now) (a .clauses .now) (k .pre) empty (standing (o .last .1 .1 .1 .1 .0) (o .last .1 .1 .1 .1 .1 .0) (o .last .1 .1 .1 .1 .1 .1 .0) (o .result .tally)) (length-replicate {A = ℕ} 4096 0) (length-replicate {A = ℕ} 4096 0) (length-replicate {A = ℕ} 4096 0) (o .result .answer) (o .ensures) (c .before .before .before .before .before .answer2 .given .1))
+    let count = c .before .before .before .before .before .answer2 .given .0 .0 in
+    let rows = built-rows (a .rule) (a .n) (a .prefix .now) (a .clauses .now) (k .pre) empty (standing (o .last .1 .1 .1 .1 .0) (o .last .1 .1 .1 .1 .1 .0) (o .last .1 .1 .1 .1 .1 .1 .0) (o .result .tally)) (length-replicate {A = ℕ} 4096 0) (length-replicate {A = ℕ} 4096 0) (length-replicate {A = ℕ} 4096 0) (o .result .answer) (o .ensures) (c .before .before .before .before .before .answer2 .given .1) in
+    within-limits (a .n) (a .prefix .now) (a .clauses .now) (take count (o .last .1 .1 .1 .1 .0)) (take count (o .last .1 .1 .1 .1 .1 .0)) (take count (o .last .1 .1 .1 .1 .1 .1 .0)) (a .rule) (k .pre) rows
 
 returns : tie.Need-returns
 returns c =
@@ -94,7 +97,14 @@ same-length : tie.Need-same-length
 same-length c = search needs
 
 returns-2 : tie.Need-returns-2
-returns-2 c = search needs
+returns-2 c =
+    let k = c .before .before .before .before .before .before .before .before .before .before .before .before .before .before .before .before .before .before .before in
+    let a = k .args in
+    let o = c .before .before .before .before .before .before .before .before .before .before .before .before .before .build-tallied in
+    let f = c .before .before .store-file in
+    let count = c .before .before .before .before .before .before .before .before .answer2 .given .0 .0 in
+    let rows = built-rows (a .rule) (a .n) (a .prefix .now) (a .clauses .now) (k .pre) empty (standing (o .last .1 .1 .1 .1 .0) (o .last .1 .1 .1 .1 .1 .0) (o .last .1 .1 .1 .1 .1 .1 .0) (o .result .tally)) (length-replicate {A = ℕ} 4096 0) (length-replicate {A = ℕ} 4096 0) (length-replicate {A = ℕ} 4096 0) (o .result .answer) (o .ensures) (c .before .before .before .before .before .before .before .before .answer2 .given .1) in
+    of-formula (a .n) (a .prefix .now) (a .clauses .now) (take count (o .last .1 .1 .1 .1 .0)) (take count (o .last .1 .1 .1 .1 .1 .0)) (take count (o .last .1 .1 .1 .1 .1 .1 .0)) (a .rule) (k .pre) rows (a .file .now) (f .last .1 .1 .1 .1 .1 .1 .0) (f .result) (f .ensures)
 
 pub store-sound-spec : {M : Type 1} → statement M
 store-sound-spec =
@@ -108,12 +118,12 @@ store-sound-spec =
     enum-known-answer-2
     cast-rows
     array-share-prefix-classes
-    slice-aggregate-store-built
+    slice-aggregate-store-file
     array-share-prefix-parents
-    slice-aggregate-store-built-2
+    slice-aggregate-store-file-2
     array-share-prefix-counts
-    slice-aggregate-store-built-3
-    store-built-requires
+    slice-aggregate-store-file-3
+    store-file-requires
     returns
     same-length
     returns-2)

@@ -2,7 +2,6 @@
 use borrow.Author.Needs.{needs}
 use Rattle.records.specs.Layout.{FileOf}
 use Rattle.records.specs.Causes.{storeOrder}
-use Rattle.capi.specs.Filed.{asksSets}
 use Rattle.capi.proofs.Filed.{small-store}
 use Rattle.capi.proofs.Telling.{fits-filling, tell-filling}
 use Rattle.capi.proofs.files.snow_store.Statement.{statement}
@@ -15,7 +14,7 @@ lay-requires : tie.Need-lay-requires
 lay-requires c κs =
     let a = c .before .before .before .before .before .before .before .before .args in
     let b = c .before .before .before .before .store in
-    fits-filling (storeOrder (a .rule) (a .n) (a .prefix .now) (a .clauses .now) (asksSets (a .with-sets)) (a .file .now)) (FileOf (a .rule) (a .n) (a .prefix .now) (a .clauses .now) (asksSets (a .with-sets))) (a .file .now) _ (b .result) (small-store (a .rule) (a .n) (a .prefix .now) (a .clauses .now) (asksSets (a .with-sets)) (a .file .now)) (b .ensures)
+    fits-filling (storeOrder (a .rule) (a .n) (a .prefix .now) (a .clauses .now) (a .file .now)) (FileOf (a .rule) (a .n) (a .prefix .now) (a .clauses .now)) (a .file .now) _ (b .result) (small-store (a .rule) (a .n) (a .prefix .now) (a .clauses .now) (a .file .now)) (b .ensures)
 
 same-length : tie.Need-same-length
 same-length c = search needs
@@ -23,7 +22,7 @@ same-length c = search needs
 returns : tie.Need-returns
 returns c =
     let a = c .before .before .before .before .before .before .before .before .before .args in
-    tell-filling (storeOrder (a .rule) (a .n) (a .prefix .now) (a .clauses .now) (asksSets (a .with-sets)) (a .file .now)) (FileOf (a .rule) (a .n) (a .prefix .now) (a .clauses .now) (asksSets (a .with-sets))) (a .file .now) _ (c .lay .ensures) (c .before .before .before .before .before .store .ensures)
+    tell-filling (storeOrder (a .rule) (a .n) (a .prefix .now) (a .clauses .now) (a .file .now)) (FileOf (a .rule) (a .n) (a .prefix .now) (a .clauses .now)) (a .file .now) _ (c .lay .ensures) (c .before .before .before .before .before .store .ensures)
 
 pub snow-store-spec : {M : Type 1} → statement M
 snow-store-spec = tie.close (tie.spec store-requires lay-requires same-length returns)

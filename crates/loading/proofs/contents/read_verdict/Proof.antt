@@ -10,7 +10,8 @@ use lib.Seq.{sets, length-take-le}
 use Rattle.records.specs.Numbers.{numbersAt, literalOf}
 use Rattle.records.specs.Places.{prefixIn, clausesIn}
 use Rattle.layout.proofs.Spans.{laid-ends}
-use Rattle.loading.proofs.Agreement.{prefix-is, clauses-are, take-stored}
+use Rattle.records.proofs.Short.{take-stored}
+use Rattle.loading.proofs.Agreement.{prefix-is, clauses-are}
 use borrow.Author.Needs.{needs}
 use Rattle.loading.proofs.contents.read_verdict.Statement.{statement}
 use Rattle.loading.proofs.contents.read_verdict.Tie as tie

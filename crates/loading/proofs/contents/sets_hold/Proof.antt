@@ -12,7 +12,8 @@ use Rattle.forest.specs.declared.Scheme.the-variants.{Standard}
 use Rattle.records.specs.Layout.{StandardSets}
 use Rattle.records.specs.Places.{fourthAt, Holds}
 use Rattle.tables.specs.Rows.{Tells}
-use Rattle.loading.proofs.Agreement.{take-stored, tells-iff}
+use Rattle.records.proofs.Short.{take-stored}
+use Rattle.loading.proofs.Agreement.{tells-iff}
 use Rattle.loading.proofs.OwnForest.{sets-written, sets-unwritten}
 use Rattle.loading.proofs.Disagree.{held-to, right-sets, long-sets}
 use borrow.Author.Needs.{needs}

@@ -10,34 +10,34 @@ use Rattle.storing.proofs.whole.put_file.Tie as tie
 put-formula-requires : tie.Need-put-formula-requires
 put-formula-requires c κs = search needs
 
-put-forest-requires : tie.Need-put-forest-requires
-put-forest-requires c κs =
-    let k = c .before .before .before .before .before .before .before .before .before .before .before in
+put-rows-requires : tie.Need-put-rows-requires
+put-rows-requires c κs =
+    let k = c .before .before .before .before .before .before .before .before .before .before in
     let l = formula-length (k .args .n) (k .args .prefix .now) (k .args .clauses .now) in
-    (omega (arith, c .before .before .before .put-formula .ensures .end, k .pre .0, k .pre .1), k .pre .2, k .pre .3, k .pre .4, k .pre .5)
+    (omega (arith, c .before .before .before .put-formula .ensures .end, k .pre .0, k .pre .1), k .pre .2, k .pre .3, k .pre .4)
 
 put-closing-requires : tie.Need-put-closing-requires
 put-closing-requires c κs =
-    let k = c .before .before .before .before .before .before .before .before .before .before .before .before .before .before .before in
+    let k = c .before .before .before .before .before .before .before .before .before .before .before .before .before .before in
     let a = k .args in
-    let front = front-length (a .n) (a .prefix .now) (a .clauses .now) (a .classes .now) (a .parents .now) (a .counts .now) (a .asked) (a .list .now) (k .pre .3) (k .pre .4) in
-    let parts = front-parts (a .n) (a .prefix .now) (a .clauses .now) (a .classes .now) (a .parents .now) (a .counts .now) (a .asked) (a .list .now) in
-    let most = size-most (length (a .prefix .now)) (length (a .clauses .now)) (length (a .classes .now)) (a .asked) (length (a .list .now)) (k .pre .0) (k .pre .1) (k .pre .2) (k .pre .5) in
+    let front = front-length (a .n) (a .prefix .now) (a .clauses .now) (a .classes .now) (a .parents .now) (a .counts .now) (k .pre .3) (k .pre .4) in
+    let parts = front-parts (a .n) (a .prefix .now) (a .clauses .now) (a .classes .now) (a .parents .now) (a .counts .now) in
+    let most = size-most (length (a .prefix .now)) (length (a .clauses .now)) (length (a .classes .now)) (k .pre .0) (k .pre .1) (k .pre .2) in
     let formula = c .before .before .before .before .before .before .before .put-formula in
-    let forest = c .before .before .before .put-forest in
-    omega (arith, front, parts, most, k .pre .6, formula .ensures .end, forest .ensures .end, formula .kept .0, forest .kept .0)
+    let rows = c .before .before .before .put-rows in
+    omega (arith, front, parts, most, k .pre .5, formula .ensures .end, rows .ensures .end, formula .kept .0, rows .kept .0)
 
 same-length : tie.Need-same-length
 same-length c = search needs
 
 returns : tie.Need-returns
 returns c =
-    let k = c .before .before .before .before .before .before .before .before .before .before .before .before .before .before .before .before .before .before in
+    let k = c .before .before .before .before .before .before .before .before .before .before .before .before .before .before .before .before .before in
     let a = k .args in
-    let front = front-length (a .n) (a .prefix .now) (a .clauses .now) (a .classes .now) (a .parents .now) (a .counts .now) (a .asked) (a .list .now) (k .pre .3) (k .pre .4) in
-    whole-wrote (a .n) (a .prefix .now) (a .clauses .now) (a .classes .now) (a .parents .now) (a .counts .now) (a .asked) (a .list .now) (omega (arith, front, k .pre .6)) (c .before .before .before .before .before .before .before .before .before .before .put-formula .ensures) (c .before .before .before .before .before .before .put-forest .ensures) (c .before .before .put-closing .ensures)
+    let front = front-length (a .n) (a .prefix .now) (a .clauses .now) (a .classes .now) (a .parents .now) (a .counts .now) (k .pre .3) (k .pre .4) in
+    whole-wrote (a .n) (a .prefix .now) (a .clauses .now) (a .classes .now) (a .parents .now) (a .counts .now) (omega (arith, front, k .pre .5)) (c .before .before .before .before .before .before .before .before .before .before .put-formula .ensures) (c .before .before .before .before .before .before .put-rows .ensures) (c .before .before .put-closing .ensures)
 
 pub put-file-spec : {M : Type 1} → statement M
 put-file-spec =
     tie.close
-    (tie.spec put-formula-requires put-forest-requires put-closing-requires same-length returns)
+    (tie.spec put-formula-requires put-rows-requires put-closing-requires same-length returns)
