@@ -1,5 +1,5 @@
 -- Expanding under a reading rule, from expanding a prefix that is read as it stands; and that where rule 1 accepts the prefix both rules promise the same.
-use Prim.Native.Nat.{ℕ, _-_, _≤_}
+use Prim.Native.Nat.{ℕ, _-_}
 use mathlib.Core.Path.{_≡_, refl, subst}
 use mathlib.Core.List.{List}
 use mathlib.Core.Logic.{_↔_}
@@ -8,20 +8,14 @@ use lib.ListN.{length, take, drop}
 use Rattle.terms.specs.Refusals.{Causes, NoneOf}
 use Rattle.terms.specs.declared.Filled.{Filled}
 use Rattle.terms.specs.declared.Filled.the-variants.{Count}
-use Rattle.terms.specs.declared.Verdict.{Verdict}
-use Rattle.terms.proofs.Verdicts.{refused-first}
 use Rattle.joining.specs.Rules.{readAs, ruledPrefix, afterPrefix}
 use Rattle.joining.specs.Writing.{Joins}
-use Rattle.joining.proofs.Exchange.{Carries, under-one, under-two}
+use Rattle.joining.proofs.Exchange.{Carries, under-one, under-two, refused-under}
 use Rattle.joining.proofs.Agreement.{one-to-two, two-to-one}
 use Rattle.expansion.specs.declared.Expanded.{Expanded}
 use Rattle.expansion.specs.declared.Expanded.the-variants.{Formula, Refused}
 use Rattle.expansion.specs.Promise.{expandOrder, ExpandsBy, Expands}
 use Rattle.expansion.specs.Writing.{ExpandsPlain}
-
--- the joined prefix ends within its table
-pub joined-room : (rule n : ℕ) (es : List ℕ) (entries : ℕ) (out : List ℕ) (count : ℕ) {v : Filled} → v ≡ Count count → Joins rule n es entries out v → count ≤ length out
-joined-room rule n es entries out count is joined = subst (Joins rule n es entries out) is joined .2
 
 module _ (n : ℕ) (es : List ℕ) (ls : List ℤ) (x : ℕ) (out : List ℕ) (outs : List ℤ) where
   -- what is looked at after the prefix
@@ -49,4 +43,4 @@ module _ (n : ℕ) (es : List ℕ) (ls : List ℤ) (x : ℕ) (out : List ℕ) (o
   -- What the prefix is refused for, the call is.
   pub expand-unread : (rule : ℕ) (table : List ℕ) (number place : ℕ) {v : Filled} → v ≡ Filled.Refused number place → Joins rule n es (length ls) table v → Expands rule n es ls x out out outs outs (Refused number place)
   expand-unread rule table number place is joined =
-      (refused-first (ruledPrefix rule n es (length ls)) (later (readAs rule es)) {v = Verdict.Refused number place} refl (subst (Joins rule n es (length ls) table) is joined), refl, refl)
+      (refused-under rule n es (length ls) (later (readAs rule es)) table number place is joined, refl, refl)

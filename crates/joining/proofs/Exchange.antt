@@ -1,15 +1,16 @@
 -- From a call's own order to its order under a rule: causes that stand first and that nothing has may be exchanged for others that nothing has.
-use Prim.Native.Nat.{ℕ, _-_}
+use Prim.Native.Nat.{ℕ, _-_, _≤_}
 use mathlib.Core.Path.{_≡_, refl, sym, ap, _∙_, subst}
 use mathlib.Core.List.{List, [], _∷_, _++_}
 use mathlib.Core.Logic.{inl, inr}
 use native.Mathlib.Omega.{arith}
-use lib.ListN.{take, drop}
+use lib.ListN.{length, take, drop}
 use Rattle.terms.specs.Refusals.{Causes, First, FirstOf, NoneOf, Judged}
+use Rattle.terms.specs.declared.Filled.{Filled}
 use Rattle.terms.specs.declared.Filled.the-variants.{Count}
 use Rattle.terms.specs.declared.Verdict.{Verdict}
 use Rattle.terms.specs.declared.Verdict.the-variants.{Accepted, Refused}
-use Rattle.terms.proofs.Verdicts.{at0-none, accepted-then}
+use Rattle.terms.proofs.Verdicts.{at0-none, accepted-then, refused-first}
 use Rattle.formula.specs.Causes.{prefixOrder}
 use Rattle.joining.specs.Rules.{readAs, ruledPrefix}
 use Rattle.joining.specs.Writing.{Joins}
@@ -88,3 +89,12 @@ module _ (S : List Causes → List ℕ → Type 0) (carry : (order order′ : Li
       carry (prefixOrder n (readAs rule es) entries ++ later (readAs rule es)) (ruledPrefix rule n es entries ++ later (readAs rule es)) (readAs rule es)
       (exchanged (prefixOrder n (readAs rule es) entries) (ruledPrefix rule n es entries) (later (readAs rule es)) (joined .1) (joined .0))
       (subst (λ (part : List ℕ). S (prefixOrder n part entries ++ later part) part) is holds)
+
+-- The joined prefix ends within its table.
+pub joined-room : (rule n : ℕ) (es : List ℕ) (entries : ℕ) (out : List ℕ) (count : ℕ) {v : Filled} → v ≡ Count count → Joins rule n es entries out v → count ≤ length out
+joined-room rule n es entries out count is joined = subst (Joins rule n es entries out) is joined .2
+
+-- What the prefix is refused for, the call is.
+pub refused-under : (rule n : ℕ) (es : List ℕ) (entries : ℕ) (later : List Causes) {v : Filled} (out : List ℕ) (number place : ℕ) → v ≡ Filled.Refused number place → Joins rule n es entries out v → FirstOf (ruledPrefix rule n es entries ++ later) number place
+refused-under rule n es entries later out number place is joined =
+    refused-first (ruledPrefix rule n es entries) later {v = Refused number place} refl (subst (Joins rule n es entries out) is joined)

@@ -1,6 +1,6 @@
 -- The verdict on a path under a rule, from the verdict on the prefix as it is read: as lent under rule 1, and joined under rule 2.
 use Prim.Native.Nat.{ℕ, _-_}
-use mathlib.Core.Path.{_≡_, refl, subst}
+use mathlib.Core.Path.{_≡_, subst}
 use mathlib.Core.List.{List, _∷_}
 use mathlib.Core.Logic.{_↔_}
 use lib.IntN.{ℤ}
@@ -10,11 +10,10 @@ use Rattle.terms.specs.declared.Filled.{Filled}
 use Rattle.terms.specs.declared.Filled.the-variants.{Count}
 use Rattle.terms.specs.declared.Verdict.{Verdict}
 use Rattle.terms.specs.declared.Verdict.the-variants.{Refused}
-use Rattle.terms.proofs.Verdicts.{refused-first}
 use Rattle.formula.specs.Causes.{ClauseCause}
 use Rattle.joining.specs.Rules.{readAs, ruledPrefix}
 use Rattle.joining.specs.Writing.{Joins}
-use Rattle.joining.proofs.Exchange.{Carries, carry-judged, under-one, under-two}
+use Rattle.joining.proofs.Exchange.{Carries, carry-judged, under-one, under-two, refused-under}
 use Rattle.joining.proofs.Agreement.{one-to-two, two-to-one}
 use Rattle.paths.specs.Causes.{pairOrder, pathOrder, pathOrderUnder}
 
@@ -37,7 +36,7 @@ module _ (rule n : ℕ) (es : List ℕ) (ls : List ℤ) (x y : ℕ) (path : List
   pub path-refused : (out : List ℕ) (number place : ℕ) {v : Filled} → v ≡ Filled.Refused number place → Joins rule n es (length ls) out v
       → Judged (pathOrderUnder rule n es ls x y path) (Refused number place)
   path-refused out number place is joined =
-      refused-first (ruledPrefix rule n es (length ls)) (later (readAs rule es)) {v = Refused number place} refl (subst (Joins rule n es (length ls) out) is joined)
+      refused-under rule n es (length ls) (later (readAs rule es)) out number place is joined
 
 -- Where both rules accept a prefix the verdict is one.
 pub path-agrees : (n : ℕ) (es : List ℕ) (ls : List ℤ) (x y : ℕ) (path : List ℕ) (verdict : Verdict) → NoneOf (ruledPrefix 1 n es (length ls))

@@ -1,5 +1,5 @@
 -- Each call's promise under a rule, from the promise of the call itself: on the prefix as lent under rule 1, and on the joined one under rule 2.
-use Prim.Native.Nat.{ℕ, _-_, _≤_}
+use Prim.Native.Nat.{ℕ, _-_}
 use mathlib.Core.Path.{_≡_, refl, sym, subst}
 use mathlib.Core.List.{List, _++_}
 use lib.IntN.{ℤ}
@@ -8,8 +8,6 @@ use Rattle.terms.specs.Answers.{verdictOf}
 use Rattle.terms.specs.Refusals.{Causes, FirstOf, NoneOf, Judged}
 use Rattle.terms.specs.declared.Filled.{Filled}
 use Rattle.terms.specs.declared.Filled.the-variants.{Count, Refused}
-use Rattle.terms.specs.declared.Verdict.{Verdict}
-use Rattle.terms.proofs.Verdicts.{refused-first}
 use Rattle.connection.specs.Listed.{Listed}
 use Rattle.formula.specs.Causes.{prefixOrder}
 use Rattle.forest.specs.declared.EntryAnswer.{EntryAnswer}
@@ -23,17 +21,8 @@ use Rattle.growth.specs.Grown.{Standing, buildOrder, addOrder, many, TallyOf, L
 use Rattle.sets.specs.Sets.{AllSetsBy, setsOrderBy, SetsListedBy}
 use Rattle.joining.specs.Rules.{readAs, ruledPrefix, afterPrefix}
 use Rattle.joining.specs.Writing.{Joins}
-use Rattle.joining.proofs.Exchange.{Carries, carry-judged, under-one, under-two}
+use Rattle.joining.proofs.Exchange.{Carries, carry-judged, under-one, under-two, refused-under}
 use Rattle.ruled.specs.Calls.{EntryUnder, ListedUnder, SizeUnder, SetsUnder, BuildsUnder, AddsUnder}
-
--- the joined prefix ends within its table
-pub joined-room : (rule n : ℕ) (es : List ℕ) (entries : ℕ) (out : List ℕ) (count : ℕ) {v : Filled} → v ≡ Count count → Joins rule n es entries out v → count ≤ length out
-joined-room rule n es entries out count is joined = subst (Joins rule n es entries out) is joined .2
-
--- a refusal of what stands first is one of the call
-refused-under : (rule n : ℕ) (es : List ℕ) (entries : ℕ) (later : List Causes) {v : Filled} (out : List ℕ) (number place : ℕ) → v ≡ Refused number place → Joins rule n es entries out v → FirstOf (ruledPrefix rule n es entries ++ later) number place
-refused-under rule n es entries later out number place is joined =
-    refused-first (ruledPrefix rule n es entries) later {v = Verdict.Refused number place} refl (subst (Joins rule n es entries out) is joined)
 
 -- what a table answer says goes over from one order to another
 pub carry-filling : (L : List ℕ → Type 0) (before after : List ℕ) (r : Filled) (order order′ : List Causes) → Carries order order′ → Filling order L before after r → Filling order′ L before after r

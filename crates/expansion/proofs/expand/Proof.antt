@@ -2,7 +2,8 @@
 use native.Mathlib.Omega.{arith}
 use borrow.Author.Needs.{needs}
 use lib.ListN.{length}
-use Rattle.expansion.proofs.Ruled.{joined-room, expand-one, expand-two, expand-unread}
+use Rattle.joining.proofs.Exchange.{joined-room}
+use Rattle.expansion.proofs.Ruled.{expand-one, expand-two, expand-unread}
 use Rattle.expansion.proofs.expand.Statement.{statement}
 use Rattle.expansion.proofs.expand.Tie as tie
 

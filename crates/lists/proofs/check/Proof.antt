@@ -1,7 +1,7 @@
 -- `lists::check` meets its contract.
 use native.Mathlib.Omega.{arith}
 use borrow.Author.Needs.{needs}
-use Rattle.ruled.proofs.Shapes.{joined-room}
+use Rattle.joining.proofs.Exchange.{joined-room}
 use Rattle.lists.proofs.Under.{check-one, check-two, check-refused}
 use Rattle.lists.proofs.check.Statement.{statement}
 use Rattle.lists.proofs.check.Tie as tie

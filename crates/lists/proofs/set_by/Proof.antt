@@ -1,7 +1,7 @@
 -- `lists::set_by` meets its contract.
 use native.Mathlib.Omega.{arith}
 use borrow.Author.Needs.{needs}
-use Rattle.ruled.proofs.Shapes.{joined-room}
+use Rattle.joining.proofs.Exchange.{joined-room}
 use Rattle.lists.proofs.Under.{set-one, set-two, set-refused}
 use Rattle.lists.proofs.set_by.Statement.{statement}
 use Rattle.lists.proofs.set_by.Tie as tie

@@ -2,7 +2,8 @@
 use native.Mathlib.Omega.{arith}
 use borrow.Author.Needs.{needs}
 use lib.ListN.{length}
-use Rattle.ruled.proofs.Shapes.{joined-room, fills-one, fills-two, fills-refused}
+use Rattle.joining.proofs.Exchange.{joined-room}
+use Rattle.ruled.proofs.Shapes.{fills-one, fills-two, fills-refused}
 use Rattle.resolution.proofs.Ruled.{PathList, path-later}
 use Rattle.resolution.proofs.resolution_set.Statement.{statement}
 use Rattle.resolution.proofs.resolution_set.Tie as tie

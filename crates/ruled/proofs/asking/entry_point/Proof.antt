@@ -1,7 +1,8 @@
 -- `ruled::asking::entry_point` meets its contract.
 use native.Mathlib.Omega.{arith}
 use borrow.Author.Needs.{needs}
-use Rattle.ruled.proofs.Shapes.{joined-room, point-one, point-two, point-refused}
+use Rattle.joining.proofs.Exchange.{joined-room}
+use Rattle.ruled.proofs.Shapes.{point-one, point-two, point-refused}
 use Rattle.ruled.proofs.asking.entry_point.Statement.{statement}
 use Rattle.ruled.proofs.asking.entry_point.Tie as tie
 

@@ -2,7 +2,8 @@
 use native.Mathlib.Omega.{arith}
 use borrow.Author.Needs.{needs}
 use lib.ListN.{length}
-use Rattle.ruled.proofs.Shapes.{joined-room, all-one, all-two, all-refused}
+use Rattle.joining.proofs.Exchange.{joined-room}
+use Rattle.ruled.proofs.Shapes.{all-one, all-two, all-refused}
 use Rattle.ruled.proofs.asking.sets_by.Statement.{statement}
 use Rattle.ruled.proofs.asking.sets_by.Tie as tie
 

@@ -2,7 +2,8 @@
 use native.Mathlib.Omega.{arith}
 use borrow.Author.Needs.{needs}
 use lib.ListN.{length}
-use Rattle.ruled.proofs.Shapes.{joined-room, size-one, size-two, size-refused}
+use Rattle.joining.proofs.Exchange.{joined-room}
+use Rattle.ruled.proofs.Shapes.{size-one, size-two, size-refused}
 use Rattle.ruled.proofs.asking.size_by.Statement.{statement}
 use Rattle.ruled.proofs.asking.size_by.Tie as tie
 

@@ -4,7 +4,8 @@ use native.Mathlib.Omega.{arith}
 use borrow.Author.Needs.{needs}
 use lib.ListN.{length}
 use Rattle.growth.specs.Grown.{standing}
-use Rattle.ruled.proofs.Shapes.{joined-room, add-one, add-two, add-refused}
+use Rattle.joining.proofs.Exchange.{joined-room}
+use Rattle.ruled.proofs.Shapes.{add-one, add-two, add-refused}
 use Rattle.ruled.proofs.building.add_tallied.Statement.{statement}
 use Rattle.ruled.proofs.building.add_tallied.Tie as tie
 

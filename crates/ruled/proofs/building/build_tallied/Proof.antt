@@ -4,7 +4,8 @@ use native.Mathlib.Omega.{arith}
 use borrow.Author.Needs.{needs}
 use lib.ListN.{length}
 use Rattle.growth.specs.Grown.{standing}
-use Rattle.ruled.proofs.Shapes.{joined-room, build-one, build-two, build-refused}
+use Rattle.joining.proofs.Exchange.{joined-room}
+use Rattle.ruled.proofs.Shapes.{build-one, build-two, build-refused}
 use Rattle.ruled.proofs.building.build_tallied.Statement.{statement}
 use Rattle.ruled.proofs.building.build_tallied.Tie as tie
 
