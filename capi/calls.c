@@ -53,15 +53,19 @@ static int within(uint32_t count, size_t room)
     return count <= room;
 }
 
-/* The verdict, once the answer of an accepted call has been taken. */
-static struct verdict settle(uint32_t number)
+struct verdict settle_at(uint32_t number, uint32_t *cell)
 {
     struct verdict v = { number, 0 };
 
     if (number != 0)
-        take(&v.place, place, sizeof v.place);
+        take(&v.place, cell, sizeof v.place);
     agree(nothing_else_changed(), number != 0 ? "a refusal changes nothing but its place" : "nothing else changes");
     return v;
+}
+
+static struct verdict settle(uint32_t number)
+{
+    return settle_at(number, place);
 }
 
 struct verdict call_check(const struct formula *f)

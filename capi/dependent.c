@@ -28,7 +28,6 @@ struct lists {
 /* The formula and the lists, lent. */
 static struct formula lent;
 static const uint32_t *lent_lists;
-static uint32_t *place;
 
 static void lend_formula(const struct formula *f, const struct lists *d)
 {
@@ -38,29 +37,21 @@ static void lend_formula(const struct formula *f, const struct lists *d)
     lent_lists = lend(d->entries, d->length * sizeof *d->entries);
 }
 
-static struct verdict settle(uint32_t number)
-{
-    struct verdict v = { number, 0 };
-
-    if (number != 0)
-        take(&v.place, place, sizeof v.place);
-    agree(nothing_else_changed(), number != 0 ? "a refusal changes nothing but its place" : "nothing else changes");
-    return v;
-}
-
 static struct verdict call_check_lists(const struct formula *f, const struct lists *d)
 {
+    uint32_t *place;
+
     lend_formula(f, d);
     place = lend_cell();
     lend_end();
-    return settle(snow_check_lists(reading_rule, f->n, lent.prefix, f->prefix_len, lent.clauses, f->clauses_len,
-                                   lent_lists, d->length, place));
+    return settle_at(snow_check_lists(reading_rule, f->n, lent.prefix, f->prefix_len, lent.clauses, f->clauses_len,
+                                      lent_lists, d->length, place), place);
 }
 
 static struct verdict call_listed_set_by(uint32_t scheme, const struct formula *f, const struct lists *d, uint32_t x,
                                          uint32_t *out, size_t out_len, uint32_t *count)
 {
-    uint32_t *table, *cell, number;
+    uint32_t *table, *cell, *place, number;
 
     lend_formula(f, d);
     table = lend(out, out_len * sizeof *out);
@@ -75,7 +66,7 @@ static struct verdict call_listed_set_by(uint32_t scheme, const struct formula *
         if (*count <= out_len)
             take(out, table, *count * sizeof *out);
     }
-    return settle(number);
+    return settle_at(number, place);
 }
 
 /* Entry e of a table of lists opens one: the first entry, and each after a 0. */

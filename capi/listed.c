@@ -27,18 +27,6 @@ struct held {
     size_t prefix_len, clauses_len, lists_len;
 };
 
-static uint32_t *place;
-
-static struct verdict settle(uint32_t number)
-{
-    struct verdict v = { number, 0 };
-
-    if (number != 0)
-        take(&v.place, place, sizeof v.place);
-    agree(nothing_else_changed(), number != 0 ? "a refusal changes nothing but its place" : "nothing else changes");
-    return v;
-}
-
 static size_t counted(uint32_t *cell, size_t room)
 {
     uint32_t count;
@@ -52,7 +40,7 @@ static size_t counted(uint32_t *cell, size_t room)
 static struct verdict call_read_lists(const uint8_t *text, size_t length, struct held *h)
 {
     const uint8_t *copy;
-    uint32_t *prefix, *lists, *n, *cells[3], number;
+    uint32_t *prefix, *lists, *n, *cells[3], *place, number;
     int32_t *clauses;
 
     lend_begin();
@@ -77,14 +65,14 @@ static struct verdict call_read_lists(const uint8_t *text, size_t length, struct
         take(h->clauses, clauses, h->clauses_len * sizeof *clauses);
         take(h->lists, lists, h->lists_len * sizeof *lists);
     }
-    return settle(number);
+    return settle_at(number, place);
 }
 
 static struct verdict call_write_lists(uint32_t rule, const struct held *h, uint8_t *text, size_t room, uint32_t *count)
 {
     const uint32_t *prefix, *lists;
     const int32_t *clauses;
-    uint32_t *cell, number;
+    uint32_t *cell, *place, number;
     uint8_t *table;
 
     lend_begin();
@@ -101,7 +89,7 @@ static struct verdict call_write_lists(uint32_t rule, const struct held *h, uint
         *count = (uint32_t)counted(cell, room);
         take(text, table, *count);
     }
-    return settle(number);
+    return settle_at(number, place);
 }
 
 /* What check with lists says, which dependent.c holds against a judge. */
