@@ -2,7 +2,7 @@
 
 mod lines;
 mod scanning;
-pub mod writing;
+mod writing;
 
 use qdimacs::Output;
 use qdimacs::Stage;
