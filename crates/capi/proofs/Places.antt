@@ -13,7 +13,7 @@ use Rattle.formula.specs.Meaning.{clauses}
 use Rattle.formula.specs.Causes.{VariableCount, PrefixLong, ClausesLong, PrefixCause, ClauseCause, clauseOrder}
 use Rattle.tables.specs.Causes.{ForestCause, short, bad-row, bad-count}
 use Rattle.tables.specs.Formula.{variables}
-use Rattle.forest.specs.declared.Scheme.{Scheme}
+use Rattle.terms.specs.declared.Scheme.{Scheme}
 use Rattle.forest.specs.Causes.{NotUniversal, NotDeeper}
 use Rattle.forest.specs.Listed.{TooLong}
 use Rattle.sets.specs.Sets.{SetsTooLongBy}

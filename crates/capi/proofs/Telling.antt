@@ -10,7 +10,7 @@ use Rattle.terms.specs.declared.Verdict.{Verdict}
 use Rattle.terms.specs.declared.Verdict.the-variants.{Accepted, Refused}
 use Rattle.terms.specs.Refusals.{Causes, FirstOf, NoneOf, Judged}
 use Rattle.forest.specs.declared.EntryAnswer.{EntryAnswer}
-use Rattle.forest.specs.declared.Scheme.{Scheme}
+use Rattle.terms.specs.declared.Scheme.{Scheme}
 use Rattle.forest.specs.Answers.{Entry, SizeBy}
 use Rattle.forest.specs.Listed.{Listing, Filling}
 use Rattle.connection.specs.Listed.{Listed}

@@ -11,8 +11,8 @@ use Rattle.terms.specs.Refusals.{Causes, FirstOf, NoneOf}
 use Rattle.formula.specs.Meaning.{clauses}
 use Rattle.formula.specs.Lookup.{beginOf}
 use Rattle.connection.specs.Listed.{Listed}
-use Rattle.forest.specs.declared.Scheme.{Scheme}
-use Rattle.forest.specs.declared.Scheme.the-variants.{Standard, Strict}
+use Rattle.terms.specs.declared.Scheme.{Scheme}
+use Rattle.terms.specs.declared.Scheme.the-variants.{Standard, Strict}
 use Rattle.growth.specs.declared.Tally.{Tally}
 use Rattle.growth.specs.Grown.{Standing, standing}
 

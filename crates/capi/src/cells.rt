@@ -1,10 +1,10 @@
 // Answers laid out for a C caller: the number that is returned, the cell of a count and the cell `place`, and a tally in three cells, as its struct has it;
 // and what a C caller lends by a number.
 
-use forest::Scheme;
 use growth::Tallied;
 use growth::Tally;
 use terms::Filled;
+use terms::Scheme;
 ghost use mathlib.Core.Path.{_≡_};
 ghost use Rattle.capi.specs.Cells.{Fits, Laid, TallyLaid};
 ghost use Rattle.capi.specs.Told.{tallyIn, schemeOf};

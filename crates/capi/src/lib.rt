@@ -23,7 +23,7 @@ ghost use mathlib.Core.Path.{_≡_};
 ghost use Rattle.formula.specs.Causes.{clauseOrder};
 ghost use Rattle.forest.specs.Answers.{Entry, Entries, EntriesBy, Members, MembersBy, Size, SizeBy};
 ghost use Rattle.tables.specs.Formula.{variables, Shares};
-ghost use Rattle.forest.specs.declared.Scheme.the-variants.{Strict};
+ghost use Rattle.terms.specs.declared.Scheme.the-variants.{Strict};
 ghost use Rattle.sets.specs.Sets.{AllSetsBy};
 ghost use Rattle.growth.specs.Grown.{standing, tableOf, many, Extended, Grown, TallyOf, Took};
 ghost use Rattle.qdimacs.specs.Reading.{ReadInto, readOrder};

@@ -41,7 +41,7 @@ use Rattle.forest.specs.declared.EntryAnswer.the-variants.{At}
 use Rattle.tables.specs.Formula.{variables, universal, joined, Shares}
 use Rattle.tables.specs.Causes.{ForestCause}
 use Rattle.forest.specs.Causes.{listOrder}
-use Rattle.forest.specs.declared.Scheme.the-variants.{Standard}
+use Rattle.terms.specs.declared.Scheme.the-variants.{Standard}
 use Rattle.forest.specs.Answers.{MembersBy, EntryAnswered, SetListedBy}
 use Rattle.tables.proofs.Agreeing.{lawful}
 use Rattle.forest.proofs.Demands.{universal-alone, own-forest-fine, listing-settled, entry-settled}

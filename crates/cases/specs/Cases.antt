@@ -9,7 +9,7 @@ use Rattle.terms.specs.declared.Filled.{Filled}
 use Rattle.terms.specs.declared.Filled.the-variants.{Count}
 use Rattle.forest.specs.declared.EntryAnswer.{EntryAnswer}
 use Rattle.forest.specs.declared.EntryAnswer.the-variants.{At}
-use Rattle.forest.specs.declared.Scheme.the-variants.{Standard}
+use Rattle.terms.specs.declared.Scheme.the-variants.{Standard}
 use Rattle.forest.specs.Answers.{EntryAnswered, SetListedBy}
 use Rattle.growth.specs.Grown.{Standing, standing, Builds, Adds, withLast}
 use Rattle.cases.specs.FormulaA.{prefixA, clausesA, standA, stand79, stand12, stand-none, clause79, clause58, clause12}

@@ -13,7 +13,7 @@ use Rattle.terms.specs.declared.Filled.the-variants.{Count, Refused}
 use Rattle.formula.specs.Causes.{checkOrder}
 use Rattle.formula.proofs.Sound.{sound-check}
 use Rattle.connection.proofs.Listed.{listed-most}
-use Rattle.forest.specs.declared.Scheme.the-variants.{Standard}
+use Rattle.terms.specs.declared.Scheme.the-variants.{Standard}
 use Rattle.forest.specs.Answers.{SetListedBy}
 use Rattle.tables.specs.Causes.{ForestCause}
 use Rattle.forest.specs.Causes.{NotUniversal}

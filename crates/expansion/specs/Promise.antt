@@ -11,7 +11,7 @@ use Rattle.terms.specs.Limits.{mostVariables, prefixEntries, clauseEntries}
 use Rattle.terms.specs.Refusals.{Causes, At0, FirstOf, NoneOf}
 use Rattle.formula.specs.Causes.{checkOrder}
 use Rattle.connection.specs.Listed.{Listed}
-use Rattle.forest.specs.declared.Scheme.the-variants.{Standard}
+use Rattle.terms.specs.declared.Scheme.the-variants.{Standard}
 use Rattle.forest.specs.Answers.{DependsBy}
 use Rattle.forest.specs.Causes.{NotUniversal}
 use Rattle.joining.specs.Rules.{readAs, underRule}

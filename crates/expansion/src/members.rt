@@ -1,10 +1,10 @@
 // The standard set of x, found from the clauses, and the numbers of its copies.
 
-use forest::Scheme;
 use forest::set_by;
 use growth::Tally;
 use growth::build_tallied;
 use terms::Filled;
+use terms::Scheme;
 use terms::Variable;
 ghost use Prim.Native.Nat.{ℕ, _≤_, _<_};
 ghost use mathlib.Core.Path.{_≡_};

@@ -6,7 +6,7 @@ use native.Mathlib.Omega.{arith}
 use Rattle.connection.specs.Reach.{Variables}
 use Rattle.connection.specs.Tables.{Table, WellFormed, Above, EntryPoint}
 use Rattle.connection.proofs.Climb.{above-class}
-use Rattle.forest.specs.Search.{Deeper}
+use Rattle.searching.specs.Search.{Deeper}
 use Rattle.tables.proofs.Agreeing.{Same}
 
 module _ {X Y : Variables} (s : Same X Y) where

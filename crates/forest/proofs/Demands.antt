@@ -31,7 +31,7 @@ use Rattle.connection.proofs.Sets.{set-members, entry-class}
 use Rattle.connection.proofs.Strict.{strict-members}
 use Rattle.forest.specs.declared.EntryAnswer.{EntryAnswer}
 use Rattle.forest.specs.declared.EntryAnswer.the-variants.{At}
-use Rattle.forest.specs.declared.Scheme.{Scheme}
+use Rattle.terms.specs.declared.Scheme.{Scheme}
 use Rattle.tables.specs.Formula.{variables, universal, Shares}
 use Rattle.tables.specs.Causes.{ForestCause}
 use Rattle.forest.specs.Causes.{entryOrder, readOrder, listOrder}

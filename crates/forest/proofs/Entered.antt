@@ -20,18 +20,13 @@ use Rattle.tables.specs.Causes.{ForestCause}
 use Rattle.forest.specs.Causes.{NotUniversal, NotDeeper}
 use Rattle.forest.specs.Answers.{Entry}
 use Rattle.tables.specs.Rows.{rowsOf}
-use Rattle.forest.specs.Search.{Deeper, EntryRows, Flagged, Via, Blank}
+use Rattle.searching.specs.Search.{Deeper, EntryRows, Flagged, Via, Blank}
 use Rattle.tables.proofs.Agreeing.{Same, same-back, formed-same, tables-agree, level-agrees, universal-agrees, universal-within, none-formed}
 use Rattle.forest.proofs.Agreeing.{deeper-same, entry-same}
 
 -- A new table of flags, and what is flagged in it.
 pub fresh : Blank (replicate 4097 false)
 fresh = record { size = length-replicate 4097 false; blank = λ v. by-cases (decLt v 4097) (λ l. getD-replicate 4097 v false false l) (λ l. List·getD-eq-default (replicate 4097 false) false {n = v} (let q = length-replicate 4097 false in omega arith)) }
-
-pub flags-are : {P : ℕ → Type 0} {old new : List Bool} → Blank old → Flagged P old new → (v : ℕ) → v ≤ 4096 → (getD new v false ≡ true) ↔ P v
-flags-are b f v l =
-    let here = f .flags v (let q = b .size in omega arith) in
-    (λ t. ⊎-elim (λ o. absurd (clash o (b .blank v))) (λ p. p) (here .0 t), λ p. here .1 (inr p))
 
 module _ {X : Variables} {W : Table} (law : Lawful X) (formed : WellFormed X W) {x : ℕ} where
   -- An entry point is a class name, and so one of the variables.

@@ -1,8 +1,3 @@
-pub mod Climbing
-pub mod Tops
-pub mod Picked
-pub mod Sides
-pub mod Flags
 pub mod Agreeing
 pub mod Entered
 pub mod Schemes

@@ -18,15 +18,16 @@ use Rattle.connection.specs.Counts.{sum}
 use Rattle.connection.proofs.Counts.{count-most}
 use Rattle.connection.proofs.Listed.{listed-one}
 use Rattle.forest.specs.declared.EntryAnswer.{EntryAnswer}
-use Rattle.forest.specs.declared.Scheme.{Scheme}
+use Rattle.terms.specs.declared.Scheme.{Scheme}
 use Rattle.tables.specs.Formula.{variables}
 use Rattle.forest.specs.Causes.{readOrder}
 use Rattle.forest.specs.Answers.{Answered, EntriesBy, MembersBy, SizeBy}
 use Rattle.forest.specs.Listed.{TooLong, Listing}
-use Rattle.forest.specs.declared.listing.Asked.{Asked}
-use Rattle.forest.specs.declared.listing.Asked.the-variants.{Points, Set}
-use Rattle.forest.specs.Search.{pick, picked, Wanted, Picks, Enters}
-use Rattle.forest.proofs.Picked.{picked-listed}
+use Rattle.searching.specs.declared.listing.Asked.{Asked}
+use Rattle.searching.specs.declared.listing.Asked.the-variants.{Points, Set}
+use Rattle.searching.specs.Search.{pick, picked, Picks, Enters}
+use Rattle.forest.specs.Wanted.{Wanted}
+use Rattle.searching.proofs.Picked.{picked-listed}
 use Rattle.tables.proofs.Agreeing.{lawful, none-formed, none-counted}
 use Rattle.formula.proofs.Sound.{sound-check}
 use Rattle.forest.proofs.Entered.{of-within, members-of}

@@ -14,7 +14,7 @@ use Rattle.formula.specs.Meaning.{blocks, clauses, opposite, denied, alwaysTrue
 use Rattle.connection.specs.Reach.{Variables, From, Reach, here, Follows}
 use Rattle.connection.specs.Search.{has, meets, keep, put-back, find, see, spread, reached, reaches, is-from, sift, set-of}
 use Rattle.connection.proofs.Search.{reaches-true, reaches-false, from-test, set-of-depends}
-use Rattle.forest.specs.declared.Scheme.the-variants.{Standard, Strict}
+use Rattle.terms.specs.declared.Scheme.the-variants.{Standard, Strict}
 use Rattle.tables.specs.Formula.{variables, signed, joined, Shares, SharesBy}
 use Rattle.forest.specs.Answers.{DependsBy}
 use Rattle.tables.proofs.Agreeing.{lawful}

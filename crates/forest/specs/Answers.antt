@@ -13,8 +13,8 @@ use Rattle.connection.specs.Listed.{Listed}
 use Rattle.connection.specs.Counts.{sum}
 use Rattle.forest.specs.declared.EntryAnswer.{EntryAnswer}
 use Rattle.forest.specs.declared.EntryAnswer.the-variants.{At, Refused}
-use Rattle.forest.specs.declared.Scheme.{Scheme}
-use Rattle.forest.specs.declared.Scheme.the-variants.{Standard, Strict}
+use Rattle.terms.specs.declared.Scheme.{Scheme}
+use Rattle.terms.specs.declared.Scheme.the-variants.{Standard, Strict}
 use Rattle.tables.specs.Formula.{variables, Shares, SharesBy}
 use Rattle.forest.specs.Causes.{entryOrder, readOrder, listOrder}
 use Rattle.forest.specs.Listed.{Listing}

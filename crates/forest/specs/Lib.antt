@@ -1,4 +1,4 @@
 pub mod Listed
 pub mod Causes
 pub mod Answers
-pub mod Search
+pub mod Wanted

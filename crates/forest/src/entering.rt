@@ -1,13 +1,13 @@
 // What the calls for entry points, sets and sizes share: every refusal but 14, and then the entry of each variable and the entry points of x.
 
-use crate::Scheme;
-use crate::marks::flag_entries;
-use crate::search::fill_tops;
 use formula::levels::fill_levels;
+use searching::marks::flag_entries;
+use searching::search::fill_tops;
 use tables::checking::check_forest;
 use tables::rows::level_at;
 use tables::rows::universal_at;
 use terms::Level;
+use terms::Scheme;
 use terms::Variable;
 use terms::Verdict;
 ghost use Prim.Native.Nat.{_≤_};
@@ -25,7 +25,7 @@ ghost use Rattle.tables.specs.Causes.{ForestCause};
 ghost use Rattle.forest.specs.Causes.{NotUniversal, readOrder};
 ghost use Rattle.forest.specs.Answers.{EntriesBy};
 ghost use Rattle.tables.specs.Counting.{FormedBy};
-ghost use Rattle.forest.specs.Search.{Enters};
+ghost use Rattle.searching.specs.Search.{Enters};
 
 // Refusals 1 to 13, and where there is none the flags of all entry points of x by the scheme, and rows `tops` that say for each variable by
 // whose flag it is a member. The two tables hold the levels and the universals before, so that x needs no table of its own.

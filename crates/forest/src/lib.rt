@@ -1,21 +1,19 @@
 // Lent forest tables: the entry point of x for y, the entry points of x, the set of x and its size, by the standard scheme or the strict one.
 
 mod entering;
-pub mod listing;
-pub mod marks;
-pub mod search;
 
 use entering::enter;
 use formula::levels::fill_levels;
 use formula::prefix::prefix_verdict;
-use listing::Asked;
-use listing::list_picked;
-use listing::sum_flagged;
-use search::Found;
-use search::find_entry;
+use searching::listing::Asked;
+use searching::listing::list_picked;
+use searching::listing::sum_flagged;
+use searching::search::Found;
+use searching::search::find_entry;
 use tables::checking::check_forest;
 use tables::rows::universal_at;
 use terms::Filled;
+use terms::Scheme;
 use terms::Variable;
 use terms::Verdict;
 ghost use mathlib.Core.List.{[], _∷_};
@@ -26,20 +24,13 @@ ghost use Rattle.tables.specs.Causes.{ForestCause};
 ghost use Rattle.forest.specs.Causes.{NotUniversal, NotDeeper, listOrder};
 ghost use Rattle.forest.specs.Answers.{Answered, Entry, EntryAnswered, EntriesListedBy, SetListedBy, SizedBy, EntriesListed, SetListed, Sized};
 ghost use Rattle.forest.specs.Listed.{Listing};
-ghost use Rattle.forest.specs.Search.{Wanted};
+ghost use Rattle.forest.specs.Wanted.{Wanted};
 
 // What the entry point call says: the class and the number of rises, or the number of the refusal and its place.
 pub enum EntryAnswer {
     At(Variable, u32),
     // the number of the refusal, and its place
     Refused(u32, usize),
-}
-
-// Which dependencies are asked for: the standard ones, reached from clauses that have x in either sign, or the strict ones, reached both from
-// clauses with x and from clauses with its negation.
-pub enum Scheme {
-    Standard,
-    Strict,
 }
 
 // The entry point of x for y, and the number of rises from the class of y up to it.

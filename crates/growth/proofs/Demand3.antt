@@ -21,7 +21,7 @@ use Rattle.formula.proofs.Signs.{connected-none}
 use Rattle.formula.proofs.Sound.{sound-clauses}
 use Rattle.tables.specs.Causes.{ForestCause}
 use Rattle.tables.specs.Formula.{variables, universal, joined, Shares}
-use Rattle.forest.specs.declared.Scheme.the-variants.{Standard}
+use Rattle.terms.specs.declared.Scheme.the-variants.{Standard}
 use Rattle.forest.specs.Answers.{EntriesBy, MembersBy}
 use Rattle.tables.proofs.Agreeing.{lawful, none-formed, none-counted}
 use Rattle.forest.proofs.Demands.{universal-alone}

@@ -7,12 +7,12 @@ use mathlib.Core.Logic.{_↔_, Iff·trans, Iff·symm}
 use lib.IntN.{ℤ}
 use Rattle.terms.specs.declared.Filled.the-variants.{Count}
 use Rattle.formula.specs.Meaning.{connected}
-use Rattle.forest.specs.declared.Scheme.the-variants.{Strict}
+use Rattle.terms.specs.declared.Scheme.the-variants.{Strict}
 use Rattle.tables.specs.Formula.{variables, universal, Shares, SharesBy}
 use Rattle.forest.specs.Answers.{EntriesBy, MembersBy, DependsBy}
 use Rattle.tables.proofs.Agreeing.{lawful}
 use Rattle.forest.proofs.Demands.{universal-alone}
-use Rattle.forest.proofs.Sides.{shares-some}
+use Rattle.searching.proofs.Sides.{shares-some}
 use Rattle.forest.proofs.Strict.{shares-last}
 use Rattle.connection.specs.Reach.{Variables, Joined, StrictlyDepends}
 use Rattle.connection.specs.Growth.{LeavesAlone}

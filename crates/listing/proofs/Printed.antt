@@ -8,8 +8,8 @@ use native.Mathlib.Omega.{arith}
 use lib.ListN.{length, getD, take, drop}
 use lib.Seq.{sets-eq, length-sets, take-at}
 use Rattle.terms.specs.declared.Filled.the-variants.{Count}
-use Rattle.forest.specs.Search.{picked, Picks}
-use Rattle.forest.proofs.Picked.{picked-most, picked-flag}
+use Rattle.searching.specs.Search.{picked, Picks}
+use Rattle.searching.proofs.Picked.{picked-most, picked-flag}
 use Rattle.listing.specs.Lines.{Small}
 
 -- what stands at an index is in the list

@@ -2,22 +2,22 @@
 
 mod lines;
 
-use forest::Scheme;
-use forest::listing::Asked;
-use forest::listing::list_picked;
-use forest::search::Floor;
-use forest::search::retop;
 use formula::clauses::variable_at;
 use formula::levels::fill_levels;
 use growth::Tally;
 use libc::STDIN_FILENO;
 use libc::STDOUT_FILENO;
 use qdimacs::Reading;
+use searching::listing::Asked;
+use searching::listing::list_picked;
+use searching::search::Floor;
+use searching::search::retop;
 use sets::threads::flag_points;
 use sets::threads::thread;
 use tables::rows::universal_at;
 use terms::Filled;
 use terms::Level;
+use terms::Scheme;
 use terms::Variable;
 ghost use Prim.Native.Nat.{_≤_, _<_};
 ghost use mathlib.Core.Path.{_≡_};

@@ -20,8 +20,8 @@ use Rattle.connection.specs.Reach.{From}
 use Rattle.connection.proofs.Reach.{reach-mono, reach-ends, depends-follows}
 use Rattle.tables.specs.Formula.{variables, universal}
 use Rattle.tables.proofs.Agreeing.{lawful, universal-within}
-use Rattle.forest.specs.declared.Scheme.{Scheme}
-use Rattle.forest.specs.declared.Scheme.the-variants.{Standard, Strict}
+use Rattle.terms.specs.declared.Scheme.{Scheme}
+use Rattle.terms.specs.declared.Scheme.the-variants.{Standard, Strict}
 use Rattle.forest.specs.Answers.{DependsBy}
 use Rattle.forest.proofs.Demands.{universal-alone, listing-settled}
 use Rattle.joining.specs.Rules.{readAs, PrefixCauseBy, ruledPrefix}

@@ -13,13 +13,13 @@ use Rattle.connection.specs.Tables.{row}
 use Rattle.connection.proofs.Reach.{reach-mono, reach-ends, reach-first, follows-reach}
 use Rattle.tables.specs.Formula.{universal, Shares, SharesBy}
 use Rattle.tables.proofs.Agreeing.{lawful}
-use Rattle.forest.specs.declared.Scheme.{Scheme}
-use Rattle.forest.specs.declared.Scheme.the-variants.{Standard, Strict}
-use Rattle.forest.specs.declared.listing.Asked.the-variants.{Set}
-use Rattle.forest.specs.Search.{Takes, Via, Entering, pick, picked}
-use Rattle.forest.proofs.Picked.{picked-listed}
+use Rattle.terms.specs.declared.Scheme.{Scheme}
+use Rattle.terms.specs.declared.Scheme.the-variants.{Standard, Strict}
+use Rattle.searching.specs.declared.listing.Asked.the-variants.{Set}
+use Rattle.searching.specs.Search.{Takes, Via, Entering, pick, picked}
+use Rattle.searching.proofs.Picked.{picked-listed}
 use Rattle.forest.proofs.Demands.{universal-alone}
-use Rattle.forest.proofs.Sides.{shares-some, shares-signed}
+use Rattle.searching.proofs.Sides.{shares-some, shares-signed}
 use Rattle.lists.specs.Lists.{ListHas, DependsOn, DependsOnBy}
 use Rattle.lists.specs.Inner.{ToldRows, Flat, Classed}
 

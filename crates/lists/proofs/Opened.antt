@@ -20,7 +20,7 @@ use Rattle.connection.specs.Tables.{row}
 use Rattle.tables.specs.Formula.{universal, existentialIn}
 use Rattle.tables.proofs.Readings.{row-none, row-over, flag-in, flag-within}
 use Rattle.tables.proofs.Agreeing.{tables-agree, level-agrees, lawful, universal-within}
-use Rattle.forest.proofs.Tops.{row-stored, row-kept}
+use Rattle.searching.proofs.Tops.{row-stored, row-kept}
 use Rattle.lists.specs.Lists.{InBlock, Given, ListHas}
 use Rattle.lists.specs.Causes.{ListCause, outside, in-block}
 use Rattle.lists.specs.Inner.{Told, ToldRows, WithGiven}

@@ -5,7 +5,7 @@ use lib.IntN.{ℤ}
 use Rattle.terms.specs.Refusals.{Judged}
 use Rattle.terms.specs.declared.Filled.{Filled}
 use Rattle.terms.specs.declared.Verdict.{Verdict}
-use Rattle.forest.specs.declared.Scheme.{Scheme}
+use Rattle.terms.specs.declared.Scheme.{Scheme}
 use Rattle.forest.specs.Listed.{Listing}
 use Rattle.joining.specs.Rules.{readAs}
 use Rattle.lists.specs.Lists.{DependsOnBy}

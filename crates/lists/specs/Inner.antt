@@ -15,11 +15,11 @@ use Rattle.formula.specs.Causes.{ClauseCause, prefixOrder}
 use Rattle.connection.specs.Reach.{Reach}
 use Rattle.connection.specs.Tables.{row}
 use Rattle.tables.specs.Formula.{Shares}
-use Rattle.forest.specs.declared.Scheme.{Scheme}
-use Rattle.forest.specs.declared.listing.Asked.the-variants.{Set}
+use Rattle.terms.specs.declared.Scheme.{Scheme}
+use Rattle.searching.specs.declared.listing.Asked.the-variants.{Set}
 use Rattle.forest.specs.Causes.{NotUniversal}
 use Rattle.forest.specs.Listed.{TooLong, Listing}
-use Rattle.forest.specs.Search.{pick}
+use Rattle.searching.specs.Search.{pick}
 use Rattle.lists.specs.Lists.{listEntries, InBlock, Given, DependsOnBy}
 use Rattle.lists.specs.Causes.{ListCause}
 

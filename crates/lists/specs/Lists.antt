@@ -9,8 +9,8 @@ use Rattle.formula.specs.Tables.{at, opens, MarkAt, VariableAt}
 use Rattle.formula.specs.Meaning.{level, isExistential}
 use Rattle.connection.specs.Reach.{Reach, Follows}
 use Rattle.tables.specs.Formula.{Shares, SharesBy}
-use Rattle.forest.specs.declared.Scheme.{Scheme}
-use Rattle.forest.specs.declared.Scheme.the-variants.{Standard, Strict}
+use Rattle.terms.specs.declared.Scheme.{Scheme}
+use Rattle.terms.specs.declared.Scheme.the-variants.{Standard, Strict}
 
 -- the most entries of a table of lists
 abbrev pub listEntries : ℕ

@@ -3,7 +3,6 @@
 use crate::decoding::fill_literals;
 use crate::decoding::fill_numbers;
 use crate::decoding::same_numbers;
-use forest::Scheme;
 use growth::Tally;
 use layout::places::clause_entries;
 use layout::places::fourth_at;
@@ -17,6 +16,7 @@ use ruled::building::build_tallied;
 use terms::Filled;
 use terms::Level;
 use terms::Literal;
+use terms::Scheme;
 use terms::Variable;
 use terms::Verdict;
 ghost use Prim.Native.Nat.{_≤_};

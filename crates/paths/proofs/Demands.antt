@@ -17,7 +17,7 @@ use Rattle.terms.proofs.Verdicts.{at0-none, accepted-then, judged-unique}
 use Rattle.formula.specs.Meaning.{isExistential, level}
 use Rattle.connection.specs.Counts.{how-many}
 use Rattle.connection.specs.Reach.{Universal, From}
-use Rattle.forest.specs.declared.Scheme.the-variants.{Standard}
+use Rattle.terms.specs.declared.Scheme.the-variants.{Standard}
 use Rattle.forest.specs.Answers.{DependsBy}
 use Rattle.forest.specs.Causes.{NotDeeper}
 use Rattle.tables.specs.Formula.{variables, universal, Shares}

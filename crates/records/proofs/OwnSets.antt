@@ -5,7 +5,7 @@ use native.Mathlib.Omega.{arith}
 use lib.IntN.{ℤ}
 use Rattle.terms.specs.Refusals.{None}
 use Rattle.tables.specs.Causes.{ForestCause}
-use Rattle.forest.specs.declared.Scheme.the-variants.{Standard}
+use Rattle.terms.specs.declared.Scheme.the-variants.{Standard}
 use Rattle.forest.proofs.Demands.{own-forest-fine}
 use Rattle.sets.specs.Sets.{AllSetsBy}
 use Rattle.sets.proofs.Settled.{sets-are-dependencies}

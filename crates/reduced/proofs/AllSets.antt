@@ -9,7 +9,7 @@ use Rattle.terms.specs.declared.Filled.{Filled}
 use Rattle.formula.specs.Causes.{checkOrder}
 use Rattle.tables.specs.Formula.{variables}
 use Rattle.tables.specs.Causes.{ForestCause}
-use Rattle.forest.specs.declared.Scheme.{Scheme}
+use Rattle.terms.specs.declared.Scheme.{Scheme}
 use Rattle.sets.specs.Sets.{AllSetsBy, SetsTooLongBy, setsOrderBy, SetsListedBy}
 use Rattle.sets.proofs.Records.{records-as}
 use Rattle.sets.proofs.Settled.{sets-settled}

@@ -14,7 +14,7 @@ use Rattle.formula.specs.Causes.{checkOrder}
 use Rattle.connection.specs.Listed.{Listed}
 use Rattle.tables.specs.Formula.{variables, Shares}
 use Rattle.tables.specs.Causes.{ForestCause}
-use Rattle.forest.specs.declared.Scheme.{Scheme}
+use Rattle.terms.specs.declared.Scheme.{Scheme}
 use Rattle.forest.specs.Causes.{NotUniversal, readOrder, listOrder}
 use Rattle.forest.specs.Listed.{TooLong, Listing}
 use Rattle.forest.specs.Answers.{EntriesBy, MembersBy, EntriesListedBy, SetListedBy, SizedBy}

@@ -17,10 +17,10 @@ use Rattle.formula.proofs.Sound.{sound-clauses}
 use Rattle.connection.specs.Listed.{Listed}
 use Rattle.tables.specs.Formula.{variables, tabled, universalIn, signed}
 use Rattle.tables.proofs.Agreeing.{lawful, same-back, tables-agree, level-agrees, universal-agrees, universal-within}
-use Rattle.forest.specs.declared.listing.Asked.the-variants.{Points}
-use Rattle.forest.specs.Search.{pick, picked}
-use Rattle.forest.proofs.Flags.{literal-past}
-use Rattle.forest.proofs.Picked.{picked-listed}
+use Rattle.searching.specs.declared.listing.Asked.the-variants.{Points}
+use Rattle.searching.specs.Search.{pick, picked}
+use Rattle.searching.proofs.Flags.{literal-past}
+use Rattle.searching.proofs.Picked.{picked-listed}
 use Rattle.sets.proofs.AllSets.{sound-closed}
 use Rattle.resolution.specs.Paths.{DependsByPaths}
 use Rattle.resolution.specs.Walk.{ReadClauses}

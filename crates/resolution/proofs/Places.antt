@@ -15,9 +15,9 @@ use Rattle.formula.specs.Lookup.{NextZero}
 use Rattle.formula.proofs.Lookups.{clauses-closed, clauses-unclosed}
 use Rattle.formula.proofs.Signs.{connected-all}
 use Rattle.tables.specs.Formula.{signed}
-use Rattle.forest.specs.Search.{HasLiteral}
-use Rattle.forest.proofs.Flags.{literal-past, next-none, clause-literal}
-use Rattle.forest.proofs.Sides.{sign-of, one-sign}
+use Rattle.searching.specs.Search.{HasLiteral}
+use Rattle.searching.proofs.Flags.{literal-past, next-none, clause-literal}
+use Rattle.searching.proofs.Sides.{sign-of, one-sign}
 use Rattle.sets.specs.Threads.{Begins, first, after, Inside, Connecting, Closed}
 use Rattle.sets.proofs.Followed.{next-from, closed-next}
 use Rattle.resolution.specs.Paths.{Crosses}

@@ -16,7 +16,7 @@ use Rattle.connection.specs.Reach.{Variables, From, Reach, here, step}
 use Rattle.connection.specs.Listed.{Listed}
 use Rattle.tables.specs.Formula.{variables, signed, SharesBy}
 use Rattle.tables.proofs.Agreeing.{lawful}
-use Rattle.forest.specs.declared.Scheme.the-variants.{Strict}
+use Rattle.terms.specs.declared.Scheme.the-variants.{Strict}
 use Rattle.forest.specs.Answers.{DependsBy}
 use Rattle.resolution.specs.Paths.{Deeper, Crosses, Path, enters, goes-on, DependsByPaths}
 use Rattle.resolution.proofs.Within.{paths-strict}

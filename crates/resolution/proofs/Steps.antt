@@ -12,7 +12,7 @@ use lib.Seq.{getD-set-same, getD-set-other}
 use Rattle.terms.specs.Literals.{variableOf, rowOf, otherRow}
 use Rattle.terms.proofs.Common.{clash}
 use Rattle.formula.specs.Tables.{literalAt}
-use Rattle.forest.specs.Search.{LastZero}
+use Rattle.searching.specs.Search.{LastZero}
 use Rattle.sets.specs.Threads.{Inside, Connecting, On, Noted}
 use Rattle.sets.proofs.Chains.{last-one, inside-one, on-some, on-here, on-later, on-cases}
 use Rattle.resolution.specs.Walk.{marked, Leaves, Passes, Walk, starts, steps, Grown, Walked, Chained}

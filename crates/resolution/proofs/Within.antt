@@ -10,9 +10,9 @@ use Rattle.formula.specs.Meaning.{connected}
 use Rattle.formula.proofs.Signs.{connected-all}
 use Rattle.connection.specs.Reach.{Variables, From, here, step, Follows}
 use Rattle.tables.specs.Formula.{variables, signed, joined, Shares, SharesBy}
-use Rattle.forest.specs.declared.Scheme.the-variants.{Strict}
+use Rattle.terms.specs.declared.Scheme.the-variants.{Strict}
 use Rattle.forest.specs.Answers.{DependsBy}
-use Rattle.forest.proofs.Sides.{signed-variable}
+use Rattle.searching.proofs.Sides.{signed-variable}
 use Rattle.resolution.specs.Paths.{Deeper, Crosses, Path, enters, goes-on, DependsByPaths}
 use Rattle.resolution.proofs.Marks.{complement-variable}
 

@@ -4,10 +4,10 @@ mod ends;
 mod walking;
 
 use ends::flag_dependent;
-use forest::listing::Asked;
-use forest::listing::list_picked;
 use formula::levels::fill_levels;
 use joining::join;
+use searching::listing::Asked;
+use searching::listing::list_picked;
 use tables::rows::universal_at;
 use terms::Filled;
 use terms::Variable;

@@ -13,7 +13,7 @@ use Rattle.terms.specs.declared.Verdict.{Verdict}
 use Rattle.connection.specs.Listed.{Listed}
 use Rattle.formula.specs.Causes.{ClauseCause}
 use Rattle.forest.specs.declared.EntryAnswer.{EntryAnswer}
-use Rattle.forest.specs.declared.Scheme.{Scheme}
+use Rattle.terms.specs.declared.Scheme.{Scheme}
 use Rattle.forest.specs.Listed.{Filling}
 use Rattle.growth.specs.Grown.{Standing}
 use Rattle.qdimacs.specs.declared.Output.{Output}

@@ -16,7 +16,7 @@ use Rattle.connection.proofs.Listed.{listed-one}
 use Rattle.formula.specs.Causes.{checkOrder}
 use Rattle.formula.specs.Meaning.{connected}
 use Rattle.forest.specs.declared.EntryAnswer.{EntryAnswer}
-use Rattle.forest.specs.declared.Scheme.{Scheme}
+use Rattle.terms.specs.declared.Scheme.{Scheme}
 use Rattle.forest.specs.Answers.{MembersBy}
 use Rattle.forest.specs.Causes.{entryOrder, readOrder, listOrder}
 use Rattle.tables.specs.Formula.{variables, universal, joined}

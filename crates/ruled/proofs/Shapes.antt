@@ -12,7 +12,7 @@ use Rattle.connection.specs.Listed.{Listed}
 use Rattle.formula.specs.Causes.{prefixOrder}
 use Rattle.forest.specs.declared.EntryAnswer.{EntryAnswer}
 use Rattle.forest.specs.declared.EntryAnswer.the-variants.{At}
-use Rattle.forest.specs.declared.Scheme.{Scheme}
+use Rattle.terms.specs.declared.Scheme.{Scheme}
 use Rattle.forest.specs.Causes.{entryOrder, readOrder, listOrder}
 use Rattle.forest.specs.Answers.{Answered, Entry, EntryAnswered, SizeBy, SizedBy}
 use Rattle.forest.specs.Listed.{Filling, Listing}

@@ -2,11 +2,11 @@
 // the joined prefix.
 
 use forest::EntryAnswer;
-use forest::Scheme;
 use joining::join;
 use terms::Filled;
+use terms::Scheme;
 use terms::Variable;
-ghost use Rattle.forest.specs.declared.Scheme.the-variants.{Strict};
+ghost use Rattle.terms.specs.declared.Scheme.the-variants.{Strict};
 ghost use Rattle.ruled.specs.Calls.{EntryUnder, EntriesUnder, SetUnder, SizeUnder, SetsUnder};
 
 // The entry point of x for y, and the number of rises from the class of y up to it.

@@ -1,7 +1,6 @@
 // The calls at the limit of n: 4,096 variables, of which 1 is universal, 4,096 is existential and deeper, and all others are free.
 
 use forest::EntryAnswer;
-use forest::Scheme;
 use score::Score;
 use score::library;
 use score::rows::UNTOUCHED;
@@ -10,6 +9,7 @@ use score::rows::row_at;
 use score::rows::same;
 use score::tallies::leaves_tally;
 use score::tallies::tally_of;
+use terms::Scheme;
 
 // The most variables, and the blocks of the formula.
 const MOST: u32 = 4096;

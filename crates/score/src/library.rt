@@ -1,12 +1,12 @@
 // The calls of the library, each behind a function that promises nothing, so that no comparison leans on a promise.
 
 use forest::EntryAnswer;
-use forest::Scheme;
 use growth::Tallied;
 use growth::Tally;
 use qdimacs::Output;
 use qdimacs::Reading;
 use terms::Filled;
+use terms::Scheme;
 use terms::Variable;
 use terms::Verdict;
 

@@ -19,17 +19,17 @@ use Rattle.formula.specs.Meaning.{level}
 use Rattle.connection.specs.Reach.{Variables}
 use Rattle.connection.specs.Tables.{Table, lent, WellFormed}
 use Rattle.connection.specs.Listed.{Listed}
-use Rattle.forest.specs.declared.listing.Asked.the-variants.{Set}
-use Rattle.forest.specs.declared.Scheme.{Scheme}
+use Rattle.searching.specs.declared.listing.Asked.the-variants.{Set}
+use Rattle.terms.specs.declared.Scheme.{Scheme}
 use Rattle.tables.specs.Formula.{variables, universal, SharesBy}
 use Rattle.tables.specs.Causes.{ForestCause}
 use Rattle.forest.specs.Answers.{MembersBy}
 use Rattle.forest.specs.Listed.{Filling}
-use Rattle.forest.specs.Search.{TopRows, Topless, Takes, Via, Entering, pick, picked, NoneUpto}
+use Rattle.searching.specs.Search.{TopRows, Topless, Takes, Via, Entering, pick, picked, NoneUpto}
 use Rattle.sets.specs.Sets.{AllSetsBy, SetsTooLongBy}
 use Rattle.sets.specs.Threads.{Closed, Together, EnteredBy}
 use Rattle.sets.specs.Passed.{SetsUpto, PutSet, RoomFor, RoomUpto, PutAll, Fills}
-use Rattle.forest.proofs.Flags.{via-as}
+use Rattle.searching.proofs.Flags.{via-as}
 use Rattle.forest.proofs.Schemes.{over-enters}
 use Rattle.sets.proofs.Followed.{together-shares}
 use Rattle.tables.proofs.Agreeing.{lawful}

@@ -16,8 +16,8 @@ use Rattle.formula.specs.Tables.{literalAt}
 use Rattle.formula.specs.Meaning.{alwaysTrue}
 use Rattle.formula.specs.Lookup.{NextZero, Stamps}
 use Rattle.formula.proofs.Signs.{stamps-more}
-use Rattle.forest.specs.Search.{LastZero}
-use Rattle.forest.proofs.Flags.{next-one}
+use Rattle.searching.specs.Search.{LastZero}
+use Rattle.searching.proofs.Flags.{next-one}
 use Rattle.sets.specs.Threads.{Begins, first, after, Inside, Connecting, Skipping, Known, On, here, later, Noted, Threaded}
 
 -- A clause begins with the first entry or behind a 0, so that an entry stands in one clause, which the last 0 before it opens.

@@ -10,9 +10,9 @@ use lib.IntN.{ℤ}
 use lib.ListN.{length, getD, set, length-set, List·getD-eq-default}
 use lib.Seq.{getD-set-same, getD-set-other}
 use Rattle.terms.proofs.Common.{clash}
-use Rattle.forest.specs.declared.Scheme.the-variants.{Strict}
-use Rattle.forest.specs.Search.{Flagged, Via, Blank}
-use Rattle.forest.proofs.Entered.{flags-are}
+use Rattle.terms.specs.declared.Scheme.the-variants.{Strict}
+use Rattle.searching.specs.Search.{Flagged, Via, Blank}
+use Rattle.searching.proofs.Taken.{flags-are}
 use Rattle.sets.specs.Threads.{Together, EnteredBy, Common}
 
 -- Up to entry i those flags are left that the other table has too, and from it on all.

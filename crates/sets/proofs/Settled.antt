@@ -10,7 +10,7 @@ use Rattle.terms.specs.declared.Filled.{Filled}
 use Rattle.terms.specs.declared.Filled.the-variants.{Count}
 use Rattle.connection.specs.Tables.{lent}
 use Rattle.connection.specs.Forest.{Forest}
-use Rattle.forest.specs.declared.Scheme.{Scheme}
+use Rattle.terms.specs.declared.Scheme.{Scheme}
 use Rattle.tables.specs.Formula.{variables, universal, Shares}
 use Rattle.forest.specs.Answers.{MembersBy, DependsBy, SetListedBy}
 use Rattle.tables.proofs.Agreeing.{universal-within}

@@ -9,12 +9,12 @@ use lib.Seq.{sets}
 use Rattle.terms.specs.declared.Filled.{Filled}
 use Rattle.terms.specs.declared.Filled.the-variants.{Count, Refused}
 use Rattle.formula.specs.Levels.{SoundPrefix, Levelled}
-use Rattle.forest.specs.declared.listing.Asked.the-variants.{Set}
+use Rattle.searching.specs.declared.listing.Asked.the-variants.{Set}
 use Rattle.tables.specs.Formula.{universal}
-use Rattle.forest.specs.declared.Scheme.{Scheme}
+use Rattle.terms.specs.declared.Scheme.{Scheme}
 use Rattle.forest.specs.Answers.{MembersBy}
 use Rattle.tables.specs.Counting.{FormedBy}
-use Rattle.forest.specs.Search.{pick, picked}
+use Rattle.searching.specs.Search.{pick, picked}
 use Rattle.sets.specs.Sets.{Records}
 use Rattle.sets.specs.Threads.{EnteredBy, Threaded, Closed}
 

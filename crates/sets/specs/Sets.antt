@@ -12,8 +12,8 @@ use Rattle.formula.specs.Causes.{checkOrder}
 use Rattle.connection.specs.Listed.{Listed}
 use Rattle.tables.specs.Formula.{universal}
 use Rattle.tables.specs.Causes.{ForestCause}
-use Rattle.forest.specs.declared.Scheme.{Scheme}
-use Rattle.forest.specs.declared.Scheme.the-variants.{Strict}
+use Rattle.terms.specs.declared.Scheme.{Scheme}
+use Rattle.terms.specs.declared.Scheme.the-variants.{Strict}
 use Rattle.forest.specs.Answers.{MembersBy}
 use Rattle.forest.specs.Listed.{Filling}
 

@@ -11,8 +11,8 @@ use Rattle.formula.specs.Tables.{literalAt, EndsInside}
 use Rattle.formula.specs.Meaning.{alwaysTrue}
 use Rattle.formula.specs.Lookup.{NextZero, Stamps}
 use Rattle.tables.specs.Formula.{signed}
-use Rattle.forest.specs.declared.Scheme.{Scheme}
-use Rattle.forest.specs.Search.{Takes, Via, Entering}
+use Rattle.terms.specs.declared.Scheme.{Scheme}
+use Rattle.searching.specs.Search.{Takes, Via, Entering}
 
 -- a clause begins with entry s: the first, or one behind the 0 of a clause
 pub data Begins (ls : List ℤ) : ℕ → Type 0 where

@@ -3,15 +3,15 @@
 
 use crate::threads::flag_points;
 use crate::threads::thread;
-use forest::Scheme;
-use forest::listing::Asked;
-use forest::listing::count_picked;
-use forest::listing::write_picked;
-use forest::search::Floor;
-use forest::search::retop;
+use searching::listing::Asked;
+use searching::listing::count_picked;
+use searching::listing::write_picked;
+use searching::search::Floor;
+use searching::search::retop;
 use tables::rows::universal_at;
 use terms::Filled;
 use terms::Level;
+use terms::Scheme;
 use terms::Variable;
 ghost use Prim.Native.Nat.{_+_, _≤_, _<_};
 ghost use mathlib.Core.Path.{_≡_};
@@ -19,9 +19,9 @@ ghost use mathlib.Core.Bool.{true, false};
 ghost use lib.ListN.{length};
 ghost use Rattle.formula.specs.Levels.{SoundPrefix, Levelled};
 ghost use Rattle.formula.specs.Lookup.{SoundClauses};
-ghost use Rattle.forest.specs.declared.listing.Asked.the-variants.{Set};
+ghost use Rattle.searching.specs.declared.listing.Asked.the-variants.{Set};
 ghost use Rattle.tables.specs.Counting.{FormedBy};
-ghost use Rattle.forest.specs.Search.{pick, picked, NoneUpto, Topless};
+ghost use Rattle.searching.specs.Search.{pick, picked, NoneUpto, Topless};
 ghost use Rattle.sets.specs.Threads.{Closed, Tied};
 ghost use Rattle.sets.specs.Passed.{SetsUpto, Ready, Put, PutSet, RoomFor, RoomUpto, TellsRoom, PutAll, Fills};
 

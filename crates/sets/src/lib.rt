@@ -4,10 +4,10 @@ mod all_sets;
 pub mod threads;
 
 use all_sets::list_sets;
-use forest::Scheme;
 use formula::levels::fill_levels;
 use tables::checking::check_forest;
 use terms::Filled;
+use terms::Scheme;
 use terms::Verdict;
 ghost use mathlib.Core.List.{[], _∷_};
 ghost use Rattle.terms.specs.Refusals.{At0};

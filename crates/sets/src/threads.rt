@@ -1,17 +1,17 @@
 // Chains through the clause table, one for each universal, that tie it to its clauses: its entry points are then found without a scan of all
 // clauses. A chain holds one entry of each clause that has the universal, the last clause first; k + 1 stands for entry k, and 0 ends it.
 
-use forest::Scheme;
-use forest::marks::Signs;
-use forest::marks::flag_after;
-use forest::marks::flag_before;
-use forest::marks::has_sign;
-use forest::marks::side_of;
 use formula::clauses::literal_at;
 use formula::clauses::next_zero;
 use formula::clauses::variable_at;
 use formula::truth::always_true;
+use searching::marks::Signs;
+use searching::marks::flag_after;
+use searching::marks::flag_before;
+use searching::marks::has_sign;
+use searching::marks::side_of;
 use tables::rows::flag_at;
+use terms::Scheme;
 use terms::Variable;
 ghost use Prim.Native.Nat.{ℕ, _+_, _≤_, _<_};
 ghost use mathlib.Core.Path.{_≡_};
@@ -21,8 +21,8 @@ ghost use lib.ListN.{length, getD};
 ghost use Rattle.terms.specs.Literals.{variableOf};
 ghost use Rattle.formula.specs.Tables.{literalAt};
 ghost use Rattle.formula.specs.Lookup.{SoundClauses};
-ghost use Rattle.forest.specs.declared.Scheme.the-variants.{Strict};
-ghost use Rattle.forest.specs.Search.{By, Flagged, Via, Blank};
+ghost use Rattle.terms.specs.declared.Scheme.the-variants.{Strict};
+ghost use Rattle.searching.specs.Search.{By, Flagged, Via, Blank};
 ghost use Rattle.sets.specs.Threads.{Inside, Connecting, Skipping, Known, Together, EnteredBy, Common, Threaded, Tied};
 
 // Ties every universal to its clauses, in one pass; those that are always true are left out, which is told at the first universal of a clause.

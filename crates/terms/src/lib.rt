@@ -103,3 +103,10 @@ pub enum Filled {
     // the number of the refusal, and its place
     Refused(u32, usize),
 }
+
+// Which dependencies are asked for: the standard ones, reached from clauses that have x in either sign, or the strict ones, reached both from
+// clauses with x and from clauses with its negation.
+pub enum Scheme {
+    Standard,
+    Strict,
+}

@@ -1,7 +1,7 @@
 -- `capi::snow_sets` meets its contract.
 use mathlib.Core.Path.{refl}
 use borrow.Author.Needs.{needs}
-use Rattle.forest.specs.declared.Scheme.the-variants.{Strict}
+use Rattle.terms.specs.declared.Scheme.the-variants.{Strict}
 use Rattle.capi.proofs.Telling.{fits-sets, tell-sets}
 use Rattle.capi.proofs.snow_sets.Statement.{statement}
 use Rattle.capi.proofs.snow_sets.Tie as tie

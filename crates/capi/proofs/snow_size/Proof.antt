@@ -1,6 +1,6 @@
 -- `capi::snow_size` meets its contract.
 use borrow.Author.Needs.{needs}
-use Rattle.forest.specs.declared.Scheme.the-variants.{Strict}
+use Rattle.terms.specs.declared.Scheme.the-variants.{Strict}
 use Rattle.capi.proofs.Telling.{fits-sized, tell-sized}
 use Rattle.capi.proofs.snow_size.Statement.{statement}
 use Rattle.capi.proofs.snow_size.Tie as tie

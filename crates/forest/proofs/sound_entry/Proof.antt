@@ -9,7 +9,7 @@ use Rattle.tables.specs.Formula.{tabled}
 use Rattle.tables.specs.Causes.{ForestCause}
 use Rattle.forest.specs.Causes.{NotUniversal, NotDeeper}
 use Rattle.tables.specs.Rows.{rowsOf}
-use Rattle.forest.specs.Search.{Finds}
+use Rattle.searching.specs.Search.{Finds}
 use Rattle.forest.proofs.Entered.{tabled-formed, sound-universal, sound-not-universal, sound-found, sound-nowhere}
 use Rattle.forest.proofs.sound_entry.Statement.{statement}
 use Rattle.forest.proofs.sound_entry.Tie as tie

@@ -7,10 +7,10 @@ use lib.ListN.{length, getD, length-replicate}
 use Rattle.formula.specs.Meaning.{level, isExistential}
 use Rattle.connection.specs.Tables.{lent}
 use Rattle.tables.specs.Formula.{variables, universalIn}
-use Rattle.forest.specs.Search.{TopsOver}
+use Rattle.searching.specs.Search.{TopsOver}
 use Rattle.tables.proofs.Agreeing.{lawful, level-agrees}
 use Rattle.tables.proofs.Readings.{flag-within}
-use Rattle.forest.proofs.Tops.{tops-over}
+use Rattle.searching.proofs.Tops.{tops-over}
 use borrow.Author.Needs.{needs}
 use Rattle.listing.proofs.list_tied.Statement.{statement}
 use Rattle.listing.proofs.list_tied.Tie as tie

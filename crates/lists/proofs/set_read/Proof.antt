@@ -6,9 +6,9 @@ use mathlib.Core.List.{[], _∷_}
 use lib.ListN.{length-replicate}
 use Rattle.terms.specs.Refusals.{At0, Judged}
 use Rattle.terms.proofs.Verdicts.{refused-first}
-use Rattle.forest.specs.declared.listing.Asked.the-variants.{Set}
+use Rattle.searching.specs.declared.listing.Asked.the-variants.{Set}
 use Rattle.forest.specs.Listed.{TooLong}
-use Rattle.forest.specs.Search.{pick}
+use Rattle.searching.specs.Search.{pick}
 use Rattle.forest.proofs.Listings.{picks-listing}
 use Rattle.lists.specs.Lists.{DependsOnBy}
 use Rattle.lists.specs.Inner.{enterOrder, Entered}

@@ -2,7 +2,7 @@
 use mathlib.Core.Path.{sym, ap}
 use mathlib.Core.Bool.{Bool, cond}
 use borrow.Author.Tests.{eq-eqb, ne-eqb}
-use Rattle.forest.specs.declared.Scheme.the-variants.{Standard, Strict}
+use Rattle.terms.specs.declared.Scheme.the-variants.{Standard, Strict}
 use Rattle.capi.specs.Told.{schemeOf}
 use Rattle.capi.proofs.cells.scheme_in.Statement.{statement}
 use Rattle.capi.proofs.cells.scheme_in.Tie as tie

@@ -8,7 +8,7 @@ use lib.ListN.{length, take, replicate, length-replicate}
 use lib.Seq.{length-take-le, length-sets}
 use Rattle.joining.specs.Rules.{readAs}
 use Rattle.ruled.specs.Calls.{SetsUnder}
-use Rattle.forest.specs.declared.Scheme.the-variants.{Standard}
+use Rattle.terms.specs.declared.Scheme.the-variants.{Standard}
 use Rattle.records.specs.Layout.{StandardSets}
 use Rattle.records.specs.Places.{fourthAt, Holds}
 use Rattle.tables.specs.Rows.{Tells}

@@ -8,7 +8,7 @@ use lib.IntN.{ℤ, negℤ}
 use lib.ListN.{length-replicate}
 use Rattle.terms.specs.Literals.{variableOf}
 use Rattle.tables.specs.Formula.{tabled}
-use Rattle.forest.proofs.Sides.{signed-variable}
+use Rattle.searching.proofs.Sides.{signed-variable}
 use Rattle.resolution.specs.Walk.{Ends}
 use Rattle.resolution.proofs.Reaching.{depends-are}
 use Rattle.resolution.proofs.Listing.{zeros, complement-plain, complement-negation}

@@ -8,11 +8,11 @@ use lib.Seq.{sets}
 use Rattle.formula.specs.Meaning.{level, isExistential}
 use Rattle.connection.specs.Tables.{lent}
 use Rattle.tables.specs.Formula.{variables, universalIn}
-use Rattle.forest.specs.Search.{TopsOver}
+use Rattle.searching.specs.Search.{TopsOver}
 use Rattle.sets.specs.Passed.{SetsUpto, PutAll}
 use Rattle.tables.proofs.Readings.{flag-within}
 use Rattle.tables.proofs.Agreeing.{lawful, level-agrees, universal-agrees}
-use Rattle.forest.proofs.Tops.{tops-over}
+use Rattle.searching.proofs.Tops.{tops-over}
 use Rattle.sets.proofs.AllSets.{put-length, sets-small, put-room, put-next, put-other, put-none}
 use borrow.Author.Needs.{needs}
 use Rattle.sets.proofs.all_sets.pass_sets.Statement.{statement}

@@ -6,9 +6,9 @@ use native.Mathlib.Omega.{arith}
 use borrow.Author.Tests.{not-true, not-false}
 use lib.ListN.{length}
 use lib.Seq.{sets}
-use Rattle.forest.specs.declared.listing.Asked.the-variants.{Set}
-use Rattle.forest.specs.Search.{pick, picked}
-use Rattle.forest.proofs.Picked.{picked-most}
+use Rattle.searching.specs.declared.listing.Asked.the-variants.{Set}
+use Rattle.searching.specs.Search.{pick, picked}
+use Rattle.searching.proofs.Picked.{picked-most}
 use Rattle.forest.proofs.Entered.{fresh}
 use Rattle.sets.proofs.AllSets.{topless-none}
 use borrow.Author.Needs.{needs}

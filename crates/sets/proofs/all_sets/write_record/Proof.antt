@@ -4,9 +4,9 @@ use mathlib.Core.Path.{_≡_, refl, _∙_, ap}
 use native.Mathlib.Omega.{arith}
 use lib.ListN.{length, set, length-set}
 use lib.Seq.{length-sets}
-use Rattle.forest.specs.declared.listing.Asked.the-variants.{Set}
-use Rattle.forest.specs.Search.{pick, picked}
-use Rattle.forest.proofs.Picked.{picked-most}
+use Rattle.searching.specs.declared.listing.Asked.the-variants.{Set}
+use Rattle.searching.specs.Search.{pick, picked}
+use Rattle.searching.proofs.Picked.{picked-most}
 use Rattle.sets.proofs.Records.{record-stored}
 use Rattle.sets.proofs.all_sets.write_record.Statement.{statement}
 use Rattle.sets.proofs.all_sets.write_record.Tie as tie

@@ -6,7 +6,7 @@ use native.Mathlib.Omega.{arith}
 use lib.ListN.{getD}
 use Rattle.formula.specs.Tables.{literalAt}
 use Rattle.tables.specs.Formula.{signed}
-use Rattle.forest.proofs.Sides.{side-has, side-not}
+use Rattle.searching.proofs.Sides.{side-has, side-not}
 use Rattle.sets.proofs.Followed.{Heading, Following, follow-none, follow-side, follow-apart, follow-more, follow-past, follow-link, follow-all}
 use borrow.Author.Needs.{needs}
 use Rattle.sets.proofs.threads.flag_along.Statement.{statement}

@@ -1,7 +1,7 @@
 -- `sets::threads::flag_points` meets its contract.
 use mathlib.Core.Path.{sym, subst}
 use mathlib.Core.Bool.{Bool}
-use Rattle.forest.proofs.Schemes.{entering-either}
+use Rattle.searching.proofs.Taken.{entering-either}
 use Rattle.sets.specs.Threads.{Together, EnteredBy}
 use borrow.Author.Needs.{needs}
 use Rattle.sets.proofs.threads.flag_points.Statement.{statement}

@@ -1,0 +1,302 @@
+-- The tops of all variables over a floor: each from that of the parent of its class, along the prefix.
+use Prim.Native.Nat.{ℕ, zero, suc, _+_, _-_, _≤_, _<_}
+use mathlib.Core.Path.{_≡_, refl, sym, ap, _∙_, subst}
+use mathlib.Core.Bool.{Bool, true, false, cond}
+use mathlib.Core.List.{List}
+use mathlib.Core.Logic.{_≢_, ⊎-elim, by-cases}
+use native.Mathlib.Decide.{ℕ-discrete, decLe, decLt}
+use native.Mathlib.Numerals.{add-one}
+use native.Mathlib.Omega.{arith}
+use borrow.Author.Count.{below-more}
+use borrow.Author.Tests.{eq-eqb, ne-eqb}
+use lib.Dec.{eqb, ltb}
+use lib.ListN.{length, getD, set, replicate, length-replicate, getD-replicate, List·getD-eq-default}
+use lib.Seq.{getD-set-same, getD-set-other}
+use Rattle.terms.proofs.Common.{clash}
+use Rattle.formula.specs.Tables.{at, opens, marksBefore, VariableAt}
+use Rattle.formula.specs.Causes.{no-mark, outside}
+use Rattle.formula.specs.Meaning.{level}
+use Rattle.formula.specs.Levels.{SoundPrefix}
+use Rattle.formula.proofs.Ordered.{NamedFrom, named?, marks-rise, once, level-at, deeper-named}
+use Rattle.connection.specs.Reach.{Variables, Lawful}
+use Rattle.connection.specs.Tables.{Table, row, lent, WellFormed, Above, start, rise}
+use Rattle.connection.proofs.Climb.{above-class}
+use Rattle.tables.specs.Formula.{variables}
+use Rattle.tables.specs.Counting.{FormedBy}
+use Rattle.searching.specs.Search.{Searched, topBy, TopRow, TopRows, TopsOver}
+use Rattle.tables.proofs.Readings.{row-none, row-over, row-at}
+use Rattle.tables.proofs.Agreeing.{lawful}
+
+module _ {X : Variables} {W : Table} {floor v : ℕ} where
+  -- No top: not existential, or not deeper than the floor.
+  top-universal : X .ex v ≡ false → TopRow X W floor v 0
+  top-universal un = record { found = λ u. absurd (clash (u .0) un); none = λ _. refl }
+
+  top-shallow : X .lev v ≤ floor → TopRow X W floor v 0
+  top-shallow low = record { found = λ u. absurd (let d = u .1 in omega arith); none = λ _. refl }
+
+module _ {X : Variables} {W : Table} (law : Lawful X) (formed : WellFormed X W) {floor v : ℕ} (ex : X .ex v ≡ true) where
+  -- A member has the top of its class.
+  top-class : (c e : ℕ) → c ≡ W .cls v → TopRow X W floor c e → TopRow X W floor v e
+  top-class c e is r =
+      let class = formed .right v .class ex in
+      let name = subst (λ d. X .ex d ≡ true) (sym is) (class .name .existential) in
+      let itself : W .cls c ≡ W .cls v = ap (W .cls) is ∙ class .name .itself in
+      let block : X .lev c ≡ X .lev v = ap (X .lev) is ∙ class .block in
+      record {
+        found = λ u. let (k, s) = r .found (name, (let d = u .1 in omega arith)) in (k, subst (λ d. Searched X W floor d e k) itself s);
+        none = λ shallow. r .none (λ u. shallow (ex, (let d = u .1 in omega arith)));
+      }
+
+  module _ (named : W .cls v ≡ v) (deep : floor < X .lev v) where
+    -- A class name has what the search from it finds.
+    top-found : {e k : ℕ} → Searched X W floor v e k → TopRow X W floor v e
+    top-found {e} {k} s = record { found = λ _. (k, subst (λ d. Searched X W floor d e k) (sym named) s); none = λ shallow. absurd (shallow (ex, deep)) }
+
+    module _ (p e : ℕ) (is : p ≡ W .par v) (r : TopRow X W floor p e) where
+      parent-row : TopRow X W floor (W .par v) e
+      parent-row = subst (λ q. TopRow X W floor q e) is r
+
+      -- Its parent has no top: it is 0 or not deeper, and the search stops at once.
+      top-itself : e ≡ 0 → TopRow X W floor v v
+      top-itself none = top-found (record { above = start; deeper = deep; stop = λ some. by-cases (decLe (X .lev (W .par v)) floor) (λ l. l) (λ l. absurd (nowhere some (omega arith))) })
+        where
+          nowhere : W .par v ≢ 0 → floor < X .lev (W .par v) → ⊥
+          nowhere some l =
+              let is = formed .right v .parent some .name .existential in
+              let (k, s) = parent-row .found (is, l) in
+              let low = law .within e (above-class formed (formed .right (W .par v) .class is .name) (s .above) .existential) .0 in
+              omega arith
+
+      -- Its parent has one: it is the same.
+      top-parent : e ≢ 0 → TopRow X W floor v e
+      top-parent some = go (X .ex (W .par v)) refl (decLt floor (X .lev (W .par v)))
+        where
+          go : (b : Bool) → X .ex (W .par v) ≡ b → Dec (floor < X .lev (W .par v)) → TopRow X W floor v e
+          go true is (yes l) =
+              let (k, s) = parent-row .found (is, l) in
+              let parent : W .par v ≢ 0 = λ z. let low = law .within (W .par v) is .0 in omega arith in
+              let itself = formed .right v .parent parent .name .itself in
+              top-found (record { above = rise parent (subst (λ d. Above W e d k) itself (s .above)); deeper = s .deeper; stop = s .stop })
+          go true is (no l) = absurd (some (parent-row .none (λ u. l (u .1))))
+          go false un d = absurd (some (parent-row .none (λ u. clash (u .0) un)))
+
+-- How the top of a variable is told from its class and the top of the parent: none, the class itself, and that of the parent.
+pub top-by-none : {c r : ℕ} (above : ℕ) → r ≡ c → r ≡ 0 → r ≡ topBy c above
+unfolding topBy
+top-by-none {c} above is z = z ∙ sym (ap (λ b. cond b 0 (cond (eqb above 0) c above)) (eq-eqb c 0 (sym is ∙ z)))
+
+pub top-by-class : {c above a r : ℕ} → r ≡ c → r ≢ 0 → a ≡ above → a ≡ 0 → r ≡ topBy c above
+unfolding topBy
+top-by-class {c} {above} is some there z = is ∙ sym (ap (λ b. cond b 0 (cond (eqb above 0) c above)) (ne-eqb c 0 (λ q. some (is ∙ q))) ∙ ap (λ b. cond b c above) (eq-eqb above 0 (sym there ∙ z)))
+
+pub top-by-above : {c above a r : ℕ} → r ≡ c → r ≢ 0 → a ≡ above → a ≢ 0 → a ≡ topBy c above
+unfolding topBy
+top-by-above {c} {above} is some there other = there ∙ sym (ap (λ b. cond b 0 (cond (eqb above 0) c above)) (ne-eqb c 0 (λ q. some (is ∙ q))) ∙ ap (λ b. cond b c above) (ne-eqb above 0 (λ q. other (there ∙ q))))
+
+-- In a new table all rows are 0, and so are all that are read of it.
+pub new-zero : (k v : ℕ) → getD (replicate {A = ℕ} k 0) v 0 ≡ 0
+new-zero k v = by-cases (decLt v k) (λ l. getD-replicate {A = ℕ} k v 0 0 l) (λ l. List·getD-eq-default (replicate {A = ℕ} k 0) 0 {n = v} (let q = length-replicate {A = ℕ} k 0 in omega arith))
+
+row-zero : (n : ℕ) (rows : List ℕ) → ((v : ℕ) → getD rows v 0 ≡ 0) → (y : ℕ) → row n rows y ≡ 0
+unfolding row
+row-zero n rows zeros zero = refl
+row-zero n rows zeros (suc v) = by (ltb v n)
+  where
+    by : (b : Bool) → cond b (getD rows v 0) 0 ≡ 0
+    by true = zeros v
+    by false = refl
+
+-- Over a level that no existential is deeper than there are no tops.
+pub tops-over : {X : Variables} {W : Table} (floor k : ℕ) → ((v : ℕ) → X .ex v ≡ true → X .lev v ≤ floor) → TopsOver X W floor 0 (replicate {A = ℕ} k 0)
+tops-over {X} {W} floor k low =
+    record {
+      rows = λ y. subst (TopRow X W floor y) (sym (row-zero (X .count) (replicate {A = ℕ} k 0) (new-zero k) y)) (record { found = λ u. absurd (let l = low y (u .0) in let d = u .1 in omega arith); none = λ _. refl });
+      most = omega arith;
+      none = λ v some most. absurd (omega arith);
+    }
+
+-- A row that is stored anew, and any other.
+pub row-stored : (n : ℕ) (rows : List ℕ) (v x : ℕ) → v ≢ 0 → v ≤ n → n ≤ length rows → row n (set rows (v - 1) x) v ≡ x
+row-stored n rows v x some l long = row-at n (set rows (v - 1) x) v some l ∙ getD-set-same rows (v - 1) x 0 (omega arith)
+
+pub row-kept : (n : ℕ) (rows : List ℕ) (v x w : ℕ) → v ≢ 0 → w ≢ v → row n (set rows (v - 1) x) w ≡ row n rows w
+row-kept n rows v x w some other = by-cases (ℕ-discrete w 0) (λ z. row-none n (set rows (v - 1) x) w z ∙ sym (row-none n rows w z))
+    (λ named. by-cases (decLe w n) (λ l. row-at n (set rows (v - 1) x) w named l ∙ getD-set-other rows (v - 1) (w - 1) x 0 (λ q. other (omega arith)) ∙ sym (row-at n rows w named l))
+    (λ l. row-over n (set rows (v - 1) x) w (omega arith) ∙ sym (row-over n rows w (omega arith))))
+
+-- The rows on the way along the prefix: a variable that is named before entry i has its top, and any other 0.
+pub record Topping (n : ℕ) (es classes parents : List ℕ) (floor : ℕ) (tops : List ℕ) (i : ℕ) : Type 0 where
+  pub rows : (e : ℕ) → e < i → VariableAt es e → TopRow (variables n es) (lent (variables n es) classes parents) floor (at es e) (row n tops (at es e))
+  pub rest : (v : ℕ) → ((e : ℕ) → e < i → VariableAt es e → at es e ≢ v) → row n tops v ≡ 0
+
+module _ (n : ℕ) (es classes parents : List ℕ) (floor : ℕ) where
+  abbrev X : Variables
+  X = variables n es
+
+  abbrev W : Table
+  W = lent X classes parents
+
+  topping-none : (tops : List ℕ) → ((v : ℕ) → getD tops v 0 ≡ 0) → Topping n es classes parents floor tops 0
+  topping-none tops zeros = record { rows = λ e l. absurd (omega arith); rest = λ v none. row-zero n tops zeros v }
+
+  -- An entry that names nothing.
+  topping-over : {tops : List ℕ} {i : ℕ} → (VariableAt es i → ⊥) → Topping n es classes parents floor tops i → Topping n es classes parents floor tops (i + 1)
+  topping-over {tops} {i} none t =
+      record {
+        rows = below-more (λ e. VariableAt es e → TopRow X W floor (at es e) (row n tops (at es e))) i (t .rows) (λ there. absurd (none there));
+        rest = λ v unnamed. t .rest v (λ e l. unnamed e (omega arith));
+      }
+
+  module _ (sound : SoundPrefix n es) {tops : List ℕ} {i : ℕ} (there : VariableAt es i) (t : Topping n es classes parents floor tops i) where
+    -- One that names a variable no deeper than the floor.
+    topping-shallow : marksBefore es i ≤ floor → Topping n es classes parents floor tops (i + 1)
+    topping-shallow low =
+        record {
+          rows = below-more (λ e. VariableAt es e → TopRow X W floor (at es e) (row n tops (at es e))) i (t .rows)
+              (λ _. subst (TopRow X W floor (at es i)) (sym (t .rest (at es i) (λ e l at-e. once sound e i at-e there l))) (top-shallow (let own = level-at sound i there in omega arith)));
+          rest = λ v unnamed. t .rest v (λ e l. unnamed e (omega arith));
+        }
+
+    module _ (formed : FormedBy n es classes parents) (x : ℕ) (small : x ≤ 4096) (low : floor ≡ level es x) where
+      -- The variables of lesser blocks have their tops already.
+      lesser : (u : ℕ) → u ≤ 4096 → level es u < marksBefore es i → TopRow X W floor u (row n tops u)
+      lesser u within less = ⊎-elim named unnamed (named? es u)
+        where
+          named : NamedFrom es 0 u → TopRow X W floor u (row n tops u)
+          named (e, _, at-e, is) =
+              by-cases (decLt e i) (λ l. subst (λ w. TopRow X W floor w (row n tops w)) is (t .rows e l at-e))
+              (λ l. absurd (let rise = marks-rise es i e (omega arith) in let own = sym (ap (level es) is) ∙ level-at sound e at-e in omega arith))
+
+          unnamed : (NamedFrom es 0 u → ⊥) → TopRow X W floor u (row n tops u)
+          unnamed none = subst (TopRow X W floor u) (sym (t .rest u (λ e l at-e q. none (e, omega arith, at-e, q))))
+              (record { found = λ under. absurd (none (deeper-named sound x u small within (let d = under .1 in omega arith))); none = λ _. refl })
+
+      nothing : TopRow X W floor 0 (row n tops 0)
+      nothing = subst (TopRow X W floor 0) (sym (row-none n tops 0 refl)) (go (X .ex 0) refl)
+        where
+          go : (b : Bool) → X .ex 0 ≡ b → TopRow X W floor 0 0
+          go true ex = absurd (let a = lawful n es .within 0 ex .0 in omega arith)
+          go false un = top-universal un
+
+      module _ (deep : floor < marksBefore es i) where
+        -- The top of the class of the variable that is named here.
+        class-top : (c : ℕ) → X .ex c ≡ true → W .cls c ≡ c → level es c ≡ marksBefore es i → (above : ℕ) → above ≡ row n tops (W .par c) → TopRow X W floor c (cond (eqb above 0) c above)
+        class-top c ex named block above is = go (ℕ-discrete above 0)
+          where
+            deeper : floor < level es c
+            deeper = omega arith
+
+            parent : TopRow X W floor (W .par c) above
+            parent = subst (TopRow X W floor (W .par c)) (sym is) (by-cases (ℕ-discrete (W .par c) 0) (λ z. subst (λ u. TopRow X W floor u (row n tops u)) (sym z) nothing)
+                (λ some. let p = formed .right c .parent some in let few = sound .few in let less = p .less in lesser (W .par c) (let w = lawful n es .within (W .par c) (p .name .existential) .1 in omega arith) (omega arith)))
+
+            go : Dec (above ≡ 0) → TopRow X W floor c (cond (eqb above 0) c above)
+            go (yes z) = subst (λ b. TopRow X W floor c (cond b c above)) (sym (eq-eqb above 0 z)) (top-itself (lawful n es) formed ex named deeper (W .par c) above refl parent z)
+            go (no some) = subst (λ b. TopRow X W floor c (cond b c above)) (sym (ne-eqb above 0 some)) (top-parent (lawful n es) formed ex named deeper (W .par c) above refl parent some)
+
+        -- So that variable has its own.
+        named-top : TopRow X W floor (at es i) (topBy (row n classes (at es i)) (row n tops (row n parents (row n classes (at es i)))))
+        unfolding lent topBy
+        named-top = go (X .ex (at es i)) refl
+          where
+            go : (b : Bool) → X .ex (at es i) ≡ b → TopRow X W floor (at es i) (cond (eqb (W .cls (at es i)) 0) 0 (cond (eqb (row n tops (W .par (W .cls (at es i)))) 0) (W .cls (at es i)) (row n tops (W .par (W .cls (at es i))))))
+            go true ex =
+                let class = formed .right (at es i) .class ex in
+                let some : W .cls (at es i) ≢ 0 = λ z. let a = lawful n es .within (W .cls (at es i)) (class .name .existential) .0 in omega arith in
+                subst (λ b. TopRow X W floor (at es i) (cond b 0 (cond (eqb (row n tops (W .par (W .cls (at es i)))) 0) (W .cls (at es i)) (row n tops (W .par (W .cls (at es i))))))) (sym (ne-eqb (W .cls (at es i)) 0 some))
+                (top-class (lawful n es) formed ex (W .cls (at es i)) _ refl (class-top (W .cls (at es i)) (class .name .existential) (class .name .itself) (class .block ∙ level-at sound i there) _ refl))
+            go false un =
+                subst (λ b. TopRow X W floor (at es i) (cond b 0 (cond (eqb (row n tops (W .par (W .cls (at es i)))) 0) (W .cls (at es i)) (row n tops (W .par (W .cls (at es i))))))) (sym (eq-eqb (W .cls (at es i)) 0 (formed .right (at es i) .universal un .0)))
+                (top-universal un)
+
+        topping-more : (top : ℕ) → n ≤ length tops → at es i ≤ n → top ≡ topBy (row n classes (at es i)) (row n tops (row n parents (row n classes (at es i)))) → Topping n es classes parents floor (set tops (at es i - 1) top) (i + 1)
+        topping-more top long within is =
+            record {
+              rows = below-more (λ e. VariableAt es e → TopRow X W floor (at es e) (row n (set tops (at es i - 1) top) (at es e))) i
+                  (λ e l at-e. subst (TopRow X W floor (at es e)) (sym (row-kept n tops (at es i) top (at es e) (there .2) (once sound e i at-e there l))) (t .rows e l at-e))
+                  (λ _. subst (TopRow X W floor (at es i)) (sym (row-stored n tops (at es i) top (there .2) within long ∙ is)) named-top);
+              rest = λ v unnamed. row-kept n tops (at es i) top v (there .2) (λ q. unnamed i (omega arith) there (sym q)) ∙ t .rest v (λ e l. unnamed e (omega arith));
+            }
+
+  -- Where the whole prefix is passed every variable has its top: what is deeper than x is named.
+  pub topping-all : SoundPrefix n es → {tops : List ℕ} {i : ℕ} → length es ≤ i → Topping n es classes parents floor tops i → (x : ℕ) → x ≤ 4096 → floor ≡ level es x → TopRows X W floor tops
+  topping-all sound {tops} {i} done t x small low y = ⊎-elim (λ d. let (e, _, at-e, is) = d in let within = at-e .0 in subst (λ w. TopRow X W floor w (row n tops w)) is (t .rows e (omega arith) at-e))
+      (λ none. subst (TopRow X W floor y) (sym (t .rest y (λ e l at-e q. none (e, omega arith, at-e, q))))
+      (record { found = λ under. absurd (none (deeper-named sound x y small (let w = lawful n es .within y (under .0) .1 in let few = sound .few in omega arith) (let d = under .1 in omega arith))); none = λ _. refl }))
+      (named? es y)
+
+-- The loop along the prefix: whether a block opens at entry i, how many have opened before it, and the rows.
+pub record Passing (n : ℕ) (es classes parents : List ℕ) (floor : ℕ) (tops : List ℕ) (opening : Bool) (block i : ℕ) : Type 0 where
+  pub opening-is : opening ≡ opens es i
+  pub block-is : block ≡ marksBefore es i
+  pub few : block ≤ i
+  pub topping : Topping n es classes parents floor tops i
+
+module _ (n : ℕ) (es classes parents : List ℕ) (floor : ℕ) where
+  pub passing-none : (tops : List ℕ) → ((v : ℕ) → getD tops v 0 ≡ 0) → Passing n es classes parents floor tops true 0 0
+  passing-none tops zeros = record { opening-is = refl; block-is = refl; few = omega arith; topping = topping-none n es classes parents floor tops zeros }
+
+  -- what stands behind entry i
+  opens-next : (i : ℕ) → opens es (i + 1) ≡ eqb (at es i) 0
+  opens-next i = ap (opens es) (add-one i)
+
+  marks-next : (i : ℕ) {b : Bool} → opens es i ≡ b → marksBefore es (i + 1) ≡ cond b (suc (marksBefore es i)) (marksBefore es i)
+  marks-next i q = ap (marksBefore es) (add-one i) ∙ ap (λ b. cond b (suc (marksBefore es i)) (marksBefore es i)) q
+
+  module _ {tops : List ℕ} {opening : Bool} {block i : ℕ} (sound : SoundPrefix n es) (p : Passing n es classes parents floor tops opening block i) (more : i < length es) where
+    -- A mark opens a block, and is no 0.
+    pub passing-mark : opening ≡ true → Passing n es classes parents floor tops false (block + 1) (i + 1)
+    passing-mark open′ =
+        let opened = sym (p .opening-is) ∙ open′ in
+        let some : at es i ≢ 0 = λ z. sound .faultless 4 i (no-mark refl (more, opened) (λ q. omega arith) (λ q. omega arith)) in
+        let marks = marks-next i opened in
+        let here = p .block-is in
+        let few = p .few in
+        record {
+          opening-is = sym (opens-next i ∙ ne-eqb (at es i) 0 some);
+          block-is = omega arith;
+          few = omega arith;
+          topping = topping-over n es classes parents floor (λ there. clash opened (there .1)) (p .topping);
+        }
+
+    module _ (shut : opening ≡ false) where
+      shut-here : opens es i ≡ false
+      shut-here = sym (p .opening-is) ∙ shut
+
+      -- A 0 closes it.
+      pub passing-close : at es i ≡ 0 → Passing n es classes parents floor tops true block (i + 1)
+      passing-close none =
+          let few = p .few in
+          record {
+            opening-is = sym (opens-next i ∙ eq-eqb (at es i) 0 none);
+            block-is = p .block-is ∙ sym (marks-next i shut-here);
+            few = omega arith;
+            topping = topping-over n es classes parents floor (λ there. there .2 none) (p .topping);
+          }
+
+      -- Any other entry names a variable, no deeper than the floor or deeper.
+      module _ (some : at es i ≢ 0) where
+        there : VariableAt es i
+        there = (more, shut-here, some)
+
+        pub named-within : at es i ≤ n
+        named-within = by-cases (decLe (at es i) n) (λ l. l) (λ over. absurd (sound .faultless 7 i (outside refl there (omega arith))))
+
+        passing-on : {tops′ : List ℕ} → Topping n es classes parents floor tops′ (i + 1) → Passing n es classes parents floor tops′ opening block (i + 1)
+        passing-on t =
+            let few = p .few in
+            record {
+              opening-is = shut ∙ sym (opens-next i ∙ ne-eqb (at es i) 0 some);
+              block-is = p .block-is ∙ sym (marks-next i shut-here);
+              few = omega arith;
+              topping = t;
+            }
+
+        pub passing-shallow : block ≤ floor → Passing n es classes parents floor tops opening block (i + 1)
+        passing-shallow low = passing-on (topping-shallow n es classes parents floor sound there (p .topping) (let here = p .block-is in omega arith))
+
+        pub passing-top : floor < block → FormedBy n es classes parents → (x : ℕ) → x ≤ 4096 → floor ≡ level es x → (top : ℕ) → n ≤ length tops → top ≡ topBy (row n classes (at es i)) (row n tops (row n parents (row n classes (at es i))))
+            → Passing n es classes parents floor (set tops (at es i - 1) top) opening block (i + 1)
+        passing-top deep formed x small low top long is =
+            passing-on (topping-more n es classes parents floor sound there (p .topping) formed x small low (let here = p .block-is in omega arith) top long named-within is)
