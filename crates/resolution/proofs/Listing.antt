@@ -1,6 +1,6 @@
 -- From flags of what depends on x to the list that the call promises, and what check gives to the walk.
 use Prim.Native.Nat.{ℕ, _≤_}
-use mathlib.Core.Path.{_≡_, refl, sym, ap, _∙_}
+use mathlib.Core.Path.{_≡_, refl, sym, ap}
 use mathlib.Core.Bool.{Bool, true, false}
 use mathlib.Core.List.{List}
 use mathlib.Core.Logic.{_↔_, by-cases}
@@ -16,7 +16,8 @@ use Rattle.formula.specs.Levels.{SoundPrefix, Levelled}
 use Rattle.formula.proofs.Sound.{sound-clauses}
 use Rattle.connection.specs.Listed.{Listed}
 use Rattle.tables.specs.Formula.{variables, tabled, universalIn, signed}
-use Rattle.tables.proofs.Agreeing.{lawful, same-back, tables-agree, level-agrees, universal-agrees, universal-within}
+use Rattle.tables.proofs.Agreeing.{lawful, same-back, tables-agree, level-agrees}
+use Rattle.tables.proofs.Readings.{flag-within}
 use Rattle.searching.specs.declared.listing.Asked.the-variants.{Points}
 use Rattle.searching.specs.Search.{pick, picked}
 use Rattle.searching.proofs.Flags.{literal-past}
@@ -49,16 +50,16 @@ read-clauses {n} {ls = ls} none = record { sound = sound-clauses none; upto = up
         (λ l. by-cases (decLe (variableOf (literalAt ls e)) n) (λ low. low) (λ over. absurd (none .1 .1 .1 .0 10 e (ClauseCause.outside refl l (λ z. let q = ap variableOf z in omega arith) (omega arith)))))
         (λ l. let past = literal-past ls e (omega arith) in omega arith)
 
-module _ {n : ℕ} {es levels : List ℕ} {universals : List Bool} (sound : SoundPrefix n es) (table : Levelled es levels universals) {x : ℕ} (u : universalIn n universals x ≡ true) where
-  -- x is one of the variables.
-  pub own-within : (1 ≤ x) × (x ≤ n)
-  own-within = let w = universal-within n es x (sym (universal-agrees sound table x) ∙ u) in (w .0, w .1)
+-- A universal by the level table is one of the variables.
+pub universal-upto : (n : ℕ) (universals : List Bool) (x : ℕ) → universalIn n universals x ≡ true → x ≤ n
+unfolding universalIn
+universal-upto n universals x u = flag-within n x (getD universals x false) u .1
 
-  -- What is flagged by the level table is the list of all that depends on x by the prefix.
-  pub dependents-listed : {ls : List ℤ} (flags : List Bool) (tops : List ℕ) → ((v : ℕ) → 1 ≤ v → v ≤ n → (getD flags v false ≡ true) ↔ DependsByPaths (tabled n levels universals) ls x v) → Listed (DependsByPaths (variables n es) ls x) (picked (pick Points n flags tops) n)
-  unfolding pick
-  dependents-listed flags tops told =
-      let s = tables-agree sound table in
-      let own = level-agrees sound table x (own-within .1) in
-      picked-listed (pick Points n flags tops) n (λ v d. lawful n es .within v (d .deeper .existential))
-      (λ v low high. let t = told v low high in (λ f. depends-same s own (t .0 f), λ d. t .1 (depends-same (same-back s) (sym own) d)))
+-- What is flagged by the level table is the list of all that depends on x by the prefix.
+pub dependents-listed : {n : ℕ} {es levels : List ℕ} {universals : List Bool} → SoundPrefix n es → Levelled es levels universals → {x : ℕ} → universalIn n universals x ≡ true → {ls : List ℤ} (flags : List Bool) (tops : List ℕ) → ((v : ℕ) → 1 ≤ v → v ≤ n → (getD flags v false ≡ true) ↔ DependsByPaths (tabled n levels universals) ls x v) → Listed (DependsByPaths (variables n es) ls x) (picked (pick Points n flags tops) n)
+unfolding pick
+dependents-listed {n} {es} {levels} {universals} sound table {x} u flags tops told =
+    let s = tables-agree sound table in
+    let own = level-agrees sound table x (universal-upto n universals x u) in
+    picked-listed (pick Points n flags tops) n (λ v d. lawful n es .within v (d .deeper .existential))
+    (λ v low high. let t = told v low high in (λ f. depends-same s own (t .0 f), λ d. t .1 (depends-same (same-back s) (sym own) d)))

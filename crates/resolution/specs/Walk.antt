@@ -7,12 +7,16 @@ use mathlib.Core.Logic.{_≢_, _↔_}
 use lib.IntN.{ℤ, negℤ}
 use lib.ListN.{length, getD}
 use Rattle.terms.specs.Literals.{variableOf, rowOf}
+use Rattle.terms.specs.Refusals.{At0}
+use Rattle.terms.specs.declared.Filled.{Filled}
 use Rattle.formula.specs.Tables.{literalAt}
 use Rattle.formula.specs.Lookup.{SoundClauses}
 use Rattle.connection.specs.Reach.{Variables}
-use Rattle.tables.specs.Formula.{signed}
+use Rattle.tables.specs.Formula.{variables, signed}
+use Rattle.forest.specs.Causes.{NotUniversal}
+use Rattle.forest.specs.Listed.{TooLong, Listing}
 use Rattle.sets.specs.Threads.{Inside, Connecting, On, Noted, Closed}
-use Rattle.resolution.specs.Paths.{Deeper, Path}
+use Rattle.resolution.specs.Paths.{Deeper, Path, DependsByPaths, mostPathVariables}
 
 -- whether a literal is marked, in a table with a row for each literal
 abbrev pub marked : List Bool → ℤ → Bool
@@ -89,3 +93,8 @@ Ends X ls x from marks = (l : ℤ) → 1 ≤ variableOf l → variableOf l ≤ X
 -- two tables have opposite literals of v
 abbrev pub Pairs : List Bool → List Bool → ℕ → Type 0
 Pairs ends others v = (sign : Bool) × (marked ends (signed sign v) ≡ true) × (marked others (signed (not sign) v) ≡ true)
+
+-- what the call promises by the prefix as it is read, once the formula is accepted
+abbrev pub SoundListed : ℕ → List ℕ → List ℤ → ℕ → List ℕ → List ℕ → Filled → Type 0
+SoundListed n es ls x before =
+    Listing (At0 13 (NotUniversal n es x) ∷ At0 27 (mostPathVariables < n) ∷ At0 14 (TooLong (DependsByPaths (variables n es) ls x) before) ∷ []) (DependsByPaths (variables n es) ls x) before

@@ -18,7 +18,7 @@ ghost use Rattle.tables.specs.Rows.{Tells};
 ghost use Rattle.resolution.specs.Paths.{Deeper, DependsByPaths};
 ghost use Rattle.resolution.specs.Walk.{Chained, Barred, ReadClauses, Ends, Pairs};
 
-// Flags each variable from 1 to n that depends on x.
+// Flags each variable from 1 to n that depends on x. Every variable is tied to its clauses first.
 pub fn flag_dependent(
     n: u32,
     clauses: &[i32],
@@ -27,20 +27,38 @@ pub fn flag_dependent(
     x: Variable,
     flags: &mut [bool],
 )
-    requires { ⌜ (n ≤ 512) × ReadClauses n (now clauses) × (1 ≤ x .0) × (x .0 ≤ n) × (length (now flags) ≡ 513) ⌝ }
+    requires { ⌜ (n ≤ 512) × ReadClauses n (now clauses) × (x .0 ≤ n) × (length (now flags) ≡ 513) ⌝ }
     ensures { λ r. ⌜ ((v : ℕ) → 1 ≤ v → v ≤ n → (getD (now (flags .exit)) v false ≡ true) ↔ DependsByPaths (tabled n (now (levels .entry)) (now (universals .entry))) (now (clauses .entry)) (x .0) v) ⌝ }
 {
+    let all = [true; 513];
     let mut first = [0u32; 513];
     let mut next = [0u32; 16384];
-    tie(n, clauses, &mut first, &mut next);
+    thread(clauses, &all, &mut first, &mut next);
+    flag_tied(n, clauses, levels, universals, &first, &next, x, flags);
+}
+
+// The same, once they are tied.
+fn flag_tied(
+    n: u32,
+    clauses: &[i32],
+    levels: &[u32],
+    universals: &[bool],
+    first: &[u32],
+    next: &[u32],
+    x: Variable,
+    flags: &mut [bool],
+)
+    requires { ⌜ (n ≤ 512) × ReadClauses n (now clauses) × Chained (now clauses) (now first) (now next) × (x .0 ≤ n) × (length (now first) ≡ 513) × (length (now flags) ≡ 513) ⌝ }
+    ensures { λ r. ⌜ ((v : ℕ) → 1 ≤ v → v ≤ n → (getD (now (flags .exit)) v false ≡ true) ↔ DependsByPaths (tabled n (now (levels .entry)) (now (universals .entry))) (now (clauses .entry)) (x .0) v) ⌝ }
+{
     let mut ends = [false; 1026];
     mark_ends(
         n,
         clauses,
         levels,
         universals,
-        &first,
-        &next,
+        first,
+        next,
         x,
         negation(x),
         &mut ends,
@@ -51,22 +69,13 @@ pub fn flag_dependent(
         clauses,
         levels,
         universals,
-        &first,
-        &next,
+        first,
+        next,
         x,
         plain(x),
         &mut others,
     );
     pair_ends(n, levels, universals, x, &ends, &others, flags);
-}
-
-// Ties every variable to its clauses.
-fn tie(n: u32, clauses: &[i32], first: &mut [u32], next: &mut [u32])
-    requires { ⌜ (n ≤ 512) × ReadClauses n (now clauses) × (length (now first) ≡ 513) × (length (now next) ≡ 16384) × ((v : ℕ) → getD (now first) v 0 ≡ 0) ⌝ }
-    ensures { λ r. ⌜ Chained (now (clauses .entry)) (now (first .exit)) (now (next .exit)) ⌝ }
-{
-    let all = [true; 513];
-    thread(clauses, &all, first, next);
 }
 
 // Marks the ends of all paths from the complement of a literal of x, and with them every literal that a path may not pass.

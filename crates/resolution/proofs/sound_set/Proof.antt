@@ -1,23 +1,5 @@
 -- `resolution::sound_set` meets its contract.
-use Prim.Native.Nat.{_<_}
-use mathlib.Core.Path.{refl, sym, _∙_}
-use mathlib.Core.Bool.{Bool, false}
-use mathlib.Core.List.{[], _∷_}
-use mathlib.Core.Logic.{inl, inr}
-use native.Mathlib.Omega.{arith}
 use borrow.Author.Needs.{needs}
-use borrow.Author.Tests.{not-true, not-false}
-use lib.ListN.{length-replicate}
-use Rattle.terms.specs.Refusals.{At0, NoneOf}
-use Rattle.terms.proofs.Common.{clash}
-use Rattle.terms.proofs.Verdicts.{at0-first, at0-none}
-use Rattle.tables.proofs.Agreeing.{universal-agrees}
-use Rattle.searching.specs.declared.listing.Asked.the-variants.{Points}
-use Rattle.forest.specs.Causes.{NotUniversal}
-use Rattle.searching.specs.Search.{pick}
-use Rattle.forest.proofs.Listings.{picks-listing}
-use Rattle.resolution.specs.Paths.{mostPathVariables}
-use Rattle.resolution.proofs.Listing.{own-within, dependents-listed}
 use Rattle.resolution.proofs.sound_set.Statement.{statement}
 use Rattle.resolution.proofs.sound_set.Tie as tie
 
@@ -30,65 +12,20 @@ slice-aggregate-fill-levels-2 c = search needs
 fill-levels-requires : tie.Need-fill-levels-requires
 fill-levels-requires c κs = search needs
 
-slice-aggregate-universal-at : tie.Need-slice-aggregate-universal-at
-slice-aggregate-universal-at c = search needs
+slice-aggregate-set-by-levels : tie.Need-slice-aggregate-set-by-levels
+slice-aggregate-set-by-levels c = search needs
 
-universal-at-requires : tie.Need-universal-at-requires
-universal-at-requires c κs = search needs
+slice-aggregate-set-by-levels-2 : tie.Need-slice-aggregate-set-by-levels-2
+slice-aggregate-set-by-levels-2 c = search needs
 
-returns : tie.Need-returns
-returns c = (inl (at0-first 13 (sym (universal-agrees (c .before .before .before .before .before .before .before .before .before .before .pre .0) (c .before .before .before .before .before .fill-levels .ensures) (c .before .before .before .before .before .before .before .before .before .before .args .x .0)) ∙ sym (c .before .universal-at .ensures) ∙ not-true (c .before .universal-at .result) (c .if1 .taken))), refl)
-
-returns-2 : tie.Need-returns-2
-returns-2 c =
-    let a = c .before .before .before .before .before .before .before .before .before .before .before .args in
-    let sound = c .before .before .before .before .before .before .before .before .before .before .before .pre .0 in
-    let table = c .before .before .before .before .before .before .fill-levels .ensures in
-    let u = sym (c .before .before .universal-at .ensures) ∙ not-false (c .before .before .universal-at .result) (c .before .if1 .left) in
-    (inr (at0-none 13 (λ no′. clash u (universal-agrees sound table (a .x .0) ∙ no′)), inl (at0-first 27 (c .if2 .taken))), refl)
-
-slice-aggregate-flag-dependent : tie.Need-slice-aggregate-flag-dependent
-slice-aggregate-flag-dependent c = search needs
-
-slice-aggregate-flag-dependent-2 : tie.Need-slice-aggregate-flag-dependent-2
-slice-aggregate-flag-dependent-2 c = search needs
-
-slice-aggregate-flag-dependent-3 : tie.Need-slice-aggregate-flag-dependent-3
-slice-aggregate-flag-dependent-3 c = search needs
-
-flag-dependent-requires : tie.Need-flag-dependent-requires
-flag-dependent-requires c κs =
-    let a = c .before .before .before .before .before .before .before .before .before .before .before .before .before .before .args in
-    let sound = c .before .before .before .before .before .before .before .before .before .before .before .before .before .before .pre .0 in
-    let table = c .before .before .before .before .before .before .before .before .before .fill-levels .ensures in
-    let u = sym (c .before .before .before .before .before .universal-at .ensures) ∙ not-false (c .before .before .before .before .before .universal-at .result) (c .before .before .before .before .if1 .left) in
-    let own = own-within sound table u in
-    let few = c .before .before .before .if2 .left in
-    (omega arith, c .before .before .before .before .before .before .before .before .before .before .before .before .before .before .pre .1, own .0, own .1, length-replicate {A = Bool} 513 false)
-
-slice-aggregate-list-picked : tie.Need-slice-aggregate-list-picked
-slice-aggregate-list-picked c = search needs
-
-slice-aggregate-list-picked-2 : tie.Need-slice-aggregate-list-picked-2
-slice-aggregate-list-picked-2 c = search needs
-
-list-picked-requires : tie.Need-list-picked-requires
-list-picked-requires c κs = search needs
+set-by-levels-requires : tie.Need-set-by-levels-requires
+set-by-levels-requires c κs = search needs
 
 same-length : tie.Need-same-length
 same-length c = search needs
 
-returns-3 : tie.Need-returns-3
-unfolding pick
-returns-3 c =
-    let a = c .before .before .before .before .before .before .before .before .before .before .before .before .before .before .before .before .before .before .before .before .before .before .args in
-    let sound = c .before .before .before .before .before .before .before .before .before .before .before .before .before .before .before .before .before .before .before .before .before .before .pre .0 in
-    let table = c .before .before .before .before .before .before .before .before .before .before .before .before .before .before .before .before .before .fill-levels .ensures in
-    let u = sym (c .before .before .before .before .before .before .before .before .before .before .before .before .before .universal-at .ensures) ∙ not-false (c .before .before .before .before .before .before .before .before .before .before .before .before .before .universal-at .result) (c .before .before .before .before .before .before .before .before .before .before .before .before .if1 .left) in
-    let flags = c .before .before .before .before .before .before .before .flag-dependent .last .1 .1 .1 .1 .1 .0 in
-    let few = c .before .before .before .before .before .before .before .before .before .before .before .if2 .left in
-    let none : NoneOf (At0 13 (NotUniversal (a .n) (a .prefix .now) (a .x .0)) ∷ At0 27 (mostPathVariables < a .n) ∷ []) = (at0-none 13 (λ no′. clash u (universal-agrees sound table (a .x .0) ∙ no′)), (at0-none 27 (λ over. omega arith), tt)) in
-    picks-listing (At0 13 (NotUniversal (a .n) (a .prefix .now) (a .x .0)) ∷ At0 27 (mostPathVariables < a .n) ∷ []) (pick Points (a .n) flags []) (a .n) (a .out .now) (c .before .before .list-picked .last .1 .1 .1 .1 .0) none (dependents-listed sound table u flags [] (c .before .before .before .before .before .before .before .flag-dependent .ensures)) (c .before .before .list-picked .result) (c .before .before .list-picked .ensures)
+returns : tie.Need-returns
+returns c = c .before .before .set-by-levels .ensures (c .before .before .before .before .before .before .before .before .before .before .before .before .before .args .prefix .now) (c .before .before .before .before .before .before .before .before .before .before .before .before .before .pre .0) (c .before .before .before .before .before .before .before .before .fill-levels .ensures)
 
 pub sound-set-spec : {M : Type 1} → statement M
 sound-set-spec =
@@ -97,16 +34,8 @@ sound-set-spec =
     slice-aggregate-fill-levels
     slice-aggregate-fill-levels-2
     fill-levels-requires
-    slice-aggregate-universal-at
-    universal-at-requires
-    returns
-    returns-2
-    slice-aggregate-flag-dependent
-    slice-aggregate-flag-dependent-2
-    slice-aggregate-flag-dependent-3
-    flag-dependent-requires
-    slice-aggregate-list-picked
-    slice-aggregate-list-picked-2
-    list-picked-requires
+    slice-aggregate-set-by-levels
+    slice-aggregate-set-by-levels-2
+    set-by-levels-requires
     same-length
-    returns-3)
+    returns)
