@@ -14,10 +14,12 @@ use terms::Variable;
 use terms::Verdict;
 use walk::follow;
 use walk::is_deep;
-ghost use mathlib.Core.List.{[], _∷_};
+ghost use Prim.Native.Nat.{ℕ};
+ghost use mathlib.Core.List.{List, [], _∷_};
+ghost use mathlib.Core.Logic.{_≢_};
 ghost use lib.ListN.{length};
 ghost use Rattle.terms.specs.Refusals.{At0, Judged};
-ghost use Rattle.formula.specs.Levels.{SoundPrefix};
+ghost use Rattle.formula.specs.Levels.{SoundPrefix, Levelled};
 ghost use Rattle.formula.specs.Lookup.{SoundClauses};
 ghost use Rattle.formula.specs.Meaning.{clauses as Meaning·clauses};
 ghost use Rattle.tables.specs.Formula.{tabled};
@@ -39,6 +41,22 @@ pub fn path_verdict(
     if rule == 1 {
         return plain_path(n, prefix, clauses, x, y, path);
     }
+    path_joined(rule, n, prefix, clauses, x, y, path)
+}
+
+// The same under any other rule, by the joined prefix.
+fn path_joined(
+    rule: u32,
+    n: u32,
+    prefix: &[u32],
+    clauses: &[i32],
+    x: Variable,
+    y: Variable,
+    path: &[u32],
+) -> Verdict
+    requires { ⌜ rule ≢ 1 ⌝ }
+    ensures { λ r. ⌜ Judged (pathOrderUnder rule n (now (prefix .entry)) (now (clauses .entry)) (x .0) (y .0) (now (path .entry))) r ⌝ }
+{
     let mut read = [0u32; 4224];
     match join(rule, n, prefix, clauses.len(), &mut read) {
         Filled::Refused(number, place) => Verdict::Refused(number, place),
@@ -66,7 +84,7 @@ fn plain_path(
     }
 }
 
-// The same once the formula is accepted: 13 for x and y, and on.
+// The same once the formula is accepted.
 fn sound_path(
     n: u32,
     prefix: &[u32],
@@ -81,13 +99,29 @@ fn sound_path(
     let mut levels = [0u32; 4097];
     let mut universals = [false; 4097];
     fill_levels(prefix, &mut levels, &mut universals);
-    if !universal_at(n, &universals, x) {
+    path_by_levels(n, &levels, &universals, clauses, x, y, path)
+}
+
+// The same by the level table of the prefix: 13 for x and y, and on.
+fn path_by_levels(
+    n: u32,
+    levels: &[u32],
+    universals: &[bool],
+    clauses: &[i32],
+    x: Variable,
+    y: Variable,
+    path: &[u32],
+) -> Verdict
+    requires { ⌜ SoundClauses (now clauses) ⌝ }
+    ensures { λ r. ⌜ ((es : List ℕ) → SoundPrefix n es → Levelled es (now (levels .entry)) (now (universals .entry)) → Judged (pairOrder n es (now (clauses .entry)) (x .0) (y .0) (now (path .entry))) r) ⌝ }
+{
+    if !universal_at(n, universals, x) {
         return Verdict::Refused(13, 0);
     }
-    if !is_deep(n, &levels, &universals, x, y) {
+    if !is_deep(n, levels, universals, x, y) {
         return Verdict::Refused(13, 0);
     }
-    known_pair(n, &levels, &universals, clauses, x, y, path)
+    known_pair(n, levels, universals, clauses, x, y, path)
 }
 
 // The same once x and y are what they should be: 13 for the clause numbers, and 24.

@@ -1,17 +1,5 @@
 -- `paths::sound_path` meets its contract.
-use mathlib.Core.Path.{sym, _∙_}
-use mathlib.Core.List.{[]}
-use mathlib.Core.Logic.{inl, inr}
 use borrow.Author.Needs.{needs}
-use borrow.Author.Tests.{not-true, not-false}
-use lib.ListN.{length}
-use Rattle.terms.proofs.Verdicts.{at0-first}
-use Rattle.formula.specs.Meaning.{clauses}
-use Rattle.tables.proofs.Agreeing.{same-back, tables-agree}
-use Rattle.forest.proofs.Entered.{own-level, sound-universal, sound-not-universal}
-use Rattle.tables.proofs.Readings.{told, told-not}
-use Rattle.paths.specs.Causes.{NumberOver}
-use Rattle.paths.proofs.Agreeing.{deep-same, not-deep, deep-not, judged-pair}
 use Rattle.paths.proofs.sound_path.Statement.{statement}
 use Rattle.paths.proofs.sound_path.Tie as tie
 
@@ -24,53 +12,17 @@ slice-aggregate-fill-levels-2 c = search needs
 fill-levels-requires : tie.Need-fill-levels-requires
 fill-levels-requires c κs = search needs
 
-slice-aggregate-universal-at : tie.Need-slice-aggregate-universal-at
-slice-aggregate-universal-at c = search needs
+slice-aggregate-path-by-levels : tie.Need-slice-aggregate-path-by-levels
+slice-aggregate-path-by-levels c = search needs
 
-universal-at-requires : tie.Need-universal-at-requires
-universal-at-requires c κs = search needs
+slice-aggregate-path-by-levels-2 : tie.Need-slice-aggregate-path-by-levels-2
+slice-aggregate-path-by-levels-2 c = search needs
+
+path-by-levels-requires : tie.Need-path-by-levels-requires
+path-by-levels-requires c κs = search needs
 
 returns : tie.Need-returns
-returns c =
-    inl (at0-first 13 (inl (sound-not-universal (c .before .before .before .before .before .before .before .before .before .before .pre .0) (c .before .before .before .before .before .fill-levels .ensures) [] [] (c .before .before .before .before .before .before .before .before .before .before .args .x .0) (c .before .universal-at .ensures) (not-true (c .before .universal-at .result) (c .if1 .taken)))))
-
-slice-aggregate-is-deep : tie.Need-slice-aggregate-is-deep
-slice-aggregate-is-deep c = search needs
-
-slice-aggregate-is-deep-2 : tie.Need-slice-aggregate-is-deep-2
-slice-aggregate-is-deep-2 c = search needs
-
-is-deep-requires : tie.Need-is-deep-requires
-is-deep-requires c κs = search needs
-
-returns-2 : tie.Need-returns-2
-returns-2 c =
-    let a = c .before .before .before .before .before .before .before .before .before .before .before .before .before .before .args in
-    let sound = c .before .before .before .before .before .before .before .before .before .before .before .before .before .before .pre .0 in
-    let table = c .before .before .before .before .before .before .before .before .before .fill-levels .ensures in
-    let own = own-level sound table [] [] (a .x .0) (sym (c .before .before .before .before .before .universal-at .ensures) ∙ not-false (c .before .before .before .before .before .universal-at .result) (c .before .before .before .before .if1 .left)) in
-    inl (at0-first 13 (inr (inl (not-deep (a .n) (a .prefix .now) (a .x .0) (a .y .0)
-    (λ d. told-not (c .before .is-deep .result) (not-true (c .before .is-deep .result) (c .if2 .taken)) (c .before .is-deep .ensures) (deep-same (same-back (tables-agree sound table)) (sym own) d))))))
-
-slice-aggregate-known-pair : tie.Need-slice-aggregate-known-pair
-slice-aggregate-known-pair c = search needs
-
-slice-aggregate-known-pair-2 : tie.Need-slice-aggregate-known-pair-2
-slice-aggregate-known-pair-2 c = search needs
-
-known-pair-requires : tie.Need-known-pair-requires
-known-pair-requires c κs = search needs
-
-returns-3 : tie.Need-returns-3
-returns-3 c =
-    let a = c .before .before .before .before .before .before .before .before .before .before .before .before .before .before .before .before .before .args in
-    let sound = c .before .before .before .before .before .before .before .before .before .before .before .before .before .before .before .before .before .pre .0 in
-    let table = c .before .before .before .before .before .before .before .before .before .before .before .before .fill-levels .ensures in
-    let universal = not-false (c .before .before .before .before .before .before .before .before .universal-at .result) (c .before .before .before .before .before .before .before .if1 .left) in
-    let own = own-level sound table [] [] (a .x .0) (sym (c .before .before .before .before .before .before .before .before .universal-at .ensures) ∙ universal) in
-    let deep = told (c .before .before .before .before .is-deep .result) (not-false (c .before .before .before .before .is-deep .result) (c .before .before .before .if2 .left)) (c .before .before .before .before .is-deep .ensures) in
-    judged-pair (a .clauses .now) (a .y .0) (a .path .now) (NumberOver (length (clauses (a .clauses .now))) (a .path .now)) (tables-agree sound table) own
-    (sound-universal sound table [] [] (a .x .0) (c .before .before .before .before .before .before .before .before .universal-at .ensures) universal) (deep-not (a .n) (a .prefix .now) (a .x .0) (a .y .0) (deep-same (tables-agree sound table) own deep)) (c .known-pair .result) (c .known-pair .ensures)
+returns c = c .path-by-levels .ensures (c .before .before .before .before .before .before .before .before .before .before .args .prefix .now) (c .before .before .before .before .before .before .before .before .before .before .pre .0) (c .before .before .before .before .before .fill-levels .ensures)
 
 pub sound-path-spec : {M : Type 1} → statement M
 sound-path-spec =
@@ -79,14 +31,7 @@ sound-path-spec =
     slice-aggregate-fill-levels
     slice-aggregate-fill-levels-2
     fill-levels-requires
-    slice-aggregate-universal-at
-    universal-at-requires
-    returns
-    slice-aggregate-is-deep
-    slice-aggregate-is-deep-2
-    is-deep-requires
-    returns-2
-    slice-aggregate-known-pair
-    slice-aggregate-known-pair-2
-    known-pair-requires
-    returns-3)
+    slice-aggregate-path-by-levels
+    slice-aggregate-path-by-levels-2
+    path-by-levels-requires
+    returns)
