@@ -85,16 +85,37 @@ closed-most value x copy clause = omega (arith, length-append (map (named value 
 abbrev pub copied : Bool → ℕ → (ℕ → ℕ) → List (List ℤ) → List ℤ
 copied value x copy cs = clauseTable (copies value x copy cs)
 
--- one clause in front
-copied-yes : (value : Bool) (x : ℕ) (copy : ℕ → ℕ) (clause : List ℤ) (later : List (List ℤ)) → true ≡ hasCopy value x copy clause → copied value x copy (clause ∷ later) ≡ closed value x copy clause ++ copied value x copy later
-unfolding copies clauseTable
-copied-yes value x copy clause later q =
-    sym (ap (λ b. clauseTable (cond b (map (named value copy) (without x clause) ∷ copies value x copy later) (copies value x copy later))) q)
-    ∙ sym (append-assoc (map (named value copy) (without x clause)) (pos 0 ∷ []) (copied value x copy later))
+-- the copies of some clauses, and behind them others
+table-append : (cs ds : List (List ℤ)) → clauseTable (cs ++ ds) ≡ clauseTable cs ++ clauseTable ds
+unfolding clauseTable
+table-append [] ds = refl
+table-append (c ∷ cs) ds = ap (λ (r : List ℤ). c ++ (pos 0 ∷ r)) (table-append cs ds) ∙ sym (append-assoc c (pos 0 ∷ clauseTable cs) (clauseTable ds))
 
-copied-no : (value : Bool) (x : ℕ) (copy : ℕ → ℕ) (clause : List ℤ) (later : List (List ℤ)) → false ≡ hasCopy value x copy clause → copied value x copy (clause ∷ later) ≡ copied value x copy later
-unfolding copies
-copied-no value x copy clause later q = sym (ap (λ b. clauseTable (cond b (map (named value copy) (without x clause) ∷ copies value x copy later) (copies value x copy later))) q)
+-- the first clause, and behind it the others
+copied-more : (value : Bool) (x : ℕ) (copy : ℕ → ℕ) (clause : List ℤ) (later : List (List ℤ)) → copied value x copy (clause ∷ later) ≡ copied value x copy (clause ∷ []) ++ copied value x copy later
+unfolding copies clauseTable
+copied-more value x copy clause later = by (hasCopy value x copy clause)
+  where
+    by : (b : Bool) → clauseTable (cond b (map (named value copy) (without x clause) ∷ copies value x copy later) (copies value x copy later)) ≡ clauseTable (cond b (map (named value copy) (without x clause) ∷ []) []) ++ clauseTable (copies value x copy later)
+    by true = table-append (map (named value copy) (without x clause) ∷ []) (copies value x copy later)
+    by false = refl
+
+-- one clause that has a copy, and one that has none
+pub one-copied : (value : Bool) (x : ℕ) (copy : ℕ → ℕ) (clause : List ℤ) → true ≡ hasCopy value x copy clause → closed value x copy clause ≡ copied value x copy (clause ∷ [])
+unfolding copies clauseTable
+one-copied value x copy clause q = ap (λ b. clauseTable (cond b (map (named value copy) (without x clause) ∷ []) [])) q
+
+pub none-copied : (value : Bool) (x : ℕ) (copy : ℕ → ℕ) (clause : List ℤ) → false ≡ hasCopy value x copy clause → [] ≡ copied value x copy (clause ∷ [])
+unfolding copies clauseTable
+none-copied value x copy clause q = ap (λ b. clauseTable (cond b (map (named value copy) (without x clause) ∷ []) [])) q
+
+copied-most : (value : Bool) (x : ℕ) (copy : ℕ → ℕ) (clause : List ℤ) → length (copied value x copy (clause ∷ [])) ≤ length clause + 1
+unfolding copies clauseTable
+copied-most value x copy clause = by (hasCopy value x copy clause)
+  where
+    by : (b : Bool) → length (clauseTable (cond b (map (named value copy) (without x clause) ∷ []) [])) ≤ length clause + 1
+    by true = closed-most value x copy clause
+    by false = omega arith
 
 -- The clauses before entry `start` are passed, and the copies that they have are stored.
 pub record Clauses (value : Bool) (x : ℕ) (copy : ℕ → ℕ) (ls out₀ : List ℤ) (at start : ℕ) (out : List ℤ) (end : ℕ) : Type 0 where
@@ -106,26 +127,17 @@ pub clauses-none : (value : Bool) (x : ℕ) (copy : ℕ → ℕ) (ls out : List 
 clauses-none value x copy ls out at = record { within = omega arith; few = omega arith; on = onward-none }
 
 module _ {value : Bool} {x : ℕ} {copy : ℕ → ℕ} {ls out₀ : List ℤ} {at start : ℕ} {out : List ℤ} {end : ℕ} (s : Clauses value x copy ls out₀ at start out end) where
-  module _ (z : ℕ) (next : NextZero ls start z) (more : z < length ls) where
-    -- A clause that has a copy: it is stored.
-    pub clauses-copied : {out′ : List ℤ} {end′ : ℕ} → true ≡ hasCopy value x copy (take (z - start) (drop start ls)) → Stored (closed value x copy (take (z - start) (drop start ls))) out out′ end end′ → Clauses value x copy ls out₀ at (z + 1) out′ end′
-    clauses-copied has stored =
-        let size : length (take (z - start) (drop start ls)) ≡ z - start = length-take-le (z - start) (drop start ls) (rw (length-drop start ls) (omega arith)) in
-        record {
-          within = omega arith;
-          few = omega (arith, s .few, stored .count, closed-most value x copy (take (z - start) (drop start ls)), next .from);
-          on = onward-more (closed value x copy (take (z - start) (drop start ls))) (copied value x copy (clauses (drop (z + 1) ls)))
-              (onward-as (s .on) (ap (copied value x copy) (clauses-closed ls start z next more) ∙ copied-yes value x copy (take (z - start) (drop start ls)) (clauses (drop (z + 1) ls)) has)) stored;
-        }
-
-    -- And one that has none.
-    pub clauses-left-out : false ≡ hasCopy value x copy (take (z - start) (drop start ls)) → Clauses value x copy ls out₀ at (z + 1) out end
-    clauses-left-out has =
-        record {
-          within = omega arith;
-          few = omega (arith, s .few, next .from);
-          on = onward-as (s .on) (ap (copied value x copy) (clauses-closed ls start z next more) ∙ copied-no value x copy (take (z - start) (drop start ls)) (clauses (drop (z + 1) ls)) has);
-        }
+  -- A clause is passed, and the copy that it has is stored.
+  pub clauses-more : (z : ℕ) → NextZero ls start z → z < length ls → {out′ : List ℤ} {end′ : ℕ} → Stored (copied value x copy (take (z - start) (drop start ls) ∷ [])) out out′ end end′ → Clauses value x copy ls out₀ at (z + 1) out′ end′
+  clauses-more z next more stored =
+      let clause = take (z - start) (drop start ls) in
+      let size : length (take (z - start) (drop start ls)) ≡ z - start = length-take-le (z - start) (drop start ls) (rw (length-drop start ls) (omega arith)) in
+      record {
+        within = omega arith;
+        few = omega (arith, s .few, stored .count, copied-most value x copy (take (z - start) (drop start ls)), next .from);
+        on = onward-more (copied value x copy (clause ∷ [])) (copied value x copy (clauses (drop (z + 1) ls)))
+            (onward-as (s .on) (ap (copied value x copy) (clauses-closed ls start z next more) ∙ copied-more value x copy clause (clauses (drop (z + 1) ls)))) stored;
+      }
 
   done : clauses (drop start ls) ≡ [] → Stored (copied value x copy (clauses ls)) out₀ out at end × (end ≤ at + length ls)
   unfolding copies clauseTable
@@ -141,12 +153,6 @@ module _ {value : Bool} {x : ℕ} {copy : ℕ → ℕ} {ls out₀ : List ℤ} {a
 -- a clause is no longer than its table
 pub part-short : (ls : List ℤ) (start z : ℕ) → length (take (z - start) (drop start ls)) ≤ length ls
 part-short ls start z = omega (arith, length-take (z - start) (drop start ls), length-drop start ls)
-
--- the copies of some clauses, and behind them others
-table-append : (cs ds : List (List ℤ)) → clauseTable (cs ++ ds) ≡ clauseTable cs ++ clauseTable ds
-unfolding clauseTable
-table-append [] ds = refl
-table-append (c ∷ cs) ds = ap (λ (r : List ℤ). c ++ (pos 0 ∷ r)) (table-append cs ds) ∙ sym (append-assoc c (pos 0 ∷ clauseTable cs) (clauseTable ds))
 
 -- First the copies with x false, then those with x true.
 pub copied-both : (x : ℕ) (copy : ℕ → ℕ) (ls : List ℤ) {out mid out′ : List ℤ} {end end′ : ℕ} → Stored (copied false x copy (clauses ls)) out mid 0 end → Stored (copied true x copy (clauses ls)) mid out′ end end′ → Stored (expandedClauses x copy ls) out out′ 0 end′

@@ -16,6 +16,7 @@ use terms::Literal;
 use terms::Variable;
 ghost use Prim.Native.Nat.{ℕ};
 ghost use mathlib.Core.Path.{_≡_};
+ghost use mathlib.Core.Logic.{_≢_};
 ghost use lib.ListN.{length};
 ghost use Rattle.terms.specs.Refusals.{NoneOf};
 ghost use Rattle.formula.specs.Levels.{SoundPrefix};
@@ -47,6 +48,22 @@ pub fn expand(
     if rule == 1 {
         return expand_plain(n, prefix, clauses, x, out_prefix, out_clauses);
     }
+    expand_joined(rule, n, prefix, clauses, x, out_prefix, out_clauses)
+}
+
+// The same under any other rule, by the joined prefix.
+fn expand_joined(
+    rule: u32,
+    n: u32,
+    prefix: &[u32],
+    clauses: &[i32],
+    x: Variable,
+    out_prefix: &mut [u32],
+    out_clauses: &mut [i32],
+) -> Expanded
+    requires { ⌜ rule ≢ 1 ⌝ }
+    ensures { λ r. ⌜ Expands rule n (now (prefix .entry)) (now (clauses .entry)) (x .0) (now («out_prefix» .entry)) (now («out_prefix» .exit)) (now («out_clauses» .entry)) (now («out_clauses» .exit)) r ⌝ }
+{
     let mut read = [0u32; 4224];
     match join(rule, n, prefix, clauses.len(), &mut read) {
         Filled::Refused(number, place) => Expanded::Refused(number, place),

@@ -49,14 +49,39 @@ fn copy_all(
             return end;
         }
         let stamp = (stop + 1) as u16;
-        if has_copy(value, &clauses[start..stop], x, copies, &mut seen, stamp) {
-            end = copy_one(value, &clauses[start..stop], x, copies, out, end);
-            start = stop + 1;
-        } else {
-            start = stop + 1;
-        }
+        end = copy_clause(
+            value,
+            &clauses[start..stop],
+            x,
+            copies,
+            &mut seen,
+            stamp,
+            out,
+            end,
+        );
+        start = stop + 1;
     }
     end
+}
+
+// Writes the copy of a clause with x at a value, where it has one, from the row `at` on; gives the row behind it.
+fn copy_clause(
+    value: bool,
+    clause: &[i32],
+    x: Variable,
+    copies: &[u32],
+    seen: &mut [u16],
+    stamp: u16,
+    out: &mut [i32],
+    at: usize,
+) -> usize
+    requires { ⌜ InRows (now clause) × Stamps (now seen) stamp × Copies (now copies) × (length (now clause) ≤ 16384) × (at ≤ 32768) ⌝ }
+    ensures { λ r. ⌜ Stored (clauseTable (Expansion·copies value (x .0) (tabled (now (copies .entry))) (now (clause .entry) ∷ []))) (now (out .entry)) (now (out .exit)) at r × Stamps (now (seen .exit)) (stamp + 1) ⌝ }
+{
+    if has_copy(value, clause, x, copies, seen, stamp) {
+        return copy_one(value, clause, x, copies, out, at);
+    }
+    at
 }
 
 // Whether a clause has a copy with x at a value.

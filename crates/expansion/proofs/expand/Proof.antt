@@ -1,9 +1,6 @@
 -- `expansion::expand` meets its contract.
-use native.Mathlib.Omega.{arith}
 use borrow.Author.Needs.{needs}
-use lib.ListN.{length}
-use Rattle.joining.proofs.Exchange.{joined-room}
-use Rattle.expansion.proofs.Ruled.{expand-one, expand-two, expand-unread}
+use Rattle.expansion.proofs.Ruled.{expand-one}
 use Rattle.expansion.proofs.expand.Statement.{statement}
 use Rattle.expansion.proofs.expand.Tie as tie
 
@@ -22,39 +19,8 @@ returns c =
     let e = c .before .before .before .expand-plain in
     expand-one (a .n) (a .prefix .now) (a .clauses .now) (a .x .0) (a .out-prefix .now) (a .out-clauses .now) _ _ (a .rule) (e .result) (c .before .before .before .before .before .before .if1 .taken) (e .ensures)
 
-slice-aggregate-join : tie.Need-slice-aggregate-join
-slice-aggregate-join c = search needs
-
-join-requires : tie.Need-join-requires
-join-requires c κs = search needs
-
-enum-known-number : tie.Need-enum-known-number
-enum-known-number c = search needs
-
-enum-known-count : tie.Need-enum-known-count
-enum-known-count c = search needs
-
-cast-end : tie.Need-cast-end
-cast-end c = search needs
-
-sub-expand-plain : tie.Need-sub-expand-plain
-sub-expand-plain c = search needs
-
-part-expand-plain-start : tie.Need-part-expand-plain-start
-part-expand-plain-start c = search needs
-
-part-expand-plain-end : tie.Need-part-expand-plain-end
-part-expand-plain-end c =
-    let a = c .before .before .before .before .before .before .before .before .before .before .args in
-    omega (arith, joined-room (a .rule) (a .n) (a .prefix .now) (length (a .clauses .now)) _ _ (c .before .before .count .given .1) (c .before .before .before .before .before .join .ensures))
-
-expand-plain-requires-2 : tie.Need-expand-plain-requires-2
-expand-plain-requires-2 c κs = search needs
-
-returns-2 : tie.Need-returns-2
-returns-2 c =
-    let a = c .before .before .before .before .before .before .before .before .before .args in
-    expand-unread (a .n) (a .prefix .now) (a .clauses .now) (a .x .0) (a .out-prefix .now) (a .out-clauses .now) (a .rule) _ _ _ (c .before .number .given .1) (c .before .before .before .before .join .ensures)
+expand-joined-requires : tie.Need-expand-joined-requires
+expand-joined-requires c κs = search needs
 
 same-length-3 : tie.Need-same-length-3
 same-length-3 c = search needs
@@ -62,11 +28,8 @@ same-length-3 c = search needs
 same-length-4 : tie.Need-same-length-4
 same-length-4 c = search needs
 
-returns-3 : tie.Need-returns-3
-returns-3 c =
-    let a = c .before .before .before .before .before .before .before .before .before .before .before .before .before .before .before .before .before .args in
-    let e = c .before .before .before .expand-plain2 in
-    expand-two (a .n) (a .prefix .now) (a .clauses .now) (a .x .0) (a .out-prefix .now) (a .out-clauses .now) _ _ (a .rule) (e .result) _ _ (c .before .before .before .before .before .before .before .before .before .count .given .1) (c .before .before .before .before .before .before .before .before .before .before .before .before .join .ensures) (e .ensures)
+returns-2 : tie.Need-returns-2
+returns-2 c = c .before .before .before .expand-joined .ensures
 
 pub expand-spec : {M : Type 1} → statement M
 expand-spec =
@@ -76,16 +39,7 @@ expand-spec =
     same-length
     same-length-2
     returns
-    slice-aggregate-join
-    join-requires
-    enum-known-number
-    enum-known-count
-    cast-end
-    sub-expand-plain
-    part-expand-plain-start
-    part-expand-plain-end
-    expand-plain-requires-2
-    returns-2
+    expand-joined-requires
     same-length-3
     same-length-4
-    returns-3)
+    returns-2)
