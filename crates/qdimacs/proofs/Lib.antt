@@ -6,6 +6,7 @@ pub mod Padded
 pub mod Lines
 pub mod Entries
 pub mod Rows
+pub mod Copies
 pub mod Spelling
 pub mod Openings
 pub mod Bodies

@@ -123,6 +123,11 @@ abbrev pub ScanIs : List ℕ → List ℕ × List ℤ → List ℕ × List ℤ �
 ScanIs text before after (Read n entries literals) = Scanned n entries literals text before after
 ScanIs text before after (Refused number place) = FaultIn text number place
 
+-- What a scan of the text found, in tables of any length that now hold it as far as they have rows.
+pub record Held (n entries literals : ℕ) (text prefix : List ℕ) (clauses : List ℤ) : Type 0 where
+  pub before : List ℕ × List ℤ
+  pub scanned : Scanned n entries literals text before (prefix, clauses)
+
 -- What lies at the end of a text, after all its lines, at a stage: a fault, or nothing.
 abbrev pub announcedAt : Stage → ℕ
 announcedAt Opening = 0

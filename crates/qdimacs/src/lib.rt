@@ -3,6 +3,7 @@
 mod body;
 pub mod bytes;
 pub mod expected;
+mod filling;
 mod items;
 mod opening;
 pub mod scanning;
@@ -10,7 +11,7 @@ pub mod tables;
 mod words;
 pub mod writing;
 
-use scanning::scan;
+use filling::read_by_way;
 use terms::Verdict;
 use writing::write_accepted;
 ghost use Rattle.qdimacs.specs.Stored.{Writes};
@@ -38,8 +39,8 @@ pub enum Output {
     Refused { number: u32, place: usize },
 }
 
-// Reads a text into two lent tables: n and the counts of entries, or the refusal. A first scan stores in tables of its own that no one sees,
-// so that nothing is written before it is known that the text is within the rules and that both tables have room.
+// Reads a text into two lent tables: n and the counts of entries, or the refusal. It goes by way of tables of its own, which no one sees: of the
+// size that formulas within the limits need, or for a short text of half as many rows as it has bytes, which cost less to clear.
 pub fn read(text: &[u8], prefix: &mut [u32], clauses: &mut [i32]) -> Reading
     ensures { λ r. ⌜ ReadIs (now (text .entry)) (now (prefix .entry)) (now (prefix .exit)) (now (clauses .entry)) (now (clauses .exit)) r ⌝ }
 {
@@ -49,30 +50,14 @@ pub fn read(text: &[u8], prefix: &mut [u32], clauses: &mut [i32]) -> Reading
             place: TEXT_MOST,
         };
     }
-    let mut unseen_entries = [0u32; 1];
-    let mut unseen_literals = [0i32; 1];
-    match scan(text, &mut unseen_entries, &mut unseen_literals) {
-        Reading::Refused { number, place } => Reading::Refused { number, place },
-        Reading::Read {
-            n: _,
-            prefix: entries,
-            clauses: literals,
-        } => {
-            if prefix.len() < entries {
-                return Reading::Refused {
-                    number: 14,
-                    place: 0,
-                };
-            }
-            if clauses.len() < literals {
-                return Reading::Refused {
-                    number: 14,
-                    place: 0,
-                };
-            }
-            scan(text, prefix, clauses)
-        }
+    if text.len() <= 4096 {
+        let mut few_entries = [0u32; 2048];
+        let mut few_literals = [0i32; 2048];
+        return read_by_way(text, &mut few_entries, &mut few_literals, prefix, clauses);
     }
+    let mut entries = [0u32; 4224];
+    let mut literals = [0i32; 16384];
+    read_by_way(text, &mut entries, &mut literals, prefix, clauses)
 }
 
 // Writes the text of a formula into a lent buffer: refused as check refuses it, where the text is too long, or where it does not fit.
