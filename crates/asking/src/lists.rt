@@ -1,16 +1,13 @@
 // The set of x, its size and the entry points of x, by either scheme or with none named, held against the search.
 
-use oracle::classes::lend;
+use crate::ask_searched;
 use oracle::tables::is_universal;
 use oracle::tables::pair_at;
 use oracle::totals::count_pairs;
 use score::Score;
 use score::library::Call;
-use score::library::ask;
-use score::library::ask_within;
 use score::rows::UNTOUCHED;
-use score::rows::gives;
-use score::rows::refuses;
+use score::rows::fills;
 use score::rows::row_at;
 use score::rows::untouched;
 use std::num::wrapping_add_u32;
@@ -32,51 +29,57 @@ fn lists(n: u32, pairs: &[bool], x: u32, rows: &[u32]) -> bool {
     untouched(rows, at)
 }
 
-// Whether the output holds what it should: the list, and nothing new where only the size is asked for.
-fn holds(call: Call, n: u32, pairs: &[bool], x: u32, rows: &[u32]) -> bool {
+// Whether a call asks for the size of a set, which takes no output.
+fn is_size(call: Call) -> bool {
     match call {
-        Call::Sizes => untouched(rows, 0),
-        Call::StandardSizes => untouched(rows, 0),
-        Call::StrictSizes => untouched(rows, 0),
-        _ => lists(n, pairs, x, rows),
+        Call::Sizes => true,
+        Call::StandardSizes => true,
+        Call::StrictSizes => true,
+        _ => false,
     }
 }
 
-// A case with more rows than any answer needs: the count and the list, or refusal 13 where x is not universal.
-fn list_case(
+// Whether the output holds what it should: the list, and nothing new where only the size is asked for.
+fn holds(call: Call, n: u32, pairs: &[bool], x: u32, rows: &[u32]) -> bool {
+    if is_size(call) {
+        untouched(rows, 0)
+    } else {
+        lists(n, pairs, x, rows)
+    }
+}
+
+// More rows than any answer needs.
+pub const ROOM: usize = 80;
+
+// A case with an output of so many rows: the count and the list by the search, or the refusal with a number, which leaves every row.
+pub fn asked_case(
     score: Score,
     call: Call,
     n: u32,
     prefix: &[u32],
     clauses: &[i32],
     facts: &[u32],
-    classes: &[u32],
-    parents: &[u32],
-    counts: &[u32],
     pairs: &[bool],
     x: u32,
+    room: usize,
+    number: u32,
 ) -> Score {
     let mut out = [UNTOUCHED; 80];
-    let answer = ask(
-        call,
-        n,
-        prefix,
-        clauses,
-        classes,
-        parents,
-        counts,
-        x,
-        &mut out,
-    );
-    if is_universal(n, facts, x) {
-        let count = count_pairs(n, pairs, x);
-        score.count(gives(answer, count) && holds(call, n, pairs, x, &out))
+    let answer = ask_searched(call, n, prefix, clauses, facts, x, &mut out, room);
+    let right = if number == 0 {
+        holds(call, n, pairs, x, &out)
     } else {
-        score.count(refuses(answer, 13, 0) && untouched(&out, 0))
-    }
+        untouched(&out, 0)
+    };
+    score.count(fills(answer, count_pairs(n, pairs, x), number, 0) && right)
 }
 
-// Every x from 0 to one more than n.
+// The refusal for x with more rows than any answer needs: 13 where x is not universal, else none.
+fn refusal_for(n: u32, facts: &[u32], x: u32) -> u32 {
+    if is_universal(n, facts, x) { 0 } else { 13 }
+}
+
+// A case for every x from 0 to one more than n.
 fn list_cases(
     score: Score,
     call: Call,
@@ -84,28 +87,14 @@ fn list_cases(
     prefix: &[u32],
     clauses: &[i32],
     facts: &[u32],
-    classes: &[u32],
-    parents: &[u32],
-    counts: &[u32],
     pairs: &[bool],
 ) -> Score {
     let mut t = score;
     let end = wrapping_add_u32(n, 2);
     let mut x: u32 = 0;
     while x < end {
-        t = list_case(
-            t,
-            call,
-            n,
-            prefix,
-            clauses,
-            facts,
-            classes,
-            parents,
-            counts,
-            pairs,
-            x,
-        );
+        let number = refusal_for(n, facts, x);
+        t = asked_case(t, call, n, prefix, clauses, facts, pairs, x, ROOM, number);
         x += 1;
     }
     t
@@ -118,45 +107,16 @@ fn room_case(
     n: u32,
     prefix: &[u32],
     clauses: &[i32],
-    classes: &[u32],
-    parents: &[u32],
-    counts: &[u32],
+    facts: &[u32],
     pairs: &[bool],
     x: u32,
 ) -> Score {
-    let count = count_pairs(n, pairs, x);
-    let mut out = [UNTOUCHED; 80];
-    let answer = ask_within(
-        call,
-        n,
-        prefix,
-        clauses,
-        classes,
-        parents,
-        counts,
-        x,
-        &mut out,
-        count as usize,
-    );
-    let filled = score.count(gives(answer, count) && lists(n, pairs, x, &out));
-    if count == 0 {
-        return filled;
+    let room = count_pairs(n, pairs, x) as usize;
+    let t = asked_case(score, call, n, prefix, clauses, facts, pairs, x, room, 0);
+    if room == 0 {
+        return t;
     }
-    let mut short = [UNTOUCHED; 80];
-    let room = (count - 1) as usize;
-    let refusal = ask_within(
-        call,
-        n,
-        prefix,
-        clauses,
-        classes,
-        parents,
-        counts,
-        x,
-        &mut short,
-        room,
-    );
-    filled.count(refuses(refusal, 14, 0) && untouched(&short, 0))
+    asked_case(t, call, n, prefix, clauses, facts, pairs, x, room - 1, 14)
 }
 
 // Every universal from 1 to n.
@@ -167,9 +127,6 @@ fn room_cases(
     prefix: &[u32],
     clauses: &[i32],
     facts: &[u32],
-    classes: &[u32],
-    parents: &[u32],
-    counts: &[u32],
     pairs: &[bool],
 ) -> Score {
     let mut t = score;
@@ -177,24 +134,13 @@ fn room_cases(
     while x < n {
         x += 1;
         if is_universal(n, facts, x) {
-            t = room_case(
-                t,
-                call,
-                n,
-                prefix,
-                clauses,
-                classes,
-                parents,
-                counts,
-                pairs,
-                x,
-            );
+            t = room_case(t, call, n, prefix, clauses, facts, pairs, x);
         }
     }
     t
 }
 
-// Both kinds of cases of a call that lists, by the forest of the search.
+// Both kinds of cases of a call that lists, and the first kind of one that takes no output.
 pub fn listing_cases(
     score: Score,
     call: Call,
@@ -204,60 +150,9 @@ pub fn listing_cases(
     facts: &[u32],
     pairs: &[bool],
 ) -> Score {
-    let mut classes = [UNTOUCHED; 80];
-    let mut parents = [UNTOUCHED; 80];
-    let mut counts = [UNTOUCHED; 80];
-    lend(n, facts, &mut classes, &mut parents, &mut counts);
-    let t = list_cases(
-        score,
-        call,
-        n,
-        prefix,
-        clauses,
-        facts,
-        &classes,
-        &parents,
-        &counts,
-        pairs,
-    );
-    room_cases(
-        t,
-        call,
-        n,
-        prefix,
-        clauses,
-        facts,
-        &classes,
-        &parents,
-        &counts,
-        pairs,
-    )
-}
-
-// The size of the set of x, which takes no output, by the forest of the search.
-pub fn size_cases(
-    score: Score,
-    call: Call,
-    n: u32,
-    prefix: &[u32],
-    clauses: &[i32],
-    facts: &[u32],
-    pairs: &[bool],
-) -> Score {
-    let mut classes = [UNTOUCHED; 80];
-    let mut parents = [UNTOUCHED; 80];
-    let mut counts = [UNTOUCHED; 80];
-    lend(n, facts, &mut classes, &mut parents, &mut counts);
-    list_cases(
-        score,
-        call,
-        n,
-        prefix,
-        clauses,
-        facts,
-        &classes,
-        &parents,
-        &counts,
-        pairs,
-    )
+    let t = list_cases(score, call, n, prefix, clauses, facts, pairs);
+    if is_size(call) {
+        return t;
+    }
+    room_cases(t, call, n, prefix, clauses, facts, pairs)
 }

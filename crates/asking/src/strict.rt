@@ -1,14 +1,13 @@
 // Strict answers held against the standard ones, which they lie within, and against nothing, where a universal has one sign only.
 
-use oracle::classes::lend;
+use crate::ask_searched;
+use crate::lists::ROOM;
+use crate::lists::asked_case;
 use oracle::tables::is_universal;
 use oracle::truth::has_both_signs;
 use score::Score;
 use score::library::Call;
-use score::library::ask;
 use score::rows::UNTOUCHED;
-use score::rows::gives;
-use score::rows::untouched;
 
 // Whether a table has a row with a number.
 fn has_row(rows: &[u32], number: u32) -> bool {
@@ -42,35 +41,13 @@ fn within_case(
     n: u32,
     prefix: &[u32],
     clauses: &[i32],
-    classes: &[u32],
-    parents: &[u32],
-    counts: &[u32],
+    facts: &[u32],
     x: u32,
 ) -> Score {
     let mut inner = [UNTOUCHED; 80];
     let mut outer = [UNTOUCHED; 80];
-    ask(
-        strict,
-        n,
-        prefix,
-        clauses,
-        classes,
-        parents,
-        counts,
-        x,
-        &mut inner,
-    );
-    ask(
-        standard,
-        n,
-        prefix,
-        clauses,
-        classes,
-        parents,
-        counts,
-        x,
-        &mut outer,
-    );
+    ask_searched(strict, n, prefix, clauses, facts, x, &mut inner, ROOM);
+    ask_searched(standard, n, prefix, clauses, facts, x, &mut outer, ROOM);
     score.count(is_within(&inner, &outer))
 }
 
@@ -81,24 +58,11 @@ fn empty_case(
     n: u32,
     prefix: &[u32],
     clauses: &[i32],
-    classes: &[u32],
-    parents: &[u32],
-    counts: &[u32],
+    facts: &[u32],
     x: u32,
 ) -> Score {
-    let mut out = [UNTOUCHED; 80];
-    let answer = ask(
-        call,
-        n,
-        prefix,
-        clauses,
-        classes,
-        parents,
-        counts,
-        x,
-        &mut out,
-    );
-    score.count(gives(answer, 0) && untouched(&out, 0))
+    let none = [false; 5184];
+    asked_case(score, call, n, prefix, clauses, facts, &none, x, ROOM, 0)
 }
 
 // The cases of the three strict calls about an x with one sign only.
@@ -107,124 +71,51 @@ fn empty_cases(
     n: u32,
     prefix: &[u32],
     clauses: &[i32],
-    classes: &[u32],
-    parents: &[u32],
-    counts: &[u32],
+    facts: &[u32],
     x: u32,
 ) -> Score {
-    let mut t = score;
-    t = empty_case(
-        t,
-        Call::StrictSets,
-        n,
-        prefix,
-        clauses,
-        classes,
-        parents,
-        counts,
-        x,
-    );
-    t = empty_case(
-        t,
-        Call::StrictEntries,
-        n,
-        prefix,
-        clauses,
-        classes,
-        parents,
-        counts,
-        x,
-    );
-    empty_case(
-        t,
-        Call::StrictSizes,
-        n,
-        prefix,
-        clauses,
-        classes,
-        parents,
-        counts,
-        x,
-    )
+    let mut t = empty_case(score, Call::StrictSets, n, prefix, clauses, facts, x);
+    t = empty_case(t, Call::StrictEntries, n, prefix, clauses, facts, x);
+    empty_case(t, Call::StrictSizes, n, prefix, clauses, facts, x)
 }
 
 // The cases of a universal: of one with both signs that its strict set and its strict entry points are within the standard ones, of any
 // other that there are none.
-fn cases_of(
-    score: Score,
-    n: u32,
-    prefix: &[u32],
-    clauses: &[i32],
-    classes: &[u32],
-    parents: &[u32],
-    counts: &[u32],
-    x: u32,
-) -> Score {
+fn cases_of(score: Score, n: u32, prefix: &[u32], clauses: &[i32], facts: &[u32], x: u32) -> Score {
     if !has_both_signs(n, clauses, x) {
-        return empty_cases(score, n, prefix, clauses, classes, parents, counts, x);
+        return empty_cases(score, n, prefix, clauses, facts, x);
     }
-    let t = within_case(
+    let sets = within_case(
         score,
         Call::StrictSets,
         Call::StandardSets,
         n,
         prefix,
         clauses,
-        classes,
-        parents,
-        counts,
+        facts,
         x,
     );
     within_case(
-        t,
+        sets,
         Call::StrictEntries,
         Call::StandardEntries,
         n,
         prefix,
         clauses,
-        classes,
-        parents,
-        counts,
+        facts,
         x,
     )
 }
 
-// The cases of every universal from 1 to n.
-fn universal_cases(
-    score: Score,
-    n: u32,
-    prefix: &[u32],
-    clauses: &[i32],
-    facts: &[u32],
-    classes: &[u32],
-    parents: &[u32],
-    counts: &[u32],
-) -> Score {
+// The cases of every universal from 1 to n, by the forest of the search.
+pub fn strict_cases(score: Score, n: u32, prefix: &[u32], clauses: &[i32], facts: &[u32]) -> Score {
     let mut t = score;
     let mut x: u32 = 0;
     while x < n {
         x += 1;
         if is_universal(n, facts, x) {
-            t = cases_of(t, n, prefix, clauses, classes, parents, counts, x);
+            t = cases_of(t, n, prefix, clauses, facts, x);
         }
     }
     t
-}
-
-// The cases of a formula, by the forest of the search.
-pub fn strict_cases(score: Score, n: u32, prefix: &[u32], clauses: &[i32], facts: &[u32]) -> Score {
-    let mut classes = [UNTOUCHED; 80];
-    let mut parents = [UNTOUCHED; 80];
-    let mut counts = [UNTOUCHED; 80];
-    lend(n, facts, &mut classes, &mut parents, &mut counts);
-    universal_cases(
-        score,
-        n,
-        prefix,
-        clauses,
-        facts,
-        &classes,
-        &parents,
-        &counts,
-    )
 }

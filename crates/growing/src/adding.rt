@@ -2,6 +2,7 @@
 
 use crate::compared::has_facts;
 use crate::compared::has_forest;
+use growth::Tallied;
 use growth::Tally;
 use oracle::classes::lend;
 use oracle::fill_search;
@@ -28,7 +29,24 @@ struct Adding {
     pub tally: Tally,
 }
 
-// Three cases of an add to the forest of one search, against that of another: the class rows and the parents, the counts, the tally.
+// Three cases of what an add left, against a search: the class rows and the parents, the counts, the tally.
+fn added_cases(
+    score: Score,
+    n: u32,
+    grown: &[u32],
+    classes: &[u32],
+    parents: &[u32],
+    counts: &[u32],
+    after: Tallied,
+    expected: Tally,
+) -> Score {
+    let answer = after.answer;
+    let rows = score.count(gives(answer, n) && has_forest(n, grown, classes, parents));
+    let counted = rows.count(has_facts(n, grown, COUNT, counts));
+    counted.count(leaves_tally(after, expected))
+}
+
+// The cases of an add to the forest of one search, against that of another.
 fn add_case(
     score: Score,
     n: u32,
@@ -52,10 +70,16 @@ fn add_case(
         before,
         clause,
     );
-    let answer = after.answer;
-    let rows = score.count(gives(answer, n) && has_forest(n, grown, &classes, &parents));
-    let counted = rows.count(has_facts(n, grown, COUNT, &counts));
-    counted.count(leaves_tally(after, expected))
+    added_cases(
+        score,
+        n,
+        grown,
+        &classes,
+        &parents,
+        &counts,
+        after,
+        expected,
+    )
 }
 
 // The tally with one clause more: the classes of the one search that are none of the other are merges.

@@ -1,13 +1,13 @@
 // Refusal 12: forests of the search with rows changed, held against the rules for rows, one row after the other, and then for counts.
 
-use builds::judging::added_right;
-use builds::judging::read_right;
 use growth::Tally;
 use oracle::classes::lend;
 use oracle::tables::is_existential;
 use oracle::tables::level_of;
 use oracle::tables::number_at;
 use oracle::tables::put_number;
+use rules::judging::added_right;
+use rules::judging::read_right;
 use samples::generate::drawn;
 use score::Score;
 use score::rows::UNTOUCHED;
@@ -197,8 +197,22 @@ fn judged_right(
         && added_right(n, prefix, classes, parents, counts, tally, wrong)
 }
 
-// A case: the forest with a row or two and perhaps a count changed. It counts where that leaves a wrong row or, if `harmless`, where
-// it leaves none.
+// The forest of the search with a row or two and perhaps a count changed.
+fn lend_changed(
+    n: u32,
+    draw: u32,
+    facts: &[u32],
+    classes: &mut [u32],
+    parents: &mut [u32],
+    counts: &mut [u32],
+) {
+    lend(n, facts, classes, parents, counts);
+    change_rows(n, draw, classes, parents);
+    recount(n, draw, classes, parents, counts);
+    change_count(n, draw, counts);
+}
+
+// A case with such a forest. It counts where that has a wrong row or, if `harmless`, where it has none.
 fn changed_case(
     score: Score,
     harmless: bool,
@@ -210,10 +224,7 @@ fn changed_case(
     let mut classes = [UNTOUCHED; 80];
     let mut parents = [UNTOUCHED; 80];
     let mut counts = [UNTOUCHED; 80];
-    lend(n, facts, &mut classes, &mut parents, &mut counts);
-    change_rows(n, draw, &mut classes, &mut parents);
-    recount(n, draw, &classes, &parents, &mut counts);
-    change_count(n, draw, &mut counts);
+    lend_changed(n, draw, facts, &mut classes, &mut parents, &mut counts);
     let wrong = first_wrong(n, facts, &classes, &parents, &counts);
     if harmless != (wrong == 0) {
         return score;

@@ -1,6 +1,7 @@
 // Refusal 18 on generated formulas: tallies around the right one, beside the forest of the search.
 
 use crate::building::sums_to;
+use growth::Tallied;
 use growth::Tally;
 use oracle::classes::lend;
 use oracle::totals::count_classes;
@@ -49,6 +50,23 @@ fn is_taken(tally: Tally, classes: u32, existentials: u32) -> bool {
     tally.clauses < 65535 && tally.classes == classes && sums_to(tally, existentials)
 }
 
+// Adds a clause to the forest of the search.
+fn add_searched(n: u32, prefix: &[u32], clause: &[i32], facts: &[u32], tally: Tally) -> Tallied {
+    let mut classes = [UNTOUCHED; 80];
+    let mut parents = [UNTOUCHED; 80];
+    let mut counts = [UNTOUCHED; 80];
+    lend(n, facts, &mut classes, &mut parents, &mut counts);
+    library::add(
+        n,
+        prefix,
+        &mut classes,
+        &mut parents,
+        &mut counts,
+        tally,
+        clause,
+    )
+}
+
 // A case: the tally is taken, has one clause more and still sums to the existentials; or it is refused as 18 and left.
 fn tally_case(
     score: Score,
@@ -61,19 +79,7 @@ fn tally_case(
     let left = count_classes(n, facts);
     let existentials = count_existentials(n, facts);
     let before = tally_at(turn, left, existentials);
-    let mut classes = [UNTOUCHED; 80];
-    let mut parents = [UNTOUCHED; 80];
-    let mut counts = [UNTOUCHED; 80];
-    lend(n, facts, &mut classes, &mut parents, &mut counts);
-    let done = library::add(
-        n,
-        prefix,
-        &mut classes,
-        &mut parents,
-        &mut counts,
-        before,
-        clause,
-    );
+    let done = add_searched(n, prefix, clause, facts, before);
     let answer = done.answer;
     let after = done.tally;
     if is_taken(before, left, existentials) {

@@ -1,7 +1,9 @@
-// The two-sided rules of the calls on tables but build and add, case by case: limits, places, orders, and tables that stay where a call refuses.
+// The two-sided rules of the calls, case by case, as a text says them: limits, places, orders, and tables that stay where a call refuses.
 
-pub mod checking;
-pub mod limits;
-pub mod numbering;
-pub mod queries;
-pub mod strict;
+mod forests;
+pub mod judging;
+mod lines;
+pub mod running;
+mod tables;
+pub mod texts;
+pub mod words;

@@ -5,7 +5,7 @@ use oracle::totals::count_clauses;
 use std::num::wrapping_add_usize;
 
 // Stores a byte and answers the place after it; where the text has no such place, nothing is stored and the place stays.
-fn put_byte(text: &mut [u8], at: usize, byte: u8) -> usize {
+pub fn put_byte(text: &mut [u8], at: usize, byte: u8) -> usize {
     if at < text.len() {
         text[at] = byte;
         return wrapping_add_usize(at, 1);

@@ -48,7 +48,7 @@ pub fn add(
     growth::add_tallied(n, prefix, classes, parents, counts, tally, clause)
 }
 
-pub fn set_of(
+fn set_of(
     n: u32,
     prefix: &[u32],
     clauses: &[i32],
@@ -70,7 +70,7 @@ pub fn set_of(
     )
 }
 
-pub fn set_size(
+fn set_size(
     n: u32,
     prefix: &[u32],
     clauses: &[i32],
@@ -90,7 +90,7 @@ pub fn set_size(
     )
 }
 
-pub fn entry_points(
+fn entry_points(
     n: u32,
     prefix: &[u32],
     clauses: &[i32],
@@ -112,7 +112,7 @@ pub fn entry_points(
     )
 }
 
-pub fn set_by(
+fn set_by(
     scheme: Scheme,
     n: u32,
     prefix: &[u32],
@@ -136,7 +136,7 @@ pub fn set_by(
     )
 }
 
-pub fn size_by(
+fn size_by(
     scheme: Scheme,
     n: u32,
     prefix: &[u32],
@@ -158,7 +158,7 @@ pub fn size_by(
     )
 }
 
-pub fn entry_points_by(
+fn entry_points_by(
     scheme: Scheme,
     n: u32,
     prefix: &[u32],
@@ -254,6 +254,24 @@ fn scheme_of(call: Call) -> Scheme {
     }
 }
 
+// What is asked for of x.
+enum Asked {
+    Set,
+    Entries,
+    Size,
+}
+
+// What a call that names a scheme asks for.
+fn asked_by(call: Call) -> Asked {
+    match call {
+        Call::StandardSets => Asked::Set,
+        Call::StrictSets => Asked::Set,
+        Call::StandardSizes => Asked::Size,
+        Call::StrictSizes => Asked::Size,
+        _ => Asked::Entries,
+    }
+}
+
 // Asks the call about x by the scheme that it names.
 fn ask_by(
     call: Call,
@@ -267,12 +285,12 @@ fn ask_by(
     out: &mut [u32],
 ) -> Filled {
     let scheme = scheme_of(call);
-    match call {
-        Call::StandardSets => set_by(scheme, n, prefix, clauses, classes, parents, counts, x, out),
-        Call::StrictSets => set_by(scheme, n, prefix, clauses, classes, parents, counts, x, out),
-        Call::StandardSizes => size_by(scheme, n, prefix, clauses, classes, parents, counts, x),
-        Call::StrictSizes => size_by(scheme, n, prefix, clauses, classes, parents, counts, x),
-        _ => entry_points_by(scheme, n, prefix, clauses, classes, parents, counts, x, out),
+    match asked_by(call) {
+        Asked::Set => set_by(scheme, n, prefix, clauses, classes, parents, counts, x, out),
+        Asked::Size => size_by(scheme, n, prefix, clauses, classes, parents, counts, x),
+        Asked::Entries => {
+            entry_points_by(scheme, n, prefix, clauses, classes, parents, counts, x, out)
+        }
     }
 }
 

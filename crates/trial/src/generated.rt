@@ -1,33 +1,24 @@
 // The families that run on generated formulas.
 
-use crate::strict::strict_crossed_cases;
-use crate::strict::strict_entries_cases;
-use crate::strict::strict_set_cases;
-use crate::strict::strict_size_cases;
-use crate::strict::unnamed_cases;
-use asking::lists::listing_cases;
-use asking::lists::size_cases;
+use crate::trips::trip_cases;
 use asking::points::point_cases;
+use asking::searched::crossed_cases;
+use asking::searched::searched_cases;
+use asking::searched::strict_crossed_cases;
+use asking::searched::unnamed_cases;
 use asking::strict::strict_cases;
 use growing::adding::add_cases;
 use growing::building::build_cases;
 use growing::damage::changed_cases;
 use growing::tallying::tally_cases;
-use oracle::classes::lend;
 use oracle::fill_search;
-use oracle::joins::fill_joins;
-use oracle::sets::fill_entries;
-use oracle::sets::fill_members;
-use oracle::sets::fill_sets;
 use samples::generate::write_formula;
 use samples::parts::between;
 use samples::parts::literals;
 use samples::parts::numbers;
 use score::Score;
 use score::library::Call;
-use score::rows::UNTOUCHED;
 use std::num::wrapping_add_usize;
-use texts::writing::trip_cases;
 
 // What the cases of a family run.
 pub enum Family {
@@ -48,6 +39,29 @@ pub enum Family {
     Changed,
     Tallies,
     Trips,
+}
+
+// The family that is run at a place, in the order above.
+pub fn family_at(place: usize) -> Family {
+    match place {
+        0 => Family::Build,
+        1 => Family::Adds,
+        2 => Family::StandardSets,
+        3 => Family::StandardSizes,
+        4 => Family::StandardEntries,
+        5 => Family::Points,
+        6 => Family::StandardCrossed,
+        7 => Family::StrictSets,
+        8 => Family::StrictSizes,
+        9 => Family::StrictEntries,
+        10 => Family::StrictCrossed,
+        11 => Family::StrictWithin,
+        12 => Family::Unnamed,
+        13 => Family::Damaged,
+        14 => Family::Changed,
+        15 => Family::Tallies,
+        _ => Family::Trips,
+    }
 }
 
 // Runs a family on the formulas from 1 to `formulas`.
@@ -95,116 +109,72 @@ fn cases_on(
 ) -> Score {
     let end = wrapping_add_usize(added, 1);
     let clauses = literals(table, count);
-    let clause = between(table, count, added);
-    let alone = between(table, count, end);
-    let longer = literals(table, end);
+    let other = match family {
+        Family::StandardCrossed => between(table, count, end),
+        Family::Tallies => between(table, count, added),
+        _ => literals(table, end),
+    };
+    match family {
+        Family::Adds => add_cases(score, number, n, prefix, other, count),
+        Family::Trips => trip_cases(score, n, prefix, clauses),
+        _ => searched_on(family, score, number, n, prefix, clauses, other),
+    }
+}
+
+// The cases of a family that needs the search of a formula, and other clauses: the clause to add, or all with it.
+fn searched_on(
+    family: Family,
+    score: Score,
+    number: u32,
+    n: u32,
+    prefix: &[u32],
+    clauses: &[i32],
+    other: &[i32],
+) -> Score {
     let mut facts = [0u32; 400];
     let mut links = [false; 10368];
     fill_search(n, prefix, clauses, &mut facts, &mut links);
     match family {
         Family::Build => build_cases(score, n, prefix, clauses, &facts),
-        Family::Adds => add_cases(score, number, n, prefix, longer, count),
-        Family::StandardSets => set_cases(score, n, prefix, clauses, &facts, &links),
-        Family::StandardSizes => set_size_cases(score, n, prefix, clauses, &facts, &links),
-        Family::StandardEntries => entries_cases(score, n, prefix, clauses, &facts, &links),
-        Family::Points => entry_cases(score, n, prefix, &facts, &links),
-        Family::StandardCrossed => crossed_cases(score, n, prefix, alone, &facts, &links),
-        Family::StrictSets => strict_set_cases(score, n, prefix, clauses, &facts, &links),
-        Family::StrictSizes => strict_size_cases(score, n, prefix, clauses, &facts, &links),
-        Family::StrictEntries => strict_entries_cases(score, n, prefix, clauses, &facts, &links),
-        Family::StrictCrossed => strict_crossed_cases(score, n, prefix, longer, &facts, &links),
         Family::StrictWithin => strict_cases(score, n, prefix, clauses, &facts),
-        Family::Unnamed => unnamed_cases(score, n, prefix, clauses, &facts, &links),
         Family::Damaged => changed_cases(score, false, number, n, prefix, &facts),
         Family::Changed => changed_cases(score, true, number, n, prefix, &facts),
-        Family::Tallies => tally_cases(score, n, prefix, clause, &facts),
-        Family::Trips => trip_cases(score, n, prefix, clauses),
+        Family::Tallies => tally_cases(score, n, prefix, other, &facts),
+        _ => asked_on(family, score, n, prefix, clauses, other, &facts, &links),
     }
 }
 
-// The standard set of x, by the forest of the search.
-fn set_cases(
+// The cases of a family of calls that ask.
+fn asked_on(
+    family: Family,
     score: Score,
     n: u32,
     prefix: &[u32],
     clauses: &[i32],
+    other: &[i32],
     facts: &[u32],
     links: &[bool],
 ) -> Score {
-    let mut sets = [false; 5184];
-    fill_sets(n, facts, links, &mut sets);
-    listing_cases(score, Call::StandardSets, n, prefix, clauses, facts, &sets)
+    match family {
+        Family::Points => point_cases(score, n, prefix, facts, links),
+        Family::StandardCrossed => crossed_cases(score, n, prefix, other, facts, links),
+        Family::StrictCrossed => strict_crossed_cases(score, n, prefix, other, facts, links),
+        Family::Unnamed => unnamed_cases(score, n, prefix, clauses, facts, links),
+        _ => {
+            let call = call_of(family);
+            searched_cases(score, call, n, prefix, clauses, facts, links)
+        }
+    }
 }
 
-// The size of the standard set of x, by the forest of the search.
-fn set_size_cases(
-    score: Score,
-    n: u32,
-    prefix: &[u32],
-    clauses: &[i32],
-    facts: &[u32],
-    links: &[bool],
-) -> Score {
-    let mut sets = [false; 5184];
-    fill_sets(n, facts, links, &mut sets);
-    size_cases(score, Call::StandardSizes, n, prefix, clauses, facts, &sets)
-}
-
-// The standard entry points of x, by the forest of the search.
-fn entries_cases(
-    score: Score,
-    n: u32,
-    prefix: &[u32],
-    clauses: &[i32],
-    facts: &[u32],
-    links: &[bool],
-) -> Score {
-    let mut entries = [false; 5184];
-    fill_entries(n, facts, links, links, &mut entries);
-    listing_cases(
-        score,
-        Call::StandardEntries,
-        n,
-        prefix,
-        clauses,
-        facts,
-        &entries,
-    )
-}
-
-// Standard entry points, sets and their sizes by a forest that comes from other clauses than those lent beside it.
-fn crossed_cases(
-    score: Score,
-    n: u32,
-    prefix: &[u32],
-    clauses: &[i32],
-    facts: &[u32],
-    links: &[bool],
-) -> Score {
-    let mut joins = [false; 5184];
-    let mut entries = [false; 5184];
-    let mut sets = [false; 5184];
-    fill_joins(n, clauses, &mut joins);
-    fill_entries(n, facts, links, &joins, &mut entries);
-    fill_members(n, facts, links, &entries, &mut sets);
-    let t = listing_cases(
-        score,
-        Call::StandardEntries,
-        n,
-        prefix,
-        clauses,
-        facts,
-        &entries,
-    );
-    let u = listing_cases(t, Call::StandardSets, n, prefix, clauses, facts, &sets);
-    size_cases(u, Call::StandardSizes, n, prefix, clauses, facts, &sets)
-}
-
-// The entry point of x for y, by the forest of the search.
-fn entry_cases(score: Score, n: u32, prefix: &[u32], facts: &[u32], links: &[bool]) -> Score {
-    let mut classes = [UNTOUCHED; 80];
-    let mut parents = [UNTOUCHED; 80];
-    let mut counts = [UNTOUCHED; 80];
-    lend(n, facts, &mut classes, &mut parents, &mut counts);
-    point_cases(score, n, prefix, &classes, &parents, &counts, facts, links)
+// The call of a family that has one.
+fn call_of(family: Family) -> Call {
+    match family {
+        Family::StandardSets => Call::StandardSets,
+        Family::StandardSizes => Call::StandardSizes,
+        Family::StandardEntries => Call::StandardEntries,
+        Family::StrictSets => Call::StrictSets,
+        Family::StrictSizes => Call::StrictSizes,
+        _ => Call::StrictEntries,
+    }
 }

@@ -4,6 +4,21 @@ use libc::STDOUT_FILENO;
 use samples::shapes::Trait;
 use samples::shapes::count_having;
 
+// The shape that is counted at a place.
+pub fn shape_at(place: usize) -> Trait {
+    match place {
+        0 => Trait::FreeVariable,
+        1 => Trait::NoBlocks,
+        2 => Trait::SixtyFourBlocks,
+        3 => Trait::UniversalInnermost,
+        4 => Trait::NoClauses,
+        5 => Trait::EmptyClause,
+        6 => Trait::RepeatedLiteral,
+        7 => Trait::ComplementaryLiterals,
+        _ => Trait::NarrowedSet,
+    }
+}
+
 // Prints how many of the formulas from 1 to `formulas` have a shape.
 pub fn print_having(kind: Trait, formulas: u32, name: &[u8]) {
     let count = count_having(kind, formulas);

@@ -5,10 +5,10 @@ use Rattle.asking.proofs.lists.list_cases.Statement.{statement}
 use Rattle.asking.proofs.lists.list_cases.Tie as tie
 
 abbrev Inv-loop : tie.InvT-loop
-Inv-loop call n prefix clauses facts classes parents counts pairs t₀ end x₀ t x = Unit {0}
+Inv-loop call n prefix clauses facts pairs t₀ end x₀ t x = Unit {0}
 
 abbrev μ-loop : tie.MeasureT-loop
-μ-loop call n prefix clauses facts classes parents counts pairs t₀ end x₀ t x = end - x
+μ-loop call n prefix clauses facts pairs t₀ end x₀ t x = end - x
 
 wrapping-add-u32-requires : tie.Need-wrapping-add-u32-requires Inv-loop μ-loop
 wrapping-add-u32-requires c κs = search needs
@@ -16,8 +16,11 @@ wrapping-add-u32-requires c κs = search needs
 loop-holds : tie.Need-loop-holds Inv-loop μ-loop
 loop-holds c = search needs
 
-list-case-requires : tie.Need-list-case-requires Inv-loop μ-loop
-list-case-requires c κs = search needs
+refusal-for-requires : tie.Need-refusal-for-requires Inv-loop μ-loop
+refusal-for-requires c κs = search needs
+
+asked-case-requires : tie.Need-asked-case-requires Inv-loop μ-loop
+asked-case-requires c κs = search needs
 
 add-x : tie.Need-add-x Inv-loop μ-loop
 add-x c = search needs
@@ -39,7 +42,8 @@ list-cases-spec =
     μ-loop
     wrapping-add-u32-requires
     loop-holds
-    list-case-requires
+    refusal-for-requires
+    asked-case-requires
     add-x
     loop-less
     loop-again

@@ -5,10 +5,10 @@ use Rattle.asking.proofs.lists.room_cases.Statement.{statement}
 use Rattle.asking.proofs.lists.room_cases.Tie as tie
 
 abbrev Inv-loop : tie.InvT-loop
-Inv-loop call n prefix clauses facts classes parents counts pairs t₀ x₀ t x = Unit {0}
+Inv-loop call n prefix clauses facts pairs t₀ x₀ t x = Unit {0}
 
 abbrev μ-loop : tie.MeasureT-loop
-μ-loop call n prefix clauses facts classes parents counts pairs t₀ x₀ t x = n - x
+μ-loop call n prefix clauses facts pairs t₀ x₀ t x = n - x
 
 loop-holds : tie.Need-loop-holds Inv-loop μ-loop
 loop-holds c = search needs

@@ -5,10 +5,10 @@ use Rattle.asking.proofs.points.cases_of.Statement.{statement}
 use Rattle.asking.proofs.points.cases_of.Tie as tie
 
 abbrev Inv-loop : tie.InvT-loop
-Inv-loop n prefix classes parents counts facts links x t₀ end y₀ t y = Unit {0}
+Inv-loop n prefix facts links x t₀ end y₀ t y = Unit {0}
 
 abbrev μ-loop : tie.MeasureT-loop
-μ-loop n prefix classes parents counts facts links x t₀ end y₀ t y = end - y
+μ-loop n prefix facts links x t₀ end y₀ t y = end - y
 
 wrapping-add-u32-requires : tie.Need-wrapping-add-u32-requires Inv-loop μ-loop
 wrapping-add-u32-requires c κs = search needs
@@ -16,8 +16,8 @@ wrapping-add-u32-requires c κs = search needs
 loop-holds : tie.Need-loop-holds Inv-loop μ-loop
 loop-holds c = search needs
 
-entry-point-requires : tie.Need-entry-point-requires Inv-loop μ-loop
-entry-point-requires c κs = search needs
+point-searched-requires : tie.Need-point-searched-requires Inv-loop μ-loop
+point-searched-requires c κs = search needs
 
 is-right-requires : tie.Need-is-right-requires Inv-loop μ-loop
 is-right-requires c κs = search needs
@@ -45,7 +45,7 @@ cases-of-spec =
     μ-loop
     wrapping-add-u32-requires
     loop-holds
-    entry-point-requires
+    point-searched-requires
     is-right-requires
     count-requires
     add-y

@@ -5,10 +5,10 @@ use Rattle.asking.proofs.points.point_cases.Statement.{statement}
 use Rattle.asking.proofs.points.point_cases.Tie as tie
 
 abbrev Inv-loop : tie.InvT-loop
-Inv-loop n prefix classes parents counts facts links t₀ end x₀ t x = Unit {0}
+Inv-loop n prefix facts links t₀ end x₀ t x = Unit {0}
 
 abbrev μ-loop : tie.MeasureT-loop
-μ-loop n prefix classes parents counts facts links t₀ end x₀ t x = end - x
+μ-loop n prefix facts links t₀ end x₀ t x = end - x
 
 wrapping-add-u32-requires : tie.Need-wrapping-add-u32-requires Inv-loop μ-loop
 wrapping-add-u32-requires c κs = search needs
