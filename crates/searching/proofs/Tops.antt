@@ -10,7 +10,7 @@ use native.Mathlib.Omega.{arith}
 use borrow.Author.Count.{below-more}
 use borrow.Author.Tests.{eq-eqb, ne-eqb}
 use lib.Dec.{eqb, ltb}
-use lib.ListN.{length, getD, set, replicate, length-replicate, getD-replicate, List·getD-eq-default}
+use lib.ListN.{length, getD, set, replicate}
 use lib.Seq.{getD-set-same, getD-set-other}
 use Rattle.terms.proofs.Common.{clash}
 use Rattle.formula.specs.Tables.{at, opens, marksBefore, VariableAt}
@@ -24,7 +24,7 @@ use Rattle.connection.proofs.Climb.{above-class}
 use Rattle.tables.specs.Formula.{variables}
 use Rattle.tables.specs.Counting.{FormedBy}
 use Rattle.searching.specs.Search.{Searched, topBy, TopRow, TopRows, TopsOver}
-use Rattle.tables.proofs.Readings.{row-none, row-over, row-at}
+use Rattle.tables.proofs.Readings.{new-zero, row-none, row-over, row-at}
 use Rattle.tables.proofs.Agreeing.{lawful}
 
 module _ {X : Variables} {W : Table} {floor v : ℕ} where
@@ -94,24 +94,17 @@ pub top-by-above : {c above a r : ℕ} → r ≡ c → r ≢ 0 → a ≡ above �
 unfolding topBy
 top-by-above {c} {above} is some there other = there ∙ sym (ap (λ b. cond b 0 (cond (eqb above 0) c above)) (ne-eqb c 0 (λ q. some (is ∙ q))) ∙ ap (λ b. cond b c above) (ne-eqb above 0 (λ q. other (there ∙ q))))
 
--- In a new table all rows are 0, and so are all that are read of it.
-pub new-zero : (k v : ℕ) → getD (replicate {A = ℕ} k 0) v 0 ≡ 0
-new-zero k v = by-cases (decLt v k) (λ l. getD-replicate {A = ℕ} k v 0 0 l) (λ l. List·getD-eq-default (replicate {A = ℕ} k 0) 0 {n = v} (let q = length-replicate {A = ℕ} k 0 in omega arith))
-
-row-zero : (n : ℕ) (rows : List ℕ) → ((v : ℕ) → getD rows v 0 ≡ 0) → (y : ℕ) → row n rows y ≡ 0
-unfolding row
-row-zero n rows zeros zero = refl
-row-zero n rows zeros (suc v) = by (ltb v n)
-  where
-    by : (b : Bool) → cond b (getD rows v 0) 0 ≡ 0
-    by true = zeros v
-    by false = refl
+-- Where the first n rows are 0, so are all that are read.
+row-zero : (n : ℕ) (rows : List ℕ) → ((v : ℕ) → v < n → getD rows v 0 ≡ 0) → (y : ℕ) → row n rows y ≡ 0
+row-zero n rows zeros y =
+    by-cases (ℕ-discrete y 0) (row-none n rows y)
+    (λ some. by-cases (decLe y n) (λ l. row-at n rows y some l ∙ zeros (y - 1) (omega arith)) (λ l. row-over n rows y (omega arith)))
 
 -- Over a level that no existential is deeper than there are no tops.
 pub tops-over : {X : Variables} {W : Table} (floor k : ℕ) → ((v : ℕ) → X .ex v ≡ true → X .lev v ≤ floor) → TopsOver X W floor 0 (replicate {A = ℕ} k 0)
 tops-over {X} {W} floor k low =
     record {
-      rows = λ y. subst (TopRow X W floor y) (sym (row-zero (X .count) (replicate {A = ℕ} k 0) (new-zero k) y)) (record { found = λ u. absurd (let l = low y (u .0) in let d = u .1 in omega arith); none = λ _. refl });
+      rows = λ y. subst (TopRow X W floor y) (sym (row-zero (X .count) (replicate {A = ℕ} k 0) (λ v _. new-zero k v) y)) (record { found = λ u. absurd (let l = low y (u .0) in let d = u .1 in omega arith); none = λ _. refl });
       most = omega arith;
       none = λ v some most. absurd (omega arith);
     }
@@ -137,7 +130,7 @@ module _ (n : ℕ) (es classes parents : List ℕ) (floor : ℕ) where
   abbrev W : Table
   W = lent X classes parents
 
-  topping-none : (tops : List ℕ) → ((v : ℕ) → getD tops v 0 ≡ 0) → Topping n es classes parents floor tops 0
+  topping-none : (tops : List ℕ) → ((v : ℕ) → v < n → getD tops v 0 ≡ 0) → Topping n es classes parents floor tops 0
   topping-none tops zeros = record { rows = λ e l. absurd (omega arith); rest = λ v none. row-zero n tops zeros v }
 
   -- An entry that names nothing.
@@ -234,7 +227,7 @@ pub record Passing (n : ℕ) (es classes parents : List ℕ) (floor : ℕ) (tops
   pub topping : Topping n es classes parents floor tops i
 
 module _ (n : ℕ) (es classes parents : List ℕ) (floor : ℕ) where
-  pub passing-none : (tops : List ℕ) → ((v : ℕ) → getD tops v 0 ≡ 0) → Passing n es classes parents floor tops true 0 0
+  pub passing-none : (tops : List ℕ) → ((v : ℕ) → v < n → getD tops v 0 ≡ 0) → Passing n es classes parents floor tops true 0 0
   passing-none tops zeros = record { opening-is = refl; block-is = refl; few = omega arith; topping = topping-none n es classes parents floor tops zeros }
 
   -- what stands behind entry i

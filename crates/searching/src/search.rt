@@ -94,22 +94,24 @@ pub fn fill_tops(
     requires { ⌜ SoundPrefix n (now prefix) × FormedBy n (now prefix) (now classes) (now parents) × (n ≤ length (now tops)) × ((x : ℕ) × (x ≤ 4096) × (floor .0 ≡ level (now prefix) x)) ⌝ }
     ensures { λ r. ⌜ TopRows (variables n (now (prefix .entry))) (lent (variables n (now (prefix .entry))) (now (classes .entry)) (now (parents .entry))) (floor .0) (now (tops .exit)) ⌝ }
 {
-    clear_rows(tops);
+    clear_rows(n, tops);
     top_blocks(n, prefix, classes, parents, floor, tops);
 }
 
-// Makes every row 0.
-fn clear_rows(rows: &mut [u32])
-    ensures { λ r. ⌜ ((v : ℕ) → getD (now (rows .exit)) v 0 ≡ 0) ⌝ }
+// Makes the first n rows 0: no other is read.
+fn clear_rows(n: u32, rows: &mut [u32])
+    requires { ⌜ n ≤ length (now rows) ⌝ }
+    ensures { λ r. ⌜ ((v : ℕ) → v < n → getD (now (rows .exit)) v 0 ≡ 0) ⌝ }
 {
+    let count = n as usize;
     let mut i = 0;
-    while i < rows.len() {
+    while i < count {
         rows[i] = 0;
         i += 1;
     }
 }
 
-// Gives each variable of a block deeper than the floor its top, in the order of the prefix, where all rows are 0 before.
+// Gives each variable of a block deeper than the floor its top, in the order of the prefix, where the first n rows are 0 before.
 fn top_blocks(
     n: u32,
     prefix: &[u32],
@@ -118,7 +120,7 @@ fn top_blocks(
     floor: Level,
     tops: &mut [u32],
 )
-    requires { ⌜ SoundPrefix n (now prefix) × FormedBy n (now prefix) (now classes) (now parents) × (n ≤ length (now tops)) × ((x : ℕ) × (x ≤ 4096) × (floor .0 ≡ level (now prefix) x)) × ((v : ℕ) → getD (now tops) v 0 ≡ 0) ⌝ }
+    requires { ⌜ SoundPrefix n (now prefix) × FormedBy n (now prefix) (now classes) (now parents) × (n ≤ length (now tops)) × ((x : ℕ) × (x ≤ 4096) × (floor .0 ≡ level (now prefix) x)) × ((v : ℕ) → v < n → getD (now tops) v 0 ≡ 0) ⌝ }
     ensures { λ r. ⌜ TopRows (variables n (now (prefix .entry))) (lent (variables n (now (prefix .entry))) (now (classes .entry)) (now (parents .entry))) (floor .0) (now (tops .exit)) ⌝ }
 {
     let mut opens = true;

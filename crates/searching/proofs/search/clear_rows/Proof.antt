@@ -1,21 +1,19 @@
 -- `searching::search::clear_rows` meets its contract.
 use Prim.Native.Nat.{ℕ, _-_, _<_}
 use mathlib.Core.Path.{_≡_, refl, _∙_}
-use mathlib.Core.Logic.{by-cases}
-use native.Mathlib.Decide.{decLt}
 use native.Mathlib.Omega.{arith}
 use borrow.Author.Count.{below-more}
-use lib.ListN.{length, getD, length-set, List·getD-eq-default}
+use lib.ListN.{length, getD, length-set}
 use lib.Seq.{getD-set-same, getD-set-other}
 use borrow.Author.Needs.{needs}
 use Rattle.searching.proofs.search.clear_rows.Statement.{statement}
 use Rattle.searching.proofs.search.clear_rows.Tie as tie
 
 abbrev Inv-loop : tie.InvT-loop
-Inv-loop rows₀ i₀ rows i = (length rows ≡ length rows₀) × ((v : ℕ) → v < i → getD rows v 0 ≡ 0)
+Inv-loop n rows₀ count i₀ rows i = (length rows ≡ length rows₀) × ((v : ℕ) → v < i → getD rows v 0 ≡ 0)
 
 abbrev μ-loop : tie.MeasureT-loop
-μ-loop rows₀ i₀ rows i = length rows₀ - i
+μ-loop n rows₀ count i₀ rows i = count - i
 
 loop-holds : tie.Need-loop-holds Inv-loop μ-loop
 loop-holds c = (refl, λ v l. absurd (omega arith))
@@ -37,15 +35,13 @@ loop-again c =
     let inv = c .before .loop .inv in
     let rows = c .before .loop .rows in
     let i = c .before .loop .i in
-    (length-set rows i 0 ∙ inv .0, below-more _ i (λ v l. getD-set-other rows i v 0 0 (λ q. omega arith) ∙ inv .1 v l) (getD-set-same rows i 0 0 (c .loop-test .taken)))
+    (length-set rows i 0 ∙ inv .0, below-more _ i (λ v l. getD-set-other rows i v 0 0 (λ q. omega arith) ∙ inv .1 v l) (getD-set-same rows i 0 0 (let long = c .before .before .pre in let size = inv .0 in let less = c .loop-test .taken in omega arith)))
 
 same-length : tie.Need-same-length Inv-loop μ-loop
 same-length c = c .before .loop .inv .0
 
 returns : tie.Need-returns Inv-loop μ-loop
-returns c =
-    let rows = c .before .loop .rows in
-    λ v. by-cases (decLt v (c .before .loop .i)) (c .before .loop .inv .1 v) (λ l. List·getD-eq-default rows 0 {n = v} (omega (arith, c .loop-test .left)))
+returns c v l = c .before .loop .inv .1 v (let done = c .loop-test .left in omega arith)
 
 pub clear-rows-spec : {M : Type 1} → statement M
 clear-rows-spec =
