@@ -15,7 +15,7 @@ use terms::Scheme;
 use terms::Variable;
 ghost use Prim.Native.Nat.{ℕ, _+_, _≤_, _<_};
 ghost use mathlib.Core.Path.{_≡_};
-ghost use mathlib.Core.Bool.{Bool};
+ghost use mathlib.Core.Bool.{Bool, _&&_};
 ghost use mathlib.Core.List.{List};
 ghost use lib.ListN.{length, getD};
 ghost use Rattle.terms.specs.Literals.{variableOf};
@@ -133,20 +133,23 @@ fn flag_both(
     keep_common(&positive, flags);
 }
 
-// Takes back every flag that the other table does not have.
+// Takes back every flag that the other table does not have. Every row is stored, so that many are at once.
 fn keep_common(other: &[bool], flags: &mut [bool])
     requires { ⌜ length (now flags) ≤ length (now other) ⌝ }
     ensures { λ r. ⌜ Common (now (other .entry)) (now (flags .entry)) (now (flags .exit)) ⌝ }
 {
     let mut i = 0;
     while i < flags.len() {
-        if other[i] {
-            i += 1;
-        } else {
-            flags[i] = false;
-            i += 1;
-        }
+        flags[i] = both(other[i], flags[i]);
+        i += 1;
     }
+}
+
+// Whether both flags are set.
+fn both(one: bool, other: bool) -> bool
+    ensures { λ r. ⌜ r ≡ one && other ⌝ }
+{
+    if one { other } else { false }
 }
 
 // Flags the tops of the variables that share a clause with the universal x, where it has one of the signs, along its chain.

@@ -2,7 +2,7 @@
 use Prim.Native.Nat.{_-_}
 use native.Mathlib.Omega.{arith}
 use lib.ListN.{length, length-set}
-use Rattle.sets.proofs.Kept.{Keeping, keep-none, keep-has, keep-lacks, keep-all}
+use Rattle.sets.proofs.Kept.{Keeping, keep-none, keep-more, keep-all}
 use borrow.Author.Needs.{needs}
 use Rattle.sets.proofs.threads.keep_common.Statement.{statement}
 use Rattle.sets.proofs.threads.keep_common.Tie as tie
@@ -14,31 +14,28 @@ abbrev μ-loop : tie.MeasureT-loop
 μ-loop other flags₀ i₀ flags i = length flags - i
 
 loop-holds : tie.Need-loop-holds Inv-loop μ-loop
-loop-holds c = let a = c .args in keep-none (a .other .now) (a .flags .now)
+loop-holds c = let a = c .before .before .args in keep-none (a .other .now) (a .flags .now)
 
-shared-slice-read-if1 : tie.Need-shared-slice-read-if1 Inv-loop μ-loop
-shared-slice-read-if1 c = let size = c .before .before .loop .inv .size in let long = c .before .before .before .pre in let less = c .before .loop-test .taken in omega arith
+shared-slice-read-both : tie.Need-shared-slice-read-both Inv-loop μ-loop
+shared-slice-read-both c = let size = c .before .before .loop .inv .size in let long = c .before .before .before .before .before .pre in let less = c .before .loop-test .taken in omega arith
 
-add-i : tie.Need-add-i Inv-loop μ-loop
-add-i c = let less = c .before .before .loop-test .taken in omega arith
+slice-read-both : tie.Need-slice-read-both Inv-loop μ-loop
+slice-read-both c = c .before .before .loop-test .taken
 
-loop-less : tie.Need-loop-less Inv-loop μ-loop
-loop-less c = let less = c .before .before .loop-test .taken in omega arith
-
-loop-again : tie.Need-loop-again Inv-loop μ-loop
-loop-again c = keep-has (c .before .before .before .loop .inv) (c .if1 .taken)
+both-requires : tie.Need-both-requires Inv-loop μ-loop
+both-requires c κs = search needs
 
 slice-write-flags : tie.Need-slice-write-flags Inv-loop μ-loop
-slice-write-flags c = c .before .before .loop-test .taken
+slice-write-flags c = c .before .before .before .loop-test .taken
 
-add-i-2 : tie.Need-add-i-2 Inv-loop μ-loop
-add-i-2 c = let less = c .before .before .loop-test .taken in omega arith
+add-i : tie.Need-add-i Inv-loop μ-loop
+add-i c = let less = c .before .before .before .loop-test .taken in omega arith
 
-loop-less-2 : tie.Need-loop-less-2 Inv-loop μ-loop
-loop-less-2 c = let less = c .before .before .loop-test .taken in simp length-set (omega arith)
+loop-less : tie.Need-loop-less Inv-loop μ-loop
+loop-less c = let less = c .before .before .before .loop-test .taken in simp length-set (omega arith)
 
-loop-again-2 : tie.Need-loop-again-2 Inv-loop μ-loop
-loop-again-2 c = keep-lacks (c .before .before .before .loop .inv) (c .if1 .left) (c .before .before .loop-test .taken)
+loop-again : tie.Need-loop-again Inv-loop μ-loop
+loop-again c = keep-more (c .before .before .before .before .loop .inv) (c .both .ensures) (c .before .before .before .loop-test .taken)
 
 same-length : tie.Need-same-length Inv-loop μ-loop
 same-length c = c .before .loop .inv .size
@@ -53,13 +50,12 @@ keep-common-spec =
     Inv-loop
     μ-loop
     loop-holds
-    shared-slice-read-if1
+    shared-slice-read-both
+    slice-read-both
+    both-requires
+    slice-write-flags
     add-i
     loop-less
     loop-again
-    slice-write-flags
-    add-i-2
-    loop-less-2
-    loop-again-2
     same-length
     returns)
