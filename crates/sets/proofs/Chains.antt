@@ -14,11 +14,10 @@ use Rattle.terms.specs.Literals.{variableOf}
 use Rattle.terms.proofs.Common.{clash}
 use Rattle.formula.specs.Tables.{literalAt}
 use Rattle.formula.specs.Meaning.{alwaysTrue}
-use Rattle.formula.specs.Lookup.{NextZero, Stamps}
-use Rattle.formula.proofs.Signs.{stamps-more}
+use Rattle.formula.specs.Lookup.{NextZero}
 use Rattle.searching.specs.Search.{LastZero}
 use Rattle.searching.proofs.Flags.{next-one}
-use Rattle.sets.specs.Threads.{Begins, first, after, Inside, Connecting, Skipping, Known, On, here, later, Noted, Threaded}
+use Rattle.sets.specs.Threads.{Begins, first, after, Inside, Connecting, Skipping, On, here, later, Noted, Threaded}
 
 -- A clause begins with the first entry or behind a 0, so that an entry stands in one clause, which the last 0 before it opens.
 opens-at : {ls : List ℤ} {s : ℕ} → Begins ls s → (s ≡ 0) ⊎ (variableOf (literalAt ls (s - 1)) ≡ 0)
@@ -75,24 +74,29 @@ on-unset {next} {p} {k} {j} {i} a e all (later {q = q} o) =
 pub flag-long : (flags : List Bool) (v : ℕ) → getD flags v false ≡ true → v < length flags
 flag-long flags v t = by-cases (decLt v (length flags)) (λ l. l) (λ l. absurd (clash t (List·getD-eq-default flags false {n = v} (omega arith))))
 
--- The tables at first, past a 0, and past a literal: of no universal, of one that is tied to this clause, and of one that is tied to it now.
+-- The tables at first, past entries of no universal, and past one of a universal: in a clause that is always true, in one that it is tied to, and in one that it is tied to now.
 pub threaded-none : (ls : List ℤ) (universals : List Bool) (heads next : List ℕ) → ((x : ℕ) → getD heads x 0 ≡ 0) → Threaded ls universals heads next 0
 threaded-none ls universals heads next none = record { sound = λ x p o. absurd (on-some o (none x)); complete = λ x s p u l. absurd (omega arith) }
 
-noted-more : {ls : List ℤ} {next : List ℕ} {i x p : ℕ} → Noted ls next i x p → Noted ls next (i + 1) x p
-noted-more n = record { before = let l = n .before in omega arith; falls = n .falls; start = n .start; inside = n .inside; connecting = n .connecting; is = n .is }
+noted-more : {ls : List ℤ} {next : List ℕ} {i x p : ℕ} (k : ℕ) → i ≤ k → Noted ls next i x p → Noted ls next k x p
+noted-more k low n = record { before = let l = n .before in omega arith; falls = n .falls; start = n .start; inside = n .inside; connecting = n .connecting; is = n .is }
 
 module _ {ls : List ℤ} {universals : List Bool} {heads next : List ℕ} {i : ℕ} (t : Threaded ls universals heads next i) where
   -- nothing to be tied at entry i
   pass-entry : ((x s : ℕ) → getD universals x false ≡ true → Inside ls s i → Connecting ls s → variableOf (literalAt ls i) ≡ x → (q : ℕ) × On next q (getD heads x 0) × Inside ls s q) → Threaded ls universals heads next (i + 1)
   pass-entry done =
       record {
-        sound = λ x p o. noted-more (t .sound x p o);
+        sound = λ x p o. noted-more (i + 1) (omega arith) (t .sound x p o);
         complete = λ x s p u l inside plain is. by-cases (ℕ-discrete p i) (λ q. done x s u (subst (Inside ls s) q inside) plain (ap (λ e. variableOf (literalAt ls e)) (sym q) ∙ is)) (λ other. t .complete x s p u (omega arith) inside plain is);
       }
 
-  pub threaded-zero : variableOf (literalAt ls i) ≡ 0 → Threaded ls universals heads next (i + 1)
-  threaded-zero z = pass-entry (λ x s u inside plain is. absurd (inside .literals i (inside .from) (omega arith) z))
+  -- no entry from i up to k is of a universal
+  pub threaded-jump : (k : ℕ) → i ≤ k → ((p : ℕ) → i ≤ p → p < k → variableOf (literalAt ls p) ≢ 0 → getD universals (variableOf (literalAt ls p)) false ≡ true → ⊥) → Threaded ls universals heads next k
+  threaded-jump k low none =
+      record {
+        sound = λ x p o. noted-more k low (t .sound x p o);
+        complete = λ x s p u l inside plain is. by-cases (decLt p i) (λ before. t .complete x s p u before inside plain is) (λ over. absurd (none p (omega arith) l (inside .literals p (inside .from) (omega arith)) (ap (λ w. getD universals w false) is ∙ u)));
+      }
 
   -- an entry of a clause that is always true
   pub threaded-skip : {start : ℕ} {skip : Bool} {seen : List ℕ} → Inside ls start i → Skipping ls start skip seen → skip ≡ true → Threaded ls universals heads next (i + 1)
@@ -105,9 +109,6 @@ module _ {ls : List ℤ} {universals : List Bool} {heads next : List ℕ} {i : �
           subst (λ e. alwaysTrue (take (e - start) (drop start ls)) ≡ false) (next-one next (skips .next)) connects
 
   module _ (v : ℕ) (own : v ≡ variableOf (literalAt ls i)) where
-    pub threaded-other : getD universals v false ≡ false → Threaded ls universals heads next (i + 1)
-    threaded-other none = pass-entry (λ x s u inside plain is. absurd (clash (ap (λ w. getD universals w false) (own ∙ is) ∙ u) none))
-
     pub threaded-tied : (start last : ℕ) → Inside ls start i → last ≡ getD heads v 0 → start < last → Threaded ls universals heads next (i + 1)
     threaded-tied start last inside′ is-last l = pass-entry tied
       where
@@ -219,13 +220,3 @@ module _ {ls : List ℤ} {start i : ℕ} (p : Passing ls start i) (l : i < lengt
           within = omega arith;
           literals = λ e g f. passing-inside .literals e f (omega arith);
         }
-
--- At the 0 of a clause, told or not, no stamp is as great as that of the next clause.
-pub known-next : (told skip : Bool) (seen : List ℕ) {ls : List ℤ} {start i : ℕ} → Known ls start told skip seen → NextZero ls start i → Stamps seen (i + 1 + 1)
-known-next true skip seen t next = let same = next-one (t .next) next in stamps-more (t .stamps) (omega arith)
-known-next false skip seen t next = let from = next .from in stamps-more t (omega arith)
-
--- The table of stamps keeps its size.
-pub known-size : (ls : List ℤ) (start : ℕ) (told skip : Bool) (seen : List ℕ) → Known ls start told skip seen → length seen ≡ 8194
-known-size ls start true skip seen t = t .stamps .size
-known-size ls start false skip seen t = t .size

@@ -1,5 +1,5 @@
 -- Where clauses begin, and the chains that tie a variable to its clauses: what the inner functions of the call for all sets find.
-use Prim.Native.Nat.{ℕ, suc, _+_, _-_, _≤_, _<_}
+use Prim.Native.Nat.{ℕ, zero, suc, _+_, _-_, _≤_, _<_}
 use mathlib.Core.Path.{_≡_}
 use mathlib.Core.Bool.{Bool, true, false}
 use mathlib.Core.List.{List}
@@ -36,10 +36,23 @@ pub record Skipping (ls : List ℤ) (s : ℕ) (skip : Bool) (seen : List ℕ) : 
   pub told : skip ≡ alwaysTrue (take (end - s) (drop s ls))
   pub stamps : Stamps seen (end + 1 + 1)
 
--- the same once it is told; before, no stamp is as great as that of this clause
-abbrev pub Known : List ℤ → ℕ → Bool → Bool → List ℕ → Type 0
-Known ls s true skip seen = Skipping ls s skip seen
-Known ls s false skip seen = Stamps seen (s + 1)
+-- the same of the clause that was judged last; for any other, no stamp is as great as its own
+abbrev pub Known : List ℤ → ℕ → ℕ → Bool → List ℕ → Type 0
+Known ls s judged skip seen = (s ≡ judged → Skipping ls s skip seen) × (s ≢ judged → Stamps seen (s + 1))
+
+-- whether a variable is a universal by its flag: the 0 that closes a clause is none
+unfoldable pub marked : List Bool → ℕ → Bool
+marked universals zero = false
+marked universals (suc v) = getD universals (suc v) false
+
+-- the entries of universals before i, ascending, with the entries that their clauses begin with
+pub record Gathered (ls : List ℤ) (universals : List Bool) (places starts : List ℕ) (count i : ℕ) : Type 0 where
+  pub few : count ≤ i
+  pub before : (j : ℕ) → j < count → getD places j 0 < i
+  pub universal : (j : ℕ) → j < count → marked universals (variableOf (literalAt ls (getD places j 0))) ≡ true
+  pub inside : (j : ℕ) → j < count → Inside ls (getD starts j 0) (getD places j 0)
+  pub rises : (j k : ℕ) → j < k → k < count → getD places j 0 < getD places k 0
+  pub complete : (p : ℕ) → p < i → marked universals (variableOf (literalAt ls p)) ≡ true → (j : ℕ) × (j < count) × (getD places j 0 ≡ p)
 
 -- the clause of entry p, which is not always true, has the variable v
 pub record Beside (ls : List ℤ) (p v : ℕ) : Type 0 where

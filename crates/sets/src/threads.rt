@@ -15,53 +15,101 @@ use terms::Scheme;
 use terms::Variable;
 ghost use Prim.Native.Nat.{ℕ, _+_, _≤_, _<_};
 ghost use mathlib.Core.Path.{_≡_};
-ghost use mathlib.Core.Bool.{Bool, _&&_};
+ghost use mathlib.Core.Bool.{Bool, cond, _&&_};
 ghost use mathlib.Core.List.{List};
+ghost use lib.Dec.{eqb};
 ghost use lib.ListN.{length, getD};
 ghost use Rattle.terms.specs.Literals.{variableOf};
 ghost use Rattle.formula.specs.Tables.{literalAt};
 ghost use Rattle.formula.specs.Lookup.{SoundClauses};
 ghost use Rattle.terms.specs.declared.Scheme.the-variants.{Strict};
 ghost use Rattle.searching.specs.Search.{By, Flagged, Via, Blank};
-ghost use Rattle.sets.specs.Threads.{Inside, Connecting, Skipping, Known, Together, EnteredBy, Common, Threaded, Tied};
+ghost use Rattle.sets.specs.Threads.{Inside, Connecting, Skipping, Known, marked, Gathered, Together, EnteredBy, Common, Threaded, Tied};
 
-// Ties every universal to its clauses, in one pass; those that are always true are left out, which is told at the first universal of a clause.
+// Ties every universal to its clauses, those that are always true left out: its entries are gathered in one pass and tied in another.
 pub fn thread(clauses: &[i32], universals: &[bool], first: &mut [u32], next: &mut [u32])
     requires { ⌜ SoundClauses (now clauses) × (length (now universals) ≤ length (now first)) × (length (now clauses) ≤ length (now next)) × ((x : ℕ) → getD (now first) x 0 ≡ 0) ⌝ }
     ensures { λ r. ⌜ Threaded (now (clauses .entry)) (now (universals .entry)) (now (first .exit)) (now (next .exit)) (length (now (clauses .entry))) ⌝ }
 {
-    let mut seen = [0u16; 8194];
-    let mut told = false;
-    let mut skip = false;
+    let mut places = [0u16; 16384];
+    let mut starts = [0u16; 16384];
+    let count = gather(clauses, universals, &mut places, &mut starts);
+    tie_places(clauses, &places, &starts, count, first, next);
+}
+
+// Writes the entries of all universals, ascending, and beside each the entry that its clause begins with; gives their count. Each entry of the
+// clauses is stored, and counted if it is a universal's, so that no branch hangs on what cannot be foreseen.
+fn gather(clauses: &[i32], universals: &[bool], places: &mut [u16], starts: &mut [u16]) -> usize
+    requires { ⌜ SoundClauses (now clauses) × (length (now clauses) ≤ length (now places)) × (length (now clauses) ≤ length (now starts)) ⌝ }
+    ensures { λ r. ⌜ Gathered (now (clauses .entry)) (now (universals .entry)) (now (places .exit)) (now (starts .exit)) r (length (now (clauses .entry))) ⌝ }
+{
+    let mut count: usize = 0;
     let mut start: usize = 0;
     let mut i: usize = 0;
     while i < clauses.len() {
+        places[count] = i as u16;
+        starts[count] = start as u16;
         let variable = variable_at(clauses, i);
-        if variable.0 == 0 {
-            i += 1;
-            start = i;
-            told = false;
-        } else if !flag_at(universals, variable) {
-            i += 1;
+        i += 1;
+        count += counted(universals, variable);
+        start = begun(variable, start, i);
+    }
+    count
+}
+
+// What the entry of a variable counts: 1 if that is a universal, else 0.
+fn counted(universals: &[bool], variable: Variable) -> usize
+    ensures { λ r. ⌜ r ≡ cond (marked (now (universals .entry)) (variable .0)) 1 0 ⌝ }
+{
+    if !flag_at(universals, variable) {
+        return 0;
+    }
+    if variable.0 == 0 { 0 } else { 1 }
+}
+
+// Where the clause of the next entry begins: there, behind a 0, and else where that of this entry does.
+fn begun(variable: Variable, start: usize, next: usize) -> usize
+    ensures { λ r. ⌜ r ≡ cond (eqb (variable .0) 0) next start ⌝ }
+{
+    if variable.0 == 0 { next } else { start }
+}
+
+// Puts the gathered entries, one after the other, in front of the chains of their variables; whether a clause is always true is told at its first.
+fn tie_places(
+    clauses: &[i32],
+    places: &[u16],
+    starts: &[u16],
+    count: usize,
+    first: &mut [u32],
+    next: &mut [u32],
+)
+    requires { ⌜ SoundClauses (now clauses) × (length (now clauses) ≤ length (now next)) × ((x : ℕ) → getD (now first) x 0 ≡ 0) ⌝ }
+    requires { ⌜ (count ≤ length (now places)) × (count ≤ length (now starts)) × ((universals : List Bool) × (length universals ≤ length (now first)) × Gathered (now clauses) universals (now places) (now starts) count (length (now clauses))) ⌝ }
+    ensures { λ r. ⌜ ((universals : List Bool) → Gathered (now (clauses .entry)) universals (now (places .entry)) (now (starts .entry)) count (length (now (clauses .entry))) → Threaded (now (clauses .entry)) universals (now (first .exit)) (now (next .exit)) (length (now (clauses .entry)))) ⌝ }
+{
+    let mut seen = [0u16; 8194];
+    let mut skip = false;
+    let mut judged = clauses.len();
+    let mut j: usize = 0;
+    while j < count {
+        let start = starts[j] as usize;
+        skip = is_true(clauses, start, judged, skip, &mut seen);
+        judged = start;
+        if skip {
+            j += 1;
         } else {
-            skip = is_true(clauses, start, told, skip, &mut seen);
-            told = true;
-            if skip {
-                i += 1;
-            } else {
-                note(clauses, start, i, first, next);
-                i += 1;
-            }
+            note(clauses, start, places[j] as usize, first, next);
+            j += 1;
         }
     }
 }
 
-// Whether the clause from `start` on is always true; where that is told already, `skip` says it.
-fn is_true(clauses: &[i32], start: usize, told: bool, skip: bool, seen: &mut [u16]) -> bool
-    requires { ⌜ SoundClauses (now clauses) × (start ≤ length (now clauses)) × Known (now clauses) start told skip (now seen) ⌝ }
+// Whether the clause from `start` on is always true; where it was the last that was judged, `skip` says it.
+fn is_true(clauses: &[i32], start: usize, judged: usize, skip: bool, seen: &mut [u16]) -> bool
+    requires { ⌜ SoundClauses (now clauses) × (start ≤ length (now clauses)) × Known (now clauses) start judged skip (now seen) ⌝ }
     ensures { λ r. ⌜ Skipping (now (clauses .entry)) start r (now (seen .exit)) ⌝ }
 {
-    if told {
+    if start == judged {
         return skip;
     }
     let end = next_zero(clauses, start);

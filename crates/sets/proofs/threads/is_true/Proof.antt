@@ -1,17 +1,13 @@
 -- `sets::threads::is_true` meets its contract.
-use mathlib.Core.Path.{subst}
 use native.Mathlib.Omega.{arith}
 use Rattle.formula.proofs.Lookups.{part-rows}
 use Rattle.formula.proofs.Signs.{stamps-more}
 use borrow.Author.Needs.{needs}
-use Rattle.sets.specs.Threads.{Known}
 use Rattle.sets.proofs.threads.is_true.Statement.{statement}
 use Rattle.sets.proofs.threads.is_true.Tie as tie
 
 returns : tie.Need-returns
-returns c =
-    let a = c .before .before .args in
-    subst (λ told. Known (a .clauses .now) (a .start) told (a .skip) (a .seen .now)) (c .if1 .taken) (c .before .before .pre .2)
+returns c = c .before .before .pre .2 .0 (c .if1 .taken)
 
 next-zero-requires : tie.Need-next-zero-requires
 next-zero-requires c κs = search needs
@@ -39,7 +35,7 @@ always-true-requires c κs =
     let a = c .before .before .before .before .before .args in
     let pre = c .before .before .before .before .before .pre in
     let next = c .before .before .next-zero .ensures in
-    let stamps = subst (λ told. Known (a .clauses .now) (a .start) told (a .skip) (a .seen .now)) (c .before .before .before .if1 .left) (pre .2) in
+    let stamps = pre .2 .1 (c .before .before .before .if1 .left) in
     (part-rows (a .clauses .now) (a .start) (c .before .before .next-zero .result) (next .within (pre .1)) (pre .0 .rows), stamps-more stamps (omega (arith, next .from)))
 
 same-length : tie.Need-same-length
