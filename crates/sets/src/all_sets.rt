@@ -25,7 +25,8 @@ ghost use Rattle.searching.specs.Search.{pick, picked, NoneUpto, Topless};
 ghost use Rattle.sets.specs.Threads.{Closed, Tied};
 ghost use Rattle.sets.specs.Passed.{SetsUpto, Ready, Put, PutSet, RoomFor, RoomUpto, TellsRoom, PutAll, Fills};
 
-// Writes the sets of all universals into the front of `out`, if there is room for all of them.
+// Writes the sets of all universals into the front of `out`, if there is room for all of them. Few clauses take a short table of links, which is
+// cleared sooner.
 pub fn list_sets(
     scheme: Scheme,
     n: u32,
@@ -41,6 +42,23 @@ pub fn list_sets(
     ensures { λ r. ⌜ Fills (SetsUpto scheme n (now (prefix .entry)) (now (clauses .entry)) (now (classes .entry)) (now (parents .entry)) n) (now (out .entry)) (now (out .exit)) r ⌝ }
 {
     let mut first = [0u32; 4097];
+    if clauses.len() <= 2048 {
+        let mut next = [0u32; 2048];
+        thread(clauses, universals, &mut first, &mut next);
+        return write_fitting(
+            scheme,
+            n,
+            prefix,
+            levels,
+            universals,
+            clauses,
+            classes,
+            parents,
+            &first,
+            &next,
+            out,
+        );
+    }
     let mut next = [0u32; 16384];
     thread(clauses, universals, &mut first, &mut next);
     write_fitting(

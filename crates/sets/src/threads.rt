@@ -26,15 +26,36 @@ ghost use Rattle.terms.specs.declared.Scheme.the-variants.{Strict};
 ghost use Rattle.searching.specs.Search.{By, Flagged, Via, Blank};
 ghost use Rattle.sets.specs.Threads.{Inside, Connecting, Skipping, Known, marked, Gathered, Together, EnteredBy, Common, Threaded, Tied};
 
-// Ties every universal to its clauses, those that are always true left out: its entries are gathered in one pass and tied in another.
+// Ties every universal to its clauses, those that are always true left out. Few clauses take short tables, which are cleared sooner.
 pub fn thread(clauses: &[i32], universals: &[bool], first: &mut [u32], next: &mut [u32])
     requires { ⌜ SoundClauses (now clauses) × (length (now universals) ≤ length (now first)) × (length (now clauses) ≤ length (now next)) × ((x : ℕ) → getD (now first) x 0 ≡ 0) ⌝ }
     ensures { λ r. ⌜ Threaded (now (clauses .entry)) (now (universals .entry)) (now (first .exit)) (now (next .exit)) (length (now (clauses .entry))) ⌝ }
 {
+    if clauses.len() <= 2048 {
+        let mut places = [0u16; 2048];
+        let mut starts = [0u16; 2048];
+        thread_by(clauses, universals, &mut places, &mut starts, first, next);
+        return;
+    }
     let mut places = [0u16; 16384];
     let mut starts = [0u16; 16384];
-    let count = gather(clauses, universals, &mut places, &mut starts);
-    tie_places(clauses, &places, &starts, count, first, next);
+    thread_by(clauses, universals, &mut places, &mut starts, first, next);
+}
+
+// The same by tables with a row for each entry: the entries of universals are gathered in one pass and tied in another.
+fn thread_by(
+    clauses: &[i32],
+    universals: &[bool],
+    places: &mut [u16],
+    starts: &mut [u16],
+    first: &mut [u32],
+    next: &mut [u32],
+)
+    requires { ⌜ SoundClauses (now clauses) × (length (now universals) ≤ length (now first)) × (length (now clauses) ≤ length (now next)) × ((x : ℕ) → getD (now first) x 0 ≡ 0) × (length (now clauses) ≤ length (now places)) × (length (now clauses) ≤ length (now starts)) ⌝ }
+    ensures { λ r. ⌜ Threaded (now (clauses .entry)) (now (universals .entry)) (now (first .exit)) (now (next .exit)) (length (now (clauses .entry))) ⌝ }
+{
+    let count = gather(clauses, universals, places, starts);
+    tie_places(clauses, places, starts, count, first, next);
 }
 
 // Writes the entries of all universals, ascending, and beside each the entry that its clause begins with; gives their count. Each entry of the

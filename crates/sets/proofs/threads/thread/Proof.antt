@@ -1,40 +1,23 @@
 -- `sets::threads::thread` meets its contract.
 use Prim.Native.Nat.{ℕ}
-use mathlib.Core.Path.{_∙_}
 use native.Mathlib.Omega.{arith}
 use borrow.Author.Needs.{needs}
 use lib.ListN.{length-replicate}
 use Rattle.sets.proofs.threads.thread.Statement.{statement}
 use Rattle.sets.proofs.threads.thread.Tie as tie
 
-slice-aggregate-gather : tie.Need-slice-aggregate-gather
-slice-aggregate-gather c = search needs
+slice-aggregate-thread-by : tie.Need-slice-aggregate-thread-by
+slice-aggregate-thread-by c = search needs
 
-slice-aggregate-gather-2 : tie.Need-slice-aggregate-gather-2
-slice-aggregate-gather-2 c = search needs
+slice-aggregate-thread-by-2 : tie.Need-slice-aggregate-thread-by-2
+slice-aggregate-thread-by-2 c = search needs
 
-gather-requires : tie.Need-gather-requires
-gather-requires c κs =
-    let sound = c .before .before .before .before .before .pre .0 in
-    let short = sound .short in
-    let rows = length-replicate {A = ℕ} 16384 0 in
-    (sound, omega arith, omega arith)
-
-slice-aggregate-tie-places : tie.Need-slice-aggregate-tie-places
-slice-aggregate-tie-places c = search needs
-
-slice-aggregate-tie-places-2 : tie.Need-slice-aggregate-tie-places-2
-slice-aggregate-tie-places-2 c = search needs
-
-tie-places-requires : tie.Need-tie-places-requires
-tie-places-requires c κs =
-    let pre = c .before .before .before .before .before .before .before .before .before .before .before .before .pre in
-    let gather = c .before .before .before .before .before .before .gather in
-    let short = pre .0 .short in
-    let few = gather .ensures .few in
-    let size = gather .kept .1 .1 .0 ∙ length-replicate {A = ℕ} 16384 0 in
-    let size′ = gather .kept .1 .1 .1 .0 ∙ length-replicate {A = ℕ} 16384 0 in
-    ((pre .0, pre .2, pre .3), (omega arith, omega arith, (c .before .before .before .before .before .before .before .before .before .before .before .before .args .universals .now, pre .1, gather .ensures)))
+thread-by-requires : tie.Need-thread-by-requires
+thread-by-requires c κs =
+    let pre = c .before .before .before .before .before .before .before .before .pre in
+    let short = c .before .before .before .before .if1 .taken in
+    let rows = length-replicate {A = ℕ} 2048 0 in
+    (pre .0, pre .1, pre .2, pre .3, omega arith, omega arith)
 
 same-length : tie.Need-same-length
 same-length c = search needs
@@ -43,18 +26,43 @@ same-length-2 : tie.Need-same-length-2
 same-length-2 c = search needs
 
 returns : tie.Need-returns
-returns c = c .before .before .before .before .tie-places .ensures (c .before .before .before .before .before .before .before .before .before .before .before .before .before .before .before .before .before .args .universals .now) (c .before .before .before .before .before .before .before .before .before .before .before .gather .ensures)
+returns c = search needs
+
+slice-aggregate-thread-by-3 : tie.Need-slice-aggregate-thread-by-3
+slice-aggregate-thread-by-3 c = search needs
+
+slice-aggregate-thread-by-4 : tie.Need-slice-aggregate-thread-by-4
+slice-aggregate-thread-by-4 c = search needs
+
+thread-by-requires-2 : tie.Need-thread-by-requires-2
+thread-by-requires-2 c κs =
+    let pre = c .before .before .before .before .before .before .before .before .pre in
+    let short = pre .0 .short in
+    let rows = length-replicate {A = ℕ} 16384 0 in
+    (pre .0, pre .1, pre .2, pre .3, omega arith, omega arith)
+
+same-length-3 : tie.Need-same-length-3
+same-length-3 c = search needs
+
+same-length-4 : tie.Need-same-length-4
+same-length-4 c = search needs
+
+returns-2 : tie.Need-returns-2
+returns-2 c = search needs
 
 pub thread-spec : {M : Type 1} → statement M
 thread-spec =
     tie.close
     (tie.spec
-    slice-aggregate-gather
-    slice-aggregate-gather-2
-    gather-requires
-    slice-aggregate-tie-places
-    slice-aggregate-tie-places-2
-    tie-places-requires
+    slice-aggregate-thread-by
+    slice-aggregate-thread-by-2
+    thread-by-requires
     same-length
     same-length-2
-    returns)
+    returns
+    slice-aggregate-thread-by-3
+    slice-aggregate-thread-by-4
+    thread-by-requires-2
+    same-length-3
+    same-length-4
+    returns-2)
