@@ -20,11 +20,11 @@ use Rattle.connection.proofs.Reach.{reach-one, reach-trans, reach-mono, allow}
 use Rattle.connection.proofs.Represent.{Link, to-class, to-parent, Linked, up, down, linked-sym, linked-tops}
 use Rattle.connection.proofs.Rows.{row-at, row-out}
 use Rattle.connection.proofs.Forest.{represents-rows, represents-forest}
-use Rattle.loose.specs.Loose.{Inside, Equal, Loose, table, ranked, Growing}
+use Rattle.chains.specs.Loose.{Inside, Equal, Loose, table, ranked, Growing}
 use Rattle.loose.specs.Rows.{Depths, Settled, Written}
 use Rattle.growth.specs.Rows.{Rowed}
-use Rattle.loose.proofs.Inside.{inside-reach, inside-links, equal-trans}
-use Rattle.loose.proofs.Steps.{no-zero}
+use Rattle.chains.proofs.Inside.{inside-reach, inside-links, equal-trans}
+use Rattle.chains.proofs.Steps.{no-zero}
 
 -- The table of settled rows, with the class of each parent.
 abbrev exact : Table → Table

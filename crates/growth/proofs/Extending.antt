@@ -15,9 +15,9 @@ use Rattle.connection.proofs.Represent.{Linked}
 use Rattle.connection.proofs.Joins.{joins-linked}
 use Rattle.connection.proofs.Forest.{same-rows}
 use Rattle.growth.specs.Grown.{Extended}
-use Rattle.loose.specs.Loose.{Equal, Loose, table, ranked, Growing, Grew}
+use Rattle.chains.specs.Loose.{Equal, Loose, table, ranked, Growing, Grew}
 use Rattle.loose.specs.Rows.{Depths}
-use Rattle.loose.proofs.Inside.{equal-trans, equal-sym, equal-snoc, equal-added}
+use Rattle.chains.proofs.Inside.{equal-trans, equal-sym, equal-snoc, equal-added}
 use Rattle.growth.proofs.Exact.{depth-existential, ex-same, equal-formula, equal-linked, depth-none}
 
 module _ {n : ℕ} {es depths : List ℕ} (d : Depths n es depths) where

@@ -15,10 +15,10 @@ use Rattle.connection.proofs.Reach.{reach-one, reach-trans, reach-sym, reach-en
 use Rattle.connection.proofs.Represent.{Link, to-class, to-parent, Linked, up, down, linked-sym}
 use Rattle.connection.proofs.Rows.{row-at, row-out}
 use Rattle.tables.specs.Formula.{joined}
-use Rattle.loose.specs.Loose.{Equal, Kept, table, ranked, Growing}
+use Rattle.chains.specs.Loose.{Equal, Kept, table, ranked, Growing}
 use Rattle.loose.specs.Rows.{Holds, Settled, Written}
-use Rattle.loose.proofs.Inside.{inside-reach, equal-trans}
-use Rattle.loose.proofs.Steps.{no-zero, deep-some, some-deep}
+use Rattle.chains.proofs.Inside.{inside-reach, equal-trans}
+use Rattle.chains.proofs.Steps.{no-zero, deep-some, some-deep}
 use Rattle.lists.specs.Inner.{Flat, Classed}
 
 module _ {depths C₀ C P : List ℕ} {J : ℕ → ℕ → Type 0} (flat : (v : ℕ) → getD depths v 0 ≤ 1) (g : Growing depths C₀ P) (equal : Equal (ranked depths) J (Linked (ranked depths) (table C₀ P))) (s : Settled C₀ C) where

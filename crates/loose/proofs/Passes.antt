@@ -24,11 +24,11 @@ use Rattle.connection.specs.Tables.{row}
 use Rattle.connection.proofs.Reach.{joined-sym}
 use Rattle.connection.proofs.Rows.{row-out}
 use Rattle.connection.proofs.Represent.{Link, to-class, to-parent}
-use Rattle.loose.specs.Loose.{Loose, Kept, table, ranked, Grew}
+use Rattle.chains.specs.Loose.{Loose, Kept, table, ranked, Grew}
 use Rattle.loose.specs.Past.{Past}
 use Rattle.loose.specs.Rows.{depthOf, Depths, Holds, Settled, Written}
-use Rattle.loose.proofs.Inside.{inside-links, equal-trans, equal-snoc, equal-added}
-use Rattle.loose.proofs.Ways.{kept-none, kept-trans, halved-row}
+use Rattle.chains.proofs.Inside.{inside-links, equal-trans, equal-snoc, equal-added}
+use Rattle.chains.proofs.Ways.{kept-none, kept-trans, halved-row}
 
 -- A table holds no more lists than it has entries ...
 cut-length : {A : Type 0} (isNought : A → Bool) (xs : List A) → length (cut isNought xs) ≤ length xs

@@ -16,9 +16,10 @@ use Rattle.connection.specs.Reach.{Variables, From, Reach}
 use Rattle.connection.specs.Growth.{Added, added}
 use Rattle.connection.proofs.Reach.{reach-one, reach-trans, reach-sym, reach-mono, from-less}
 use Rattle.connection.proofs.Represent.{Linked, linked-sym}
-use Rattle.loose.specs.Loose.{Inside, table, ranked, Growing, Pending, Grew, Deepest}
-use Rattle.loose.proofs.Inside.{inside-reach, inside-refl, inside-trans, inside-before, inside-clause, inside-pair, pair-step, both-sym}
-use Rattle.loose.proofs.Steps.{deep-some, some-deep}
+use Rattle.chains.specs.Loose.{Inside, table, ranked, Growing, Pending, Grew}
+use Rattle.chains.proofs.Inside.{inside-reach, inside-refl, inside-trans, inside-before, inside-clause, inside-pair, pair-step, both-sym}
+use Rattle.chains.proofs.Steps.{deep-some, some-deep}
+use Rattle.loose.specs.Rows.{Deepest}
 
 -- The variable at an entry is one of the clause, and each of the clause stands at an entry.
 pub at-member : (ls : List ℤ) (e : ℕ) → e < length ls → List·Memᴰ (variableOf (literalAt ls e)) (map variableOf ls)

@@ -1,7 +1,7 @@
 // A clause put into loose rows: the chain of each of its existentials is joined to that of the deepest.
 // At every level on which two of them are allowed the deepest is allowed too, so these pairs connect all that the clause connects.
 
-use crate::chains::merge;
+use chains::merge;
 use formula::clauses::variable_at;
 use formula::truth::always_true;
 use terms::Variable;
@@ -12,7 +12,8 @@ ghost use lib.ListN.{length, getD};
 ghost use Rattle.terms.specs.Literals.{variableOf};
 ghost use Rattle.formula.specs.Lookup.{InRows, Stamps};
 ghost use Rattle.formula.specs.Meaning.{connected};
-ghost use Rattle.loose.specs.Loose.{Growing, Grew, Deepest};
+ghost use Rattle.chains.specs.Loose.{Growing, Grew};
+ghost use Rattle.loose.specs.Rows.{Deepest};
 
 // The deepest existential of a clause; a variable of depth 0 where it has none.
 fn deepest(depths: &[u32], clause: &[i32]) -> Variable
@@ -61,15 +62,6 @@ fn join_all(
     }
 }
 
-// Joins the existentials of a clause.
-fn join(depths: &[u32], classes: &mut [u32], parents: &mut [u32], clause: &[i32])
-    requires { ⌜ Growing (now depths) (now classes) (now parents) × InRows (now clause) ⌝ }
-    ensures { λ r. ⌜ Grew (now (depths .entry)) (now (classes .entry)) (now (parents .entry)) (map variableOf (now (clause .entry))) (now (classes .exit)) (now (parents .exit)) ⌝ }
-{
-    let deep = deepest(depths, clause);
-    join_all(depths, classes, parents, clause, deep);
-}
-
 // Puts a clause into the rows; one that is always true connects nothing. `seen` and the stamp are for telling that.
 pub fn put(
     depths: &[u32],
@@ -86,7 +78,8 @@ pub fn put(
     if always_true(clause, seen, stamp) {
         return;
     }
-    join(depths, classes, parents, clause);
+    let deep = deepest(depths, clause);
+    join_all(depths, classes, parents, clause, deep);
 }
 
 // Puts a single clause into the rows.

@@ -2,7 +2,7 @@
 use Prim.Native.Nat.{ℕ}
 use mathlib.Core.Path.{_∙_}
 use lib.ListN.{length-replicate}
-use Rattle.loose.proofs.Steps.{class-falls, parent-inside}
+use Rattle.chains.proofs.Steps.{class-falls, parent-inside}
 use Rattle.growth.proofs.Exact.{grown}
 use Rattle.growth.proofs.Extending.{loaded, extended}
 use borrow.Author.Needs.{needs}

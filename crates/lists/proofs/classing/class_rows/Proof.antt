@@ -5,7 +5,7 @@ use native.Mathlib.Omega.{arith}
 use borrow.Author.Needs.{needs}
 use lib.ListN.{length-replicate}
 use Rattle.tables.proofs.Readings.{row-none}
-use Rattle.loose.proofs.Steps.{class-falls, parent-inside}
+use Rattle.chains.proofs.Steps.{class-falls, parent-inside}
 use Rattle.lists.proofs.Classed.{classed}
 use Rattle.lists.proofs.classing.class_rows.Statement.{statement}
 use Rattle.lists.proofs.classing.class_rows.Tie as tie

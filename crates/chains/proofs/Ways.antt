@@ -12,9 +12,9 @@ use Rattle.connection.specs.Reach.{Variables, From, Reach, here}
 use Rattle.connection.specs.Tables.{Table}
 use Rattle.connection.proofs.Reach.{reach-one, reach-trans}
 use Rattle.connection.proofs.Represent.{to-class, Linked, up}
-use Rattle.loose.specs.Loose.{Loose, Kept, Falling, Rooted, table}
-use Rattle.loose.proofs.Inside.{inside-reach, equal-refl, equal-trans}
-use Rattle.loose.proofs.Relinked.{halved}
+use Rattle.chains.specs.Loose.{Loose, Kept, Falling, Rooted, table}
+use Rattle.chains.proofs.Inside.{inside-reach, equal-refl, equal-trans}
+use Rattle.chains.proofs.Relinked.{halved}
 
 pub kept-none : {X : Variables} {W : Table} → Loose X W → Kept X W W
 kept-none loose = record { loose = loose; equal = equal-refl; roots = λ u r. r }

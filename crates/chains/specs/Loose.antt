@@ -1,5 +1,5 @@
 -- Loose tables, in which the forest grows: what their rows may say, and when two of them, or a table and some joins, say the same.
--- What a reader must believe is in `Grown`; the inner functions of build and add speak of these.
+-- No public promise rests on these: what a reader must believe of a forest that grows stands above, with build and add.
 use Prim.Native.Nat.{ℕ, _+_, _≤_, _<_}
 use mathlib.Core.Path.{_≡_}
 use mathlib.Core.Bool.{true, false}
@@ -7,9 +7,6 @@ use mathlib.Core.List.{List, [], _∷_}
 use mathlib.Core.Logic.{_≢_}
 use lib.ListN.{length, getD}
 use lib.Dec.{ltb}
-use lib.IntN.{ℤ}
-use Rattle.terms.specs.Literals.{variableOf}
-use Rattle.formula.specs.Tables.{literalAt}
 use Rattle.connection.specs.Reach.{Variables, From, Reach}
 use Rattle.connection.specs.Tables.{Table}
 use Rattle.connection.specs.Growth.{Added}
@@ -89,8 +86,9 @@ pub record Pending (depths : List ℕ) (p q : ℕ) : Type 0 where
   pub other : q ≢ 0 → ranked depths .ex q ≡ true
   pub order : getD depths q 0 ≤ getD depths p 0
 
--- Two different roots that are still to be joined.
-pub record Roots (depths classes : List ℕ) (p q : ℕ) : Type 0 where
+-- Two different roots of loose rows that are still to be joined.
+pub record Roots (depths classes parents : List ℕ) (p q : ℕ) : Type 0 where
+  pub growing : Growing depths classes parents
   pub pending : Pending depths p q
   pub some : q ≢ 0
   pub roots : (getD classes p 0 ≡ p) × (getD classes q 0 ≡ q)
@@ -107,8 +105,3 @@ pub record Stepped (depths classes parents : List ℕ) (p q : ℕ) (classes′ p
 pub record Grew (depths classes parents : List ℕ) (clause : List ℕ) (classes′ parents′ : List ℕ) : Type 0 where
   pub growing : Growing depths classes′ parents′
   pub equal : Equal (ranked depths) (Added (Linked (ranked depths) (table classes parents)) clause) (Linked (ranked depths) (table classes′ parents′))
-
--- r is the deepest existential of a clause; of depth 0 if it has none.
-pub record Deepest (depths : List ℕ) (ls : List ℤ) (r : ℕ) : Type 0 where
-  pub most : (e : ℕ) → e < length ls → getD depths (variableOf (literalAt ls e)) 0 ≤ getD depths r 0
-  pub listed : getD depths r 0 ≢ 0 → (e : ℕ) × (e < length ls) × (variableOf (literalAt ls e) ≡ r)

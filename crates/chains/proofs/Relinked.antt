@@ -12,8 +12,8 @@ use Rattle.connection.specs.Tables.{Table}
 use Rattle.connection.specs.Growth.{Added}
 use Rattle.connection.proofs.Reach.{reach-one, reach-trans, reach-sym, reach-mono, from-less}
 use Rattle.connection.proofs.Represent.{Link, to-class, to-parent, Linked, up, down, linked-sym}
-use Rattle.loose.specs.Loose.{Equal, LooseClass, LooseParent, Loose, Kept, RootOf}
-use Rattle.loose.proofs.Inside.{inside-reach, inside-refl, inside-trans, inside-before, inside-pair, inside-links, pair-step, pair-back, link-step, link-back, both-sym}
+use Rattle.chains.specs.Loose.{Equal, LooseClass, LooseParent, Loose, Kept, RootOf}
+use Rattle.chains.proofs.Inside.{inside-reach, inside-refl, inside-trans, inside-before, inside-pair, inside-links, pair-step, pair-back, link-step, link-back, both-sym}
 
 -- 0 is no existential, so an existential is not 0.
 pub nonzero : (X : Variables) (v : ℕ) → X .ex 0 ≡ false → X .ex v ≡ true → v ≢ 0

@@ -8,7 +8,7 @@ use Rattle.connection.specs.Tables.{Table}
 use Rattle.connection.specs.Growth.{Added, before, added}
 use Rattle.connection.proofs.Reach.{Symmetric, reach-one, reach-sym, simulate, joined-added, added-sym}
 use Rattle.connection.proofs.Represent.{Link, Linked, up, down, linked-sym}
-use Rattle.loose.specs.Loose.{Inside, Equal}
+use Rattle.chains.specs.Loose.{Inside, Equal}
 
 module _ {X : Variables} where
   -- What lies inside reaches no more.

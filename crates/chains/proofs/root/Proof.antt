@@ -1,10 +1,10 @@
--- `loose::chains::root` meets its contract.
+-- `chains::root` meets its contract.
 use mathlib.Core.Path.{_≡_, refl}
 use native.Mathlib.Omega.{arith}
 use lib.ListN.{length, length-set}
-use Rattle.loose.proofs.Ways.{Following, follow-none, follow-one, follow-last, over-least}
-use Rattle.loose.proofs.chains.root.Statement.{statement}
-use Rattle.loose.proofs.chains.root.Tie as tie
+use Rattle.chains.proofs.Ways.{Following, follow-none, follow-one, follow-last, over-least}
+use Rattle.chains.proofs.root.Statement.{statement}
+use Rattle.chains.proofs.root.Tie as tie
 
 abbrev Inv-loop : tie.InvT-loop
 Inv-loop classes₀ at₀ up₀ classes at up = Following classes₀ at₀ classes at up × (length classes ≡ length classes₀)

@@ -1,0 +1,2 @@
+-- The definitions of loose rows and their chains, which only proofs rest on.
+pub mod Loose
