@@ -107,10 +107,6 @@ module _ {X : Variables} {W : Table} (formed : WellFormed X W) where
           λ s. ⊎-elim (λ w. record { entry = e; listed = List·Memᴰ·head refl; within = w }) (λ u. record { entry = u .entry; listed = List·Memᴰ·tail (u .listed); within = u .within }) s,
         )
 
-    -- The sum over any entry points is at most n.
-    pub sum-most : Lawful X → (entries : List ℕ) → Ascending entries → ((e : ℕ) → List·Memᴰ e entries → EntryPointOf X W S x e) → sum counts entries ≤ X .count
-    sum-most lawful entries up points = numbered-most (λ v u. lawful .within v (u .within .existential)) (under-sum entries up points)
-
     -- The sum over those entry points of x that P takes is the number of members by them ...
     pub size-numbered : {P : ℕ → Type 0} {entries : List ℕ} → ((e : ℕ) → P e → EntryPointOf X W S x e) → Listed P entries → Numbered (MemberBy X W P) (sum counts entries)
     size-numbered {entries = entries} points l = numbered-same

@@ -98,7 +98,7 @@ pub how-many-next : (f : ℕ → Bool) (m : ℕ) → how-many f (m + 1) ≡ how-
 unfolding how-many
 how-many-next f m = rw (add-one m)
 
--- No more pass a test than pass one that passes all of them ...
+-- No more pass a test than pass one that passes all of them.
 pub how-many-less : {f g : ℕ → Bool} → ((v : ℕ) → f v ≡ true → g v ≡ true) → (n : ℕ) → how-many f n ≤ how-many g n
 unfolding how-many
 how-many-less less zero = omega arith
@@ -107,7 +107,3 @@ how-many-less {f} {g} less (suc n) = go (f (suc n)) (less (suc n)) (how-many-les
     go : (b : Bool) → (b ≡ true → g (suc n) ≡ true) → how-many f n ≤ how-many g n → how-many f n + cond b 1 0 ≤ how-many g n + cond (g (suc n)) 1 0
     go true more l = rw (more refl) (omega arith)
     go false more l = omega arith
-
--- ... nor than there are numbers.
-pub how-many-most : (f : ℕ → Bool) (n : ℕ) → how-many f n ≤ n
-how-many-most f n = numbered-most (λ v p. (p .0, p .1)) (how-many-numbered f n)
