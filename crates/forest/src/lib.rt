@@ -64,17 +64,8 @@ pub fn entry_points(
 ) -> Filled
     ensures { λ r. ⌜ EntriesListed n (now (prefix .entry)) (now (clauses .entry)) (now (classes .entry)) (now (parents .entry)) (now (counts .entry)) (x .0) (now (out .entry)) (now (out .exit)) r ⌝ }
 {
-    entry_points_by(
-        Scheme::Strict,
-        n,
-        prefix,
-        clauses,
-        classes,
-        parents,
-        counts,
-        x,
-        out,
-    )
+    let strict = Scheme::Strict;
+    entry_points_by(strict, n, prefix, clauses, classes, parents, counts, x, out)
 }
 
 // The strict set of x, written ascending into `out`, with the count of its members.
@@ -90,17 +81,8 @@ pub fn set_of(
 ) -> Filled
     ensures { λ r. ⌜ SetListed n (now (prefix .entry)) (now (clauses .entry)) (now (classes .entry)) (now (parents .entry)) (now (counts .entry)) (x .0) (now (out .entry)) (now (out .exit)) r ⌝ }
 {
-    set_by(
-        Scheme::Strict,
-        n,
-        prefix,
-        clauses,
-        classes,
-        parents,
-        counts,
-        x,
-        out,
-    )
+    let strict = Scheme::Strict;
+    set_by(strict, n, prefix, clauses, classes, parents, counts, x, out)
 }
 
 // The size of the strict set of x, by the counts of its strict entry points.
@@ -115,16 +97,8 @@ pub fn set_size(
 ) -> Filled
     ensures { λ r. ⌜ Sized n (now (prefix .entry)) (now (clauses .entry)) (now (classes .entry)) (now (parents .entry)) (now (counts .entry)) (x .0) r ⌝ }
 {
-    size_by(
-        Scheme::Strict,
-        n,
-        prefix,
-        clauses,
-        classes,
-        parents,
-        counts,
-        x,
-    )
+    let strict = Scheme::Strict;
+    size_by(strict, n, prefix, clauses, classes, parents, counts, x)
 }
 
 // The entry points of x by a scheme, written ascending into `out`, with their count.
