@@ -20,7 +20,8 @@ use Rattle.formula.specs.Tables.{at, literalAt}
 use Rattle.formula.specs.Causes.{PrefixCause, ClauseCause, checkOrder}
 use Rattle.formula.specs.Meaning.{has}
 use Rattle.formula.specs.Scan.{IsMark, MarkFault}
-use Rattle.formula.proofs.Scanned.{Scanned, scan-none, scan-mark, scan-close, scan-variable, none-in-prefix, unnamed}
+use Rattle.formula.proofs.Scanned.{Scanned, scan-none, scan-mark, scan-close, scan-variable, none-in-prefix}
+use Rattle.formula.proofs.Named.{unnamed}
 use Rattle.formula.proofs.Literals.{Read, read-none, read-literal, none-in-clauses}
 use Rattle.formula.proofs.Levelling.{getD-set}
 
@@ -71,7 +72,7 @@ inside-entry {n} {es} {i} {fresh} {mark} {count} names {named} few s more same t
         let (first, on) = both (leb (at es i) n && not (has names (at es i))) (prefixPasses n (drop (suc i) es) false false mark count (at es i ∷ names)) (sym (ap (λ b. cond b (not fresh && prefixPasses n (drop (suc i) es) true false mark count names) (leb (at es i) n && not (has names (at es i)) && prefixPasses n (drop (suc i) es) false false mark count (at es i ∷ names))) (ne-eqb (at es i) 0 some)) ∙ t) in
         let (low, new) = both (leb (at es i) n) (not (has names (at es i))) first in
         let inside = leb-true (at es i) n low in
-        let size = s .size in
+        let size = s .naming .size in
         name (scan-variable s more (sym (s .opening-is)) some inside few (same (at es i) (omega arith) ∙ not-true _ new))
         (λ v l. getD-set named (at es i) v true false (omega arith) ∙ ap (λ r. cond (eqb (at es i) v) true r) (same v l))
         (rw (add-one i) on)

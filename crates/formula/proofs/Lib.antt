@@ -1,5 +1,6 @@
 -- The laws of the lent formula, in reading order.
 -- The scans of the prefix and of the clause table.
+pub mod Named
 pub mod Scanned
 pub mod Literals
 -- The lists that a table holds, and the clause with a given number.

@@ -1,22 +1,21 @@
 -- What the scan of a prefix knows at entry i, how one entry more is scanned, and that a fault found there is the first.
 use Prim.Native.Nat.{ℕ, zero, suc, _≤_, _<_, _+_, _-_}
-use mathlib.Core.Path.{_≡_, refl, sym, ap, _∙_}
+use mathlib.Core.Path.{_≡_, refl, sym, ap, _∙_, subst}
 use mathlib.Core.Bool.{Bool, true, false, cond}
 use mathlib.Core.List.{List}
 use mathlib.Core.Logic.{_⊎_, inl, inr, ⊎-elim, _≢_}
 use native.Mathlib.Nat.{eq-or-lt-of-le, le-of-suc-le-suc}
-use native.Mathlib.Decide.{ℕ-discrete}
 use native.Mathlib.Numerals.{add-one}
 use native.Mathlib.Omega.{arith}
 use borrow.Author.Tests.{eq-eqb, ne-eqb, eqb-true, eqb-false}
-use lib.ListN.{length, getD, set, length-set, replicate, length-replicate}
-use lib.Seq.{getD-set-same, getD-set-other}
+use lib.ListN.{length, getD, set, replicate}
 use Rattle.terms.specs.Refusals.{First, None}
 use Rattle.terms.proofs.Common.{below-suc, clash}
 use Rattle.terms.proofs.Verdicts.{first-at}
 use Rattle.formula.specs.Tables.{at, opens, VariableAt, LastMark, marksBefore, EndsInside}
 use Rattle.formula.specs.Causes.{PrefixCause, ends-inside, no-mark, same-mark, too-many-blocks, outside, named-before, empty-block}
-use Rattle.formula.specs.Scan.{IsMark, MarkFault}
+use Rattle.formula.specs.Scan.{IsMark, MarkFault, NameFault}
+use Rattle.formula.proofs.Named.{Named, named-none, named-skip, named-more}
 
 -- entry i comes directly after a mark
 abbrev pub afterMark : List ℕ → ℕ → Bool
@@ -37,9 +36,7 @@ pub record Scanned (n : ℕ) (es : List ℕ) (i : ℕ) (opening fresh : Bool) (m
   pub mark-there : mark ≢ 0 → (b : ℕ) × LastMark es b i × (at es b ≡ mark)
   pub counted : count ≡ marksBefore es i
   pub few : count ≤ 64
-  pub size : length named ≡ 4097
-  pub names : (v : ℕ) → getD named v false ≡ true → (b : ℕ) × (b < i) × VariableAt es b × (at es b ≡ v)
-  pub named-all : (b : ℕ) → b < i → VariableAt es b → getD named (at es b) false ≡ true
+  pub naming : Named es i named
 
 -- nothing is wrong with a mark of which no number is said
 mark-fine : {entry before count number : ℕ} → MarkFault entry before count number → number ≡ 0 → IsMark entry × (entry ≢ before) × (count ≢ 64)
@@ -87,7 +84,7 @@ module _ {n : ℕ} {es : List ℕ} {i : ℕ} {opening fresh : Bool} {mark count 
   at-variable shut some k (same-mark _ _ m _ _) = absurd (clash (m .1) shut)
   at-variable shut some k (too-many-blocks _ m _) = absurd (clash (m .1) shut)
   at-variable shut some k (outside q _ over) = inl (q, over)
-  at-variable shut some k (named-before b q _ l var same) = inr (q, sym (ap (λ v. getD named v false) same) ∙ s .named-all b l var)
+  at-variable shut some k (named-before b q _ l var same) = inr (q, sym (ap (λ v. getD named v false) same) ∙ s .naming .all b l var)
   at-variable shut some k (empty-block _ _ _ _ v) = absurd (some (v .2))
 
   -- A mark with no fault: it is counted, and remembered.
@@ -104,9 +101,7 @@ module _ {n : ℕ} {es : List ℕ} {i : ℕ} {opening fresh : Bool} {mark count 
         mark-there = λ _. (i, (omega arith, open′, λ c after before. absurd (omega arith)), refl);
         counted = ap suc (s .counted) ∙ sym (ap (λ o. cond o (suc (marksBefore es i)) (marksBefore es i)) open′);
         few = let l = s .few in omega arith;
-        size = s .size;
-        names = λ v t. let (b, l, var, q) = s .names v t in (b, omega arith, var, q);
-        named-all = below-suc (λ b. VariableAt es b → getD named (at es b) false ≡ true) i (s .named-all) (λ var. absurd (clash open′ (var .1)));
+        naming = named-skip (s .naming) (λ var. clash open′ (var .1));
       }
 
   -- A 0 that closes a block with variables.
@@ -122,9 +117,7 @@ module _ {n : ℕ} {es : List ℕ} {i : ℕ} {opening fresh : Bool} {mark count 
         mark-there = λ some. let (b, last, is) = s .mark-there some in (b, last-stays es i b shut last, is);
         counted = s .counted ∙ sym (ap (λ o. cond o (suc (marksBefore es i)) (marksBefore es i)) shut);
         few = s .few;
-        size = s .size;
-        names = λ v t. let (b, l, var, q) = s .names v t in (b, omega arith, var, q);
-        named-all = below-suc (λ b. VariableAt es b → getD named (at es b) false ≡ true) i (s .named-all) (λ var. absurd (var .2 zero′));
+        naming = named-skip (s .naming) (λ var. var .2 zero′);
       }
 
   -- A variable from 1 to n that no entry before it names: it is named from now on.
@@ -140,22 +133,13 @@ module _ {n : ℕ} {es : List ℕ} {i : ℕ} {opening fresh : Bool} {mark count 
         mark-there = λ some. let (b, last, is) = s .mark-there some in (b, last-stays es i b shut last, is);
         counted = s .counted ∙ sym (ap (λ o. cond o (suc (marksBefore es i)) (marksBefore es i)) shut);
         few = s .few;
-        size = length-set named (at es i) true ∙ s .size;
-        names = λ v t. by-dec v t (ℕ-discrete v (at es i));
-        named-all = below-suc (λ b. VariableAt es b → getD (set named (at es i) true) (at es b) false ≡ true) i (λ b l var. kept (at es b) (s .named-all b l var) (ℕ-discrete (at es b) (at es i))) (λ _. stored);
+        naming = named-more (s .naming) (more, shut, some) (omega arith);
       }
-    where
-      stored : getD (set named (at es i) true) (at es i) false ≡ true
-      stored = getD-set-same named (at es i) true false (let q = s .size in omega arith)
 
-      kept : (v : ℕ) → getD named v false ≡ true → Dec (v ≡ at es i) → getD (set named (at es i) true) v false ≡ true
-      kept v t (yes q) = ap (λ w. getD (set named (at es i) true) w false) q ∙ stored
-      kept v t (no other) = getD-set-other named (at es i) v true false other ∙ t
-
-      by-dec : (v : ℕ) → getD (set named (at es i) true) v false ≡ true → Dec (v ≡ at es i) → (b : ℕ) × (b < suc i) × VariableAt es b × (at es b ≡ v)
-      by-dec v t (yes q) = (i, omega arith, (more, shut, some), sym q)
-      by-dec v t (no other) =
-          let (b, l, var, q) = s .names v (sym (getD-set-other named (at es i) v true false other) ∙ t) in (b, omega arith, var, q)
+  pub scan-named : {number : ℕ} {named′ : List Bool} → opens es i ≡ false → at es i ≢ 0 → n ≤ 4096 → NameFault n (at es i) named named′ number → number ≡ 0 → Scanned n es (i + 1) opening false mark count named′
+  scan-named shut some fits (NameFault.fresh _ inside new is) none = subst (λ (t : List Bool). Scanned n es (i + 1) opening false mark count t) (sym is) (scan-variable shut some inside fits new)
+  scan-named shut some fits (NameFault.outside q _) none = absurd (omega arith)
+  scan-named shut some fits (NameFault.named-before q _ _) none = absurd (omega arith)
 
   -- A fault at this entry is the first cause: all before it is clean, and no lower number has a cause here.
   pub fault-at-mark : (number : ℕ) → opens es i ≡ true → MarkFault (at es i) mark count number → number ≢ 0 → First (PrefixCause n es) number i
@@ -181,15 +165,14 @@ module _ {n : ℕ} {es : List ℕ} {i : ℕ} {opening fresh : Bool} {mark count 
       before zero t = absurd (clash t refl)
       before (suc b) t = (b, refl, t)
 
-  pub fault-outside : opens es i ≡ false → at es i ≢ 0 → n < at es i → First (PrefixCause n es) 7 i
-  fault-outside shut some over =
-      first-at (s .clean) (outside refl (more, shut, some) over)
+  pub fault-at-variable : {named′ : List Bool} (number : ℕ) → opens es i ≡ false → at es i ≢ 0 → NameFault n (at es i) named named′ number → number ≢ 0 → First (PrefixCause n es) number i
+  fault-at-variable number shut some (NameFault.fresh q _ _ _) other = absurd (other q)
+  fault-at-variable number shut some (NameFault.outside q over) other =
+      first-at (s .clean) (outside q (more, shut, some) over)
       (λ k cause. ⊎-elim (λ w. let e = w .0 in omega arith) (λ w. let e = w .0 in omega arith) (at-variable shut some k cause))
-
-  pub fault-named : opens es i ≡ false → at es i ≢ 0 → at es i ≤ n → getD named (at es i) false ≡ true → First (PrefixCause n es) 8 i
-  fault-named shut some inside old =
-      let (b, l, var, q) = s .names (at es i) old in
-      first-at (s .clean) (named-before b refl (more, shut, some) l var q)
+  fault-at-variable number shut some (NameFault.named-before q inside old) other =
+      let (b, l, var, same) = s .naming .names (at es i) old in
+      first-at (s .clean) (named-before b q (more, shut, some) l var same)
       (λ k cause. ⊎-elim (λ w. let over = w .1 in omega arith) (λ w. let e = w .0 in omega arith) (at-variable shut some k cause))
 
 -- The end of the prefix is inside a block exactly if no block could open there.
@@ -197,7 +180,7 @@ pub open-end : (es : List ℕ) (m : ℕ) → length es ≡ m → opens es m ≡ 
 open-end es zero q shut = absurd (clash refl shut)
 open-end es (suc m) q shut = (omega arith, λ z. eqb-false (at es m) 0 shut (ap (at es) (let e : m ≡ length es - 1 = omega arith in e) ∙ z))
 
-shut-end : (es : List ℕ) (m : ℕ) → length es ≡ m → opens es m ≡ true → EndsInside 0 es → ⊥
+pub shut-end : (es : List ℕ) (m : ℕ) → length es ≡ m → opens es m ≡ true → EndsInside 0 es → ⊥
 shut-end es zero q open′ (some, last) = omega arith
 shut-end es (suc m) q open′ (some, last) = last (ap (at es) (let e : length es - 1 ≡ m = omega arith in e) ∙ eqb-true (at es m) 0 open′)
 
@@ -225,11 +208,6 @@ module _ {n : ℕ} {es : List ℕ} {i : ℕ} {opening fresh : Bool} {mark count 
       first-at (s .clean) (ends-inside refl (sym end) (open-end es i end (sym (s .opening-is) ∙ shut)))
       (λ k cause. ⊎-elim (λ l. absurd (let q = end in omega arith)) (λ w. let q = w .0 in omega arith) (at-entry k i cause))
 
-pub unnamed : (m v : ℕ) → getD (replicate m false) v false ≡ false
-unnamed zero v = refl
-unnamed (suc m) zero = refl
-unnamed (suc m) (suc v) = unnamed m v
-
 -- Before the first entry nothing is scanned, and a block may open.
 pub scan-none : (n : ℕ) (es : List ℕ) → Scanned n es 0 true false 0 0 (replicate 4097 false)
 scan-none n es =
@@ -242,7 +220,5 @@ scan-none n es =
       mark-there = λ some. absurd (some refl);
       counted = refl;
       few = omega arith;
-      size = length-replicate 4097 false;
-      names = λ v t. absurd (clash t (unnamed 4097 v));
-      named-all = λ b l. absurd (omega arith);
+      naming = named-none es;
     }

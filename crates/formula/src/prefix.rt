@@ -5,10 +5,12 @@ use terms::Literal;
 use terms::Variable;
 use terms::Verdict;
 ghost use Prim.Native.Nat.{_≤_};
+ghost use mathlib.Core.Path.{_≡_};
 ghost use mathlib.Core.List.{[], _∷_};
+ghost use lib.ListN.{length};
 ghost use Rattle.terms.specs.Refusals.{Judged};
 ghost use Rattle.formula.specs.Causes.{PrefixCause, prefixOrder};
-ghost use Rattle.formula.specs.Scan.{MarkFault};
+ghost use Rattle.formula.specs.Scan.{MarkFault, NameFault};
 
 // Refusals 1, 2 and those of the prefix, which every call that takes a prefix looks at first. Beside the prefix so many clause entries are
 // lent, 0 where a call takes none.
@@ -58,14 +60,10 @@ fn check_prefix(n: u32, prefix: &[u32]) -> Verdict
             opens = true;
             i += 1;
         } else {
-            if n < entry {
-                return Verdict::Refused(7, i);
+            let number = name_fault(n, entry, &mut named);
+            if number != 0 {
+                return Verdict::Refused(number, i);
             }
-            let v = entry as usize;
-            if named[v] {
-                return Verdict::Refused(8, i);
-            }
-            named[v] = true;
             fresh = false;
             i += 1;
         }
@@ -93,4 +91,20 @@ fn mark_fault(entry: u32, before: u32, blocks: u32) -> u32
         }
         _ => 4,
     }
+}
+
+// What is wrong with an entry as the next variable of a block, by those that are named so far; 0 where nothing is, and then it is named too.
+pub fn name_fault(n: u32, entry: u32, named: &mut [bool]) -> u32
+    requires { ⌜ (n ≤ 4096) × (length (now named) ≡ 4097) ⌝ }
+    ensures { λ r. ⌜ NameFault n entry (now (named .entry)) (now (named .exit)) r ⌝ }
+{
+    if n < entry {
+        return 7;
+    }
+    let v = entry as usize;
+    if named[v] {
+        return 8;
+    }
+    named[v] = true;
+    0
 }

@@ -118,9 +118,9 @@ module _ {n : ℕ} {es : List ℕ} (few : n ≤ 4096) (none : None (PrefixCause 
           let stale : fresh ≡ false = by-test fresh (λ t. absurd (none 9 i (first.fault-at-close s more shut z t .holds))) (λ f. f) in
           step true (eq-eqb (at es i) 0 z) ∙ close stale z ∙ closed mark (drop (i + 1) es) (inside refl) ∙ sym (here ∙ ap (λ (e : ℕ). e ∷ drop (i + 1) es) z)
       by-entry close name (no some) =
-          let over : ¬ (n < at es i) = λ l. none 7 i (first.fault-outside s more shut some l .holds) in
+          let over : ¬ (n < at es i) = λ l. none 7 i (PrefixCause.outside refl (more, shut, some) l) in
           let low : at es i ≤ n = omega arith in
-          let new : getD named (at es i) false ≡ false = by-test (getD named (at es i) false) (λ t. absurd (none 8 i (first.fault-named s more shut some low t .holds))) (λ f. f) in
+          let new : getD named (at es i) false ≡ false = by-test (getD named (at es i) false) (λ t. absurd (let (b, l, var, same) = s .naming .names (at es i) t in none 8 i (PrefixCause.named-before b refl (more, shut, some) l var same))) (λ f. f) in
           step false (ne-eqb (at es i) 0 some) ∙ ap (λ (r : List ℕ). at es i ∷ r) (name some low new) ∙ sym here
 
   same-rest : rest true 0 es ≡ es

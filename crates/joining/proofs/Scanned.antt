@@ -1,5 +1,5 @@
 -- What the scan of a prefix under rule 2 knows at entry i, how one entry more is scanned, and that a fault found there is the first.
-use Prim.Native.Nat.{ℕ, zero, suc, _≤_, _<_, _+_, _-_}
+use Prim.Native.Nat.{ℕ, zero, suc, _≤_, _<_, _+_}
 use mathlib.Core.Path.{_≡_, refl, sym, ap, _∙_, subst}
 use mathlib.Core.Bool.{Bool, true, false, cond, not, _&&_}
 use mathlib.Core.List.{List}
@@ -7,16 +7,16 @@ use mathlib.Core.Logic.{_⊎_, inl, inr, ⊎-elim, _≢_}
 use native.Mathlib.Decide.{ℕ-discrete}
 use native.Mathlib.Numerals.{add-one}
 use native.Mathlib.Omega.{arith}
-use borrow.Author.Tests.{eq-eqb, ne-eqb, eqb-true}
+use borrow.Author.Tests.{eq-eqb, ne-eqb}
 use lib.Dec.{eqb}
-use lib.ListN.{length, getD, set, length-set, replicate, length-replicate}
-use lib.Seq.{getD-set-same, getD-set-other}
+use lib.ListN.{length, getD, set, replicate}
 use Rattle.terms.specs.Refusals.{First, None}
 use Rattle.terms.proofs.Common.{below-suc, clash}
 use Rattle.terms.proofs.Verdicts.{first-at}
 use Rattle.formula.specs.Tables.{at, opens, VariableAt, EndsInside}
-use Rattle.formula.specs.Scan.{IsMark}
-use Rattle.formula.proofs.Scanned.{open-end, unnamed}
+use Rattle.formula.specs.Scan.{IsMark, NameFault}
+use Rattle.formula.proofs.Named.{Named, named-none, named-skip, named-more}
+use Rattle.formula.proofs.Scanned.{open-end, shut-end}
 use Rattle.joining.specs.Rules.{emptyAt, beginsAfter, lastMark, begins, begunBefore, JoinedCause, ends-inside, no-mark, too-many-blocks, outside, named-before}
 use Rattle.joining.specs.Writing.{MarkFault}
 
@@ -32,9 +32,7 @@ pub record Scanned (n : ℕ) (es : List ℕ) (i : ℕ) (opening : Bool) (last co
   pub last-is : last ≡ lastMark es i
   pub counted : count ≡ begunBefore es i
   pub few : count ≤ 64
-  pub size : length named ≡ 4097
-  pub names : (v : ℕ) → getD named v false ≡ true → (b : ℕ) × (b < i) × VariableAt es b × (at es b ≡ v)
-  pub named-all : (b : ℕ) → b < i → VariableAt es b → getD named (at es b) false ≡ true
+  pub naming : Named es i named
 
 -- nothing is wrong with a mark of which no number is said
 mark-fine : {entry count number : ℕ} {new : Bool} → MarkFault entry new count number → number ≡ 0 → IsMark entry × ((new ≡ false) ⊎ (count ≢ 64))
@@ -95,7 +93,7 @@ module _ {n : ℕ} {es : List ℕ} {i : ℕ} {opening : Bool} {last count : ℕ}
   at-variable shut some k (no-mark _ m _ _) = absurd (clash (m .1) shut)
   at-variable shut some k (too-many-blocks _ m _ _) = absurd (clash (m .1) shut)
   at-variable shut some k (outside q _ over) = inl (q, over)
-  at-variable shut some k (named-before b q _ l v same) = inr (q, ap (λ w. getD named w false) (sym same) ∙ s .named-all b l v)
+  at-variable shut some k (named-before b q _ l v same) = inr (q, ap (λ w. getD named w false) (sym same) ∙ s .naming .all b l v)
 
   -- A mark: what it leads to, by whether it begins a block.
   marked : {number : ℕ} (new : Bool) → opens es i ≡ true → new ≡ beginsAfter es i last → MarkFault (at es i) new count number → number ≡ 0 → Scanned n es (i + 1) false (cond new (at es i) last) (cond new (count + 1) count) named
@@ -109,9 +107,7 @@ module _ {n : ℕ} {es : List ℕ} {i : ℕ} {opening : Bool} {last count : ℕ}
         last-is = ap (λ l. cond new (at es i) l) (s .last-is) ∙ ap (λ b. cond b (at es i) (lastMark es i)) (sym (sym (begins-open es i open′) ∙ tested open′ is)) ∙ sym (last-next es i open′);
         counted = ap (λ c. cond new (suc c) c) (s .counted) ∙ sym (begun-next es i new (tested open′ is));
         few = most new room;
-        size = s .size;
-        names = λ v t. let (b, l, var, q) = s .names v t in (b, omega arith, var, q);
-        named-all = below-suc (λ b. VariableAt es b → getD named (at es b) false ≡ true) i (s .named-all) (λ var. absurd (clash open′ (var .1)));
+        naming = named-skip (s .naming) (λ var. clash open′ (var .1));
       }
     where
       most : (new : Bool) → (new ≡ false) ⊎ (count ≢ 64) → cond new (suc count) count ≤ 64
@@ -133,13 +129,11 @@ module _ {n : ℕ} {es : List ℕ} {i : ℕ} {opening : Bool} {last count : ℕ}
         last-is = s .last-is ∙ sym (last-stays es i shut);
         counted = s .counted ∙ sym (begun-next es i false (begins-shut es i shut));
         few = s .few;
-        size = s .size;
-        names = λ v t. let (b, l, var, q) = s .names v t in (b, omega arith, var, q);
-        named-all = below-suc (λ b. VariableAt es b → getD named (at es b) false ≡ true) i (s .named-all) (λ var. absurd (var .2 zero′));
+        naming = named-skip (s .naming) (λ var. var .2 zero′);
       }
 
   -- A variable from 1 to n that no entry before it names: it is named from now on.
-  pub scan-variable : opens es i ≡ false → at es i ≢ 0 → at es i ≤ n → n ≤ 4096 → getD named (at es i) false ≡ false → Scanned n es (i + 1) opening last count (set named (at es i) true)
+  scan-variable : opens es i ≡ false → at es i ≢ 0 → at es i ≤ n → n ≤ 4096 → getD named (at es i) false ≡ false → Scanned n es (i + 1) opening last count (set named (at es i) true)
   scan-variable shut some inside fits new =
       rw (add-one i)
       record {
@@ -149,22 +143,13 @@ module _ {n : ℕ} {es : List ℕ} {i : ℕ} {opening : Bool} {last count : ℕ}
         last-is = s .last-is ∙ sym (last-stays es i shut);
         counted = s .counted ∙ sym (begun-next es i false (begins-shut es i shut));
         few = s .few;
-        size = length-set named (at es i) true ∙ s .size;
-        names = λ v t. by-dec v t (ℕ-discrete v (at es i));
-        named-all = below-suc (λ b. VariableAt es b → getD (set named (at es i) true) (at es b) false ≡ true) i (λ b l var. kept (at es b) (s .named-all b l var) (ℕ-discrete (at es b) (at es i))) (λ _. stored);
+        naming = named-more (s .naming) (more, shut, some) (omega arith);
       }
-    where
-      stored : getD (set named (at es i) true) (at es i) false ≡ true
-      stored = getD-set-same named (at es i) true false (let q = s .size in omega arith)
 
-      kept : (v : ℕ) → getD named v false ≡ true → Dec (v ≡ at es i) → getD (set named (at es i) true) v false ≡ true
-      kept v t (yes q) = ap (λ w. getD (set named (at es i) true) w false) q ∙ stored
-      kept v t (no other) = getD-set-other named (at es i) v true false other ∙ t
-
-      by-dec : (v : ℕ) → getD (set named (at es i) true) v false ≡ true → Dec (v ≡ at es i) → (b : ℕ) × (b < suc i) × VariableAt es b × (at es b ≡ v)
-      by-dec v t (yes q) = (i, omega arith, (more, shut, some), sym q)
-      by-dec v t (no other) =
-          let (b, l, var, q) = s .names v (sym (getD-set-other named (at es i) v true false other) ∙ t) in (b, omega arith, var, q)
+  pub scan-named : {number : ℕ} {named′ : List Bool} → opens es i ≡ false → at es i ≢ 0 → n ≤ 4096 → NameFault n (at es i) named named′ number → number ≡ 0 → Scanned n es (i + 1) opening last count named′
+  scan-named shut some fits (NameFault.fresh _ inside new is) none = subst (λ (t : List Bool). Scanned n es (i + 1) opening last count t) (sym is) (scan-variable shut some inside fits new)
+  scan-named shut some fits (NameFault.outside q _) none = absurd (omega arith)
+  scan-named shut some fits (NameFault.named-before q _ _) none = absurd (omega arith)
 
   -- A fault at this entry is the first cause: all before it is clean, and no lower number has a cause here.
   pub fault-at-mark : {new : Bool} (number : ℕ) → opens es i ≡ true → new ≡ beginsAfter es i last → MarkFault (at es i) new count number → number ≢ 0 → First (JoinedCause n es) number i
@@ -176,21 +161,15 @@ module _ {n : ℕ} {es : List ℕ} {i : ℕ} {opening : Bool} {last count : ℕ}
       first-at (s .clean) (too-many-blocks q (more, open′) (tested open′ is ∙ new) (sym (s .counted) ∙ many))
       (λ k cause. ⊎-elim (λ w. absurd (⊎-elim (w .1) (w .2) good)) (λ w. let e = w .0 in omega arith) (at-mark open′ is k cause))
 
-  pub fault-outside : opens es i ≡ false → at es i ≢ 0 → n < at es i → First (JoinedCause n es) 7 i
-  fault-outside shut some over =
-      first-at (s .clean) (outside refl (more, shut, some) over)
+  pub fault-at-variable : {named′ : List Bool} (number : ℕ) → opens es i ≡ false → at es i ≢ 0 → NameFault n (at es i) named named′ number → number ≢ 0 → First (JoinedCause n es) number i
+  fault-at-variable number shut some (NameFault.fresh q _ _ _) other = absurd (other q)
+  fault-at-variable number shut some (NameFault.outside q over) other =
+      first-at (s .clean) (outside q (more, shut, some) over)
       (λ k cause. ⊎-elim (λ w. let e = w .0 in omega arith) (λ w. let e = w .0 in omega arith) (at-variable shut some k cause))
-
-  pub fault-named : opens es i ≡ false → at es i ≢ 0 → at es i ≤ n → getD named (at es i) false ≡ true → First (JoinedCause n es) 8 i
-  fault-named shut some inside old =
-      let (b, l, var, q) = s .names (at es i) old in
-      first-at (s .clean) (named-before b refl (more, shut, some) l var q)
+  fault-at-variable number shut some (NameFault.named-before q inside old) other =
+      let (b, l, var, same) = s .naming .names (at es i) old in
+      first-at (s .clean) (named-before b q (more, shut, some) l var same)
       (λ k cause. ⊎-elim (λ w. let over = w .1 in omega arith) (λ w. let e = w .0 in omega arith) (at-variable shut some k cause))
-
--- A prefix that ends where a block may open does not end inside one.
-shut-end : (es : List ℕ) (m : ℕ) → length es ≡ m → opens es m ≡ true → EndsInside 0 es → ⊥
-shut-end es zero q open′ (some, last) = omega arith
-shut-end es (suc m) q open′ (some, last) = last (ap (at es) (let e : length es - 1 ≡ m = omega arith in e) ∙ eqb-true (at es m) 0 open′)
 
 -- Every cause but 3 stands at an entry.
 at-entry : {n : ℕ} {es : List ℕ} (k e : ℕ) → JoinedCause n es k e → (e < length es) ⊎ ((k ≡ 3) × (e ≡ length es) × EndsInside 0 es)
@@ -224,7 +203,5 @@ scan-none n es =
       last-is = refl;
       counted = refl;
       few = omega arith;
-      size = length-replicate 4097 false;
-      names = λ v t. absurd (clash t (unnamed 4097 v));
-      named-all = λ b l. absurd (omega arith);
+      naming = named-none es;
     }

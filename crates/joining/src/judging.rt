@@ -1,5 +1,6 @@
 // The prefix under rule 2, scanned once from the left for refusals 3, 4, 6, 7 and 8.
 
+use formula::prefix::name_fault;
 use terms::Level;
 use terms::Verdict;
 ghost use Prim.Native.Nat.{_≤_, _<_};
@@ -41,14 +42,10 @@ pub fn joined_verdict(n: u32, prefix: &[u32]) -> Verdict
             opens = true;
             i += 1;
         } else {
-            if n < entry {
-                return Verdict::Refused(7, i);
+            let number = name_fault(n, entry, &mut named);
+            if number != 0 {
+                return Verdict::Refused(number, i);
             }
-            let v = entry as usize;
-            if named[v] {
-                return Verdict::Refused(8, i);
-            }
-            named[v] = true;
             i += 1;
         }
     }

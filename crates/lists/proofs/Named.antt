@@ -16,7 +16,7 @@ use Rattle.formula.specs.Tables.{at, opens, VariableAt}
 use Rattle.formula.specs.Meaning.{isUniversal, freeLevel}
 use Rattle.formula.specs.Levels.{SoundPrefix}
 use Rattle.formula.proofs.Levelling.{Levelling, level-none, level-mark, level-close, level-variable, levelled, mark-there, variable-small}
-use Rattle.formula.proofs.Scanned.{unnamed}
+use Rattle.formula.proofs.Named.{unnamed}
 use Rattle.lists.specs.Lists.{InBlock}
 use Rattle.lists.specs.Inner.{Places}
 

@@ -5,7 +5,7 @@ use mathlib.Core.Logic.{inl}
 use native.Mathlib.Omega.{arith}
 use borrow.Author.Needs.{needs}
 use lib.ListN.{length}
-use Rattle.formula.proofs.Scanned.{Scanned, scan-none, scan-mark, scan-close, scan-variable, fault-at-mark, fault-at-close, fault-outside, fault-named, fault-at-end, none-in-prefix}
+use Rattle.formula.proofs.Scanned.{Scanned, scan-none, scan-mark, scan-close, scan-named, fault-at-mark, fault-at-close, fault-at-variable, fault-at-end, none-in-prefix}
 use Rattle.formula.proofs.prefix.check_prefix.Statement.{statement}
 use Rattle.formula.proofs.prefix.check_prefix.Tie as tie
 
@@ -62,24 +62,16 @@ loop-again-2 c =
     let s = c .before .before .before .before .before .loop .inv in
     scan-close s (c .before .before .before .before .loop-test .taken) (sym (s .opening-is) ∙ c .before .before .if1 .left) (c .before .if3 .taken) (c .if4 .left)
 
+slice-aggregate-name-fault : tie.Need-slice-aggregate-name-fault Inv-loop μ-loop
+slice-aggregate-name-fault c = let size = c .before .before .before .before .before .loop .inv .naming .size in omega arith
+
+name-fault-requires : tie.Need-name-fault-requires Inv-loop μ-loop
+name-fault-requires c κs = (c .before .before .before .before .before .before .before .pre, c .before .before .before .before .before .loop .inv .naming .size)
+
 returns-3 : tie.Need-returns-3 Inv-loop μ-loop
 returns-3 c =
-    let s = c .before .before .before .before .before .loop .inv in
-    inl (fault-outside s (c .before .before .before .before .loop-test .taken) (sym (s .opening-is) ∙ c .before .before .if1 .left) (c .before .if3 .left) (c .if5 .taken))
-
-cast-v : tie.Need-cast-v Inv-loop μ-loop
-cast-v c = omega arith
-
-array-read-if6 : tie.Need-array-read-if6 Inv-loop μ-loop
-array-read-if6 c = let size = c .before .before .before .before .before .loop .inv .size in omega arith
-
-returns-4 : tie.Need-returns-4 Inv-loop μ-loop
-returns-4 c =
-    let s = c .before .before .before .before .before .before .loop .inv in
-    inl (fault-named s (c .before .before .before .before .before .loop-test .taken) (sym (s .opening-is) ∙ c .before .before .before .if1 .left) (c .before .before .if3 .left) (c .before .if5 .left) (c .if6 .taken))
-
-array-write-named : tie.Need-array-write-named Inv-loop μ-loop
-array-write-named c = let size = c .before .before .before .before .before .before .loop .inv .size in omega arith
+    let s = c .before .before .before .before .before .before .before .before .loop .inv in
+    inl (fault-at-variable s (c .before .before .before .before .before .before .before .loop-test .taken) (c .before .before .name-fault .result) (sym (s .opening-is) ∙ c .before .before .before .before .before .if1 .left) (c .before .before .before .before .if3 .left) (c .before .before .name-fault .ensures) (c .if5 .taken))
 
 add-i-3 : tie.Need-add-i-3 Inv-loop μ-loop
 add-i-3 c = omega arith
@@ -89,14 +81,14 @@ loop-less-3 c = omega arith
 
 loop-again-3 : tie.Need-loop-again-3 Inv-loop μ-loop
 loop-again-3 c =
-    let s = c .before .before .before .before .before .before .loop .inv in
-    scan-variable s (c .before .before .before .before .before .loop-test .taken) (sym (s .opening-is) ∙ c .before .before .before .if1 .left) (c .before .before .if3 .left) (c .before .if5 .left) (c .before .before .before .before .before .before .before .before .pre) (c .if6 .left)
+    let s = c .before .before .before .before .before .before .before .before .loop .inv in
+    scan-named s (c .before .before .before .before .before .before .before .loop-test .taken) (sym (s .opening-is) ∙ c .before .before .before .before .before .if1 .left) (c .before .before .before .before .if3 .left) (c .before .before .before .before .before .before .before .before .before .before .pre) (c .before .before .name-fault .ensures) (c .if5 .left)
+
+returns-4 : tie.Need-returns-4 Inv-loop μ-loop
+returns-4 c = (none-in-prefix (c .before .before .loop .inv) (c .before .loop-test .left) (c .if6 .taken), tt)
 
 returns-5 : tie.Need-returns-5 Inv-loop μ-loop
-returns-5 c = (none-in-prefix (c .before .before .loop .inv) (c .before .loop-test .left) (c .if7 .taken), tt)
-
-returns-6 : tie.Need-returns-6 Inv-loop μ-loop
-returns-6 c = inl (fault-at-end (c .before .before .loop .inv) (c .before .loop-test .left) (c .if7 .left))
+returns-5 c = inl (fault-at-end (c .before .before .loop .inv) (c .before .loop-test .left) (c .if6 .left))
 
 pub check-prefix-spec : {M : Type 1} → statement M
 check-prefix-spec =
@@ -117,13 +109,11 @@ check-prefix-spec =
     add-i-2
     loop-less-2
     loop-again-2
+    slice-aggregate-name-fault
+    name-fault-requires
     returns-3
-    cast-v
-    array-read-if6
-    returns-4
-    array-write-named
     add-i-3
     loop-less-3
     loop-again-3
-    returns-5
-    returns-6)
+    returns-4
+    returns-5)

@@ -7,7 +7,7 @@ use native.Mathlib.Omega.{arith}
 use borrow.Author.Needs.{needs}
 use borrow.Author.Tests.{not-true, not-false}
 use lib.ListN.{length, length-replicate}
-use Rattle.formula.proofs.Scanned.{unnamed}
+use Rattle.formula.proofs.Named.{unnamed}
 use Rattle.tables.proofs.Agreeing.{universal-within}
 use Rattle.tables.proofs.Readings.{new-zero}
 use Rattle.lists.proofs.Checked.{Checked, check-none, check-open, check-close, check-x, fault-range, fault-placed, fault-no-universal, fault-twice, none-in-lists, fault-at-end, told-universal}
