@@ -1,6 +1,2 @@
--- The laws of reading the file of a forest, in reading order.
-pub mod Stores
-pub mod Agreement
-pub mod OwnForest
-pub mod Disagree
+-- The laws of reading the file of a forest.
 pub mod Judging

@@ -1,23 +1,23 @@
 // The lent tables, once everything is judged: whether they have room for what the file has, and their rows.
 
-use crate::decoding::fill_literals;
-use crate::decoding::fill_numbers;
 use layout::places::clause_entries;
 use layout::places::has_sets;
 use layout::places::prefix_entries;
-use layout::places::second_at;
 use layout::places::third_at;
 use records::Loaded;
 use records::numbers::two_at;
+use verifying::decoding::fill_formula;
+use verifying::decoding::fill_numbers;
 ghost use Prim.Native.Nat.{_≤_};
 ghost use mathlib.Core.Path.{_≡_};
 ghost use lib.ListN.{length};
 ghost use lib.Seq.{sets};
 ghost use Rattle.tables.specs.Rows.{Tells};
-ghost use Rattle.records.specs.Places.{countIn, prefixIn, clausesIn};
+ghost use Rattle.records.specs.Places.{countIn};
 ghost use Rattle.records.specs.Causes.{lentTables};
 ghost use Rattle.layout.specs.Laid.{Laid};
-ghost use Rattle.loading.specs.Inner.{Room, classesIn, parentsIn, countsIn, saidOf, stored};
+ghost use Rattle.verifying.specs.Verified.{classesIn, parentsIn, countsIn};
+ghost use Rattle.loading.specs.Inner.{Room, saidOf, stored};
 
 // Whether every lent table is long enough.
 pub fn has_room(
@@ -66,19 +66,6 @@ pub fn fill_lent(
     fill_formula(file, prefix, clauses);
     fill_rows(file, classes, parents, counts);
     said_of(file)
-}
-
-// The prefix and the clauses of the file, stored.
-fn fill_formula(file: &[u8], prefix: &mut [u32], clauses: &mut [i32])
-    requires { ⌜ Laid (now file) × (length (prefixIn (now file)) ≤ length (now prefix)) × (length (clausesIn (now file)) ≤ length (now clauses)) ⌝ }
-    ensures { λ r. ⌜ now (prefix .exit) ≡ sets (now (prefix .entry)) 0 (prefixIn (now (file .entry))) ⌝ }
-    ensures { λ r. ⌜ now (clauses .exit) ≡ sets (now (clauses .entry)) 0 (clausesIn (now (file .entry))) ⌝ }
-{
-    let entries = prefix_entries(file);
-    fill_numbers(file, 2, 8, entries, prefix);
-    let second = second_at(file);
-    let literals = clause_entries(file);
-    fill_literals(file, second + 6, literals, clauses);
 }
 
 // The rows of the file, stored.

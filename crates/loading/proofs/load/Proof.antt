@@ -1,30 +1,36 @@
 -- `loading::load` meets its contract.
-use mathlib.Core.Path.{refl}
-use mathlib.Core.Logic.{inl, inr}
-use borrow.Author.Tests.{not-true, not-false}
-use Rattle.terms.proofs.Verdicts.{at0-first}
-use Rattle.tables.proofs.Readings.{told, told-not}
-use Rattle.records.specs.Causes.{lentTables}
-use Rattle.loading.specs.Inner.{IsRule}
-use Rattle.loading.proofs.Judging.{loads-ruled}
+use mathlib.Core.Path.{refl, subst}
+use mathlib.Core.List.{[], _∷_}
+use Rattle.terms.specs.Refusals.{At0}
+use Rattle.terms.proofs.Verdicts.{refused-first}
+use Rattle.records.specs.Causes.{NoRoom, lentTables}
+use Rattle.verifying.specs.Verified.{verifyOrder, Verifies}
+use Rattle.verifying.proofs.Judging.{verified-laid}
+use Rattle.loading.proofs.Judging.{loads-right}
 use borrow.Author.Needs.{needs}
 use Rattle.loading.proofs.load.Statement.{statement}
 use Rattle.loading.proofs.load.Tie as tie
 
-is-rule-requires : tie.Need-is-rule-requires
-is-rule-requires c κs = search needs
+file-verdict-requires : tie.Need-file-verdict-requires
+file-verdict-requires c κs = search needs
+
+enum-known-number : tie.Need-enum-known-number
+enum-known-number c = search needs
+
+enum-told : tie.Need-enum-told
+enum-told c = search needs
+
+load-right-requires : tie.Need-load-right-requires
+load-right-requires c κs =
+    let a = c .before .before .before .before .before .before .before .before .before .before .before .before .before .args in
+    let file = a .file .now in
+    verified-laid (a .rule) file (subst (Verifies (a .rule) file) (c .before .before .before .before .before .enum-told .given .1) (c .before .before .before .before .before .before .before .file-verdict .ensures) .0)
 
 returns : tie.Need-returns
 returns c =
-    let a = c .before .before .before .before .before .before .before .args in
-    let r = c .before .is-rule in
-    let none = told-not {P = IsRule (a .rule)} (r .result) (not-true (r .result) (c .if1 .taken)) (r .ensures) in
-    (inl (at0-first 23 (λ one. none (inl one), λ two. none (inr two))), refl)
-
-load-ruled-requires : tie.Need-load-ruled-requires
-load-ruled-requires c κs =
-    let r = c .before .before .before .before .before .before .is-rule in
-    told (r .result) (not-false (r .result) (c .before .before .before .before .before .if1 .left)) (r .ensures)
+    let a = c .before .before .before .before .before .before .before .before .before .args in
+    let file = a .file .now in
+    (refused-first (verifyOrder (a .rule) file) (At0 14 (NoRoom file (lentTables (a .prefix .now) (a .clauses .now) (a .classes .now) (a .parents .now) (a .counts .now))) ∷ []) (c .before .number .given .1) (c .before .before .before .file-verdict .ensures .0), refl)
 
 same-length : tie.Need-same-length
 same-length c = search needs
@@ -43,18 +49,21 @@ same-length-5 c = search needs
 
 returns-2 : tie.Need-returns-2
 returns-2 c =
-    let a = c .before .before .before .before .before .before .before .before .before .before .before .before .before .before .before .before .before .before .before .before .before .before .args in
-    let r = c .before .before .before .before .before .before .before .before .before .before .before .before .before .before .before .before .is-rule in
-    let f = c .before .before .before .before .before .before .before .before .before .load-ruled in
-    loads-ruled (a .rule) (a .file .now) (lentTables (a .prefix .now) (a .clauses .now) (a .classes .now) (a .parents .now) (a .counts .now)) (lentTables (f .last .1 .1 .0) (f .last .1 .1 .1 .0) (f .last .1 .1 .1 .1 .0) (f .last .1 .1 .1 .1 .1 .0) (f .last .1 .1 .1 .1 .1 .1 .0)) (f .result) (told {P = IsRule (a .rule)} (r .result) (not-false (r .result) (c .before .before .before .before .before .before .before .before .before .before .before .before .before .before .before .if1 .left)) (r .ensures)) (f .ensures)
+    let a = c .before .before .before .before .before .before .before .before .before .before .before .before .before .before .before .before .before .before .before .before .before .before .before .args in
+    let file = a .file .now in
+    let f = c .before .before .before .before .before .before .before .before .before .load-right in
+    let judged = subst (Verifies (a .rule) file) (c .before .before .before .before .before .before .before .before .before .before .before .before .before .before .before .enum-told .given .1) (c .before .before .before .before .before .before .before .before .before .before .before .before .before .before .before .before .before .file-verdict .ensures) in
+    loads-right (a .rule) file (lentTables (a .prefix .now) (a .clauses .now) (a .classes .now) (a .parents .now) (a .counts .now)) (lentTables (f .last .1 .0) (f .last .1 .1 .0) (f .last .1 .1 .1 .0) (f .last .1 .1 .1 .1 .0) (f .last .1 .1 .1 .1 .1 .0)) (f .result) (judged .0) (judged .1) (f .ensures)
 
 pub load-spec : {M : Type 1} → statement M
 load-spec =
     tie.close
     (tie.spec
-    is-rule-requires
+    file-verdict-requires
+    enum-known-number
+    enum-told
+    load-right-requires
     returns
-    load-ruled-requires
     same-length
     same-length-2
     same-length-3

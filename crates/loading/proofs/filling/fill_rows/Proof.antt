@@ -3,7 +3,7 @@ use mathlib.Core.Path.{refl, ap, _∙_}
 use mathlib.Core.Logic.{inr}
 use native.Mathlib.Omega.{arith}
 use lib.Seq.{sets}
-use Rattle.loading.proofs.Agreement.{rows-are}
+use Rattle.verifying.proofs.Agreement.{rows-are}
 use Rattle.layout.proofs.Spans.{laid-ends, count-read}
 use borrow.Author.Needs.{needs}
 use Rattle.loading.proofs.filling.fill_rows.Statement.{statement}

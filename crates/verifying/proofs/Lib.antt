@@ -1,0 +1,6 @@
+-- The laws of verifying the file of a forest, in reading order.
+pub mod Stores
+pub mod Agreement
+pub mod OwnForest
+pub mod Disagree
+pub mod Judging
