@@ -47,7 +47,7 @@ pub extern "C" fn snow_listed_set_by(
 ) -> u32
     ensures { λ r. ⌜ Told (setOrder rule n (now (prefix .entry)) (now (clauses .entry)) (now (lists .entry)) x (DependsOnBy (schemeOf scheme) n (readAs rule (now (prefix .entry))) (now (clauses .entry)) (now (lists .entry)) x) (now (out .entry))) (Written (DependsOnBy (schemeOf scheme) n (readAs rule (now (prefix .entry))) (now (clauses .entry)) (now (lists .entry)) x) (now (out .entry)) (now (out .exit)) (now (count .exit))) ((now (count .exit) ≡ now (count .entry)) × (now (out .exit) ≡ now (out .entry))) r (now (place .entry)) (now (place .exit)) ⌝ }
 {
-    let answer = lists::set_by(
+    let answer = dependents::set_by(
         rule,
         scheme_in(scheme),
         n,

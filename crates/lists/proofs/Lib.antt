@@ -1,9 +1,7 @@
+-- The laws of dependency lists, in reading order.
 pub mod Named
 pub mod Checked
-pub mod Opened
 pub mod Ordering
 pub mod Under
-pub mod Classed
-pub mod Members
 pub mod Agreement
 pub mod Sample

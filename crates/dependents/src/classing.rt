@@ -1,0 +1,30 @@
+// Classes of what may be stepped on from x: two are in one class if one is reached from the other. They grow clause by clause in loose rows, in which all
+// that may be stepped on stands at one depth.
+
+use loose::rows::load;
+use loose::rows::put_all;
+use loose::rows::settle;
+use loose::rows::singles;
+use loose::rows::write_out;
+ghost use Prim.Native.Nat.{_≤_};
+ghost use mathlib.Core.Path.{_≡_};
+ghost use lib.ListN.{length};
+ghost use Rattle.formula.specs.Lookup.{SoundClauses};
+ghost use Rattle.connection.specs.Tables.{row};
+ghost use Rattle.dependents.specs.Inner.{Flat, Classed};
+
+// Takes rows with 1 for what may be stepped on and 0 for all else, and puts the name of its class in place of each 1. There are no parents: the table of
+// the depths, which has done its work, takes their rows.
+pub fn class_rows(n: u32, clauses: &[i32], rows: &mut [u32])
+    requires { ⌜ SoundClauses (now clauses) × (n ≤ 4096) × (n ≤ length (now rows)) × Flat n (now rows) ⌝ }
+    ensures { λ r. ⌜ Classed n (λ v. row n (now (rows .entry)) v ≡ 1) (now (clauses .entry)) (now (rows .exit)) ⌝ }
+{
+    let mut depths = [0u32; 4097];
+    let mut classes = [0u32; 4097];
+    let mut parents = [0u32; 4097];
+    load(n, rows, &mut depths);
+    singles(&depths, &mut classes, &mut parents);
+    put_all(&depths, &mut classes, &mut parents, clauses);
+    settle(&mut classes);
+    write_out(n, &classes, &parents, rows, &mut depths);
+}
