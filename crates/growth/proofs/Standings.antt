@@ -15,7 +15,7 @@ use Rattle.tables.specs.Formula.{variables}
 use Rattle.tables.proofs.Agreeing.{lawful}
 use Rattle.growth.specs.declared.Tally.{Tally}
 use Rattle.growth.specs.Grown.{Standing, standing, Grown, TallyOf, Leaves}
-use Rattle.growth.specs.Rows.{Rowed, Recounted, CensusOf}
+use Rattle.settling.specs.Rows.{Rowed, Recounted, CensusOf}
 
 module _ (n : ℕ) (es : List ℕ) {cs : List (List ℕ)} {classes parents classes′ parents′ : List ℕ} (r : Rowed (variables n es) (Joined cs) classes parents classes′ parents′) where
   -- The rows of a forest are well formed.

@@ -3,23 +3,17 @@
 use crate::Tallied;
 use crate::Tally;
 use crate::counted;
-use crate::counts::recount;
 use crate::refused;
 use crate::tallying::disagrees;
 use crate::tallying::take;
-use crate::tallying::take_census;
 use formula::levels::fill_levels;
-use loose::clause::put_one;
-use loose::depths::fill_depths;
-use loose::rows::load;
-use loose::rows::settle;
-use loose::rows::write_out;
+use settling::counts::recount;
+use settling::counts::take_census;
+use settling::put_in;
 use tables::checking::check_forest;
 use terms::Verdict;
-ghost use Prim.Native.Nat.{_≤_};
 ghost use mathlib.Core.Path.{_≡_};
 ghost use mathlib.Core.List.{[], _∷_};
-ghost use lib.ListN.{length};
 ghost use Rattle.terms.specs.Answers.{verdictOf};
 ghost use Rattle.terms.specs.Refusals.{Judged};
 ghost use Rattle.formula.specs.Levels.{SoundPrefix};
@@ -30,7 +24,8 @@ ghost use Rattle.tables.specs.Causes.{ForestCause};
 ghost use Rattle.tables.specs.Counting.{FormedBy};
 ghost use Rattle.tables.specs.Formula.{variables};
 ghost use Rattle.growth.specs.Grown.{standing, TallyCause, Extended, AddLeaves};
-ghost use Rattle.growth.specs.Rows.{Room, Rowed, Recounted};
+ghost use Rattle.settling.specs.Rows.{Rowed, Recounted};
+ghost use Rattle.growth.specs.Rows.{Room};
 
 // Adds a clause, once the prefix and the clause are accepted.
 pub fn add_sound(
@@ -110,21 +105,4 @@ fn extend(
     recount(n, prefix, classes, parents, counts);
     let seen = take_census(n, classes);
     seen.names
-}
-
-// Well-formed tables are loose rows already: the clause is put in, and the exact rows are written back.
-fn put_in(n: u32, prefix: &[u32], classes: &mut [u32], parents: &mut [u32], clause: &[i32])
-    requires { ⌜ SoundPrefix n (now prefix) × InRows (now clause) × (n ≤ length (now classes)) × (n ≤ length (now parents)) ⌝ }
-    requires { ⌜ FormedBy n (now prefix) (now classes) (now parents) ⌝ }
-    ensures { λ r. ⌜ Rowed (variables n (now (prefix .entry))) (Extended (variables n (now (prefix .entry))) (lent (variables n (now (prefix .entry))) (now (classes .entry)) (now (parents .entry))) (now (clause .entry))) (now (classes .entry)) (now (parents .entry)) (now (classes .exit)) (now (parents .exit)) ⌝ }
-{
-    let mut depths = [0u32; 4097];
-    let mut loose = [0u32; 4097];
-    let mut ups = [0u32; 4097];
-    fill_depths(n, prefix, &mut depths);
-    load(n, classes, &mut loose);
-    load(n, parents, &mut ups);
-    put_one(&depths, &mut loose, &mut ups, clause);
-    settle(&mut loose);
-    write_out(n, &loose, &ups, classes, parents);
 }

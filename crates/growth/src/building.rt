@@ -1,22 +1,16 @@
-// The forest of an accepted formula: loose rows of no clause, every clause put in, the exact rows written out, and their counts and tally.
+// The forest of an accepted formula: its rows, their counts, and the tally.
 
 use crate::Tally;
-use crate::counts::recount;
-use crate::tallying::take_census;
-use loose::depths::fill_depths;
-use loose::rows::put_all;
-use loose::rows::settle;
-use loose::rows::singles;
-use loose::rows::write_out;
-ghost use Prim.Native.Nat.{_≤_};
-ghost use mathlib.Core.Path.{_≡_};
-ghost use lib.ListN.{length};
+use settling::counts::recount;
+use settling::counts::take_census;
+use settling::grow;
 ghost use Rattle.formula.specs.Levels.{SoundPrefix};
 ghost use Rattle.formula.specs.Lookup.{SoundClauses};
 ghost use Rattle.tables.specs.Formula.{variables, Shares};
 ghost use Rattle.tables.specs.Rows.{Tells};
 ghost use Rattle.growth.specs.Grown.{standing, many, TallyOf};
-ghost use Rattle.growth.specs.Rows.{Room, Rowed, Recounted};
+ghost use Rattle.settling.specs.Rows.{Rowed, Recounted};
+ghost use Rattle.growth.specs.Rows.{Room};
 
 // Whether every lent table has n rows.
 pub fn has_room(n: u32, classes: &[u32], parents: &[u32], counts: &[u32]) -> bool
@@ -57,21 +51,4 @@ pub fn build_sound(
         merges: seen.existentials - seen.names,
         classes: seen.names,
     }
-}
-
-// The rows of classes and parents, and how many clauses there are.
-fn grow(n: u32, prefix: &[u32], clauses: &[i32], classes: &mut [u32], parents: &mut [u32]) -> u32
-    requires { ⌜ SoundPrefix n (now prefix) × SoundClauses (now clauses) × (n ≤ length (now classes)) × (n ≤ length (now parents)) ⌝ }
-    ensures { λ r. ⌜ Rowed (variables n (now (prefix .entry))) (Shares (now (clauses .entry))) (now (classes .entry)) (now (parents .entry)) (now (classes .exit)) (now (parents .exit)) ⌝ }
-    ensures { λ r. ⌜ r ≡ many (now (clauses .entry)) ⌝ }
-{
-    let mut depths = [0u32; 4097];
-    let mut loose = [0u32; 4097];
-    let mut ups = [0u32; 4097];
-    fill_depths(n, prefix, &mut depths);
-    singles(&depths, &mut loose, &mut ups);
-    let taken = put_all(&depths, &mut loose, &mut ups, clauses);
-    settle(&mut loose);
-    write_out(n, &loose, &ups, classes, parents);
-    taken
 }

@@ -1,9 +1,8 @@
-// Build and add: the forest of a formula, and of tables with a clause added, each with its counts and the tally beside it.
+// Build and add: the forest of a formula, and of tables with a clause added, each with its counts and the tally beside it, which is passed by value.
 
 mod added;
 mod adding;
 mod building;
-mod counts;
 mod tallying;
 
 use added::added_verdict;
@@ -34,24 +33,8 @@ pub struct Tallied {
     pub tally: Tally,
 }
 
-// Fills the lent rows of 1 to n with the forest of a formula and its counts and the lent tally with that of its list, and gives n as the count.
-pub fn build(
-    n: u32,
-    prefix: &[u32],
-    clauses: &[i32],
-    classes: &mut [u32],
-    parents: &mut [u32],
-    counts: &mut [u32],
-    tally: &mut Tally,
-) -> Filled
-    ensures { λ r. ⌜ Builds n (now (prefix .entry)) (now (clauses .entry)) (standing (now (classes .entry)) (now (parents .entry)) (now (counts .entry)) (now (tally .entry))) (standing (now (classes .exit)) (now (parents .exit)) (now (counts .exit)) (now (tally .exit))) r ⌝ }
-{
-    let done = build_tallied(n, prefix, clauses, classes, parents, counts, *tally);
-    *tally = done.tally;
-    done.answer
-}
-
-// The same with the tally passed and returned: the tally before is what a refusal leaves. Whoever calls this lends no struct.
+// Fills the lent rows of 1 to n with the forest of a formula and its counts, and gives n as the count and the tally of its list. The tally is passed, since
+// that before is what a refusal leaves, and returned.
 pub fn build_tallied(
     n: u32,
     prefix: &[u32],
@@ -75,25 +58,8 @@ pub fn build_tallied(
     }
 }
 
-// Rewrites the lent rows of 1 to n to the forest of the tables' joins with a clause added and to its counts, takes the clause in the lent tally, and gives
-// n as the count. The clause has no closing 0.
-pub fn add(
-    n: u32,
-    prefix: &[u32],
-    classes: &mut [u32],
-    parents: &mut [u32],
-    counts: &mut [u32],
-    tally: &mut Tally,
-    clause: &[i32],
-) -> Filled
-    ensures { λ r. ⌜ Adds n (now (prefix .entry)) (standing (now (classes .entry)) (now (parents .entry)) (now (counts .entry)) (now (tally .entry))) (now (clause .entry)) (standing (now (classes .exit)) (now (parents .exit)) (now (counts .exit)) (now (tally .exit))) r ⌝ }
-{
-    let done = add_tallied(n, prefix, classes, parents, counts, *tally, clause);
-    *tally = done.tally;
-    done.answer
-}
-
-// The same with the tally passed and returned. Whoever calls this lends no struct.
+// Rewrites the lent rows of 1 to n to the forest of the tables' joins with a clause added and to its counts, takes the clause in the tally, and gives n as
+// the count. The clause has no closing 0.
 pub fn add_tallied(
     n: u32,
     prefix: &[u32],

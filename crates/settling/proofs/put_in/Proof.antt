@@ -1,13 +1,13 @@
--- `growth::adding::put_in` meets its contract.
+-- `settling::put_in` meets its contract.
 use Prim.Native.Nat.{ℕ}
 use mathlib.Core.Path.{_∙_}
 use lib.ListN.{length-replicate}
 use Rattle.chains.proofs.Steps.{class-falls, parent-inside}
-use Rattle.growth.proofs.Exact.{grown}
-use Rattle.growth.proofs.Extending.{loaded, extended}
+use Rattle.settling.proofs.Exact.{grown}
+use Rattle.settling.proofs.Extending.{loaded, extended}
 use borrow.Author.Needs.{needs}
-use Rattle.growth.proofs.adding.put_in.Statement.{statement}
-use Rattle.growth.proofs.adding.put_in.Tie as tie
+use Rattle.settling.proofs.put_in.Statement.{statement}
+use Rattle.settling.proofs.put_in.Tie as tie
 
 slice-aggregate-fill-depths : tie.Need-slice-aggregate-fill-depths
 slice-aggregate-fill-depths c = search needs

@@ -1,12 +1,12 @@
--- `growth::building::grow` meets its contract.
+-- `settling::grow` meets its contract.
 use Prim.Native.Nat.{ℕ}
 use mathlib.Core.Path.{_∙_}
 use lib.ListN.{length-replicate}
 use Rattle.chains.proofs.Steps.{class-falls, parent-inside}
-use Rattle.growth.proofs.Exact.{equal-formula, grown, depth-none}
+use Rattle.settling.proofs.Exact.{equal-formula, grown, depth-none}
 use borrow.Author.Needs.{needs}
-use Rattle.growth.proofs.building.grow.Statement.{statement}
-use Rattle.growth.proofs.building.grow.Tie as tie
+use Rattle.settling.proofs.grow.Statement.{statement}
+use Rattle.settling.proofs.grow.Tie as tie
 
 slice-aggregate-fill-depths : tie.Need-slice-aggregate-fill-depths
 slice-aggregate-fill-depths c = search needs

@@ -1,4 +1,4 @@
--- `growth::add` meets its contract: a walk of its MIR, by hand, since the tally is a struct behind a `&mut`.
+-- `tally::add` meets its contract: a walk of its MIR, by hand, since the tally is a struct behind a `&mut`.
 -- The borrow of the tally is opened, its value is passed to `add_tallied` with the slices, which are given up at their own lifetimes, and the tally that comes back is stored before the borrow is closed.
 use mathlib.Core.Path.{_≡_, refl, ap}
 use Prim.Native.Nat.{ℕ, _<_, _^_}
@@ -45,22 +45,22 @@ use denote.Triple.Walked.{says, Stays, stay-ref, stay-none, stay-none-slice, gav
 use denote.Exit.{yes}
 use Rattle.terms.proofs.Filled as F
 use Rattle.terms.proofs.Filled.Laws as F′
 use Rattle.growth.specs.declared.Tallied.{Tallied}
 use Rattle.growth.specs.declared.Tally.{Tally}
 use Rattle.growth.specs.Grown.{standing, Adds}
-use Rattle.growth.proofs.Thin.{tally-val, tally-is, answer-val, answer-is}
+use Rattle.tally.proofs.Thin.{tally-val, tally-is, answer-val, answer-is}
 use Rattle.growth.proofs.Tally as T
 use Rattle.growth.proofs.Tally.Laws as T′
 use Rattle.growth.proofs.Tallied as S
 use Rattle.growth.proofs.Tallied.Laws as S′
 use Rattle.growth.proofs.add_tallied as inner
 use Rattle.growth.proofs.add_tallied.Symbol as inner-def
 use Rattle.growth.proofs.add_tallied.Symbol.{name as #inner}
 use Rattle.growth.proofs.add_tallied.Met as inner-thm
-use Rattle.growth.proofs.add.Key.{name as #add}
-use Rattle.growth.proofs.add as f
-use Rattle.growth.proofs.add.Statement as stated
-use Rattle.growth.proofs.add.Code as code
+use Rattle.tally.proofs.add.Key.{name as #add}
+use Rattle.tally.proofs.add as f
+use Rattle.tally.proofs.add.Statement as stated
+use Rattle.tally.proofs.add.Code as code
 
 abbrev stayed : Stays (f.ended .signature .params) (f.ended .kept)
 stayed = (stay-none (λ _. u32) yes, (stay-none-slice (0 ∷ []) tt (plain (λ _. u32)) yes, (gave-slice (1 ∷ []) tt (plain (λ _. u32)), (gave-slice (2 ∷ []) tt (plain (λ _. u32)), (gave-slice (3 ∷ []) tt (plain (λ _. u32)), (stay-ref (4 ∷ []) tt (plain (λ _. T.the-row)), (stay-none-slice (5 ∷ []) tt (plain (λ _. i32)) yes, tt)))))))

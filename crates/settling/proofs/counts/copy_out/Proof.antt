@@ -1,11 +1,11 @@
--- `growth::counts::copy_out` meets its contract.
+-- `settling::counts::copy_out` meets its contract.
 use Prim.Native.Nat.{_-_}
 use mathlib.Core.Path.{refl}
 use native.Mathlib.Omega.{arith}
-use Rattle.growth.proofs.Recounted.{copy-none, copy-one, copied}
-use Rattle.growth.specs.Rows.{Copied}
-use Rattle.growth.proofs.counts.copy_out.Statement.{statement}
-use Rattle.growth.proofs.counts.copy_out.Tie as tie
+use Rattle.settling.proofs.Recounted.{copy-none, copy-one, copied}
+use Rattle.settling.specs.Rows.{Copied}
+use Rattle.settling.proofs.counts.copy_out.Statement.{statement}
+use Rattle.settling.proofs.counts.copy_out.Tie as tie
 
 abbrev Inv-loop : tie.InvT-loop
 Inv-loop n table rows₀ at₀ rows at = Copied n table rows₀ at rows

@@ -1,4 +1,4 @@
-// The counts of a grown forest, written into the lent rows.
+// The counts of a grown forest, written into the lent rows, and how many existentials and class names its rows have.
 
 use tables::counts::fill_counts;
 ghost use Prim.Native.Nat.{_+_, _≤_, _<_};
@@ -6,7 +6,7 @@ ghost use mathlib.Core.Path.{_≡_};
 ghost use lib.ListN.{length};
 ghost use Rattle.formula.specs.Levels.{SoundPrefix};
 ghost use Rattle.tables.specs.Counting.{FormedBy};
-ghost use Rattle.growth.specs.Rows.{Copied, Recounted};
+ghost use Rattle.settling.specs.Rows.{Copied, Recounted, CensusOf};
 
 // Writes the counts of well-formed rows into the lent table, rows of 1 to n.
 pub fn recount(n: u32, prefix: &[u32], classes: &[u32], parents: &[u32], counts: &mut [u32])
@@ -27,5 +27,40 @@ fn copy_out(n: u32, table: &[u32], rows: &mut [u32])
     while at < n as usize {
         rows[at] = table[at + 1];
         at += 1;
+    }
+}
+
+// How many existentials there are, and how many class names.
+pub struct Census {
+    pub existentials: u32,
+    pub names: u32,
+}
+
+// Counts both in the class rows of 1 to n: only a universal has 0, and only a class name has itself.
+pub fn take_census(n: u32, classes: &[u32]) -> Census
+    requires { ⌜ n ≤ length (now classes) ⌝ }
+    ensures { λ r. ⌜ CensusOf n (now (classes .entry)) n (r .existentials) (r .names) ⌝ }
+{
+    let mut existentials: u32 = 0;
+    let mut names: u32 = 0;
+    let mut passed: u32 = 0;
+    while passed < n {
+        let class = classes[passed as usize];
+        let v = passed + 1;
+        if class == 0 {
+            passed = v;
+        } else {
+            existentials += 1;
+            if class == v {
+                names += 1;
+                passed = v;
+            } else {
+                passed = v;
+            }
+        }
+    }
+    Census {
+        existentials,
+        names,
     }
 }

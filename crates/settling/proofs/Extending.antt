@@ -1,7 +1,7 @@
 -- Well-formed tables are loose rows, which stand for the tables' own joins.
 use Prim.Native.Nat.{ℕ, _+_}
 use mathlib.Core.Path.{_≡_, sym, _∙_, ap, subst}
-use mathlib.Core.List.{List}
+use mathlib.Core.List.{List, [], _∷_, _++_}
 use native.Mathlib.Omega.{arith}
 use lib.IntN.{ℤ}
 use lib.ListN.{length, getD}
@@ -14,11 +14,10 @@ use Rattle.connection.proofs.Reach.{reach-one}
 use Rattle.connection.proofs.Represent.{Linked}
 use Rattle.connection.proofs.Joins.{joins-linked}
 use Rattle.connection.proofs.Forest.{same-rows}
-use Rattle.growth.specs.Grown.{Extended}
 use Rattle.chains.specs.Loose.{Equal, Loose, table, ranked, Growing, Grew}
 use Rattle.loose.specs.Rows.{Depths}
 use Rattle.chains.proofs.Inside.{equal-trans, equal-sym, equal-snoc, equal-added}
-use Rattle.growth.proofs.Exact.{depth-existential, ex-same, equal-formula, equal-linked, depth-none}
+use Rattle.settling.proofs.Exact.{depth-existential, ex-same, equal-formula, equal-linked, depth-none}
 
 module _ {n : ℕ} {es depths : List ℕ} (d : Depths n es depths) where
   abbrev X : Variables
@@ -64,5 +63,5 @@ module _ {n : ℕ} {es depths : List ℕ} (d : Depths n es depths) where
         }) (equal-sym (equal-linked d)))
 
     -- ... and with a clause put in, for those and the clause.
-    pub extended : {C′ P′ : List ℕ} (ls : List ℤ) → Grew depths C P (connected ls) C′ P′ → Equal X (Extended X (lent X classes parents) ls) (Linked D (table C′ P′))
+    pub extended : {C′ P′ : List ℕ} (ls : List ℤ) → Grew depths C P (connected ls) C′ P′ → Equal X (Joined (joins X (lent X classes parents) ++ (connected ls ∷ []))) (Linked D (table C′ P′))
     extended ls g = equal-trans equal-snoc (equal-trans (equal-added stands) (equal-formula d (g .equal)))

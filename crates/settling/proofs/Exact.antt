@@ -22,7 +22,7 @@ use Rattle.connection.proofs.Rows.{row-at, row-out}
 use Rattle.connection.proofs.Forest.{represents-rows, represents-forest}
 use Rattle.chains.specs.Loose.{Inside, Equal, Loose, table, ranked, Growing}
 use Rattle.loose.specs.Rows.{Depths, Settled, Written}
-use Rattle.growth.specs.Rows.{Rowed}
+use Rattle.settling.specs.Rows.{Rowed}
 use Rattle.chains.proofs.Inside.{inside-reach, inside-links, equal-trans}
 use Rattle.chains.proofs.Steps.{no-zero}
 

@@ -15,7 +15,7 @@ use Rattle.connection.specs.Counts.{Numbered, Within, Counted}
 use Rattle.connection.proofs.Rows.{row-at, row-out}
 use Rattle.tables.specs.Counting.{CountsOf}
 use Rattle.tables.proofs.Agreeing.{lawful}
-use Rattle.growth.specs.Rows.{Copied, Recounted}
+use Rattle.settling.specs.Rows.{Copied, Recounted}
 
 pub copy-none : (n : ℕ) (table rows : List ℕ) → Copied n table rows 0 rows
 copy-none n table rows = record { few = omega arith; past = record { size = refl; stays = λ u l. refl }; copy = λ u l. absurd (omega arith) }

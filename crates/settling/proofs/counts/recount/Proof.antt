@@ -1,11 +1,11 @@
--- `growth::counts::recount` meets its contract.
+-- `settling::counts::recount` meets its contract.
 use Prim.Native.Nat.{ℕ}
 use lib.ListN.{length-replicate}
 use Rattle.tables.proofs.Readings.{new-zero}
-use Rattle.growth.proofs.Recounted.{recounted}
+use Rattle.settling.proofs.Recounted.{recounted}
 use borrow.Author.Needs.{needs}
-use Rattle.growth.proofs.counts.recount.Statement.{statement}
-use Rattle.growth.proofs.counts.recount.Tie as tie
+use Rattle.settling.proofs.counts.recount.Statement.{statement}
+use Rattle.settling.proofs.counts.recount.Tie as tie
 
 slice-aggregate-fill-counts : tie.Need-slice-aggregate-fill-counts
 slice-aggregate-fill-counts c = search needs

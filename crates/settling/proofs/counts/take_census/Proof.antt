@@ -1,10 +1,10 @@
--- `growth::tallying::take_census` meets its contract.
+-- `settling::counts::take_census` meets its contract.
 use Prim.Native.Nat.{_-_}
 use native.Mathlib.Omega.{arith}
-use Rattle.growth.specs.Rows.{CensusOf}
-use Rattle.growth.proofs.Census.{census-none, census-universal, census-member, census-name, census-all}
-use Rattle.growth.proofs.tallying.take_census.Statement.{statement}
-use Rattle.growth.proofs.tallying.take_census.Tie as tie
+use Rattle.settling.specs.Rows.{CensusOf}
+use Rattle.settling.proofs.Census.{census-none, census-universal, census-member, census-name, census-all}
+use Rattle.settling.proofs.counts.take_census.Statement.{statement}
+use Rattle.settling.proofs.counts.take_census.Tie as tie
 
 abbrev Inv-loop : tie.InvT-loop
 Inv-loop n classes existentials₀ names₀ passed₀ existentials names passed = CensusOf n classes passed existentials names

@@ -15,7 +15,7 @@ use Rattle.connection.proofs.Rows.{row-at}
 use Rattle.tables.specs.Counting.{ForClasses}
 use Rattle.tables.specs.Formula.{variables}
 use Rattle.tables.proofs.Agreeing.{lawful}
-use Rattle.growth.specs.Rows.{CensusOf}
+use Rattle.settling.specs.Rows.{CensusOf}
 
 pub census-none : (n : ℕ) (classes : List ℕ) → CensusOf n classes 0 0 0
 unfolding how-many

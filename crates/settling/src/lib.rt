@@ -1,0 +1,65 @@
+// The exact rows of a forest in lent tables, settled out of loose ones: those of a formula, and those of well-formed tables with a clause put in; with their
+// counts.
+
+pub mod counts;
+
+use loose::clause::put_one;
+use loose::depths::fill_depths;
+use loose::rows::load;
+use loose::rows::put_all;
+use loose::rows::settle;
+use loose::rows::singles;
+use loose::rows::write_out;
+ghost use Prim.Native.Nat.{_≤_};
+ghost use mathlib.Core.Path.{_≡_};
+ghost use mathlib.Core.List.{[], _∷_, _++_};
+ghost use lib.ListN.{length};
+ghost use Rattle.formula.specs.Levels.{SoundPrefix};
+ghost use Rattle.formula.specs.Lookup.{InRows, SoundClauses};
+ghost use Rattle.formula.specs.Meaning.{clauses as Meaning·clauses, connected};
+ghost use Rattle.connection.specs.Reach.{Joined};
+ghost use Rattle.connection.specs.Tables.{lent, joins};
+ghost use Rattle.tables.specs.Counting.{FormedBy};
+ghost use Rattle.tables.specs.Formula.{variables, Shares};
+ghost use Rattle.settling.specs.Rows.{Rowed};
+
+// The rows of classes and parents of an accepted formula: loose rows of no clause, every clause put in, and the exact rows written out. Gives how many
+// clauses there are.
+pub fn grow(
+    n: u32,
+    prefix: &[u32],
+    clauses: &[i32],
+    classes: &mut [u32],
+    parents: &mut [u32],
+) -> u32
+    requires { ⌜ SoundPrefix n (now prefix) × SoundClauses (now clauses) × (n ≤ length (now classes)) × (n ≤ length (now parents)) ⌝ }
+    ensures { λ r. ⌜ Rowed (variables n (now (prefix .entry))) (Shares (now (clauses .entry))) (now (classes .entry)) (now (parents .entry)) (now (classes .exit)) (now (parents .exit)) ⌝ }
+    ensures { λ r. ⌜ r ≡ length (Meaning·clauses (now (clauses .entry))) ⌝ }
+{
+    let mut depths = [0u32; 4097];
+    let mut loose = [0u32; 4097];
+    let mut ups = [0u32; 4097];
+    fill_depths(n, prefix, &mut depths);
+    singles(&depths, &mut loose, &mut ups);
+    let taken = put_all(&depths, &mut loose, &mut ups, clauses);
+    settle(&mut loose);
+    write_out(n, &loose, &ups, classes, parents);
+    taken
+}
+
+// Well-formed tables are loose rows already: the clause is put in, and the exact rows are written back.
+pub fn put_in(n: u32, prefix: &[u32], classes: &mut [u32], parents: &mut [u32], clause: &[i32])
+    requires { ⌜ SoundPrefix n (now prefix) × InRows (now clause) × (n ≤ length (now classes)) × (n ≤ length (now parents)) ⌝ }
+    requires { ⌜ FormedBy n (now prefix) (now classes) (now parents) ⌝ }
+    ensures { λ r. ⌜ Rowed (variables n (now (prefix .entry))) (Joined (joins (variables n (now (prefix .entry))) (lent (variables n (now (prefix .entry))) (now (classes .entry)) (now (parents .entry))) ++ (connected (now (clause .entry)) ∷ []))) (now (classes .entry)) (now (parents .entry)) (now (classes .exit)) (now (parents .exit)) ⌝ }
+{
+    let mut depths = [0u32; 4097];
+    let mut loose = [0u32; 4097];
+    let mut ups = [0u32; 4097];
+    fill_depths(n, prefix, &mut depths);
+    load(n, classes, &mut loose);
+    load(n, parents, &mut ups);
+    put_one(&depths, &mut loose, &mut ups, clause);
+    settle(&mut loose);
+    write_out(n, &loose, &ups, classes, parents);
+}

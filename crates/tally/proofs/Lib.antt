@@ -1,0 +1,2 @@
+-- What the two calls stand on.
+pub mod Thin
