@@ -168,16 +168,23 @@ module _ {n : ℕ} {es ds : List ℕ} {i : ℕ} {opening : Bool} {opened : ℕ} 
           (b, e ∙ is, omega arith, var, q)
 
   -- A fault at this entry is the first cause: all before it is clean, and no lower number has a cause here.
-  pub fault-range : opening ≡ true → (at ds i ≡ 0) ⊎ (n < at ds i) → First (ListCause n es ds) 25 i
+  fault-range : opening ≡ true → (at ds i ≡ 0) ⊎ (n < at ds i) → First (ListCause n es ds) 25 i
   fault-range opened′ w =
       let open′ = sym (s .opening-is) ∙ opened′ in
       first-at (s .clean) (outside refl (more, open′) w) (λ k cause. let q = at-open open′ k cause .0 in omega arith)
 
-  pub fault-placed : opening ≡ true → getD placed (at ds i) false ≡ true → First (ListCause n es ds) 25 i
+  fault-placed : opening ≡ true → getD placed (at ds i) false ≡ true → First (ListCause n es ds) 25 i
   fault-placed opened′ t =
       let open′ = sym (s .opening-is) ∙ opened′ in
       let low : (k : ℕ) → ListCause n es ds k i → 25 ≤ k = λ k cause. let q = at-open open′ k cause .0 in omega arith in
       ⊎-elim (λ b. first-at (s .clean) (in-block refl (more, open′) b) low) (λ h. let (b, l, m, q) = h in first-at (s .clean) (listed-before b refl (more, open′) l m q) low) (s .placed-each (at ds i) t)
+
+  pub fault-open : opening ≡ true → ((at ds i ≢ 0) × (at ds i ≤ n) × (getD placed (at ds i) false ≡ false) → ⊥) → First (ListCause n es ds) 25 i
+  fault-open opened′ bad = by-cases (ℕ-discrete (at ds i) 0) (λ z. fault-range opened′ (inl z)) (λ some. by-cases (decLt n (at ds i)) (λ over. fault-range opened′ (inr over)) (λ low. go (getD placed (at ds i) false) refl some (omega arith)))
+    where
+      go : (b : Bool) → getD placed (at ds i) false ≡ b → at ds i ≢ 0 → at ds i ≤ n → First (ListCause n es ds) 25 i
+      go true q some low = fault-placed opened′ q
+      go false q some low = absurd (bad (some, low, q))
 
   pub fault-no-universal : opening ≡ false → at ds i ≢ 0 → universal n es (at ds i) ≡ false → First (ListCause n es ds) 26 i
   fault-no-universal shut some u =

@@ -12,10 +12,12 @@ ghost use Prim.Native.Nat.{ℕ, _≤_};
 ghost use mathlib.Core.Path.{_≡_};
 ghost use mathlib.Core.Bool.{false};
 ghost use mathlib.Core.List.{[], _∷_};
+ghost use mathlib.Core.Logic.{_≢_};
 ghost use lib.ListN.{length, getD};
 ghost use Rattle.terms.specs.Refusals.{Judged};
 ghost use Rattle.formula.specs.Levels.{SoundPrefix};
 ghost use Rattle.tables.specs.Formula.{universalIn, universal};
+ghost use Rattle.tables.specs.Rows.{Tells};
 ghost use Rattle.lists.specs.Causes.{ListCause};
 ghost use Rattle.lists.specs.Inner.{Places, judgedEntries, formulaOrder, judgedOrder};
 
@@ -75,13 +77,7 @@ pub fn check_lists(n: u32, prefix: &[u32], universals: &[bool], lists: &[u32]) -
     while i < lists.len() {
         let entry = lists[i];
         if opens {
-            if entry == 0 {
-                return Verdict::Refused(25, i);
-            }
-            if n < entry {
-                return Verdict::Refused(25, i);
-            }
-            if placed[entry as usize] {
+            if !may_open(n, &placed, entry) {
                 return Verdict::Refused(25, i);
             }
             placed[entry as usize] = true;
@@ -107,6 +103,23 @@ pub fn check_lists(n: u32, prefix: &[u32], universals: &[bool], lists: &[u32]) -
     } else {
         Verdict::Refused(11, i)
     }
+}
+
+// Whether an entry may open a list: a variable of the formula that is not placed yet.
+fn may_open(n: u32, placed: &[bool], entry: u32) -> bool
+    requires { ⌜ (n ≤ 4096) × (length (now placed) ≡ 4097) ⌝ }
+    ensures { λ r. ⌜ Tells r ((entry ≢ 0) × (entry ≤ n) × (getD (now (placed .entry)) entry false ≡ false)) ⌝ }
+{
+    if entry == 0 {
+        return false;
+    }
+    if n < entry {
+        return false;
+    }
+    if placed[entry as usize] {
+        return false;
+    }
+    true
 }
 
 // Flags every variable that a block names.

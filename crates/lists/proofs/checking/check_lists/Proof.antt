@@ -1,16 +1,16 @@
 -- `lists::checking::check_lists` meets its contract: the scan's invariant is `Checked`.
 use Prim.Native.Nat.{ℕ, _-_}
-use mathlib.Core.Path.{_∙_}
+use mathlib.Core.Path.{sym, _∙_}
 use mathlib.Core.Bool.{false}
-use mathlib.Core.Logic.{inl, inr}
+use mathlib.Core.Logic.{inl}
 use native.Mathlib.Omega.{arith}
 use borrow.Author.Needs.{needs}
 use borrow.Author.Tests.{not-true, not-false}
 use lib.ListN.{length, length-replicate}
 use Rattle.formula.proofs.Named.{unnamed}
 use Rattle.tables.proofs.Agreeing.{universal-within}
-use Rattle.tables.proofs.Readings.{new-zero}
-use Rattle.lists.proofs.Checked.{Checked, check-none, check-open, check-close, check-x, fault-range, fault-placed, fault-no-universal, fault-twice, none-in-lists, fault-at-end, told-universal}
+use Rattle.tables.proofs.Readings.{new-zero, told, told-not}
+use Rattle.lists.proofs.Checked.{Checked, check-none, check-open, check-close, check-x, fault-open, fault-no-universal, fault-twice, none-in-lists, fault-at-end, told-universal}
 use Rattle.lists.proofs.checking.check_lists.Statement.{statement}
 use Rattle.lists.proofs.checking.check_lists.Tie as tie
 
@@ -35,26 +35,33 @@ mul-entry c = search needs
 shared-slice-read-entry : tie.Need-shared-slice-read-entry Inv-loop μ-loop
 shared-slice-read-entry c = search needs
 
+slice-aggregate-may-open : tie.Need-slice-aggregate-may-open Inv-loop μ-loop
+slice-aggregate-may-open c = sym (c .before .before .before .before .loop .inv .sizes .0)
+
+may-open-requires : tie.Need-may-open-requires Inv-loop μ-loop
+may-open-requires c κs = (c .before .before .before .before .before .before .before .before .before .before .before .pre .0 .few, c .before .before .before .before .loop .inv .sizes .0)
+
 returns : tie.Need-returns Inv-loop μ-loop
-returns c = inl (fault-range (c .before .before .before .before .loop .inv) (c .before .before .before .loop-test .taken) (c .before .if1 .taken) (inl (c .if2 .taken)))
-
-returns-2 : tie.Need-returns-2 Inv-loop μ-loop
-returns-2 c = inl (fault-range (c .before .before .before .before .before .loop .inv) (c .before .before .before .before .loop-test .taken) (c .before .before .if1 .taken) (inr (c .if3 .taken)))
-
-cast-if4 : tie.Need-cast-if4 Inv-loop μ-loop
-cast-if4 c = let few = c .before .before .before .before .before .before .before .before .before .before .before .before .pre .0 .few in let l = c .if3 .left in omega arith
-
-array-read-if4 : tie.Need-array-read-if4 Inv-loop μ-loop
-array-read-if4 c = let few = c .before .before .before .before .before .before .before .before .before .before .before .before .pre .0 .few in let l = c .if3 .left in let size = c .before .before .before .before .before .loop .inv .sizes .0 in omega arith
-
-returns-3 : tie.Need-returns-3 Inv-loop μ-loop
-returns-3 c = inl (fault-placed (c .before .before .before .before .before .before .loop .inv) (c .before .before .before .before .before .loop-test .taken) (c .before .before .before .if1 .taken) (c .if4 .taken))
+returns c =
+    let m = c .before .may-open in
+    inl (fault-open (c .before .before .before .before .before .before .loop .inv) (c .before .before .before .before .before .loop-test .taken) (c .before .before .before .if1 .taken) (told-not (m .result) (not-true (m .result) (c .if2 .taken)) (m .ensures)))
 
 cast-placed : tie.Need-cast-placed Inv-loop μ-loop
-cast-placed c = let few = c .before .before .before .before .before .before .before .before .before .before .before .before .before .pre .0 .few in let l = c .before .if3 .left in omega arith
+cast-placed c =
+    let m = c .before .may-open in
+    let may = told (m .result) (not-false (m .result) (c .if2 .left)) (m .ensures) in
+    let low = may .1 in
+    let few = c .before .before .before .before .before .before .before .before .before .before .before .before .before .pre .0 .few in
+    omega arith
 
 array-write-placed : tie.Need-array-write-placed Inv-loop μ-loop
-array-write-placed c = let few = c .before .before .before .before .before .before .before .before .before .before .before .before .before .pre .0 .few in let l = c .before .if3 .left in let size = c .before .before .before .before .before .before .loop .inv .sizes .0 in omega arith
+array-write-placed c =
+    let m = c .before .may-open in
+    let may = told (m .result) (not-false (m .result) (c .if2 .left)) (m .ensures) in
+    let low = may .1 in
+    let few = c .before .before .before .before .before .before .before .before .before .before .before .before .before .pre .0 .few in
+    let size = c .before .before .before .before .before .before .loop .inv .sizes .0 in
+    omega arith
 
 add-i : tie.Need-add-i Inv-loop μ-loop
 add-i c = omega arith
@@ -66,7 +73,10 @@ loop-less : tie.Need-loop-less Inv-loop μ-loop
 loop-less c = omega arith
 
 loop-again : tie.Need-loop-again Inv-loop μ-loop
-loop-again c = check-open (c .before .before .before .before .before .before .loop .inv) (c .before .before .before .before .before .loop-test .taken) (c .before .before .before .if1 .taken) (c .before .before .if2 .left) (c .before .if3 .left) (c .before .before .before .before .before .before .before .before .before .before .before .before .before .pre .0 .few) (c .if4 .left)
+loop-again c =
+    let m = c .before .may-open in
+    let may = told (m .result) (not-false (m .result) (c .if2 .left)) (m .ensures) in
+    check-open (c .before .before .before .before .before .before .loop .inv) (c .before .before .before .before .before .loop-test .taken) (c .before .before .before .if1 .taken) (may .0) (may .1) (c .before .before .before .before .before .before .before .before .before .before .before .before .before .pre .0 .few) (may .2)
 
 add-i-2 : tie.Need-add-i-2 Inv-loop μ-loop
 add-i-2 c = omega arith
@@ -75,7 +85,7 @@ loop-less-2 : tie.Need-loop-less-2 Inv-loop μ-loop
 loop-less-2 c = omega arith
 
 loop-again-2 : tie.Need-loop-again-2 Inv-loop μ-loop
-loop-again-2 c = check-close (c .before .before .before .before .loop .inv) (c .before .before .before .loop-test .taken) (c .before .if1 .left) (c .if5 .taken)
+loop-again-2 c = check-close (c .before .before .before .before .loop .inv) (c .before .before .before .loop-test .taken) (c .before .if1 .left) (c .if3 .taken)
 
 new-requires : tie.Need-new-requires Inv-loop μ-loop
 new-requires c κs = search needs
@@ -83,35 +93,35 @@ new-requires c κs = search needs
 universal-at-requires : tie.Need-universal-at-requires Inv-loop μ-loop
 universal-at-requires c κs = search needs
 
-returns-4 : tie.Need-returns-4 Inv-loop μ-loop
-returns-4 c =
+returns-2 : tie.Need-returns-2 Inv-loop μ-loop
+returns-2 c =
     let u = c .before .universal-at in
-    inl (fault-no-universal (c .before .before .before .before .before .before .before .loop .inv) (c .before .before .before .before .before .before .loop-test .taken) (c .before .before .before .before .if1 .left) (c .before .before .before .if5 .left) (told-universal (c .before .before .before .before .before .before .before .before .before .before .before .before .before .before .args .n) (c .before .before .before .before .before .before .before .before .before .before .before .before .before .before .args .universals .now) (c .before .before .before .before .before .before .before .before .before .before .before .before .before .before .args .prefix .now) (c .before .before .before .before .before .before .before .before .before .before .before .before .before .before .pre .2) (c .before .before .new .ensures) (u .ensures) ∙ not-true (u .result) (c .if6 .taken)))
+    inl (fault-no-universal (c .before .before .before .before .before .before .before .loop .inv) (c .before .before .before .before .before .before .loop-test .taken) (c .before .before .before .before .if1 .left) (c .before .before .before .if3 .left) (told-universal (c .before .before .before .before .before .before .before .before .before .before .before .before .before .before .args .n) (c .before .before .before .before .before .before .before .before .before .before .before .before .before .before .args .universals .now) (c .before .before .before .before .before .before .before .before .before .before .before .before .before .before .args .prefix .now) (c .before .before .before .before .before .before .before .before .before .before .before .before .before .before .pre .2) (c .before .before .new .ensures) (u .ensures) ∙ not-true (u .result) (c .if4 .taken)))
 
-cast-if7 : tie.Need-cast-if7 Inv-loop μ-loop
-cast-if7 c =
+cast-if5 : tie.Need-cast-if5 Inv-loop μ-loop
+cast-if5 c =
     let u = c .before .universal-at in
-    let (a, b, t) = universal-within (c .before .before .before .before .before .before .before .before .before .before .before .before .before .before .args .n) (c .before .before .before .before .before .before .before .before .before .before .before .before .before .before .args .prefix .now) _ (told-universal (c .before .before .before .before .before .before .before .before .before .before .before .before .before .before .args .n) (c .before .before .before .before .before .before .before .before .before .before .before .before .before .before .args .universals .now) (c .before .before .before .before .before .before .before .before .before .before .before .before .before .before .args .prefix .now) (c .before .before .before .before .before .before .before .before .before .before .before .before .before .before .pre .2) (c .before .before .new .ensures) (u .ensures) ∙ not-false (u .result) (c .if6 .left)) in
+    let (a, b, t) = universal-within (c .before .before .before .before .before .before .before .before .before .before .before .before .before .before .args .n) (c .before .before .before .before .before .before .before .before .before .before .before .before .before .before .args .prefix .now) _ (told-universal (c .before .before .before .before .before .before .before .before .before .before .before .before .before .before .args .n) (c .before .before .before .before .before .before .before .before .before .before .before .before .before .before .args .universals .now) (c .before .before .before .before .before .before .before .before .before .before .before .before .before .before .args .prefix .now) (c .before .before .before .before .before .before .before .before .before .before .before .before .before .before .pre .2) (c .before .before .new .ensures) (u .ensures) ∙ not-false (u .result) (c .if4 .left)) in
     let few = c .before .before .before .before .before .before .before .before .before .before .before .before .before .before .pre .0 .few in
     omega arith
 
-mul-if7 : tie.Need-mul-if7 Inv-loop μ-loop
-mul-if7 c =
+mul-if5 : tie.Need-mul-if5 Inv-loop μ-loop
+mul-if5 c =
     let u = c .before .universal-at in
-    let (a, b, t) = universal-within (c .before .before .before .before .before .before .before .before .before .before .before .before .before .before .args .n) (c .before .before .before .before .before .before .before .before .before .before .before .before .before .before .args .prefix .now) _ (told-universal (c .before .before .before .before .before .before .before .before .before .before .before .before .before .before .args .n) (c .before .before .before .before .before .before .before .before .before .before .before .before .before .before .args .universals .now) (c .before .before .before .before .before .before .before .before .before .before .before .before .before .before .args .prefix .now) (c .before .before .before .before .before .before .before .before .before .before .before .before .before .before .pre .2) (c .before .before .new .ensures) (u .ensures) ∙ not-false (u .result) (c .if6 .left)) in
+    let (a, b, t) = universal-within (c .before .before .before .before .before .before .before .before .before .before .before .before .before .before .args .n) (c .before .before .before .before .before .before .before .before .before .before .before .before .before .before .args .prefix .now) _ (told-universal (c .before .before .before .before .before .before .before .before .before .before .before .before .before .before .args .n) (c .before .before .before .before .before .before .before .before .before .before .before .before .before .before .args .universals .now) (c .before .before .before .before .before .before .before .before .before .before .before .before .before .before .args .prefix .now) (c .before .before .before .before .before .before .before .before .before .before .before .before .before .before .pre .2) (c .before .before .new .ensures) (u .ensures) ∙ not-false (u .result) (c .if4 .left)) in
     let few = c .before .before .before .before .before .before .before .before .before .before .before .before .before .before .pre .0 .few in
     omega arith
 
-array-read-if7 : tie.Need-array-read-if7 Inv-loop μ-loop
-array-read-if7 c =
+array-read-if5 : tie.Need-array-read-if5 Inv-loop μ-loop
+array-read-if5 c =
     let u = c .before .universal-at in
-    let (a, b, t) = universal-within (c .before .before .before .before .before .before .before .before .before .before .before .before .before .before .args .n) (c .before .before .before .before .before .before .before .before .before .before .before .before .before .before .args .prefix .now) _ (told-universal (c .before .before .before .before .before .before .before .before .before .before .before .before .before .before .args .n) (c .before .before .before .before .before .before .before .before .before .before .before .before .before .before .args .universals .now) (c .before .before .before .before .before .before .before .before .before .before .before .before .before .before .args .prefix .now) (c .before .before .before .before .before .before .before .before .before .before .before .before .before .before .pre .2) (c .before .before .new .ensures) (u .ensures) ∙ not-false (u .result) (c .if6 .left)) in
+    let (a, b, t) = universal-within (c .before .before .before .before .before .before .before .before .before .before .before .before .before .before .args .n) (c .before .before .before .before .before .before .before .before .before .before .before .before .before .before .args .prefix .now) _ (told-universal (c .before .before .before .before .before .before .before .before .before .before .before .before .before .before .args .n) (c .before .before .before .before .before .before .before .before .before .before .before .before .before .before .args .universals .now) (c .before .before .before .before .before .before .before .before .before .before .before .before .before .before .args .prefix .now) (c .before .before .before .before .before .before .before .before .before .before .before .before .before .before .pre .2) (c .before .before .new .ensures) (u .ensures) ∙ not-false (u .result) (c .if4 .left)) in
     let few = c .before .before .before .before .before .before .before .before .before .before .before .before .before .before .pre .0 .few in
     let size = c .before .before .before .before .before .before .before .loop .inv .sizes .1 in
     omega arith
 
-returns-5 : tie.Need-returns-5 Inv-loop μ-loop
-returns-5 c = inl (fault-twice (c .before .before .before .before .before .before .before .before .loop .inv) (c .before .before .before .before .before .before .before .loop-test .taken) (c .before .before .before .before .before .if1 .left) (c .before .before .before .before .if5 .left) (c .if7 .taken))
+returns-3 : tie.Need-returns-3 Inv-loop μ-loop
+returns-3 c = inl (fault-twice (c .before .before .before .before .before .before .before .before .loop .inv) (c .before .before .before .before .before .before .before .loop-test .taken) (c .before .before .before .before .before .if1 .left) (c .before .before .before .before .if3 .left) (c .if5 .taken))
 
 add-i-3 : tie.Need-add-i-3 Inv-loop μ-loop
 add-i-3 c = omega arith
@@ -122,21 +132,21 @@ cast-last c = let l = c .before .before .before .before .before .before .before 
 cast-last-2 : tie.Need-cast-last-2 Inv-loop μ-loop
 cast-last-2 c =
     let u = c .before .before .universal-at in
-    let (a, b, t) = universal-within (c .before .before .before .before .before .before .before .before .before .before .before .before .before .before .before .args .n) (c .before .before .before .before .before .before .before .before .before .before .before .before .before .before .before .args .prefix .now) _ (told-universal (c .before .before .before .before .before .before .before .before .before .before .before .before .before .before .before .args .n) (c .before .before .before .before .before .before .before .before .before .before .before .before .before .before .before .args .universals .now) (c .before .before .before .before .before .before .before .before .before .before .before .before .before .before .before .args .prefix .now) (c .before .before .before .before .before .before .before .before .before .before .before .before .before .before .before .pre .2) (c .before .before .before .new .ensures) (u .ensures) ∙ not-false (u .result) (c .before .if6 .left)) in
+    let (a, b, t) = universal-within (c .before .before .before .before .before .before .before .before .before .before .before .before .before .before .before .args .n) (c .before .before .before .before .before .before .before .before .before .before .before .before .before .before .before .args .prefix .now) _ (told-universal (c .before .before .before .before .before .before .before .before .before .before .before .before .before .before .before .args .n) (c .before .before .before .before .before .before .before .before .before .before .before .before .before .before .before .args .universals .now) (c .before .before .before .before .before .before .before .before .before .before .before .before .before .before .before .args .prefix .now) (c .before .before .before .before .before .before .before .before .before .before .before .before .before .before .before .pre .2) (c .before .before .before .new .ensures) (u .ensures) ∙ not-false (u .result) (c .before .if4 .left)) in
     let few = c .before .before .before .before .before .before .before .before .before .before .before .before .before .before .before .pre .0 .few in
     omega arith
 
 mul-last : tie.Need-mul-last Inv-loop μ-loop
 mul-last c =
     let u = c .before .before .universal-at in
-    let (a, b, t) = universal-within (c .before .before .before .before .before .before .before .before .before .before .before .before .before .before .before .args .n) (c .before .before .before .before .before .before .before .before .before .before .before .before .before .before .before .args .prefix .now) _ (told-universal (c .before .before .before .before .before .before .before .before .before .before .before .before .before .before .before .args .n) (c .before .before .before .before .before .before .before .before .before .before .before .before .before .before .before .args .universals .now) (c .before .before .before .before .before .before .before .before .before .before .before .before .before .before .before .args .prefix .now) (c .before .before .before .before .before .before .before .before .before .before .before .before .before .before .before .pre .2) (c .before .before .before .new .ensures) (u .ensures) ∙ not-false (u .result) (c .before .if6 .left)) in
+    let (a, b, t) = universal-within (c .before .before .before .before .before .before .before .before .before .before .before .before .before .before .before .args .n) (c .before .before .before .before .before .before .before .before .before .before .before .before .before .before .before .args .prefix .now) _ (told-universal (c .before .before .before .before .before .before .before .before .before .before .before .before .before .before .before .args .n) (c .before .before .before .before .before .before .before .before .before .before .before .before .before .before .before .args .universals .now) (c .before .before .before .before .before .before .before .before .before .before .before .before .before .before .before .args .prefix .now) (c .before .before .before .before .before .before .before .before .before .before .before .before .before .before .before .pre .2) (c .before .before .before .new .ensures) (u .ensures) ∙ not-false (u .result) (c .before .if4 .left)) in
     let few = c .before .before .before .before .before .before .before .before .before .before .before .before .before .before .before .pre .0 .few in
     omega arith
 
 array-write-last : tie.Need-array-write-last Inv-loop μ-loop
 array-write-last c =
     let u = c .before .before .universal-at in
-    let (a, b, t) = universal-within (c .before .before .before .before .before .before .before .before .before .before .before .before .before .before .before .args .n) (c .before .before .before .before .before .before .before .before .before .before .before .before .before .before .before .args .prefix .now) _ (told-universal (c .before .before .before .before .before .before .before .before .before .before .before .before .before .before .before .args .n) (c .before .before .before .before .before .before .before .before .before .before .before .before .before .before .before .args .universals .now) (c .before .before .before .before .before .before .before .before .before .before .before .before .before .before .before .args .prefix .now) (c .before .before .before .before .before .before .before .before .before .before .before .before .before .before .before .pre .2) (c .before .before .before .new .ensures) (u .ensures) ∙ not-false (u .result) (c .before .if6 .left)) in
+    let (a, b, t) = universal-within (c .before .before .before .before .before .before .before .before .before .before .before .before .before .before .before .args .n) (c .before .before .before .before .before .before .before .before .before .before .before .before .before .before .before .args .prefix .now) _ (told-universal (c .before .before .before .before .before .before .before .before .before .before .before .before .before .before .before .args .n) (c .before .before .before .before .before .before .before .before .before .before .before .before .before .before .before .args .universals .now) (c .before .before .before .before .before .before .before .before .before .before .before .before .before .before .before .args .prefix .now) (c .before .before .before .before .before .before .before .before .before .before .before .before .before .before .before .pre .2) (c .before .before .before .new .ensures) (u .ensures) ∙ not-false (u .result) (c .before .if4 .left)) in
     let few = c .before .before .before .before .before .before .before .before .before .before .before .before .before .before .before .pre .0 .few in
     let size = c .before .before .before .before .before .before .before .before .loop .inv .sizes .1 in
     omega arith
@@ -147,13 +157,13 @@ loop-less-3 c = omega arith
 loop-again-3 : tie.Need-loop-again-3 Inv-loop μ-loop
 loop-again-3 c =
     let u = c .before .before .universal-at in
-    check-x (c .before .before .before .before .before .before .before .before .loop .inv) (c .before .before .before .before .before .before .before .loop-test .taken) (c .before .before .before .before .before .if1 .left) (c .before .before .before .before .if5 .left) (told-universal (c .before .before .before .before .before .before .before .before .before .before .before .before .before .before .before .args .n) (c .before .before .before .before .before .before .before .before .before .before .before .before .before .before .before .args .universals .now) (c .before .before .before .before .before .before .before .before .before .before .before .before .before .before .before .args .prefix .now) (c .before .before .before .before .before .before .before .before .before .before .before .before .before .before .before .pre .2) (c .before .before .before .new .ensures) (u .ensures) ∙ not-false (u .result) (c .before .if6 .left)) (c .before .before .before .before .before .before .before .before .before .before .before .before .before .before .before .pre .0 .few) (c .if7 .left)
+    check-x (c .before .before .before .before .before .before .before .before .loop .inv) (c .before .before .before .before .before .before .before .loop-test .taken) (c .before .before .before .before .before .if1 .left) (c .before .before .before .before .if3 .left) (told-universal (c .before .before .before .before .before .before .before .before .before .before .before .before .before .before .before .args .n) (c .before .before .before .before .before .before .before .before .before .before .before .before .before .before .before .args .universals .now) (c .before .before .before .before .before .before .before .before .before .before .before .before .before .before .before .args .prefix .now) (c .before .before .before .before .before .before .before .before .before .before .before .before .before .before .before .pre .2) (c .before .before .before .new .ensures) (u .ensures) ∙ not-false (u .result) (c .before .if4 .left)) (c .before .before .before .before .before .before .before .before .before .before .before .before .before .before .before .pre .0 .few) (c .if5 .left)
 
-returns-6 : tie.Need-returns-6 Inv-loop μ-loop
-returns-6 c = (none-in-lists (c .before .before .loop .inv) (c .before .loop-test .left) (c .if8 .taken), tt)
+returns-4 : tie.Need-returns-4 Inv-loop μ-loop
+returns-4 c = (none-in-lists (c .before .before .loop .inv) (c .before .loop-test .left) (c .if6 .taken), tt)
 
-returns-7 : tie.Need-returns-7 Inv-loop μ-loop
-returns-7 c = inl (fault-at-end (c .before .before .loop .inv) (c .before .loop-test .left) (c .if8 .left))
+returns-5 : tie.Need-returns-5 Inv-loop μ-loop
+returns-5 c = inl (fault-at-end (c .before .before .loop .inv) (c .before .loop-test .left) (c .if6 .left))
 
 pub check-lists-spec : {M : Type 1} → statement M
 check-lists-spec =
@@ -166,11 +176,9 @@ check-lists-spec =
     loop-holds
     mul-entry
     shared-slice-read-entry
+    slice-aggregate-may-open
+    may-open-requires
     returns
-    returns-2
-    cast-if4
-    array-read-if4
-    returns-3
     cast-placed
     array-write-placed
     add-i
@@ -182,11 +190,11 @@ check-lists-spec =
     loop-again-2
     new-requires
     universal-at-requires
-    returns-4
-    cast-if7
-    mul-if7
-    array-read-if7
-    returns-5
+    returns-2
+    cast-if5
+    mul-if5
+    array-read-if5
+    returns-3
     add-i-3
     cast-last
     cast-last-2
@@ -194,5 +202,5 @@ check-lists-spec =
     array-write-last
     loop-less-3
     loop-again-3
-    returns-6
-    returns-7)
+    returns-4
+    returns-5)
