@@ -11,7 +11,7 @@ use Rattle.terms.specs.Refusals.{NoneOf}
 use Rattle.qdimacs.specs.declared.Stage.{Stage}
 use Rattle.qdimacs.specs.Words.{words}
 use Rattle.qdimacs.specs.Grammar.{placeAfter}
-use Rattle.qdimacs.specs.Reading.{Overlong, overlong}
+use Rattle.spelling.specs.Texts.{Overlong, overlong}
 use Rattle.dqdimacs.specs.Grammar.{ListLine, d-line, ListedLine, a-line, a-list, ListedLines, no-line, one-more, ListedText, ListedFault, outside, unended, no-problem, many, few, ListedFaultIn}
 use Rattle.dqdimacs.specs.Reading.{Tables, NoRoom, no-room-prefix, no-room-clauses, no-room-lists, readOrder, Filled, ReadInto}
 use Rattle.capi.proofs.Places.{Small, small-then, small-within}

@@ -4,8 +4,8 @@ use mathlib.Core.List.{List, [], _∷_, _++_}
 use native.Mathlib.Omega.{arith}
 use lib.ListN.{length}
 use Rattle.terms.specs.Refusals.{Causes, NoneOf}
-use Rattle.qdimacs.specs.Reading.{Overlong, overlong}
-use Rattle.qdimacs.specs.Stored.{ShortOut, short-out, writeOrder, Stored}
+use Rattle.spelling.specs.Texts.{Overlong, overlong}
+use Rattle.spelling.specs.Stored.{ShortOut, short-out, writeOrder, Stored}
 use Rattle.capi.proofs.Places.{Small, small-then, small-within}
 use Rattle.capi.proofs.Texts.{overlong-place}
 

@@ -1,9 +1,9 @@
 // The calls for C that read and write text with dependency lists, the second under a reading rule.
 
 use dqdimacs::Reading;
-use qdimacs::Output;
+use spelling::Output;
 ghost use mathlib.Core.Path.{_≡_};
-ghost use Rattle.qdimacs.specs.Stored.{Stored, writeOrder};
+ghost use Rattle.spelling.specs.Stored.{Stored, writeOrder};
 ghost use mathlib.Core.List.{_++_};
 ghost use Rattle.lists.specs.Causes.{checkListsOrder};
 ghost use Rattle.dqdimacs.specs.Reading.{readOrder, ReadInto};

@@ -19,9 +19,9 @@ use Rattle.tables.proofs.Agreeing.{universal-within}
 use Rattle.joining.specs.Rules.{readAs, checkOrderUnder}
 use Rattle.joining.proofs.Orders.{limits}
 use Rattle.joining.proofs.Passing.{by-test}
-use Rattle.qdimacs.specs.declared.Output.the-variants.{Written}
-use Rattle.qdimacs.specs.Bytes.{SmallEntries, SmallLiterals}
-use Rattle.qdimacs.specs.Reading.{TEXT-MOST, overlong}
+use Rattle.spelling.specs.declared.Output.the-variants.{Written}
+use Rattle.spelling.specs.Bytes.{SmallEntries, SmallLiterals}
+use Rattle.spelling.specs.Texts.{TEXT-MOST, overlong}
 use Rattle.ruled.proofs.Texts.{small, held}
 use Rattle.lists.specs.Causes.{ListCause, checkListsOrder}
 use Rattle.dqdimacs.specs.declared.Reading.{Reading}

@@ -6,11 +6,11 @@ use mathlib.Core.List.{List, [], _∷_, _++_}
 use native.Mathlib.Omega.{arith}
 use lib.Dec.{eqb}
 use lib.ListN.{length, getD, length-append}
-use Rattle.qdimacs.specs.Words.{SPACE}
-use Rattle.qdimacs.specs.Writing.{decimal, spaced, ended}
-use Rattle.qdimacs.specs.Bytes.{SmallEntries, entryBytes}
-use Rattle.qdimacs.proofs.Decimal.{digits}
-use Rattle.qdimacs.proofs.Stores.{ended-split, ended-most, text-most}
+use Rattle.spelling.specs.Texts.{SPACE}
+use Rattle.spelling.specs.Writing.{decimal, spaced, ended}
+use Rattle.spelling.specs.Bytes.{SmallEntries, entryBytes}
+use Rattle.spelling.proofs.Decimal.{digits-most}
+use Rattle.spelling.proofs.Stores.{ended-split, ended-most, text-most}
 use Rattle.dqdimacs.specs.Grammar.{LETTER-D}
 use Rattle.dqdimacs.specs.Writing.{lettered, listText, listBytes}
 
@@ -36,8 +36,8 @@ letter-most false = omega arith
 
 pub list-most : (first : Bool) (entry : ℕ) → entry < 100000 → length (listBytes first entry) ≤ 8
 unfolding listBytes lettered spaced
-list-most true entry h = omega (arith, length-append (decimal entry) (ended (eqb entry 0) []), digits entry 4 h .most, ended-most (eqb entry 0))
-list-most false entry h = omega (arith, length-append (decimal entry) (ended (eqb entry 0) []), digits entry 4 h .most, ended-most (eqb entry 0))
+list-most true entry h = omega (arith, length-append (decimal entry) (ended (eqb entry 0) []), digits-most entry 4 h, ended-most (eqb entry 0))
+list-most false entry h = omega (arith, length-append (decimal entry) (ended (eqb entry 0) []), digits-most entry 4 h, ended-most (eqb entry 0))
 
 pub no-lists : (b : Bool) → listText b [] ≡ []
 unfolding listText

@@ -9,8 +9,8 @@ use lib.ListN.{length, take, drop}
 use lib.Seq.{sets-eq, take-at, drop-at}
 use lib.IntN.{ℤ}
 use Rattle.terms.specs.Refusals.{First, FirstOf, None, NoneOf}
-use Rattle.qdimacs.specs.Reading.{TEXT-MOST}
-use Rattle.qdimacs.proofs.Readings.{not-overlong}
+use Rattle.spelling.specs.Texts.{TEXT-MOST}
+use Rattle.spelling.proofs.Outputs.{not-overlong}
 use Rattle.dqdimacs.specs.declared.Reading.{Reading}
 use Rattle.dqdimacs.specs.declared.Reading.the-variants.{Read, Refused}
 use Rattle.dqdimacs.specs.Grammar.{ListedText, ListedFaultIn}

@@ -8,7 +8,7 @@ use lib.IntN.{ℤ}
 use lib.ListN.{length, take}
 use lib.Seq.{length-take-le}
 use Rattle.terms.proofs.Verdicts.{first-or-none}
-use Rattle.qdimacs.specs.Reading.{TEXT-MOST}
+use Rattle.spelling.specs.Texts.{TEXT-MOST}
 use Rattle.qdimacs.proofs.Holdable.{Holdable}
 use Rattle.dqdimacs.specs.declared.Reading.{Reading}
 use Rattle.dqdimacs.specs.declared.Reading.the-variants.{Read, Refused}

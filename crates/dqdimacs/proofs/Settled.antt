@@ -7,7 +7,7 @@ use lib.ListN.{length, take, drop}
 use lib.Seq.{length-take-le}
 use lib.IntN.{ℤ}
 use Rattle.terms.proofs.Verdicts.{firstOf-same, first-or-none}
-use Rattle.qdimacs.specs.declared.Output.{Output}
+use Rattle.spelling.specs.declared.Output.{Output}
 use Rattle.qdimacs.proofs.Settled.{rows-same}
 use Rattle.qdimacs.proofs.Settled as writing
 use Rattle.lists.specs.Causes.{checkListsOrder}

@@ -11,7 +11,7 @@ use Rattle.qdimacs.specs.declared.Stage.{Stage}
 use Rattle.qdimacs.specs.declared.Stage.the-variants.{Opening, Body}
 use Rattle.qdimacs.specs.Words.{LF, SPACE, ZERO, onto, pieces, words, entriesOf}
 use Rattle.qdimacs.specs.Grammar.{variables, p-cnf, the-problem}
-use Rattle.qdimacs.specs.Writing.{decimal, digitsOf, spaced, ended, prefixText, clauseText, clauseCount}
+use Rattle.spelling.specs.Writing.{decimal, digitsOf, spaced, ended, prefixText, clauseText, clauseCount}
 use Rattle.qdimacs.proofs.Decimal.{decimal-number}
 use Rattle.qdimacs.proofs.Holdable.{Holdable}
 use Rattle.qdimacs.proofs.Written.{pieces-front, pieces-spaced, decimal-without, zero-row, variable-taken, letter-words, BlockLines, blocks, ClauseLines, clauses, problem-bytes, problem-cut, problem-words}

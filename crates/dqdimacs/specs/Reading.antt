@@ -6,7 +6,7 @@ use mathlib.Core.List.{List, [], _∷_}
 use lib.ListN.{length, take, drop}
 use lib.IntN.{ℤ}
 use Rattle.terms.specs.Refusals.{Causes, FirstOf, NoneOf}
-use Rattle.qdimacs.specs.Reading.{Overlong}
+use Rattle.spelling.specs.Texts.{Overlong}
 use Rattle.dqdimacs.specs.declared.Reading.{Reading}
 use Rattle.dqdimacs.specs.declared.Reading.the-variants.{Read, Refused}
 use Rattle.dqdimacs.specs.Grammar.{ListedText, ListedFaultIn}

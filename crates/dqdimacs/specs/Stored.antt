@@ -3,8 +3,8 @@
 use Prim.Native.Nat.{ℕ}
 use mathlib.Core.List.{List}
 use lib.IntN.{ℤ}
-use Rattle.qdimacs.specs.declared.Output.{Output}
-use Rattle.qdimacs.specs.Stored.{WritesAfter}
+use Rattle.spelling.specs.declared.Output.{Output}
+use Rattle.spelling.specs.Stored.{WritesAfter}
 use Rattle.lists.specs.Causes.{checkListsOrder}
 use Rattle.dqdimacs.specs.Writing.{listedTextOf}
 

@@ -5,7 +5,7 @@ use mathlib.Core.Bool.{Bool, true, false}
 use mathlib.Core.List.{List, [], _∷_, _++_}
 use lib.Dec.{eqb}
 use lib.IntN.{ℤ}
-use Rattle.qdimacs.specs.Writing.{decimal, spaced, ended, prefixText, clauseText, clauseCount, problemBytes}
+use Rattle.spelling.specs.Writing.{decimal, spaced, ended, prefixText, clauseText, clauseCount, problemBytes}
 use Rattle.dqdimacs.specs.Grammar.{LETTER-D}
 
 -- The letter in front of the first number of a list.

@@ -4,10 +4,10 @@ mod lines;
 mod scanning;
 mod writing;
 
-use qdimacs::Output;
 use qdimacs::Stage;
-use qdimacs::TEXT_MOST;
 use scanning::scan;
+use spelling::Output;
+use spelling::TEXT_MOST;
 use terms::Verdict;
 use writing::write_accepted;
 ghost use Rattle.dqdimacs.specs.Reading.{ReadIs};

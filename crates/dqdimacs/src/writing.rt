@@ -1,20 +1,20 @@
 // The writer of accepted tables: the lines of QDIMACS, with those of the table of lists between the quantifier lines and the clause lines.
 
 use crate::LETTER_D;
-use qdimacs::Output;
-use qdimacs::TEXT_MOST;
-use qdimacs::bytes::put_byte;
-use qdimacs::writing::count_clauses;
-use qdimacs::writing::put_clauses;
-use qdimacs::writing::put_entry;
-use qdimacs::writing::put_prefix;
-use qdimacs::writing::put_problem;
+use spelling::Output;
+use spelling::TEXT_MOST;
+use spelling::bytes::put_byte;
+use spelling::writing::count_clauses;
+use spelling::writing::put_clauses;
+use spelling::writing::put_entry;
+use spelling::writing::put_prefix;
+use spelling::writing::put_problem;
 ghost use mathlib.Core.List.{[]};
 ghost use mathlib.Core.Bool.{true};
 ghost use Prim.Native.Nat.{_<_, _≤_};
 ghost use lib.ListN.{length};
-ghost use Rattle.qdimacs.specs.Bytes.{Wrote, SmallEntries, SmallLiterals};
-ghost use Rattle.qdimacs.specs.Stored.{WriteIs};
+ghost use Rattle.spelling.specs.Bytes.{Wrote, SmallEntries, SmallLiterals};
+ghost use Rattle.spelling.specs.Stored.{WriteIs};
 ghost use Rattle.dqdimacs.specs.Writing.{lettered, listText, listBytes, listedTextOf};
 
 // Writes the text of tables that were accepted into a lent buffer. The length is found first, in a buffer of its own that no one sees, so that

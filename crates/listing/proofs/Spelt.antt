@@ -6,9 +6,9 @@ use mathlib.Core.List.{List, [], _∷_, _++_}
 use native.Mathlib.Omega.{arith}
 use lib.IntN.{pos}
 use lib.ListN.{length, getD, length-append}
-use Rattle.qdimacs.specs.Writing.{decimal, literalWord}
-use Rattle.qdimacs.specs.Bytes.{Wrote}
-use Rattle.qdimacs.proofs.Stores.{word-most, Upto, upto-none, upto-more, upto-all}
+use Rattle.spelling.specs.Writing.{decimal, literalWord}
+use Rattle.spelling.specs.Bytes.{Wrote}
+use Rattle.spelling.proofs.Stores.{word-most, Upto, upto-none, upto-more, upto-all}
 use Rattle.listing.specs.Lines.{numbers}
 
 -- a number of at most five digits

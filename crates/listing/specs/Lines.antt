@@ -2,8 +2,8 @@
 use Prim.Native.Nat.{ℕ, _+_, _<_, _≤_}
 use mathlib.Core.List.{List, [], _∷_, _++_}
 use lib.ListN.{length, getD}
-use Rattle.qdimacs.specs.Writing.{decimal}
-use Rattle.qdimacs.specs.Bytes.{Wrote}
+use Rattle.spelling.specs.Writing.{decimal}
+use Rattle.spelling.specs.Bytes.{Wrote}
 
 -- the words between the numbers, each with the spaces around it
 abbrev pub VARS : List ℕ

@@ -1,12 +1,12 @@
 // The bytes of each line that the program prints, stored from the start of a lent buffer, and how many they are.
 
-use qdimacs::bytes::put_byte;
-use qdimacs::bytes::put_number;
+use spelling::bytes::put_byte;
+use spelling::bytes::put_number;
 ghost use Prim.Native.Nat.{_<_};
 ghost use mathlib.Core.List.{_++_};
 ghost use lib.ListN.{length};
-ghost use Rattle.qdimacs.specs.Writing.{decimal};
-ghost use Rattle.qdimacs.specs.Bytes.{Wrote};
+ghost use Rattle.spelling.specs.Writing.{decimal};
+ghost use Rattle.spelling.specs.Bytes.{Wrote};
 ghost use Rattle.listing.specs.Lines.{numbers, headLine, universalLine, refusedLine, Small, Stored};
 
 // `vars N blocks B clauses C strict`

@@ -17,9 +17,9 @@ use Rattle.formula.specs.Tables.{at, literalAt, opens, EndsInside}
 use Rattle.formula.specs.Causes.{PrefixCause, ClauseCause, checkOrder}
 use Rattle.formula.proofs.Scanned.{open-end}
 use Rattle.formula.proofs.Literals.{no-variable}
-use Rattle.qdimacs.specs.Bytes.{SmallEntries, SmallLiterals}
+use Rattle.spelling.specs.Bytes.{SmallEntries, SmallLiterals}
 use Rattle.qdimacs.proofs.Holdable.{Blocks, no-block, block, block-end, variable, Clauses, no-clause, clause-end, literal, Holdable}
-use Rattle.qdimacs.proofs.Stores.{count-most}
+use Rattle.spelling.proofs.Stores.{count-most}
 
 -- a test, with what it came out as
 by-test : {P : Type 0} (b : Bool) → (b ≡ true → P) → (b ≡ false → P) → P

@@ -1,45 +1,17 @@
--- The laws of decimal digits: they are a number word, of the number that they came from.
+-- The digits that are written for a number are a number word, of that number.
 use Prim.Native.Nat.{ℕ, zero, suc, _+_, _-_, _*_, _^_, _/_, _%_, _<_, _≤_}
 use mathlib.Core.Path.{_≡_, refl, sym, ap, _∙_}
 use mathlib.Core.Bool.{true, false, _&&_}
 use mathlib.Core.List.{List, [], _∷_, _++_}
 use native.Mathlib.Omega.{arith}
 use native.Mathlib.Nat.{pow-succ'}
-use borrow.Author.Tests.{lt-ltb, le-ltb, le-leb, ltb-true, ltb-false}
+use borrow.Author.Tests.{le-leb, ltb-true, ltb-false}
 use lib.Dec.{leb, ltb}
 use lib.ListN.{length, getD, length-append}
+use Rattle.spelling.specs.Writing.{decimal}
+use Rattle.spelling.proofs.Decimal.{decimal-small, decimal-large, digits-most}
 use Rattle.qdimacs.specs.declared.Number.the-variants.{Is}
 use Rattle.qdimacs.specs.Words.{ZERO, NINE, allDigits, spelt, isNumber, numberOf}
-use Rattle.qdimacs.specs.Writing.{digitsOf, decimal}
-
--- Enough room for digits is enough.
-digits-small : (most value : ℕ) → value < 10 → digitsOf (suc most) value ≡ (ZERO + value) ∷ []
-unfolding digitsOf
-digits-small most value h = rw (lt-ltb value 10 h, digitsOf)
-
-digits-large : (most value : ℕ) → 10 ≤ value → digitsOf (suc most) value ≡ digitsOf most (value / 10) ++ ((ZERO + value % 10) ∷ [])
-unfolding digitsOf
-digits-large most value h = rw (le-ltb value 10 h, digitsOf)
-
-digits-same : (most most′ value : ℕ) → value < most → value < most′ → digitsOf most value ≡ digitsOf most′ value
-digits-same zero most′ value h h′ = let no : ⊥ = omega arith in absurd no
-digits-same (suc most) zero value h h′ = let no : ⊥ = omega arith in absurd no
-digits-same (suc most) (suc most′) value h h′ =
-    elim (ltb value 10) as (λ t. ltb value 10 ≡ t → digitsOf (suc most) value ≡ digitsOf (suc most′) value) [
-      | true ↦ λ t. digits-small most value (ltb-true value 10 t) ∙ sym (digits-small most′ value (ltb-true value 10 t))
-      | false ↦ λ t.
-          let large = ltb-false value 10 t in
-          digits-large most value large ∙ ap (λ (xs : List ℕ). xs ++ ((ZERO + value % 10) ∷ [])) (digits-same most most′ (value / 10) (omega arith) (omega arith)) ∙ sym (digits-large most′ value large)
-    ] refl
-
--- A number below 10 is one digit; any other has those of its tenth, and one more.
-pub decimal-small : (value : ℕ) → value < 10 → decimal value ≡ (ZERO + value) ∷ []
-unfolding decimal
-decimal-small value h = digits-small value value h
-
-pub decimal-large : (value : ℕ) → 10 ≤ value → decimal value ≡ decimal (value / 10) ++ ((ZERO + value % 10) ∷ [])
-unfolding decimal
-decimal-large value h = digits-large value value h ∙ ap (λ (xs : List ℕ). xs ++ ((ZERO + value % 10) ∷ [])) (digits-same value (suc (value / 10)) (value / 10) (omega arith) (omega arith))
 
 -- Reading digits with one more at the end.
 spelt-more : (before : ℕ) (xs : List ℕ) (digit : ℕ) → spelt before (xs ++ (digit ∷ [])) ≡ spelt before xs * 10 + (digit - ZERO)
@@ -61,7 +33,6 @@ first-more (x ∷ xs) digit h = refl
 -- What the digits of a number are, if k digits suffice. They are unpadded: only those of 0 begin with the digit 0.
 pub record Digits (value k : ℕ) : Type 0 where
   pub some : 1 ≤ length (decimal value)
-  pub most : length (decimal value) ≤ k
   pub all : allDigits (decimal value) ≡ true
   pub is : spelt 0 (decimal value) ≡ value
   pub first : 0 < value → getD (decimal value) 0 0 ≡ ZERO → ⊥
@@ -72,7 +43,6 @@ one-digit value k small =
     let d = decimal-small value small in
     record {
       some = rw d (omega arith);
-      most = rw d (omega arith);
       all = rw (d, le-leb ZERO (ZERO + value) (omega arith), le-leb (ZERO + value) NINE (omega arith));
       is = rw d (omega arith);
       first = λ positive e. let q : ZERO + value ≡ ZERO = sym (ap (λ (xs : List ℕ). getD xs 0 0) d) ∙ e in omega arith;
@@ -92,12 +62,10 @@ digits value (suc k) h =
           let digit = ZERO + value % 10 in
           let long = length-append xs (digit ∷ []) in
           let some = tenth .some in
-          let most = tenth .most in
           let all = tenth .is in
           let sum = spelt-more 0 xs digit in
           record {
             some = rw d (omega arith);
-            most = rw d (omega arith);
             all = rw d (all-more xs digit (tenth .all) (omega arith) (omega arith));
             is = rw d (omega arith);
             first = λ positive e. tenth .first (omega arith) (sym (ap (λ (ys : List ℕ). getD ys 0 0) d ∙ first-more xs digit some) ∙ e);
@@ -109,4 +77,4 @@ pub decimal-number : (value : ℕ) → value < 100000 → numberOf (decimal valu
 unfolding numberOf isNumber
 decimal-number value h =
     let d = digits value 4 h in
-    rw (le-leb 1 (length (decimal value)) (d .some), le-leb (length (decimal value)) 5 (d .most), d .all, d .is)
+    rw (le-leb 1 (length (decimal value)) (d .some), le-leb (length (decimal value)) 5 (digits-most value 4 h), d .all, d .is)

@@ -17,10 +17,8 @@ pub mod Unique
 pub mod Readings
 -- The text that is written.
 pub mod Decimal
-pub mod Stores
 pub mod Holdable
 pub mod Accepted
-pub mod Outputs
 -- Nothing is left open (read-settled, write-settled); what is written reads back (written-reads-back).
 pub mod Settled
 pub mod Written

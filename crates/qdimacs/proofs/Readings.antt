@@ -8,26 +8,14 @@ use native.Mathlib.Nat.{zero-add}
 use lib.ListN.{length, take, drop}
 use lib.Seq.{sets-eq, length-sets, take-at, drop-at}
 use lib.IntN.{ℤ}
-use Rattle.terms.specs.Refusals.{First, FirstOf, None, NoneOf}
+use Rattle.terms.specs.Refusals.{FirstOf, None, NoneOf}
+pub use Rattle.spelling.proofs.Outputs.{first-overlong, not-overlong}
 use Rattle.qdimacs.specs.declared.Reading.{Reading}
 use Rattle.qdimacs.specs.declared.Reading.the-variants.{Read, Refused}
 use Rattle.qdimacs.specs.Grammar.{TextOf, FaultIn}
 use Rattle.qdimacs.specs.Steps.{ScanIs}
-use Rattle.qdimacs.specs.Reading.{TEXT-MOST, Overlong, overlong, NoRoom, no-room-prefix, no-room-clauses, readOrder, ReadIs}
+use Rattle.qdimacs.specs.Reading.{TEXT-MOST, NoRoom, no-room-prefix, no-room-clauses, readOrder, ReadIs}
 use Rattle.qdimacs.proofs.Unique.{fault-same, text-fault, text-same}
-
--- A text that is too long, read or to be written, and one that is not.
-pub first-overlong : (text : List ℕ) → TEXT-MOST < length text → First (Overlong text) 15 TEXT-MOST
-first-overlong text h = record { holds = overlong h; leftmost = λ number place c. leftmost c; lowest = λ number c. lowest c }
-  where
-    leftmost : {number place : ℕ} → Overlong text number place → TEXT-MOST ≤ place
-    leftmost (overlong x) = omega arith
-
-    lowest : {number place : ℕ} → Overlong text number place → 15 ≤ number
-    lowest (overlong x) = omega arith
-
-pub not-overlong : (text : List ℕ) → length text ≤ TEXT-MOST → None (Overlong text)
-not-overlong text short number place (overlong h) = omega arith
 
 module _ (text prefix : List ℕ) (clauses : List ℤ) (short : length text ≤ TEXT-MOST) where
   -- a fault

@@ -9,12 +9,12 @@ use lib.Seq.{length-take-le}
 use Rattle.terms.specs.Refusals.{NoneOf}
 use Rattle.terms.proofs.Verdicts.{first-or-none}
 use Rattle.formula.specs.Causes.{checkOrder}
-use Rattle.qdimacs.specs.declared.Output.the-variants.{Written}
+use Rattle.spelling.specs.declared.Output.the-variants.{Written}
 use Rattle.qdimacs.specs.declared.Reading.{Reading}
 use Rattle.qdimacs.specs.declared.Reading.the-variants.{Read, Refused}
 use Rattle.qdimacs.specs.Reading.{TEXT-MOST, overlong, readOrder, ReadIs}
 use Rattle.qdimacs.specs.Stored.{Writes}
-use Rattle.qdimacs.specs.Writing.{textOf}
+use Rattle.spelling.specs.Writing.{textOf}
 use Rattle.qdimacs.proofs.Holdable.{Holdable}
 use Rattle.qdimacs.proofs.Unique.{text-same}
 use Rattle.qdimacs.proofs.Readings.{none}

@@ -4,7 +4,7 @@ use mathlib.Core.Path.{_≡_, refl, sym, ap, _∙_}
 use mathlib.Core.List.{List, [], _∷_, _++_}
 use mathlib.Core.Option.{Option, none, some}
 use native.Mathlib.Omega.{arith}
-use native.Mathlib.Nat.{add-zero, add-suc, suc-add}
+use native.Mathlib.Nat.{add-zero}
 use native.Mathlib.Numerals.{add-one}
 use lib.ListN.{length, set, length-append}
 use lib.Seq.{sets, length-sets}
@@ -12,6 +12,7 @@ use lib.IntN.{ℤ}
 use mir.Syntax.{w32}
 use mir.Val.{SFits, toZ, ofZ}
 use mir.Facts.{toZ-ofZ}
+use Rattle.spelling.proofs.Stores.{sets-append}
 use Rattle.qdimacs.specs.declared.Item.{Item}
 use Rattle.qdimacs.specs.declared.Row.{Row}
 use Rattle.qdimacs.specs.declared.Row.the-variants.{Broken, Whole}
@@ -21,12 +22,6 @@ use Rattle.qdimacs.specs.Places.{past, inLine, wordsAt, afterAt, Taken, 
 use Rattle.qdimacs.specs.Steps.{BlockIs}
 
 module _ {A : Type 0} where
-  -- a run of stores, and then another
-  pub sets-append : (table : List A) (i : ℕ) (xs ys : List A) → sets table i (xs ++ ys) ≡ sets (sets table i xs) (i + length xs) ys
-  sets-append table i [] ys = ap (λ (k : ℕ). sets table k ys) (sym (add-zero i))
-  sets-append table i (x ∷ xs) ys =
-      sets-append (set table i x) (suc i) xs ys ∙ ap (λ (k : ℕ). sets (sets (set table i x) (suc i) xs) k ys) (suc-add i (length xs) ∙ sym (add-suc i (length xs)))
-
   -- entries in front of others, if those are entries
   unfoldable pub after : List A → Option (List A) → Option (List A)
   after [] later = later

@@ -9,9 +9,9 @@ use lib.IntN.{ℤ}
 use Rattle.terms.specs.Refusals.{Causes}
 use Rattle.terms.proofs.Verdicts.{firstOf-same, first-or-none}
 use Rattle.qdimacs.specs.declared.Reading.{Reading}
-use Rattle.qdimacs.specs.declared.Output.{Output}
+use Rattle.spelling.specs.declared.Output.{Output}
 use Rattle.qdimacs.specs.Reading.{readOrder, ReadInto, ReadIs}
-use Rattle.qdimacs.specs.Stored.{Stored, writeOrder, WritesAfter}
+use Rattle.spelling.specs.Stored.{Stored, writeOrder, WritesAfter}
 use Rattle.qdimacs.proofs.Unique.{text-same}
 
 -- A table by its rows in front and those behind.

@@ -15,7 +15,7 @@ use Rattle.qdimacs.specs.declared.Stage.{Stage}
 use Rattle.qdimacs.specs.declared.Stage.the-variants.{Body}
 use Rattle.qdimacs.specs.Words.{LF, SPACE, MINUS, ZERO, NINE, LETTER-A, LETTER-C, LETTER-E, LETTER-F, LETTER-N, LETTER-P, onto, pieces, filled, words, allDigits, spelt, isNumber, numberOf, plainItem, negatedItem, itemOf, Kind, prepend, closed, entry, entriesOf}
 use Rattle.qdimacs.specs.Grammar.{variables, literals, p-cnf, QuantifierLine, e-line, a-line, literals-line, the-problem, a-block, a-clause, Lines, no-line, one-more, TextOf}
-use Rattle.qdimacs.specs.Writing.{decimal, digitsOf, markWord, literalWord, spaced, ended, prefixText, clauseText, clauseCount, problemBytes, textOf}
+use Rattle.spelling.specs.Writing.{decimal, digitsOf, markWord, literalWord, spaced, ended, prefixText, clauseText, clauseCount, problemBytes, textOf}
 use Rattle.qdimacs.proofs.Holdable.{Blocks, no-block, block, block-end, variable, Clauses, no-clause, clause-end, literal, Holdable}
 use Rattle.qdimacs.proofs.Numbers.{both}
 use Rattle.qdimacs.proofs.Lines.{filled-some}
@@ -41,7 +41,7 @@ unfolding pieces
 pieces-last mark {w} r = ap (pieces mark) (sym (append-nil w)) ∙ pieces-front mark [] [] [] r refl ∙ ap (λ (l : List ℕ). l ∷ []) (append-nil w)
 
 -- A word, and the words after it.
-pub words-more : {w : List ℕ} (x : List ℕ) → Without SPACE w → 1 ≤ length w → words (w ++ (SPACE ∷ x)) ≡ w ∷ words x
+words-more : {w : List ℕ} (x : List ℕ) → Without SPACE w → 1 ≤ length w → words (w ++ (SPACE ∷ x)) ≡ w ∷ words x
 unfolding words
 words-more {w} x r h = ap filled (pieces-mark SPACE x refl r) ∙ filled-some w (pieces SPACE x) h
 
@@ -59,7 +59,7 @@ digits-without mark h (x ∷ xs) e =
     without-more (ne-eqb x mark (λ z. omega arith)) (digits-without mark h xs more)
 
 module _ (value : ℕ) (h : value < 100000) where
-  pub decimal-digits : Digits value 5
+  decimal-digits : Digits value 5
   decimal-digits = digits value 4 h
 
   pub decimal-without : (mark : ℕ) → mark < ZERO → Without mark (decimal value)

@@ -2,8 +2,6 @@
 pub mod Words
 pub mod Grammar
 pub mod Reading
-pub mod Writing
 pub mod Stored
 pub mod Places
 pub mod Steps
-pub mod Bytes

@@ -9,14 +9,7 @@ use Rattle.terms.specs.Refusals.{Causes, FirstOf, NoneOf}
 use Rattle.qdimacs.specs.declared.Reading.{Reading}
 use Rattle.qdimacs.specs.declared.Reading.the-variants.{Read, Refused}
 use Rattle.qdimacs.specs.Grammar.{TextOf, FaultIn}
-
--- The most bytes that a text may have.
-abbrev pub TEXT-MOST : ℕ
-TEXT-MOST = 65536
-
--- 15: the text, read or to be written, is longer than that.
-pub data Overlong (text : List ℕ) : ℕ → ℕ → Type 0 where
-  overlong : TEXT-MOST < length text → Overlong text 15 TEXT-MOST
+pub use Rattle.spelling.specs.Texts.{TEXT-MOST, Overlong, overlong}
 
 -- 14: the text is that of tables of which one does not fit where it is to be stored.
 pub data NoRoom (text prefix : List ℕ) (clauses : List ℤ) : ℕ → ℕ → Type 0 where

@@ -9,40 +9,7 @@ use Rattle.qdimacs.specs.declared.Number.{Number}
 use Rattle.qdimacs.specs.declared.Number.the-variants.{Is, Not}
 use Rattle.qdimacs.specs.declared.Item.{Item}
 use Rattle.qdimacs.specs.declared.Item.the-variants.{Closing, Plain, Negated, Other}
-
--- The bytes that the format names: LF, a space, `-`, `0` and `9`, and the letters a, c, e, f, n, p.
-abbrev pub LF : ℕ
-LF = 10
-
-abbrev pub SPACE : ℕ
-SPACE = 32
-
-abbrev pub MINUS : ℕ
-MINUS = 45
-
-abbrev pub ZERO : ℕ
-ZERO = 48
-
-abbrev pub NINE : ℕ
-NINE = 57
-
-abbrev pub LETTER-A : ℕ
-LETTER-A = 97
-
-abbrev pub LETTER-C : ℕ
-LETTER-C = 99
-
-abbrev pub LETTER-E : ℕ
-LETTER-E = 101
-
-abbrev pub LETTER-F : ℕ
-LETTER-F = 102
-
-abbrev pub LETTER-N : ℕ
-LETTER-N = 110
-
-abbrev pub LETTER-P : ℕ
-LETTER-P = 112
+pub use Rattle.spelling.specs.Texts.{LF, SPACE, MINUS, ZERO, NINE, LETTER-A, LETTER-C, LETTER-E, LETTER-F, LETTER-N, LETTER-P}
 
 -- A byte in front of the first piece.
 unfoldable pub onto : ℕ → List (List ℕ) → List (List ℕ)

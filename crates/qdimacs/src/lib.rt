@@ -1,7 +1,6 @@
-// QDIMACS text: reading a text into lent tables, and writing the text of a formula into a lent buffer.
+// QDIMACS text: reading a text into lent tables, and writing the text of a formula, if it is accepted, into a lent buffer.
 
 mod body;
-pub mod bytes;
 pub mod expected;
 mod filling;
 mod items;
@@ -9,16 +8,25 @@ mod opening;
 pub mod scanning;
 pub mod tables;
 mod words;
-pub mod writing;
 
 use filling::read_by_way;
+use spelling::LETTER_A;
+use spelling::LETTER_C;
+use spelling::LETTER_E;
+use spelling::LETTER_F;
+use spelling::LETTER_N;
+use spelling::LETTER_P;
+use spelling::LF;
+use spelling::MINUS;
+use spelling::NINE;
+use spelling::Output;
+use spelling::SPACE;
+use spelling::TEXT_MOST;
+use spelling::ZERO;
+use spelling::writing::write_accepted;
 use terms::Verdict;
-use writing::write_accepted;
 ghost use Rattle.qdimacs.specs.Stored.{Writes};
 ghost use Rattle.qdimacs.specs.Reading.{ReadIs};
-
-// The most bytes that a text may have.
-pub const TEXT_MOST: usize = 65536;
 
 // What reading a text answers: n and the counts of prefix and clause entries, or the number of the refusal and its place.
 pub enum Reading {
@@ -31,12 +39,6 @@ pub enum Reading {
         number: u32,
         place: usize,
     },
-}
-
-// What writing answers: the count of bytes, or the number of the refusal and its place.
-pub enum Output {
-    Written { count: usize },
-    Refused { number: u32, place: usize },
 }
 
 // Reads a text into two lent tables: n and the counts of entries, or the refusal. It goes by way of tables of its own, which no one sees: of the
@@ -69,29 +71,6 @@ pub fn write(n: u32, prefix: &[u32], clauses: &[i32], out: &mut [u8]) -> Output
         Verdict::Accepted => write_accepted(n, prefix, clauses, out),
     }
 }
-
-// The bytes that the format names.
-const LF: u8 = 10;
-
-const SPACE: u8 = 32;
-
-const MINUS: u8 = 45;
-
-const ZERO: u8 = 48;
-
-const NINE: u8 = 57;
-
-const LETTER_A: u8 = 97;
-
-const LETTER_C: u8 = 99;
-
-const LETTER_E: u8 = 101;
-
-const LETTER_F: u8 = 102;
-
-const LETTER_N: u8 = 110;
-
-const LETTER_P: u8 = 112;
 
 // Where a line stands: before the problem line, or after it, with the number of clause lines that it announced and of those that have stood.
 pub enum Stage {

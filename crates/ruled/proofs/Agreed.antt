@@ -16,9 +16,9 @@ use Rattle.forest.specs.declared.EntryAnswer.{EntryAnswer}
 use Rattle.terms.specs.declared.Scheme.{Scheme}
 use Rattle.forest.specs.Listed.{Filling}
 use Rattle.growth.specs.Grown.{Standing}
-use Rattle.qdimacs.specs.declared.Output.{Output}
-use Rattle.qdimacs.specs.Stored.{Stored, writeOrder}
-use Rattle.qdimacs.specs.Writing.{textOf}
+use Rattle.spelling.specs.declared.Output.{Output}
+use Rattle.spelling.specs.Stored.{Stored, writeOrder}
+use Rattle.spelling.specs.Writing.{textOf}
 use Rattle.sets.specs.Sets.{AllSetsBy}
 use Rattle.joining.specs.Rules.{readAs, ruledPrefix}
 use Rattle.joining.proofs.Agreement.{one-to-two, two-to-one}

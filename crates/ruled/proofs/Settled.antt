@@ -24,8 +24,8 @@ use Rattle.forest.proofs.Demands.{filling-settled, listing-settled}
 use Rattle.tables.proofs.Agreeing.{none-formed}
 use Rattle.growth.specs.Grown.{Standing, tableOf, many, buildOrder, addOrder, TallyOf, Took}
 use Rattle.growth.proofs.Tight.{tight, tally-of-one, took-one}
-use Rattle.qdimacs.specs.declared.Output.{Output}
-use Rattle.qdimacs.specs.Writing.{textOf}
+use Rattle.spelling.specs.declared.Output.{Output}
+use Rattle.spelling.specs.Writing.{textOf}
 use Rattle.qdimacs.proofs.Settled as written
 use Rattle.sets.specs.Sets.{AllSetsBy, setsOrderBy}
 use Rattle.sets.proofs.Records.{records-one}

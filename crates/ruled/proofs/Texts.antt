@@ -16,11 +16,11 @@ use Rattle.formula.proofs.Scanned.{scan-none, none-in-prefix}
 use Rattle.joining.specs.Rules.{JoinedCause, checkOrderUnder}
 use Rattle.joining.proofs.Orders.{limits, by-rule}
 use Rattle.joining.proofs.Passing.{Passes, no-more, begin, go-on, close-block, name, passes, mark-is, by-test}
-use Rattle.qdimacs.specs.declared.Output.the-variants.{Written}
+use Rattle.spelling.specs.declared.Output.the-variants.{Written}
 use Rattle.qdimacs.specs.declared.Reading.{Reading}
-use Rattle.qdimacs.specs.Bytes.{SmallEntries, SmallLiterals}
+use Rattle.spelling.specs.Bytes.{SmallEntries, SmallLiterals}
 use Rattle.qdimacs.specs.Reading.{TEXT-MOST, overlong, ReadIs}
-use Rattle.qdimacs.specs.Writing.{textOf}
+use Rattle.spelling.specs.Writing.{textOf}
 use Rattle.qdimacs.proofs.Accepted.{small-entries, small-literals, holdable}
 use Rattle.qdimacs.proofs.Holdable.{Blocks, no-block, block, block-end, variable, Holdable}
 use Rattle.qdimacs.proofs.RoundTrip.{ReadsBack, text-reads-back}

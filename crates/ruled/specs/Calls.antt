@@ -18,9 +18,9 @@ use Rattle.tables.specs.Formula.{variables, Shares}
 use Rattle.forest.specs.Listed.{Filling, Listing}
 use Rattle.sets.specs.Sets.{AllSetsBy, setsOrderBy}
 use Rattle.growth.specs.Grown.{Standing, buildOrder, addOrder, many, TallyOf, Leaves, AddLeaves}
-use Rattle.qdimacs.specs.declared.Output.{Output}
-use Rattle.qdimacs.specs.Stored.{writeOrder, WritesAfter}
-use Rattle.qdimacs.specs.Writing.{textOf}
+use Rattle.spelling.specs.declared.Output.{Output}
+use Rattle.spelling.specs.Stored.{writeOrder, WritesAfter}
+use Rattle.spelling.specs.Writing.{textOf}
 use Rattle.joining.specs.Rules.{readAs, underRule, checkOrderUnder}
 
 -- the order of each call: 23, 1, 2, the prefix by the rule, and then what the call without a rule looks for in the prefix as it is read

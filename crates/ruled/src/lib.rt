@@ -5,8 +5,8 @@ pub mod building;
 
 use formula::clauses::check_clauses;
 use joining::rule_verdict;
-use qdimacs::Output;
-use qdimacs::writing::write_accepted;
+use spelling::Output;
+use spelling::writing::write_accepted;
 use terms::Verdict;
 ghost use Rattle.ruled.specs.Calls.{CheckedUnder, WritesUnder};
 

@@ -3,8 +3,8 @@
 use forest::EntryAnswer;
 use growth::Tallied;
 use growth::Tally;
-use qdimacs::Output;
 use qdimacs::Reading;
+use spelling::Output;
 use terms::Filled;
 use terms::Scheme;
 use terms::Variable;

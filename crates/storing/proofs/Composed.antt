@@ -6,8 +6,8 @@ use native.Mathlib.Omega.{arith}
 use lib.IntN.{ℤ}
 use lib.ListN.{length, take, drop, length-append, length-map}
 use lib.Seq.{sets-eq, take-at, length-take-le}
-use Rattle.qdimacs.specs.Bytes.{Wrote}
-use Rattle.qdimacs.proofs.Stores.{wrote-more}
+use Rattle.spelling.specs.Bytes.{Wrote}
+use Rattle.spelling.proofs.Stores.{wrote-more}
 use Rattle.records.specs.Numbers.{numberBytes, bytesOf, literalNumber, wordSum}
 use Rattle.records.specs.Layout.{prefixKind, clausesKind, rowsKind, closingKind, recordBytes, prefixRecord, clausesRecord, rowsRecord, closingRecord}
 use Rattle.records.proofs.Lengths.{number-length, bytes-length, bytes-append}

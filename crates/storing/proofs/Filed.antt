@@ -14,7 +14,7 @@ use Rattle.terms.proofs.Verdicts.{at0-first, at0-none}
 use Rattle.records.specs.Numbers.{numberBytes, wordSum}
 use Rattle.records.specs.Layout.{closingKind, prefixRecord, clausesRecord, rowsRecord, closingRecord, ForestRows, SumsToZero, FileOf}
 use Rattle.records.specs.Causes.{FileTooLong}
-use Rattle.qdimacs.specs.Bytes.{Wrote}
+use Rattle.spelling.specs.Bytes.{Wrote}
 use Rattle.joining.specs.Rules.{readAs, checkOrderUnder}
 use Rattle.joining.proofs.Exchange.{Carries, same-order, one-more}
 use Rattle.records.proofs.WordSums.{sum-append, closing-sum}

@@ -7,8 +7,8 @@ use native.Mathlib.Numerals.{add-one}
 use lib.IntN.{ℤ, pos}
 use lib.ListN.{length, getD, drop, length-append, drop-of-length-le}
 use lib.Seq.{drop-cons}
-use Rattle.qdimacs.specs.Bytes.{Wrote}
-use Rattle.qdimacs.proofs.Stores.{wrote-none, wrote-more, wrote-length}
+use Rattle.spelling.specs.Bytes.{Wrote}
+use Rattle.spelling.proofs.Stores.{wrote-none, wrote-more, wrote-length}
 use Rattle.records.specs.Numbers.{numberBytes, bytesOf, literalNumber}
 
 -- Of a whole list some bytes are stored, and the others are left.

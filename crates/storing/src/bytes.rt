@@ -1,11 +1,11 @@
 // Numbers and literals as bytes, stored in a lent table from a place on as far as it has room, and the place after them.
 
-use qdimacs::bytes::put_byte;
 use records::numbers::literal_number;
+use spelling::bytes::put_byte;
 ghost use Prim.Native.Nat.{_<_, _≤_};
 ghost use mathlib.Core.List.{map};
 ghost use lib.ListN.{length};
-ghost use Rattle.qdimacs.specs.Bytes.{Wrote};
+ghost use Rattle.spelling.specs.Bytes.{Wrote};
 ghost use Rattle.records.specs.Numbers.{numberBytes, bytesOf, literalNumber};
 ghost use Rattle.storing.specs.Parts.{headBytes};
 

@@ -9,7 +9,7 @@ ghost use Prim.Native.Nat.{_+_, _<_, _≤_};
 ghost use mathlib.Core.Path.{_≡_};
 ghost use mathlib.Core.List.{_++_};
 ghost use lib.ListN.{length, take};
-ghost use Rattle.qdimacs.specs.Bytes.{Wrote};
+ghost use Rattle.spelling.specs.Bytes.{Wrote};
 ghost use Rattle.records.specs.Numbers.{bytesOf};
 ghost use Rattle.records.specs.Layout.{prefixRecord, clausesRecord, rowsRecord, closingRecord};
 ghost use Rattle.storing.specs.Parts.{closing};

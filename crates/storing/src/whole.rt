@@ -8,7 +8,7 @@ use terms::Filled;
 ghost use Prim.Native.Nat.{_≤_};
 ghost use mathlib.Core.Path.{_≡_};
 ghost use lib.ListN.{length};
-ghost use Rattle.qdimacs.specs.Bytes.{Wrote};
+ghost use Rattle.spelling.specs.Bytes.{Wrote};
 ghost use Rattle.storing.specs.Parts.{formulaPart, wholeOf, sizeOf, StoresWhole};
 
 // Writes the file of a formula and these rows; nothing is written where it does not fit. Within the limits it is never too long.

@@ -3,7 +3,7 @@ use mathlib.Core.Path.{refl, subst}
 use native.Mathlib.Omega.{arith}
 use borrow.Author.Needs.{needs}
 use Rattle.joining.specs.Rules.{checkOrderUnder}
-use Rattle.qdimacs.specs.Writing.{textOf}
+use Rattle.spelling.specs.Writing.{textOf}
 use Rattle.ruled.specs.Calls.{WritesUnder}
 use Rattle.capi.specs.Told.{accepted, refused}
 use Rattle.capi.proofs.Places.{small-check}

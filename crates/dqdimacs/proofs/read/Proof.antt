@@ -4,7 +4,7 @@ use mathlib.Core.Logic.{inl}
 use mathlib.Core.List.{[], _∷_}
 use native.Mathlib.Omega.{arith}
 use lib.IntN.{pos}
-use Rattle.qdimacs.proofs.Readings.{first-overlong}
+use Rattle.spelling.proofs.Outputs.{first-overlong}
 use Rattle.dqdimacs.specs.declared.Reading.{Reading}
 use Rattle.dqdimacs.specs.Steps.{ScanIs}
 use Rattle.dqdimacs.specs.Reading.{Tables, no-room-prefix, no-room-clauses, no-room-lists}

@@ -2,8 +2,8 @@
 use mathlib.Core.Path.{refl, subst}
 use borrow.Author.Needs.{needs}
 use Rattle.terms.proofs.Verdicts.{refused-first}
-use Rattle.qdimacs.specs.Stored.{writeOrder}
-use Rattle.qdimacs.proofs.Outputs.{writes-accepted}
+use Rattle.spelling.specs.Stored.{writeOrder}
+use Rattle.spelling.proofs.Outputs.{writes-accepted}
 use Rattle.lists.specs.Causes.{checkListsOrder}
 use Rattle.lists.specs.Answers.{ListsChecked}
 use Rattle.dqdimacs.specs.Writing.{listedTextOf}

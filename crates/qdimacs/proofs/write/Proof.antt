@@ -5,10 +5,10 @@ use borrow.Author.Needs.{needs}
 use Rattle.terms.specs.Refusals.{Judged}
 use Rattle.terms.proofs.Verdicts.{refused-first}
 use Rattle.formula.specs.Causes.{checkOrder}
-use Rattle.qdimacs.specs.Stored.{writeOrder}
-use Rattle.qdimacs.specs.Writing.{textOf}
+use Rattle.spelling.specs.Stored.{writeOrder}
+use Rattle.spelling.specs.Writing.{textOf}
 use Rattle.qdimacs.proofs.Accepted.{within-limits, small-entries, small-literals}
-use Rattle.qdimacs.proofs.Outputs.{writes-accepted}
+use Rattle.spelling.proofs.Outputs.{writes-accepted}
 use Rattle.qdimacs.proofs.write.Statement.{statement}
 use Rattle.qdimacs.proofs.write.Tie as tie
 

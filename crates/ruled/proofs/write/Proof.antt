@@ -5,10 +5,10 @@ use borrow.Author.Needs.{needs}
 use Rattle.terms.proofs.Verdicts.{refused-first}
 use Rattle.joining.specs.Rules.{checkOrderUnder}
 use Rattle.joining.proofs.Orders.{limits}
-use Rattle.qdimacs.specs.Stored.{writeOrder}
-use Rattle.qdimacs.specs.Writing.{textOf}
+use Rattle.spelling.specs.Stored.{writeOrder}
+use Rattle.spelling.specs.Writing.{textOf}
 use Rattle.ruled.specs.Calls.{CheckedUnder}
-use Rattle.qdimacs.proofs.Outputs.{writes-accepted}
+use Rattle.spelling.proofs.Outputs.{writes-accepted}
 use Rattle.ruled.proofs.Texts.{small}
 use Rattle.ruled.proofs.write.Statement.{statement}
 use Rattle.ruled.proofs.write.Tie as tie

@@ -2,8 +2,8 @@
 use mathlib.Core.Path.{sym, subst}
 use mathlib.Core.Bool.{Bool}
 use mathlib.Core.List.{[]}
-use Rattle.qdimacs.specs.Bytes.{Wrote}
-use Rattle.qdimacs.proofs.Stores.{wrote-none}
+use Rattle.spelling.specs.Bytes.{Wrote}
+use Rattle.spelling.proofs.Stores.{wrote-none}
 use Rattle.dqdimacs.specs.Writing.{lettered}
 use borrow.Author.Needs.{needs}
 use Rattle.dqdimacs.proofs.writing.put_letter.Statement.{statement}

@@ -3,8 +3,8 @@ use Prim.Native.Nat.{ℕ}
 use mathlib.Core.Path.{sym, subst}
 use mathlib.Core.List.{List}
 use native.Mathlib.Omega.{arith}
-use Rattle.qdimacs.specs.Bytes.{Wrote}
-use Rattle.qdimacs.proofs.Stores.{wrote-more}
+use Rattle.spelling.specs.Bytes.{Wrote}
+use Rattle.spelling.proofs.Stores.{wrote-more}
 use Rattle.dqdimacs.proofs.Bytes.{list-bytes, letter-most}
 use borrow.Author.Needs.{needs}
 use Rattle.dqdimacs.proofs.writing.put_list_entry.Statement.{statement}

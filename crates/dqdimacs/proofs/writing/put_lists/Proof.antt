@@ -3,7 +3,7 @@ use borrow.Author.Needs.{needs}
 use Prim.Native.Nat.{_-_}
 use native.Mathlib.Omega.{arith}
 use lib.ListN.{length, getD}
-use Rattle.qdimacs.proofs.Stores.{Upto, upto-none, upto-more, upto-all, wrote-length}
+use Rattle.spelling.proofs.Stores.{Upto, upto-none, upto-more, upto-all, wrote-length}
 use Rattle.dqdimacs.specs.Writing.{listText, listBytes}
 use Rattle.dqdimacs.proofs.Bytes.{nextList, list-split, no-lists, list-most}
 use Rattle.dqdimacs.proofs.writing.put_lists.Statement.{statement}

@@ -3,9 +3,9 @@ use Prim.Native.Nat.{ℕ}
 use mathlib.Core.Path.{subst}
 use mathlib.Core.Bool.{true}
 use native.Mathlib.Omega.{arith}
-use Rattle.qdimacs.specs.Writing.{problemBytes}
-use Rattle.qdimacs.specs.Bytes.{Wrote}
-use Rattle.qdimacs.proofs.Stores.{wrote-more, problem-most, prefix-most, count-most}
+use Rattle.spelling.specs.Writing.{problemBytes}
+use Rattle.spelling.specs.Bytes.{Wrote}
+use Rattle.spelling.proofs.Stores.{wrote-more, problem-most, prefix-most, count-most}
 use Rattle.dqdimacs.specs.Writing.{listedTextOf}
 use Rattle.dqdimacs.proofs.Bytes.{lists-most}
 use borrow.Author.Needs.{needs}

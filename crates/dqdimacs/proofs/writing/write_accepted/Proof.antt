@@ -3,8 +3,7 @@ use mathlib.Core.Path.{refl}
 use mathlib.Core.Logic.{inl}
 use borrow.Author.Needs.{needs}
 use native.Mathlib.Omega.{arith}
-use Rattle.qdimacs.proofs.Readings.{first-overlong}
-use Rattle.qdimacs.proofs.Outputs.{first-short, stored-whole}
+use Rattle.spelling.proofs.Outputs.{first-overlong, first-short, stored-whole}
 use Rattle.dqdimacs.specs.Writing.{listedTextOf}
 use Rattle.dqdimacs.proofs.writing.write_accepted.Statement.{statement}
 use Rattle.dqdimacs.proofs.writing.write_accepted.Tie as tie

@@ -1,6 +1,6 @@
 -- `listing::lines::head_line` meets its contract.
 use native.Mathlib.Omega.{arith}
-use Rattle.qdimacs.proofs.Stores.{wrote-more}
+use Rattle.spelling.proofs.Stores.{wrote-more}
 use Rattle.listing.specs.Lines.{headLine}
 use borrow.Author.Needs.{needs}
 use Rattle.listing.proofs.lines.head_line.Statement.{statement}

@@ -3,7 +3,7 @@ use Prim.Native.Nat.{_-_}
 use native.Mathlib.Omega.{arith}
 use borrow.Author.Needs.{needs}
 use lib.ListN.{length}
-use Rattle.qdimacs.proofs.Stores.{wrote-length, wrote-more}
+use Rattle.spelling.proofs.Stores.{wrote-length, wrote-more}
 use Rattle.listing.proofs.Spelt.{Numbers, numbers-start, numbers-more, numbers-all}
 use Rattle.listing.proofs.lines.put_numbers.Statement.{statement}
 use Rattle.listing.proofs.lines.put_numbers.Tie as tie

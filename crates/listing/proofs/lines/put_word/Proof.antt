@@ -3,7 +3,7 @@ use Prim.Native.Nat.{_-_}
 use native.Mathlib.Omega.{arith}
 use borrow.Author.Needs.{needs}
 use lib.ListN.{length}
-use Rattle.qdimacs.proofs.Stores.{wrote-length}
+use Rattle.spelling.proofs.Stores.{wrote-length}
 use Rattle.listing.proofs.Spelt.{Word, word-none, word-more, word-all}
 use Rattle.listing.proofs.lines.put_word.Statement.{statement}
 use Rattle.listing.proofs.lines.put_word.Tie as tie

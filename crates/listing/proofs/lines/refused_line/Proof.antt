@@ -1,6 +1,6 @@
 -- `listing::lines::refused_line` meets its contract.
 use native.Mathlib.Omega.{arith}
-use Rattle.qdimacs.proofs.Stores.{wrote-more}
+use Rattle.spelling.proofs.Stores.{wrote-more}
 use Rattle.listing.specs.Lines.{refusedLine}
 use borrow.Author.Needs.{needs}
 use Rattle.listing.proofs.lines.refused_line.Statement.{statement}

@@ -1,6 +1,6 @@
 -- `storing::bytes::put_head` meets its contract.
 use native.Mathlib.Omega.{arith}
-use Rattle.qdimacs.proofs.Stores.{wrote-more}
+use Rattle.spelling.proofs.Stores.{wrote-more}
 use Rattle.records.proofs.Lengths.{number-length}
 use borrow.Author.Needs.{needs}
 use Rattle.storing.proofs.bytes.put_head.Statement.{statement}

@@ -1,6 +1,6 @@
 -- `storing::parts::put_tables` meets its contract.
 use native.Mathlib.Omega.{arith}
-use Rattle.qdimacs.proofs.Stores.{wrote-more}
+use Rattle.spelling.proofs.Stores.{wrote-more}
 use Rattle.records.proofs.Lengths.{bytes-length}
 use Rattle.storing.proofs.Composed.{wrote-as, tables-bytes}
 use borrow.Author.Needs.{needs}

@@ -1,0 +1,36 @@
+-- `spelling::writing::count_more` meets its contract.
+use mathlib.Core.Path.{sym, ap, _∙_}
+use mathlib.Core.List.{[], _∷_}
+use native.Mathlib.Omega.{arith}
+use lib.IntN.{ℤ}
+use mir.Syntax.{w32}
+use mir.Val.{toZ, ofZ}
+use mir.Facts.{toZ-ofZ}
+use Rattle.spelling.specs.Writing.{clauseCount}
+use Rattle.spelling.proofs.Stores.{count-closes, count-goes-on}
+use borrow.Author.Needs.{needs}
+use Rattle.spelling.proofs.writing.count_more.Statement.{statement}
+use Rattle.spelling.proofs.writing.count_more.Tie as tie
+
+closes-requires : tie.Need-closes-requires
+closes-requires c κs = search needs
+
+add-result : tie.Need-add-result
+add-result c = search needs
+
+returns : tie.Need-returns
+returns c =
+    let a = c .before .before .args in
+    let same = ap (λ (z : ℤ). clauseCount (z ∷ [])) (toZ-ofZ (c .before .before .fits .literal)) in
+    let e = count-closes (toZ w32 (ofZ w32 (a .literal))) (sym (c .before .closes .ensures) ∙ c .if1 .taken) in
+    omega arith
+
+returns-2 : tie.Need-returns-2
+returns-2 c =
+    let a = c .before .before .args in
+    let same = ap (λ (z : ℤ). clauseCount (z ∷ [])) (toZ-ofZ (c .before .before .fits .literal)) in
+    let e = count-goes-on (toZ w32 (ofZ w32 (a .literal))) (sym (c .before .closes .ensures) ∙ c .if1 .left) in
+    omega arith
+
+pub count-more-spec : {M : Type 1} → statement M
+count-more-spec = tie.close (tie.spec closes-requires add-result returns returns-2)

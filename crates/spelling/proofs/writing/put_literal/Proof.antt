@@ -1,0 +1,74 @@
+-- `spelling::writing::put_literal` meets its contract.
+use Prim.Native.Nat.{ℕ}
+use mathlib.Core.Path.{_≡_, sym, ap, _∙_, subst}
+use mathlib.Core.List.{List, _∷_}
+use native.Mathlib.Omega.{arith}
+use lib.IntN.{ℤ, pos, natAbs}
+use lib.Signed.{ltZ}
+use mir.Facts.{toZ-ofZ}
+use Rattle.spelling.specs.Texts.{MINUS}
+use Rattle.spelling.specs.Writing.{decimal}
+use Rattle.spelling.specs.Bytes.{Wrote}
+use Rattle.spelling.proofs.Stores.{wrote-more, literal-negative, literal-positive}
+use borrow.Author.Needs.{needs}
+use Rattle.spelling.proofs.writing.put_literal.Statement.{statement}
+use Rattle.spelling.proofs.writing.put_literal.Tie as tie
+
+-- the variable that was found is the literal's magnitude
+variable-known : (c : tie.After-variable) → c .variable .result .0 ≡ natAbs (c .before .before .before .args .literal)
+variable-known c = c .variable .ensures ∙ ap natAbs (c .before .new .ensures ∙ toZ-ofZ (c .before .before .before .fits .literal))
+
+new-requires : tie.Need-new-requires
+new-requires c κs = search needs
+
+variable-requires : tie.Need-variable-requires
+variable-requires c κs = search needs
+
+put-byte-requires : tie.Need-put-byte-requires
+put-byte-requires c κs = search needs
+
+put-number-requires : tie.Need-put-number-requires
+put-number-requires c κs = let k = c .before .before .before .before .before .before in omega (arith, c .before .before .before .put-byte .ensures .end, variable-known k, k .before .before .before .pre .0, k .before .before .before .pre .1)
+
+same-length : tie.Need-same-length
+same-length c = search needs
+
+returns : tie.Need-returns
+returns c =
+    let k = c .before .before .before .before .before .before .before .before .before in
+    let o = c .before .before .put-number in
+    let a = k .before .before .before .args in
+    let fits = k .before .before .before .fits .literal in
+    subst (λ (xs : List ℕ). Wrote xs (a .out .now) (o .last .0) (a .at) (o .result))
+    (sym (literal-negative (a .literal) (sym (ap (λ (z : ℤ). ltZ z (pos 0)) (toZ-ofZ fits)) ∙ c .before .before .before .before .before .before .before .before .if1 .taken) ∙ ap (λ (v : ℕ). MINUS ∷ decimal v) (sym (variable-known k))))
+    (wrote-more (c .before .before .before .before .before .before .put-byte .ensures) (o .ensures))
+
+put-number-requires-2 : tie.Need-put-number-requires-2
+put-number-requires-2 c κs = let k = c .before .before in omega (arith, variable-known k, k .before .before .before .pre .0, k .before .before .before .pre .1)
+
+same-length-2 : tie.Need-same-length-2
+same-length-2 c = search needs
+
+returns-2 : tie.Need-returns-2
+returns-2 c =
+    let k = c .before .before .before .before .before in
+    let o = c .before .before .put-number2 in
+    let a = k .before .before .before .args in
+    let fits = k .before .before .before .fits .literal in
+    subst (λ (xs : List ℕ). Wrote xs (a .out .now) (o .last .0) (a .at) (o .result))
+    (sym (literal-positive (a .literal) (sym (ap (λ (z : ℤ). ltZ z (pos 0)) (toZ-ofZ fits)) ∙ c .before .before .before .before .if1 .left) ∙ ap decimal (sym (variable-known k))))
+    (o .ensures)
+
+pub put-literal-spec : {M : Type 1} → statement M
+put-literal-spec =
+    tie.close
+    (tie.spec
+    new-requires
+    variable-requires
+    put-byte-requires
+    put-number-requires
+    same-length
+    returns
+    put-number-requires-2
+    same-length-2
+    returns-2)

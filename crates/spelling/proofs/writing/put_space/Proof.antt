@@ -1,0 +1,32 @@
+-- `spelling::writing::put_space` meets its contract.
+use mathlib.Core.Path.{sym, subst}
+use mathlib.Core.Bool.{Bool}
+use mathlib.Core.List.{[]}
+use Rattle.spelling.specs.Writing.{spaced}
+use Rattle.spelling.specs.Bytes.{Wrote}
+use Rattle.spelling.proofs.Stores.{wrote-none}
+use borrow.Author.Needs.{needs}
+use Rattle.spelling.proofs.writing.put_space.Statement.{statement}
+use Rattle.spelling.proofs.writing.put_space.Tie as tie
+
+returns : tie.Need-returns
+unfolding spaced
+returns c =
+    let a = c .before .before .args in
+    subst (λ (t : Bool). Wrote (spaced t []) (a .out .now) (a .out .now) (a .at) (a .at)) (sym (c .if1 .taken)) (wrote-none (a .out .now) (a .at))
+
+put-byte-requires : tie.Need-put-byte-requires
+put-byte-requires c κs = search needs
+
+same-length : tie.Need-same-length
+same-length c = search needs
+
+returns-2 : tie.Need-returns-2
+unfolding spaced
+returns-2 c =
+    let a = c .before .before .before .before .before .before .args in
+    let o = c .before .before .put-byte in
+    subst (λ (t : Bool). Wrote (spaced t []) (a .out .now) (o .last .0) (a .at) (o .result)) (sym (c .before .before .before .before .if1 .left)) (o .ensures)
+
+pub put-space-spec : {M : Type 1} → statement M
+put-space-spec = tie.close (tie.spec returns put-byte-requires same-length returns-2)

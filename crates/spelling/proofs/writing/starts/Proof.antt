@@ -1,0 +1,15 @@
+-- `spelling::writing::starts` meets its contract.
+use Rattle.spelling.specs.Bytes.{nextFirst}
+use Rattle.spelling.proofs.writing.starts.Statement.{statement}
+use Rattle.spelling.proofs.writing.starts.Tie as tie
+
+returns : tie.Need-returns
+unfolding nextFirst
+returns c = rw (c .if1 .taken, nextFirst)
+
+returns-2 : tie.Need-returns-2
+unfolding nextFirst
+returns-2 c = rw (c .if1 .left, nextFirst)
+
+pub starts-spec : {M : Type 1} → statement M
+starts-spec = tie.close (tie.spec returns returns-2)

@@ -1,0 +1,32 @@
+// Bytes and numbers stored in a lent buffer as far as it has room, and the place after them: where the buffer lacks room the place is still right,
+// so that a length can be known before anything is written.
+
+use crate::ZERO;
+ghost use mathlib.Core.List.{[], _∷_};
+ghost use Prim.Native.Nat.{_<_};
+ghost use Rattle.spelling.specs.Writing.{decimal};
+ghost use Rattle.spelling.specs.Bytes.{Wrote};
+
+// Stores a byte if the buffer has room for it.
+pub fn put_byte(out: &mut [u8], at: usize, byte: u8) -> usize
+    requires { ⌜ at < 4294967296 ⌝ }
+    ensures { λ r. ⌜ Wrote (byte ∷ []) (now (out .entry)) (now (out .exit)) at r ⌝ }
+{
+    if at < out.len() {
+        out[at] = byte;
+        return at + 1;
+    }
+    at + 1
+}
+
+// The decimal digits of a number.
+pub fn put_number(out: &mut [u8], at: usize, value: u32) -> usize
+    requires { ⌜ (at < 4294967200) × (value < 100000) ⌝ }
+    ensures { λ r. ⌜ Wrote (decimal value) (now (out .entry)) (now (out .exit)) at r ⌝ }
+{
+    if value < 10 {
+        return put_byte(out, at, ZERO + (value as u8));
+    }
+    let next = put_number(out, at, value / 10);
+    put_byte(out, next, ZERO + ((value % 10) as u8))
+}
