@@ -21,7 +21,8 @@ use Rattle.records.proofs.WordSums.{sum-append, closing-sum}
 use Rattle.joining.proofs.Orders.{limits}
 use Rattle.records.proofs.Unique.{file-unique}
 use Rattle.records.proofs.Short.{never-too-large}
-use Rattle.storing.specs.Parts.{headBytes, formulaPart, closing, frontOf, wholeOf, sizeOf, StoresWhole, StoresAccepted}
+use Rattle.encoding.specs.Parts.{headBytes, closing}
+use Rattle.storing.specs.Parts.{formulaPart, frontOf, wholeOf, sizeOf, StoresWhole, StoresAccepted}
 use Rattle.storing.proofs.Sizes.{front-length, whole-length}
 
 -- the word fits, and closes the sum of an even front

@@ -1,5 +1,4 @@
 -- The laws of writing a file, in reading order.
-pub mod Runs
 pub mod Sizes
 pub mod Composed
 pub mod Filed

@@ -1,25 +1,18 @@
 -- How long the parts of a file are.
 use Prim.Native.Nat.{ℕ, _+_, _*_, _≤_}
 use mathlib.Core.Path.{_≡_}
-use mathlib.Core.List.{List, [], _∷_}
+use mathlib.Core.List.{List}
 use native.Mathlib.Omega.{arith}
 use lib.IntN.{ℤ}
 use lib.ListN.{length, length-append}
-use Rattle.records.specs.Numbers.{numberBytes, bytesOf}
 use Rattle.records.specs.Layout.{prefixRecord, clausesRecord, rowsRecord, closingRecord}
-use Rattle.records.proofs.Lengths.{number-length, prefix-length, clauses-length, rows-length, closing-length}
-use Rattle.storing.specs.Parts.{headBytes, formulaPart, closing, frontOf, wholeOf, sizeOf}
+use Rattle.records.proofs.Lengths.{prefix-length, clauses-length, rows-length, closing-length}
+use Rattle.encoding.specs.Parts.{closing}
+use Rattle.storing.specs.Parts.{formulaPart, frontOf, wholeOf, sizeOf}
 
 -- a file of tables within the limits is small
 pub size-most : (entries literals rows : ℕ) → entries ≤ 8192 → literals ≤ 16384 → rows ≤ 4096 → sizeOf entries literals rows ≤ 131100
 size-most entries literals rows a b c = omega arith
-
-pub head-length : (size kind : ℕ) → length (headBytes size kind) ≡ 6
-head-length size kind =
-    let l = length-append (numberBytes 4 size) (numberBytes 2 kind) in
-    let a = number-length 4 size in
-    let b = number-length 2 kind in
-    omega arith
 
 pub formula-length : (n : ℕ) (es : List ℕ) (ls : List ℤ) → length (formulaPart n es ls) ≡ 14 + 2 * length es + 4 * length ls
 unfolding formulaPart
@@ -52,13 +45,3 @@ module _ (n : ℕ) (es : List ℕ) (ls : List ℤ) (classes parents counts : Lis
       let f = front-length p c in
       let e = closing-length (closing front) in
       omega arith
-
--- numbers of at most four bytes each
-pub bytes-most : (width : ℕ) (numbers : List ℕ) → width ≤ 4 → length (bytesOf width numbers) ≤ 4 * length numbers
-unfolding bytesOf
-bytes-most width [] h = omega arith
-bytes-most width (number ∷ more) h =
-    let l = length-append (numberBytes width number) (bytesOf width more) in
-    let one = number-length width number in
-    let rest = bytes-most width more h in
-    omega arith

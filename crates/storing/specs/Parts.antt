@@ -1,5 +1,5 @@
 -- The parts of a file as they are written one after the other, which only proofs rest on.
-use Prim.Native.Nat.{ℕ, _+_, _*_, _-_, _%_, _<_}
+use Prim.Native.Nat.{ℕ, _+_, _*_, _<_}
 use mathlib.Core.Path.{_≡_}
 use mathlib.Core.List.{List, [], _∷_, _++_}
 use lib.IntN.{ℤ}
@@ -7,21 +7,13 @@ use lib.ListN.{length}
 use Rattle.terms.specs.Refusals.{At0}
 use Rattle.terms.specs.declared.Filled.{Filled}
 use Rattle.forest.specs.Listed.{Filling}
-use Rattle.records.specs.Numbers.{numberBytes, wordSum}
-use Rattle.records.specs.Layout.{closingKind, prefixRecord, clausesRecord, rowsRecord, closingRecord, FileOf}
+use Rattle.records.specs.Layout.{prefixRecord, clausesRecord, rowsRecord, closingRecord, FileOf}
 use Rattle.records.specs.Causes.{FileTooLarge, FileTooLong}
-
--- the head of a record: its payload length and its kind
-abbrev pub headBytes : ℕ → ℕ → List ℕ
-headBytes size kind = numberBytes 4 size ++ numberBytes 2 kind
+use Rattle.encoding.specs.Parts.{closing}
 
 -- the records of the formula
 unfoldable pub formulaPart : ℕ → List ℕ → List ℤ → List ℕ
 formulaPart n es ls = prefixRecord n es ++ clausesRecord ls
-
--- the word that closes the sum of what stands in front of the last record
-unfoldable pub closing : List ℕ → ℕ
-closing front = (65536 - wordSum (front ++ headBytes 2 closingKind) % 65536) % 65536
 
 -- all records but the last, and the whole file
 unfoldable pub frontOf : ℕ → List ℕ → List ℤ → List ℕ → List ℕ → List ℕ → List ℕ

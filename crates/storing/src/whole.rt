@@ -1,9 +1,9 @@
 // The whole file: its size is known before anything is written.
 
-use crate::parts::put_clauses;
-use crate::parts::put_closing;
-use crate::parts::put_prefix;
-use crate::parts::put_rows;
+use encoding::parts::put_clauses;
+use encoding::parts::put_closing;
+use encoding::parts::put_prefix;
+use encoding::parts::put_rows;
 use terms::Filled;
 ghost use Prim.Native.Nat.{_≤_};
 ghost use mathlib.Core.Path.{_≡_};

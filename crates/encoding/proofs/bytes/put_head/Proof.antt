@@ -1,10 +1,10 @@
--- `storing::bytes::put_head` meets its contract.
+-- `encoding::bytes::put_head` meets its contract.
 use native.Mathlib.Omega.{arith}
 use Rattle.spelling.proofs.Stores.{wrote-more}
 use Rattle.records.proofs.Lengths.{number-length}
 use borrow.Author.Needs.{needs}
-use Rattle.storing.proofs.bytes.put_head.Statement.{statement}
-use Rattle.storing.proofs.bytes.put_head.Tie as tie
+use Rattle.encoding.proofs.bytes.put_head.Statement.{statement}
+use Rattle.encoding.proofs.bytes.put_head.Tie as tie
 
 put-number-requires : tie.Need-put-number-requires
 put-number-requires c κs = search needs

@@ -12,7 +12,7 @@ ghost use lib.ListN.{length, take};
 ghost use Rattle.spelling.specs.Bytes.{Wrote};
 ghost use Rattle.records.specs.Numbers.{bytesOf};
 ghost use Rattle.records.specs.Layout.{prefixRecord, clausesRecord, rowsRecord, closingRecord};
-ghost use Rattle.storing.specs.Parts.{closing};
+ghost use Rattle.encoding.specs.Parts.{closing};
 
 // Kind 1: n and the prefix.
 pub fn put_prefix(out: &mut [u8], n: u32, prefix: &[u32]) -> usize

@@ -1,13 +1,13 @@
--- `storing::bytes::put_numbers` meets its contract: the bytes stored and those of the numbers left are those of all.
+-- `encoding::bytes::put_numbers` meets its contract: the bytes stored and those of the numbers left are those of all.
 use borrow.Author.Needs.{needs}
 use Prim.Native.Nat.{_-_, _≤_}
 use native.Mathlib.Omega.{arith}
 use lib.ListN.{length, drop}
 use Rattle.records.specs.Numbers.{bytesOf}
-use Rattle.storing.proofs.Runs.{Partly, partly-none, partly-more, partly-all, partly-near, partly-length, numbers-step, numbers-over}
-use Rattle.storing.proofs.Sizes.{bytes-most}
-use Rattle.storing.proofs.bytes.put_numbers.Statement.{statement}
-use Rattle.storing.proofs.bytes.put_numbers.Tie as tie
+use Rattle.encoding.proofs.Runs.{Partly, partly-none, partly-more, partly-all, partly-near, partly-length, numbers-step, numbers-over}
+use Rattle.encoding.proofs.Sizes.{bytes-most}
+use Rattle.encoding.proofs.bytes.put_numbers.Statement.{statement}
+use Rattle.encoding.proofs.bytes.put_numbers.Tie as tie
 
 abbrev Inv-loop : tie.InvT-loop
 Inv-loop out₀ at width numbers next₀ i₀ out next i = Partly (bytesOf width numbers) (bytesOf width (drop i numbers)) out₀ out at next × (i ≤ length numbers)

@@ -1,12 +1,12 @@
--- `storing::bytes::put_number` meets its contract: the bytes stored and those of what is left are those of the number.
+-- `encoding::bytes::put_number` meets its contract: the bytes stored and those of what is left are those of the number.
 use borrow.Author.Needs.{needs}
 use Prim.Native.Nat.{_≤_}
 use native.Mathlib.Omega.{arith}
 use Rattle.records.specs.Numbers.{numberBytes}
 use Rattle.records.proofs.Lengths.{number-length}
-use Rattle.storing.proofs.Runs.{Partly, partly-none, partly-more, partly-all, partly-near, partly-length, number-step, number-over}
-use Rattle.storing.proofs.bytes.put_number.Statement.{statement}
-use Rattle.storing.proofs.bytes.put_number.Tie as tie
+use Rattle.encoding.proofs.Runs.{Partly, partly-none, partly-more, partly-all, partly-near, partly-length, number-step, number-over}
+use Rattle.encoding.proofs.bytes.put_number.Statement.{statement}
+use Rattle.encoding.proofs.bytes.put_number.Tie as tie
 
 abbrev Inv-loop : tie.InvT-loop
 Inv-loop out₀ at width number next₀ left₀ rest₀ out next left rest = Partly (numberBytes width number) (numberBytes left rest) out₀ out at next × (left ≤ width)

@@ -1,13 +1,13 @@
--- `storing::parts::put_clauses` meets its contract.
+-- `encoding::parts::put_clauses` meets its contract.
 use Prim.Native.Nat.{_*_}
 use mathlib.Core.Path.{refl}
 use native.Mathlib.Omega.{arith}
 use lib.ListN.{length}
-use Rattle.storing.proofs.Sizes.{head-length}
-use Rattle.storing.proofs.Composed.{clauses-wrote}
+use Rattle.encoding.proofs.Sizes.{head-length}
+use Rattle.encoding.proofs.Composed.{clauses-wrote}
 use borrow.Author.Needs.{needs}
-use Rattle.storing.proofs.parts.put_clauses.Statement.{statement}
-use Rattle.storing.proofs.parts.put_clauses.Tie as tie
+use Rattle.encoding.proofs.parts.put_clauses.Statement.{statement}
+use Rattle.encoding.proofs.parts.put_clauses.Tie as tie
 
 cast-size : tie.Need-cast-size
 cast-size c = search needs

@@ -1,4 +1,4 @@
--- `storing::bytes::put_literals` meets its contract: the bytes stored and those of the literals left are those of all.
+-- `encoding::bytes::put_literals` meets its contract: the bytes stored and those of the literals left are those of all.
 use borrow.Author.Needs.{needs}
 use Prim.Native.Nat.{_-_, _≤_}
 use mathlib.Core.Path.{_∙_, ap}
@@ -9,11 +9,11 @@ use lib.ListN.{length, getD, drop, length-map}
 use mir.Syntax.{w32}
 use mir.Facts.{toZ-ofZ}
 use Rattle.records.specs.Numbers.{numberBytes, literalNumber}
-use Rattle.storing.proofs.Runs.{Partly, partly-none, partly-more, partly-all, partly-near, partly-length, literalsBytes, literals-step, literals-over}
-use Rattle.storing.proofs.Sizes.{bytes-most}
-use Rattle.storing.proofs.Composed.{wrote-as}
-use Rattle.storing.proofs.bytes.put_literals.Statement.{statement}
-use Rattle.storing.proofs.bytes.put_literals.Tie as tie
+use Rattle.encoding.proofs.Runs.{Partly, partly-none, partly-more, partly-all, partly-near, partly-length, literalsBytes, literals-step, literals-over}
+use Rattle.encoding.proofs.Sizes.{bytes-most}
+use Rattle.encoding.proofs.Composed.{wrote-as}
+use Rattle.encoding.proofs.bytes.put_literals.Statement.{statement}
+use Rattle.encoding.proofs.bytes.put_literals.Tie as tie
 
 abbrev Inv-loop : tie.InvT-loop
 Inv-loop out₀ at clauses next₀ i₀ out next i = Partly (literalsBytes clauses) (literalsBytes (drop i clauses)) out₀ out at next × (i ≤ length clauses)

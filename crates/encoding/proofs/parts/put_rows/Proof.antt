@@ -1,12 +1,12 @@
--- `storing::parts::put_rows` meets its contract.
+-- `encoding::parts::put_rows` meets its contract.
 use Prim.Native.Nat.{_*_}
 use native.Mathlib.Omega.{arith}
 use lib.ListN.{length}
-use Rattle.storing.proofs.Sizes.{head-length}
-use Rattle.storing.proofs.Composed.{rows-wrote}
+use Rattle.encoding.proofs.Sizes.{head-length}
+use Rattle.encoding.proofs.Composed.{rows-wrote}
 use borrow.Author.Needs.{needs}
-use Rattle.storing.proofs.parts.put_rows.Statement.{statement}
-use Rattle.storing.proofs.parts.put_rows.Tie as tie
+use Rattle.encoding.proofs.parts.put_rows.Statement.{statement}
+use Rattle.encoding.proofs.parts.put_rows.Tie as tie
 
 cast-size : tie.Need-cast-size
 cast-size c = search needs

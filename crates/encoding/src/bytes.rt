@@ -7,7 +7,7 @@ ghost use mathlib.Core.List.{map};
 ghost use lib.ListN.{length};
 ghost use Rattle.spelling.specs.Bytes.{Wrote};
 ghost use Rattle.records.specs.Numbers.{numberBytes, bytesOf, literalNumber};
-ghost use Rattle.storing.specs.Parts.{headBytes};
+ghost use Rattle.encoding.specs.Parts.{headBytes};
 
 // So many bytes of a number, the lowest first.
 pub fn put_number(out: &mut [u8], at: usize, width: u32, number: u32) -> usize

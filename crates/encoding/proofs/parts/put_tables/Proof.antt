@@ -1,11 +1,11 @@
--- `storing::parts::put_tables` meets its contract.
+-- `encoding::parts::put_tables` meets its contract.
 use native.Mathlib.Omega.{arith}
 use Rattle.spelling.proofs.Stores.{wrote-more}
 use Rattle.records.proofs.Lengths.{bytes-length}
-use Rattle.storing.proofs.Composed.{wrote-as, tables-bytes}
+use Rattle.encoding.proofs.Composed.{wrote-as, tables-bytes}
 use borrow.Author.Needs.{needs}
-use Rattle.storing.proofs.parts.put_tables.Statement.{statement}
-use Rattle.storing.proofs.parts.put_tables.Tie as tie
+use Rattle.encoding.proofs.parts.put_tables.Statement.{statement}
+use Rattle.encoding.proofs.parts.put_tables.Tie as tie
 
 put-numbers-requires : tie.Need-put-numbers-requires
 put-numbers-requires c κs = search needs

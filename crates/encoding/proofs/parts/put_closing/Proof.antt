@@ -1,4 +1,4 @@
--- `storing::parts::put_closing` meets its contract.
+-- `encoding::parts::put_closing` meets its contract.
 use Prim.Native.Nat.{ℕ, _%_}
 use mathlib.Core.Path.{sym, ap, _∙_}
 use mathlib.Core.List.{List}
@@ -7,11 +7,11 @@ use lib.ListN.{take}
 use lib.Seq.{length-take-le}
 use Rattle.records.specs.Numbers.{wordSum}
 use Rattle.records.specs.Layout.{closingRecord}
-use Rattle.storing.proofs.Sizes.{head-length}
-use Rattle.storing.proofs.Composed.{wrote-as, front-stored, closing-wrote, closing-is}
+use Rattle.encoding.proofs.Sizes.{head-length}
+use Rattle.encoding.proofs.Composed.{wrote-as, front-stored, closing-wrote, closing-is}
 use borrow.Author.Needs.{needs}
-use Rattle.storing.proofs.parts.put_closing.Statement.{statement}
-use Rattle.storing.proofs.parts.put_closing.Tie as tie
+use Rattle.encoding.proofs.parts.put_closing.Statement.{statement}
+use Rattle.encoding.proofs.parts.put_closing.Tie as tie
 
 put-head-requires : tie.Need-put-head-requires
 put-head-requires c κs = search needs

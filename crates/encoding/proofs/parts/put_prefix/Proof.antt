@@ -1,14 +1,14 @@
--- `storing::parts::put_prefix` meets its contract.
+-- `encoding::parts::put_prefix` meets its contract.
 use mathlib.Core.Path.{refl}
 use Prim.Native.Nat.{_+_, _*_}
 use native.Mathlib.Omega.{arith}
 use lib.ListN.{length}
 use Rattle.records.proofs.Lengths.{number-length}
-use Rattle.storing.proofs.Sizes.{head-length}
-use Rattle.storing.proofs.Composed.{prefix-wrote}
+use Rattle.encoding.proofs.Sizes.{head-length}
+use Rattle.encoding.proofs.Composed.{prefix-wrote}
 use borrow.Author.Needs.{needs}
-use Rattle.storing.proofs.parts.put_prefix.Statement.{statement}
-use Rattle.storing.proofs.parts.put_prefix.Tie as tie
+use Rattle.encoding.proofs.parts.put_prefix.Statement.{statement}
+use Rattle.encoding.proofs.parts.put_prefix.Tie as tie
 
 cast-size : tie.Need-cast-size
 cast-size c = search needs
