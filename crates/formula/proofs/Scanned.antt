@@ -12,7 +12,7 @@ use lib.ListN.{length, getD, set, replicate}
 use Rattle.terms.specs.Refusals.{First, None}
 use Rattle.terms.proofs.Common.{below-suc, clash}
 use Rattle.terms.proofs.Verdicts.{first-at}
-use Rattle.formula.specs.Tables.{at, opens, VariableAt, LastMark, marksBefore, EndsInside}
+use Rattle.formula.specs.Tables.{at, opens, LastMark, marksBefore, EndsInside}
 use Rattle.formula.specs.Causes.{PrefixCause, ends-inside, no-mark, same-mark, too-many-blocks, outside, named-before, empty-block}
 use Rattle.formula.specs.Scan.{IsMark, MarkFault, NameFault}
 use Rattle.formula.proofs.Named.{Named, named-none, named-skip, named-more}

@@ -13,7 +13,7 @@ use lib.ListN.{length, getD, set, replicate}
 use Rattle.terms.specs.Refusals.{First, None}
 use Rattle.terms.proofs.Common.{below-suc, clash}
 use Rattle.terms.proofs.Verdicts.{first-at}
-use Rattle.formula.specs.Tables.{at, opens, VariableAt, EndsInside}
+use Rattle.formula.specs.Tables.{at, opens, EndsInside}
 use Rattle.formula.specs.Scan.{IsMark, NameFault}
 use Rattle.formula.proofs.Named.{Named, named-none, named-skip, named-more}
 use Rattle.formula.proofs.Scanned.{open-end, shut-end}

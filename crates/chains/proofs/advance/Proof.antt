@@ -1,5 +1,4 @@
 -- `chains::advance` meets its contract.
-use mathlib.Core.Path.{_∙_}
 use borrow.Author.Needs.{needs}
 use Rattle.chains.proofs.Steps.{first-falling, second-falling, at-roots, advance-same, advance-roots, advance-step}
 use Rattle.chains.proofs.advance.Statement.{statement}
