@@ -12,9 +12,14 @@ use Rattle.qdimacs.specs.declared.Stage.{Stage}
 use Rattle.qdimacs.specs.Words.{words}
 use Rattle.qdimacs.specs.Grammar.{placeAfter}
 use Rattle.spelling.specs.Texts.{Overlong, overlong}
+use Rattle.dqdimacs.specs.declared.Reading.{Reading}
 use Rattle.dqdimacs.specs.Grammar.{ListLine, d-line, ListedLine, a-line, a-list, ListedLines, no-line, one-more, ListedText, ListedFault, outside, unended, no-problem, many, few, ListedFaultIn}
-use Rattle.dqdimacs.specs.Reading.{Tables, NoRoom, no-room-prefix, no-room-clauses, no-room-lists, readOrder, Filled, ReadInto}
+use Rattle.dqdimacs.specs.Reading.{Tables, NoRoom, no-room-prefix, no-room-clauses, no-room-lists, readOrder, Filled, ReadInto, ReadIs}
+use Rattle.cells.specs.Cells.{Fits, Laid}
+use Rattle.cells.specs.Formulas.{ThreeInCells, listedSaid}
+use Rattle.capi.specs.Told.{Told}
 use Rattle.capi.proofs.Places.{Small, small-then, small-within}
+use Rattle.capi.proofs.Telling.{Known, fits-known, tell-known}
 use Rattle.capi.proofs.Texts.{words-few, entries-few, line-few, place-few, overlong-place}
 
 -- A line adds no more entries than it has bytes and its LF, and a text no more than it has bytes.
@@ -54,7 +59,7 @@ no-room-place (no-room-prefix _ _) = omega arith
 no-room-place (no-room-clauses _ _) = omega arith
 no-room-place (no-room-lists _ _) = omega arith
 
-pub small-read : (text : List ℕ) (before : Tables) → Small (readOrder text before)
+small-read : (text : List ℕ) (before : Tables) → Small (readOrder text before)
 small-read text before =
     small-then (Overlong text ∷ []) (ListedFaultIn text ∷ NoRoom text before ∷ []) (small-within (Overlong text) 65536 (omega arith) (λ k p cause. overlong-place cause))
     (λ clean.
@@ -63,7 +68,7 @@ small-read text before =
     (λ _. small-within (NoRoom text before) 0 (omega arith) (λ k p cause. no-room-place cause)))
 
 -- the counts of what was read
-pub counts-few : (n entries literals rows : ℕ) (text : List ℕ) (before after : Tables) → NoneOf (readOrder text before) → ReadInto n entries literals rows text before after → (entries ≤ 65536) × (literals ≤ 65536) × (rows ≤ 65536)
+counts-few : (n entries literals rows : ℕ) (text : List ℕ) (before after : Tables) → NoneOf (readOrder text before) → ReadInto n entries literals rows text before after → (entries ≤ 65536) × (literals ≤ 65536) × (rows ≤ 65536)
 counts-few n entries literals rows text before after clean r =
     let long : ¬ (65536 < length text) = λ l. clean .0 15 65536 (overlong l) in
     let p = counted (r .prefix-filled) in
@@ -74,3 +79,34 @@ counts-few n entries literals rows text before after clean r =
   where
     counted : {A : Type 0} {count : ℕ} {before′ after′ : List A} → Filled count before′ after′ → length (take count after′) ≡ count
     counted {count = count} {after′ = after′} f = let room = f .room in let size = f .same-length in length-take-le count after′ (omega arith)
+
+-- What reading gives is told: n and the counts, with the tables.
+module _ (text : List ℕ) (before after : Tables) where
+  abbrev Into : ℕ × ℕ × ℕ × ℕ → Type 0
+  Into cells = ReadInto (cells .0) (cells .1) (cells .2) (cells .3) text before after
+
+  abbrev Stay : Type 0
+  Stay = (after .0 ≡ before .0) × (after .1 ≡ before .1) × (after .2 ≡ before .2)
+
+  read-known : (answer : Reading) → ReadIs text before after answer → Known (readOrder text before) Into Stay (listedSaid answer)
+  read-known (Reading.Read n entries literals rows) said = said
+  read-known (Reading.Refused number at) said = (said .0, (said .1, said .2, said .3))
+
+  pub fits-read : (answer : Reading) → ReadIs text before after answer → Fits ThreeInCells (listedSaid answer)
+  fits-read answer said =
+      fits-known (readOrder text before) Into Stay ThreeInCells (listedSaid answer) (small-read text before)
+      (λ cells clean r.
+      let few = counts-few (cells .0) (cells .1) (cells .2) (cells .3) text before after clean r in
+      let a = few .0 in
+      let b = few .1 in
+      let c = few .2 in
+      (omega arith, omega arith, omega arith))
+      (read-known answer said)
+
+  pub tell-read : (answer : Reading) {n entries literals rows n′ entries′ literals′ rows′ place place′ returned : ℕ} → Laid (listedSaid answer) (n, entries, literals, rows) (n′, entries′, literals′, rows′) place place′ returned
+      → ReadIs text before after answer
+      → Told (readOrder text before) (ReadInto n′ entries′ literals′ rows′ text before after)
+      ((n′ ≡ n) × (entries′ ≡ entries) × (literals′ ≡ literals) × (rows′ ≡ rows) × (after .0 ≡ before .0) × (after .1 ≡ before .1) × (after .2 ≡ before .2)) returned place place′
+  tell-read answer laid said =
+      tell-known (readOrder text before) Into Stay laid (read-known answer said)
+      (λ q k. (ap (λ (t : ℕ × ℕ × ℕ × ℕ). t .0) q, ap (λ (t : ℕ × ℕ × ℕ × ℕ). t .1) q, ap (λ (t : ℕ × ℕ × ℕ × ℕ). t .2) q, ap (λ (t : ℕ × ℕ × ℕ × ℕ). t .3) q, k .0, k .1, k .2))

@@ -1,16 +1,14 @@
 -- The places of storing and loading a file, and the counts of what is loaded, fit 32 bits; and what C is given of a file.
 use Prim.Native.Nat.{ℕ, _≤_, _<_}
-use mathlib.Core.Path.{_≡_, refl, ap, subst, _∙_}
-use mathlib.Core.Bool.{Bool}
+use mathlib.Core.Path.{_≡_, refl, ap}
 use mathlib.Core.List.{List, [], _∷_, _++_}
 use mathlib.Core.Logic.{inl, inr}
 use native.Mathlib.Omega.{arith}
 use lib.IntN.{ℤ}
 use lib.ListN.{length}
-use Rattle.terms.specs.Refusals.{At0, FirstOf, NoneOf}
+use Rattle.terms.specs.Refusals.{At0, NoneOf}
 use Rattle.joining.specs.Rules.{NoRule, checkOrderUnder}
 use Rattle.records.specs.declared.Loaded.{Loaded}
-use Rattle.records.specs.declared.Loaded.the-variants.{Formula, Refused}
 use Rattle.records.specs.Layout.{SumsToZero}
 use Rattle.records.specs.Places.{countIn, prefixIn, clausesIn}
 use Rattle.records.specs.Causes.{fileBytes, TooLarge, RecordCause, OrderCause, wrong, missing, ForestFileCause, rows-disagree, sets-disagree, Lent, NoRoom, FileTooLarge, FileTooLong, fileOrder, afterRule, loadOrder, storeOrder}
@@ -19,8 +17,13 @@ use Rattle.layout.specs.Laid.{Laid}
 use Rattle.layout.proofs.Walks.{record-cause, reached-within}
 use Rattle.layout.proofs.Spans.{laid-ends}
 use Rattle.layout.proofs.Laying.{file-laid}
-use Rattle.capi.specs.Filed.{tellsSets, Given}
+use Rattle.cells.specs.Codes.{tellsSets}
+use Rattle.cells.specs.Cells.{Fits, Laid as InCells}
+use Rattle.cells.specs.Formulas.{LoadedInCells, loadedSaid}
+use Rattle.capi.specs.Told.{Told}
+use Rattle.capi.specs.Filed.{Given}
 use Rattle.capi.proofs.Places.{Small, small-then, small-within, small-at0, small-check}
+use Rattle.capi.proofs.Telling.{Known, fits-known, tell-known}
 
 pub small-store : (rule n : ℕ) (es : List ℕ) (ls : List ℤ) (before : List ℕ) → Small (storeOrder rule n es ls before)
 small-store rule n es ls before =
@@ -49,7 +52,7 @@ module _ (file : List ℕ) where
       (λ _. small-then (OrderCause file ∷ []) (At0 21 (SumsToZero file → ⊥) ∷ []) (small-within (OrderCause file) fileBytes (omega arith) (λ k p cause. let l = order-place cause in omega arith))
       (λ _. small-at0 21 (SumsToZero file → ⊥))))
 
-  pub small-load : (rule : ℕ) (lent : Lent) → Small (loadOrder rule file lent)
+  small-load : (rule : ℕ) (lent : Lent) → Small (loadOrder rule file lent)
   small-load rule lent =
       let order = afterRule (checkOrderUnder rule (countIn file) (prefixIn file) (clausesIn file)) in
       let last = At0 14 (NoRoom file lent) ∷ [] in
@@ -59,22 +62,30 @@ module _ (file : List ℕ) where
       (λ _. small-then (ForestFileCause rule file ∷ []) last (small-within (ForestFileCause rule file) fileBytes (omega arith) (λ k p cause. forest-place (file-laid file none) cause))
       (λ _. small-at0 14 (NoRoom file lent)))))
 
--- What loading says: the entries of an accepted formula are few, and with a number that tells of its sets it is what C is given.
-module _ (rule : ℕ) (file : List ℕ) (lent lent′ : Lent) {answer : Loaded} (said : Loads rule file lent lent′ answer) where
-  module _ {n entries literals : ℕ} {there : Bool} (q : answer ≡ Formula n entries literals there) where
-    pub loaded-few : (entries ≤ 8192) × (literals ≤ 16384)
-    loaded-few =
-        let s = subst (Loads rule file lent lent′) q said in
-        let long : ¬ (8192 < length (prefixIn file)) = λ l. s .0 .1 .1 .1 .1 .1 .1 .0 2 0 (refl, refl, inl l) in
-        let large : ¬ (16384 < length (clausesIn file)) = λ l. s .0 .1 .1 .1 .1 .1 .1 .0 2 0 (refl, refl, inr l) in
-        let many = s .2 in
-        let more = s .3 in
-        (omega arith, omega arith)
+-- What loading gives is told: n, the counts and whether there are sets, with the tables.
+module _ (rule : ℕ) (file : List ℕ) (lent lent′ : Lent) where
+  abbrev GivenIn : ℕ × ℕ × ℕ × ℕ → Type 0
+  GivenIn cells = Given rule file lent lent′ (cells .0) (cells .1) (cells .2) (cells .3)
 
-    pub load-given : {told : ℕ} → told ≡ tellsSets there → NoneOf (loadOrder rule file lent) × Given rule file lent lent′ n entries literals told
-    load-given t =
-        let s = subst (Loads rule file lent lent′) q said in
-        (s .0, record { count = s .1; prefix-count = s .2; clauses-count = s .3; sets-told = t ∙ ap tellsSets (s .4); filled = s .5 })
+  load-known : (answer : Loaded) → Loads rule file lent lent′ answer → Known (loadOrder rule file lent) GivenIn (lent′ ≡ lent) (loadedSaid answer)
+  load-known (Loaded.Formula n entries literals there) said = (said .0, record { count = said .1; prefix-count = said .2; clauses-count = said .3; sets-told = ap tellsSets (said .4); filled = said .5 })
+  load-known (Loaded.Refused number at) said = said
 
-  pub load-refused : {number at : ℕ} → answer ≡ Refused number at → FirstOf (loadOrder rule file lent) number at × (lent′ ≡ lent)
-  load-refused q = subst (Loads rule file lent lent′) q said
+  -- the entries of an accepted formula are few
+  loaded-few : (cells : ℕ × ℕ × ℕ × ℕ) → NoneOf (loadOrder rule file lent) → GivenIn cells → LoadedInCells cells
+  loaded-few cells none g =
+      let long : ¬ (8192 < length (prefixIn file)) = λ l. none .1 .1 .1 .1 .1 .1 .0 2 0 (refl, refl, inl l) in
+      let large : ¬ (16384 < length (clausesIn file)) = λ l. none .1 .1 .1 .1 .1 .1 .0 2 0 (refl, refl, inr l) in
+      let many = g .prefix-count in
+      let more = g .clauses-count in
+      (omega arith, omega arith)
+
+  pub fits-load : (answer : Loaded) → Loads rule file lent lent′ answer → Fits LoadedInCells (loadedSaid answer)
+  fits-load answer said = fits-known (loadOrder rule file lent) GivenIn (lent′ ≡ lent) LoadedInCells (loadedSaid answer) (small-load file rule lent) loaded-few (load-known answer said)
+
+  pub tell-load : (answer : Loaded) {n entries literals with-sets n′ entries′ literals′ with-sets′ place place′ returned : ℕ}
+      → InCells (loadedSaid answer) (n, entries, literals, with-sets) (n′, entries′, literals′, with-sets′) place place′ returned → Loads rule file lent lent′ answer
+      → Told (loadOrder rule file lent) (Given rule file lent lent′ n′ entries′ literals′ with-sets′) ((n′ ≡ n) × (entries′ ≡ entries) × (literals′ ≡ literals) × (with-sets′ ≡ with-sets) × (lent′ ≡ lent)) returned place place′
+  tell-load answer laid said =
+      tell-known (loadOrder rule file lent) GivenIn (lent′ ≡ lent) laid (load-known answer said)
+      (λ q k. (ap (λ (t : ℕ × ℕ × ℕ × ℕ). t .0) q, ap (λ (t : ℕ × ℕ × ℕ × ℕ). t .1) q, ap (λ (t : ℕ × ℕ × ℕ × ℕ). t .2) q, ap (λ (t : ℕ × ℕ × ℕ × ℕ). t .3) q, k))

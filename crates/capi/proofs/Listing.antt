@@ -18,7 +18,7 @@ use Rattle.lists.specs.Lists.{DependsOnBy}
 use Rattle.lists.specs.Causes.{ListCause, outside, in-block, listed-before, no-universal, twice, ends-inside, checkListsOrder, setOrder}
 use Rattle.lists.specs.Answers.{SetListed}
 use Rattle.lists.proofs.Ordering.{clauses-many, lists-many, beside, from-listed}
-use Rattle.capi.specs.Cells.{Fits, Laid}
+use Rattle.cells.specs.Cells.{Fits, Any, Laid, filledSaid}
 use Rattle.capi.specs.Told.{Told, Written}
 use Rattle.capi.proofs.Places.{Small, small-then, small-within, small-at0, small-first, small-clauses}
 use Rattle.capi.proofs.Telling.{fits-filling, tell-filling}
@@ -51,16 +51,15 @@ module _ (rule n : ℕ) (es : List ℕ) (ls : List ℤ) (ds : List ℕ) where
       small-then (checkListsOrder rule n es ls ds) (At0 13 (NotUniversal n (readAs rule es) x) ∷ At0 14 (TooLong P before) ∷ []) small-lists
       (λ _. small-then (At0 13 (NotUniversal n (readAs rule es) x) ∷ []) (At0 14 (TooLong P before) ∷ []) (small-at0 13 (NotUniversal n (readAs rule es) x)) (λ _. small-at0 14 (TooLong P before)))
 
-  -- the set of x by a scheme: what is answered for a scheme and a number is told for equal ones
-  pub fits-set : (scheme : Scheme) (x : ℕ) (out out′ : List ℕ) (answer : Filled) → SetListed rule scheme n es ls ds x out out′ answer → Fits answer
+  -- the set of x by a scheme: what is answered for a scheme is told for an equal one
+  pub fits-set : (scheme : Scheme) (x : ℕ) (out out′ : List ℕ) (answer : Filled) → SetListed rule scheme n es ls ds x out out′ answer → Fits Any (filledSaid answer)
   fits-set scheme x out out′ answer =
       let P = DependsOnBy scheme n (readAs rule es) ls ds x in
       fits-filling (setOrder rule n es ls ds x P out) (Listed P) out out′ answer (small-set x P out)
 
-  pub tell-set : (out out′ : List ℕ) {answer : Filled} {s s′ : Scheme} {x x′ count count′ place place′ returned : ℕ} → s ≡ s′ → x ≡ x′ → Laid answer count count′ place place′ returned
+  pub tell-set : (x : ℕ) (out out′ : List ℕ) (answer : Filled) {s s′ : Scheme} {count count′ place place′ returned : ℕ} → s ≡ s′ → Laid (filledSaid answer) count count′ place place′ returned
       → SetListed rule s n es ls ds x out out′ answer
-      → Told (setOrder rule n es ls ds x′ (DependsOnBy s′ n (readAs rule es) ls ds x′) out) (Written (DependsOnBy s′ n (readAs rule es) ls ds x′) out out′ count′) ((count′ ≡ count) × (out′ ≡ out)) returned place place′
-  tell-set out out′ {answer} {s} {s′} {x} {x′} p q laid said =
-      let P = DependsOnBy s′ n (readAs rule es) ls ds x′ in
-      tell-filling (setOrder rule n es ls ds x′ P out) (Listed P) out out′ laid
-      (subst (λ (v : ℕ). SetListed rule s′ n es ls ds v out out′ answer) q (subst (λ (t : Scheme). SetListed rule t n es ls ds x out out′ answer) p said))
+      → Told (setOrder rule n es ls ds x (DependsOnBy s′ n (readAs rule es) ls ds x) out) (Written (DependsOnBy s′ n (readAs rule es) ls ds x) out out′ count′) ((count′ ≡ count) × (out′ ≡ out)) returned place place′
+  tell-set x out out′ answer {s′ = s′} q laid said =
+      let P = DependsOnBy s′ n (readAs rule es) ls ds x in
+      tell-filling (setOrder rule n es ls ds x P out) (Listed P) out out′ answer laid (subst (λ (t : Scheme). SetListed rule t n es ls ds x out out′ answer) q said)

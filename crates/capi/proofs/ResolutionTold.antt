@@ -1,6 +1,6 @@
--- The call for the resolution-path set: every place fits 32 bits, and what is answered for a number is told for an equal one.
+-- The call for the resolution-path set: every place fits 32 bits, and how it is told.
 use Prim.Native.Nat.{ℕ, _<_}
-use mathlib.Core.Path.{_≡_, subst}
+use mathlib.Core.Path.{_≡_}
 use mathlib.Core.List.{List, [], _∷_}
 use lib.IntN.{ℤ}
 use Rattle.terms.specs.declared.Filled.{Filled}
@@ -11,7 +11,7 @@ use Rattle.forest.specs.Causes.{NotUniversal}
 use Rattle.forest.specs.Listed.{TooLong}
 use Rattle.joining.specs.Rules.{readAs, checkOrderUnder}
 use Rattle.resolution.specs.Paths.{DependsByPaths, mostPathVariables, resolutionOrderUnder, ResolutionListed}
-use Rattle.capi.specs.Cells.{Fits, Laid}
+use Rattle.cells.specs.Cells.{Fits, Any, Laid, filledSaid}
 use Rattle.capi.specs.Told.{Told, Written}
 use Rattle.capi.proofs.Places.{Small, small-then, small-at0, small-check}
 use Rattle.capi.proofs.Telling.{fits-filling, tell-filling}
@@ -30,11 +30,10 @@ module _ (rule n : ℕ) (es : List ℕ) (ls : List ℤ) where
       (λ _. small-then (no-universal ∷ []) (too-many ∷ too-long ∷ []) (small-at0 13 (NotUniversal n (readAs rule es) x))
       (λ _. small-then (too-many ∷ []) (too-long ∷ []) (small-at0 27 (mostPathVariables < n)) (λ _. small-at0 14 (TooLong (Depends x) before))))
 
-  module _ (out out′ : List ℕ) where
-    pub fits-resolution : (answer : Filled) (x : ℕ) → ResolutionListed rule n es ls x out out′ answer → Fits answer
-    fits-resolution answer x = fits-filling (resolutionOrderUnder rule n es ls x out) (Listed (Depends x)) out out′ answer (small-resolution x out)
+  module _ (x : ℕ) (out out′ : List ℕ) (answer : Filled) where
+    pub fits-resolution : ResolutionListed rule n es ls x out out′ answer → Fits Any (filledSaid answer)
+    fits-resolution = fits-filling (resolutionOrderUnder rule n es ls x out) (Listed (Depends x)) out out′ answer (small-resolution x out)
 
-    pub tell-resolution : {answer : Filled} {x x′ count count′ place place′ returned : ℕ} → x ≡ x′ → Laid answer count count′ place place′ returned → ResolutionListed rule n es ls x out out′ answer
-        → Told (resolutionOrderUnder rule n es ls x′ out) (Written (Depends x′) out out′ count′) ((count′ ≡ count) × (out′ ≡ out)) returned place place′
-    tell-resolution {answer} {x} {x′} q laid listed =
-        tell-filling (resolutionOrderUnder rule n es ls x′ out) (Listed (Depends x′)) out out′ laid (subst (λ (v : ℕ). ResolutionListed rule n es ls v out out′ answer) q listed)
+    pub tell-resolution : {count count′ place place′ returned : ℕ} → Laid (filledSaid answer) count count′ place place′ returned → ResolutionListed rule n es ls x out out′ answer
+        → Told (resolutionOrderUnder rule n es ls x out) (Written (Depends x) out out′ count′) ((count′ ≡ count) × (out′ ≡ out)) returned place place′
+    tell-resolution = tell-filling (resolutionOrderUnder rule n es ls x out) (Listed (Depends x)) out out′ answer

@@ -10,13 +10,18 @@ use lib.IntN.{ℤ}
 use lib.ListN.{length, length-append}
 use lib.Seq.{length-take-le}
 use Rattle.terms.specs.Refusals.{NoneOf}
+use Rattle.qdimacs.specs.declared.Reading.{Reading}
 use Rattle.qdimacs.specs.declared.Stage.{Stage}
 use Rattle.qdimacs.specs.declared.Item.{Item}
 use Rattle.qdimacs.specs.declared.Item.the-variants.{Closing, Plain, Negated, Other}
 use Rattle.qdimacs.specs.Words.{LF, SPACE, pieces, onto, filled, words, itemOf, Kind, prepend, closed, entry, entriesOf}
 use Rattle.qdimacs.specs.Grammar.{QuantifierLine, e-line, a-line, ClauseLine, literals-line, Line, a-comment, the-problem, a-block, a-clause, Lines, no-line, one-more, TextOf, Fault, outside, unended, no-problem, many, few, placeAfter, FaultIn}
-use Rattle.qdimacs.specs.Reading.{Overlong, overlong, NoRoom, no-room-prefix, no-room-clauses, readOrder, ReadInto}
+use Rattle.qdimacs.specs.Reading.{Overlong, overlong, NoRoom, no-room-prefix, no-room-clauses, readOrder, ReadInto, ReadIs}
+use Rattle.cells.specs.Cells.{Fits, Laid}
+use Rattle.cells.specs.Formulas.{TwoInCells, readingSaid}
+use Rattle.capi.specs.Told.{Told}
 use Rattle.capi.proofs.Places.{Small, small-then, small-within}
+use Rattle.capi.proofs.Telling.{Known, fits-known, tell-known}
 
 -- Cut at a mark, bytes are as many as their pieces with a mark each, but for the last.
 onto-place : (byte : ℕ) (cut : List (List ℕ)) → 0 < placeAfter cut → placeAfter (onto byte cut) ≡ placeAfter cut + 1
@@ -110,7 +115,7 @@ place-few text lines left cut some-left =
     let s = pieces-place LF text in
     omega arith
 
-pub text-few : {n : ℕ} {P : List ℕ} {C : List ℤ} {text : List ℕ} → TextOf n P C text → length P + length C ≤ length text
+text-few : {n : ℕ} {P : List ℕ} {C : List ℤ} {text : List ℕ} → TextOf n P C text → length P + length C ≤ length text
 text-few {text = text} t = let l = lines-few (t .follow) in let m = place-few text (t .lines) ([] ∷ []) (t .cut) (omega arith) in omega arith
 
 -- A fault stands in what is left of a text, which has a piece at least.
@@ -131,7 +136,7 @@ no-room-place : {text prefix : List ℕ} {clauses : List ℤ} {k p : ℕ} → No
 no-room-place (no-room-prefix _ _) = omega arith
 no-room-place (no-room-clauses _ _) = omega arith
 
-pub small-read : (text prefix : List ℕ) (clauses : List ℤ) → Small (readOrder text prefix clauses)
+small-read : (text prefix : List ℕ) (clauses : List ℤ) → Small (readOrder text prefix clauses)
 small-read text prefix clauses =
     small-then (Overlong text ∷ []) (FaultIn text ∷ NoRoom text prefix clauses ∷ []) (small-within (Overlong text) 65536 (omega arith) (λ k p cause. overlong-place cause))
     (λ clean.
@@ -140,7 +145,7 @@ small-read text prefix clauses =
     (λ _. small-within (NoRoom text prefix clauses) 0 (omega arith) (λ k p cause. no-room-place cause)))
 
 -- the counts of what was read
-pub counts-few : (n entries literals : ℕ) (text prefix prefix′ : List ℕ) (clauses clauses′ : List ℤ) → NoneOf (readOrder text prefix clauses) → ReadInto n entries literals text prefix prefix′ clauses clauses′ → (entries ≤ 65536) × (literals ≤ 65536)
+counts-few : (n entries literals : ℕ) (text prefix prefix′ : List ℕ) (clauses clauses′ : List ℤ) → NoneOf (readOrder text prefix clauses) → ReadInto n entries literals text prefix prefix′ clauses clauses′ → (entries ≤ 65536) × (literals ≤ 65536)
 counts-few n entries literals text prefix prefix′ clauses clauses′ clean r =
     let long : ¬ (65536 < length text) = λ l. clean .0 15 65536 (overlong l) in
     let room = r .prefix-room in
@@ -151,3 +156,24 @@ counts-few n entries literals text prefix prefix′ clauses clauses′ clean r =
     let q = length-take-le literals clauses′ (omega arith) in
     let l = text-few (r .text-of) in
     (omega arith, omega arith)
+
+-- What reading gives is told: n and the counts, with the tables.
+module _ (text prefix prefix′ : List ℕ) (clauses clauses′ : List ℤ) where
+  abbrev Into : ℕ × ℕ × ℕ → Type 0
+  Into cells = ReadInto (cells .0) (cells .1) (cells .2) text prefix prefix′ clauses clauses′
+
+  read-known : (answer : Reading) → ReadIs text prefix prefix′ clauses clauses′ answer → Known (readOrder text prefix clauses) Into ((prefix′ ≡ prefix) × (clauses′ ≡ clauses)) (readingSaid answer)
+  read-known (Reading.Read n entries literals) said = said
+  read-known (Reading.Refused number at) said = (said .0, (said .1, said .2))
+
+  pub fits-read : (answer : Reading) → ReadIs text prefix prefix′ clauses clauses′ answer → Fits TwoInCells (readingSaid answer)
+  fits-read answer said =
+      fits-known (readOrder text prefix clauses) Into ((prefix′ ≡ prefix) × (clauses′ ≡ clauses)) TwoInCells (readingSaid answer) (small-read text prefix clauses)
+      (λ cells clean r. let few = counts-few (cells .0) (cells .1) (cells .2) text prefix prefix′ clauses clauses′ clean r in let a = few .0 in let b = few .1 in (omega arith, omega arith)) (read-known answer said)
+
+  pub tell-read : (answer : Reading) {n entries literals n′ entries′ literals′ place place′ returned : ℕ} → Laid (readingSaid answer) (n, entries, literals) (n′, entries′, literals′) place place′ returned
+      → ReadIs text prefix prefix′ clauses clauses′ answer
+      → Told (readOrder text prefix clauses) (ReadInto n′ entries′ literals′ text prefix prefix′ clauses clauses′) ((n′ ≡ n) × (entries′ ≡ entries) × (literals′ ≡ literals) × (prefix′ ≡ prefix) × (clauses′ ≡ clauses)) returned place place′
+  tell-read answer laid said =
+      tell-known (readOrder text prefix clauses) Into ((prefix′ ≡ prefix) × (clauses′ ≡ clauses)) laid (read-known answer said)
+      (λ q k. (ap (λ (t : ℕ × ℕ × ℕ). t .0) q, ap (λ (t : ℕ × ℕ × ℕ). t .1) q, ap (λ (t : ℕ × ℕ × ℕ). t .2) q, k .0, k .1))

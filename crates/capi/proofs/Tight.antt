@@ -22,7 +22,8 @@ use Rattle.records.proofs.Unique.{file-unique}
 use Rattle.records.proofs.Settled.{load-settled}
 use Rattle.ruled.specs.Calls.{buildOrderUnder, addOrderUnder, BuildsUnder, AddsUnder}
 use Rattle.ruled.proofs.Settled.{build-settled, add-settled}
-use Rattle.capi.specs.Told.{Told, accepted, refused, cellsOf, Front, Left}
+use Rattle.cells.specs.Codes.{cellsOf}
+use Rattle.capi.specs.Told.{Told, accepted, refused, Front, Left}
 use Rattle.capi.specs.Filed.{Given}
 
 numberIn : Verdict → ℕ

@@ -1,16 +1,12 @@
 -- What the calls for the file of a forest tell C: what a file that is loaded gives.
 use Prim.Native.Nat.{ℕ}
 use mathlib.Core.Path.{_≡_}
-use mathlib.Core.Bool.{Bool, cond}
 use mathlib.Core.List.{List}
 use lib.ListN.{length}
 use Rattle.records.specs.Places.{countIn, prefixIn, clausesIn, hasSets}
 use Rattle.records.specs.Causes.{Lent}
 use Rattle.records.specs.Promises.{FilledFrom}
-
--- the number that tells of sets: 1 where they are, else 0
-unfoldable pub tellsSets : Bool → ℕ
-tellsSets there = cond there 1 0
+use Rattle.cells.specs.Codes.{tellsSets}
 
 -- n, how many entries prefix and clauses have, and whether sets were there, as the file has them; with the lent tables filled
 pub record Given (rule : ℕ) (file : List ℕ) (lent lent′ : Lent) (n entries literals with-sets : ℕ) : Type 0 where

@@ -1,9 +1,7 @@
--- What a call tells C: the number that it returns, and each cell and table afterwards (include/snowcoddle.h, "What a call gives"); and which scheme C asks for.
+-- What a call tells C: the number that it returns, and each cell and table afterwards (include/snowcoddle.h, "What a call gives").
 use Prim.Native.Nat.{ℕ}
 use mathlib.Core.Path.{_≡_}
-use mathlib.Core.Bool.{cond}
-use mathlib.Core.List.{List, [], _∷_}
-use lib.Dec.{eqb}
+use mathlib.Core.List.{List, []}
 use lib.IntN.{ℤ}
 use lib.ListN.{length, getD}
 use lib.Seq.{sets}
@@ -11,10 +9,9 @@ use Rattle.terms.specs.Refusals.{Causes, FirstOf, NoneOf}
 use Rattle.formula.specs.Meaning.{clauses}
 use Rattle.formula.specs.Lookup.{beginOf}
 use Rattle.connection.specs.Listed.{Listed}
-use Rattle.terms.specs.declared.Scheme.{Scheme}
-use Rattle.terms.specs.declared.Scheme.the-variants.{Standard, Strict}
 use Rattle.growth.specs.declared.Tally.{Tally}
 use Rattle.growth.specs.Grown.{Standing, standing}
+use Rattle.cells.specs.Codes.{cellsOf}
 
 -- A call returns 0 where it accepts: then `given` holds of what it wrote, and the cell `place` is as it was.
 -- Else it returns the number of the first cause in its order, whose place is in the cell `place`, and all else is `kept`.
@@ -34,17 +31,6 @@ Front L out out′ count = (list : List ℕ) × L list × (count ≡ length list
 abbrev pub Written : (ℕ → Type 0) → List ℕ → List ℕ → ℕ → Type 0
 Written P = Front (Listed P)
 
--- the three cells of a tally, in this order, and the tally that such cells hold
-abbrev pub cellsOf : Tally → List ℕ
-cellsOf tally = tally .clauses ∷ tally .merges ∷ tally .classes ∷ []
-
-abbrev pub tallyIn : List ℕ → Tally
-tallyIn cells = record { clauses = getD cells 0 0; merges = getD cells 1 0; classes = getD cells 2 0 }
-
 -- forest tables and a tally afterwards, of which S holds, with the tally in its cells
 abbrev pub Left : (Standing → Type 0) → List ℕ → List ℕ → List ℕ → List ℕ → List ℕ → Type 0
 Left S classes parents counts cells cells′ = (tally : Tally) × S (standing classes parents counts tally) × (cells′ ≡ sets cells 0 (cellsOf tally))
-
--- the scheme that a number asks for: 2 the strict one, every other number the standard one
-unfoldable pub schemeOf : ℕ → Scheme
-schemeOf number = cond (eqb number 2) Strict Standard

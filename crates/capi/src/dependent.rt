@@ -1,14 +1,15 @@
 // The calls for C that take dependency lists, each under a reading rule.
 
-use crate::cells::lay;
-use crate::cells::scheme_in;
+use cells::lay;
+use cells::lay_verdict;
+use cells::scheme_in;
 use terms::Variable;
-use terms::Verdict;
 ghost use mathlib.Core.Path.{_≡_};
 ghost use Rattle.joining.specs.Rules.{readAs};
 ghost use Rattle.lists.specs.Lists.{DependsOnBy};
 ghost use Rattle.lists.specs.Causes.{checkListsOrder, setOrder};
-ghost use Rattle.capi.specs.Told.{Told, Written, schemeOf};
+ghost use Rattle.cells.specs.Codes.{schemeOf};
+ghost use Rattle.capi.specs.Told.{Told, Written};
 
 // Check with lists: whether a formula and its dependency lists keep every rule.
 #[no_mangle]
@@ -22,13 +23,7 @@ pub extern "C" fn snow_check_lists(
 ) -> u32
     ensures { λ r. ⌜ Told (checkListsOrder rule n (now (prefix .entry)) (now (clauses .entry)) (now (lists .entry))) (Unit {0}) (Unit {0}) r (now (place .entry)) (now (place .exit)) ⌝ }
 {
-    match lists::check(rule, n, prefix, clauses, lists) {
-        Verdict::Accepted => 0,
-        Verdict::Refused(number, at) => {
-            *place = at as u32;
-            number
-        }
-    }
+    lay_verdict(lists::check(rule, n, prefix, clauses, lists), place)
 }
 
 // The set of x by the lists and by the scheme that a number asks for, ascending, with the count of its members.
@@ -54,7 +49,7 @@ pub extern "C" fn snow_listed_set_by(
         prefix,
         clauses,
         lists,
-        Variable::new(x),
+        Variable(x),
         out,
     );
     lay(answer, count, place)

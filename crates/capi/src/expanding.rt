@@ -1,6 +1,6 @@
 // The call for C that expands a universal, under a reading rule.
 
-use expansion::Expanded;
+use cells::formulas::lay_expanded;
 use terms::Variable;
 ghost use mathlib.Core.Path.{_≡_};
 ghost use Rattle.joining.specs.Rules.{readAs};
@@ -24,24 +24,14 @@ pub extern "C" fn snow_expand(
 ) -> u32
     ensures { λ r. ⌜ Told (expandOrderUnder rule n (now (prefix .entry)) (now (clauses .entry)) x (now («out_prefix» .entry)) (now («out_clauses» .entry))) (WithSet n (readAs rule (now (prefix .entry))) (now (clauses .entry)) x (Leaves n (readAs rule (now (prefix .entry))) (now (clauses .entry)) x (now («out_prefix» .entry)) (now («out_prefix» .exit)) (now («out_clauses» .entry)) (now («out_clauses» .exit)) (now («out_n» .exit)) (now («prefix_count» .exit)) (now («clauses_count» .exit)))) ((now («out_n» .exit) ≡ now («out_n» .entry)) × (now («prefix_count» .exit) ≡ now («prefix_count» .entry)) × (now («clauses_count» .exit) ≡ now («clauses_count» .entry)) × (now («out_prefix» .exit) ≡ now («out_prefix» .entry)) × (now («out_clauses» .exit) ≡ now («out_clauses» .entry))) r (now (place .entry)) (now (place .exit)) ⌝ }
 {
-    match expansion::expand(
+    let answer = expansion::expand(
         rule,
         n,
         prefix,
         clauses,
-        Variable::new(x),
+        Variable(x),
         out_prefix,
         out_clauses,
-    ) {
-        Expanded::Formula(variables, entries, literals) => {
-            *out_n = variables;
-            *prefix_count = entries;
-            *clauses_count = literals;
-            0
-        }
-        Expanded::Refused(number, at) => {
-            *place = at as u32;
-            number
-        }
-    }
+    );
+    lay_expanded(answer, out_n, prefix_count, clauses_count, place)
 }

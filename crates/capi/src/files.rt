@@ -1,8 +1,7 @@
 // The calls for C that write and read the file of a forest, each under a reading rule.
 
-use crate::cells::lay;
-use crate::cells::sets_told;
-use records::Loaded;
+use cells::formulas::lay_loaded;
+use cells::lay;
 ghost use mathlib.Core.Path.{_≡_};
 ghost use Rattle.records.specs.Layout.{FileOf};
 ghost use Rattle.records.specs.Causes.{lentTables, loadOrder, storeOrder};
@@ -44,17 +43,6 @@ pub extern "C" fn snow_load(
 ) -> u32
     ensures { λ r. ⌜ Told (loadOrder rule (now (file .entry)) (lentTables (now (prefix .entry)) (now (clauses .entry)) (now (classes .entry)) (now (parents .entry)) (now (counts .entry)))) (Given rule (now (file .entry)) (lentTables (now (prefix .entry)) (now (clauses .entry)) (now (classes .entry)) (now (parents .entry)) (now (counts .entry))) (lentTables (now (prefix .exit)) (now (clauses .exit)) (now (classes .exit)) (now (parents .exit)) (now (counts .exit))) (now (n .exit)) (now («prefix_count» .exit)) (now («clauses_count» .exit)) (now («with_sets» .exit))) ((now (n .exit) ≡ now (n .entry)) × (now («prefix_count» .exit) ≡ now («prefix_count» .entry)) × (now («clauses_count» .exit) ≡ now («clauses_count» .entry)) × (now («with_sets» .exit) ≡ now («with_sets» .entry)) × (lentTables (now (prefix .exit)) (now (clauses .exit)) (now (classes .exit)) (now (parents .exit)) (now (counts .exit)) ≡ lentTables (now (prefix .entry)) (now (clauses .entry)) (now (classes .entry)) (now (parents .entry)) (now (counts .entry)))) r (now (place .entry)) (now (place .exit)) ⌝ }
 {
-    match loading::load(rule, file, prefix, clauses, classes, parents, counts) {
-        Loaded::Formula(variables, entries, literals, sets) => {
-            *n = variables;
-            *prefix_count = entries as u32;
-            *clauses_count = literals as u32;
-            *with_sets = sets_told(sets);
-            0
-        }
-        Loaded::Refused(number, at) => {
-            *place = at as u32;
-            number
-        }
-    }
+    let answer = loading::load(rule, file, prefix, clauses, classes, parents, counts);
+    lay_loaded(answer, n, prefix_count, clauses_count, with_sets, place)
 }

@@ -1,7 +1,6 @@
 // The calls of the library for C, as include/snowcoddle.h has them: each calls the library, by a reading rule where it takes a prefix, and lays its answer out. A slice is a pointer and
 // a length there, a `&mut` to a number is a cell, and that to the three numbers of a tally is a pointer to its struct.
 
-mod cells;
 pub mod dependent;
 pub mod expanding;
 pub mod files;
@@ -9,14 +8,16 @@ pub mod listed;
 pub mod pairs;
 pub mod resolving;
 
+use cells::formulas::lay_reading;
 use cells::lay;
-use cells::lay_tally;
+use cells::lay_entry;
+use cells::lay_output;
+use cells::lay_verdict;
 use cells::scheme_in;
-use cells::tally_in;
-use forest::EntryAnswer;
+use cells::tallies::lay_added;
+use cells::tallies::lay_built;
+use cells::tallies::tally_in;
 use formula::clauses::Found;
-use qdimacs::Reading;
-use spelling::Output;
 use terms::Variable;
 use terms::Verdict;
 ghost use mathlib.Core.Path.{_≡_};
@@ -31,7 +32,11 @@ ghost use Rattle.spelling.specs.Stored.{Stored};
 ghost use Rattle.spelling.specs.Writing.{textOf};
 ghost use Rattle.joining.specs.Rules.{readAs, checkOrderUnder};
 ghost use Rattle.ruled.specs.Calls.{entryOrderUnder, readOrderUnder, listOrderUnder, setsOrderUnder, buildOrderUnder, addOrderUnder, writeOrderUnder};
-ghost use Rattle.capi.specs.Told.{Told, Clause, Front, Written, tallyIn, Left, schemeOf};
+ghost use Rattle.cells.specs.Codes.{schemeOf, tallyIn};
+ghost use Rattle.capi.specs.Told.{Told, Clause, Front, Written, Left};
+
+// The number by which C asks for the strict scheme, which the calls mean that take none.
+const STRICT: u32 = 2;
 
 // Check: whether a formula keeps every rule.
 #[no_mangle]
@@ -44,13 +49,7 @@ pub extern "C" fn snow_check(
 ) -> u32
     ensures { λ r. ⌜ Told (checkOrderUnder rule n (now (prefix .entry)) (now (clauses .entry))) (Unit {0}) (Unit {0}) r (now (place .entry)) (now (place .exit)) ⌝ }
 {
-    match ruled::check(rule, n, prefix, clauses) {
-        Verdict::Accepted => 0,
-        Verdict::Refused(number, at) => {
-            *place = at as u32;
-            number
-        }
-    }
+    lay_verdict(ruled::check(rule, n, prefix, clauses), place)
 }
 
 // The clause with a given number: where it stands in the lent table, and how many literals it has.
@@ -108,9 +107,7 @@ pub extern "C" fn snow_build(
         counts,
         lent,
     );
-    lay_tally(told, tally);
-    let answer = told.answer;
-    lay(answer, count, place)
+    lay_built(told, tally, count, place)
 }
 
 // The entry point of x for y, and the number of rises up to it.
@@ -130,26 +127,17 @@ pub extern "C" fn snow_entry_point(
 ) -> u32
     ensures { λ r. ⌜ Told (entryOrderUnder rule n (now (prefix .entry)) (now (classes .entry)) (now (parents .entry)) (now (counts .entry)) x y) (Entry n (readAs rule (now (prefix .entry))) (now (classes .entry)) (now (parents .entry)) x y (now (entry .exit)) (now (rises .exit))) ((now (entry .exit) ≡ now (entry .entry)) × (now (rises .exit) ≡ now (rises .entry))) r (now (place .entry)) (now (place .exit)) ⌝ }
 {
-    match ruled::asking::entry_point(
+    let answer = ruled::asking::entry_point(
         rule,
         n,
         prefix,
         classes,
         parents,
         counts,
-        Variable::new(x),
-        Variable::new(y),
-    ) {
-        EntryAnswer::At(class, passed) => {
-            *entry = class.0;
-            *rises = passed;
-            0
-        }
-        EntryAnswer::Refused(number, at) => {
-            *place = at as u32;
-            number
-        }
-    }
+        Variable(x),
+        Variable(y),
+    );
+    lay_entry(answer, entry, rises, place)
 }
 
 // The strict entry points of x, ascending, with their count.
@@ -169,18 +157,20 @@ pub extern "C" fn snow_entry_points(
 ) -> u32
     ensures { λ r. ⌜ Told (listOrderUnder rule n (now (prefix .entry)) (now (clauses .entry)) (now (classes .entry)) (now (parents .entry)) (now (counts .entry)) x (Entries n (readAs rule (now (prefix .entry))) (now (clauses .entry)) (now (classes .entry)) (now (parents .entry)) x) (now (out .entry))) (Written (Entries n (readAs rule (now (prefix .entry))) (now (clauses .entry)) (now (classes .entry)) (now (parents .entry)) x) (now (out .entry)) (now (out .exit)) (now (count .exit))) ((now (count .exit) ≡ now (count .entry)) × (now (out .exit) ≡ now (out .entry))) r (now (place .entry)) (now (place .exit)) ⌝ }
 {
-    let answer = ruled::asking::entry_points(
+    snow_entry_points_by(
         rule,
+        STRICT,
         n,
         prefix,
         clauses,
         classes,
         parents,
         counts,
-        Variable::new(x),
+        x,
         out,
-    );
-    lay(answer, count, place)
+        count,
+        place,
+    )
 }
 
 // The strict set of x, ascending, with the count of its members.
@@ -200,18 +190,20 @@ pub extern "C" fn snow_set(
 ) -> u32
     ensures { λ r. ⌜ Told (listOrderUnder rule n (now (prefix .entry)) (now (clauses .entry)) (now (classes .entry)) (now (parents .entry)) (now (counts .entry)) x (Members n (readAs rule (now (prefix .entry))) (now (clauses .entry)) (now (classes .entry)) (now (parents .entry)) x) (now (out .entry))) (Written (Members n (readAs rule (now (prefix .entry))) (now (clauses .entry)) (now (classes .entry)) (now (parents .entry)) x) (now (out .entry)) (now (out .exit)) (now (count .exit))) ((now (count .exit) ≡ now (count .entry)) × (now (out .exit) ≡ now (out .entry))) r (now (place .entry)) (now (place .exit)) ⌝ }
 {
-    let answer = ruled::asking::set_of(
+    snow_set_by(
         rule,
+        STRICT,
         n,
         prefix,
         clauses,
         classes,
         parents,
         counts,
-        Variable::new(x),
+        x,
         out,
-    );
-    lay(answer, count, place)
+        count,
+        place,
+    )
 }
 
 // The size of the strict set of x.
@@ -230,17 +222,19 @@ pub extern "C" fn snow_size(
 ) -> u32
     ensures { λ r. ⌜ Told (readOrderUnder rule n (now (prefix .entry)) (now (clauses .entry)) (now (classes .entry)) (now (parents .entry)) (now (counts .entry)) x) (Size n (readAs rule (now (prefix .entry))) (now (clauses .entry)) (now (classes .entry)) (now (parents .entry)) (now (counts .entry)) x (now (size .exit))) (now (size .exit) ≡ now (size .entry)) r (now (place .entry)) (now (place .exit)) ⌝ }
 {
-    let answer = ruled::asking::set_size(
+    snow_size_by(
         rule,
+        STRICT,
         n,
         prefix,
         clauses,
         classes,
         parents,
         counts,
-        Variable::new(x),
-    );
-    lay(answer, size, place)
+        x,
+        size,
+        place,
+    )
 }
 
 // The entry points of x by the scheme that a number asks for, ascending, with their count.
@@ -270,7 +264,7 @@ pub extern "C" fn snow_entry_points_by(
         classes,
         parents,
         counts,
-        Variable::new(x),
+        Variable(x),
         out,
     );
     lay(answer, count, place)
@@ -303,7 +297,7 @@ pub extern "C" fn snow_set_by(
         classes,
         parents,
         counts,
-        Variable::new(x),
+        Variable(x),
         out,
     );
     lay(answer, count, place)
@@ -335,7 +329,7 @@ pub extern "C" fn snow_size_by(
         classes,
         parents,
         counts,
-        Variable::new(x),
+        Variable(x),
     );
     lay(answer, size, place)
 }
@@ -357,8 +351,19 @@ pub extern "C" fn snow_sets(
 ) -> u32
     ensures { λ r. ⌜ Told (setsOrderUnder rule Strict n (now (prefix .entry)) (now (clauses .entry)) (now (classes .entry)) (now (parents .entry)) (now (counts .entry)) (now (out .entry))) (Front (AllSetsBy Strict n (readAs rule (now (prefix .entry))) (now (clauses .entry)) (now (classes .entry)) (now (parents .entry))) (now (out .entry)) (now (out .exit)) (now (count .exit))) ((now (count .exit) ≡ now (count .entry)) × (now (out .exit) ≡ now (out .entry))) r (now (place .entry)) (now (place .exit)) ⌝ }
 {
-    let answer = ruled::asking::sets(rule, n, prefix, clauses, classes, parents, counts, out);
-    lay(answer, count, place)
+    snow_sets_by(
+        rule,
+        STRICT,
+        n,
+        prefix,
+        clauses,
+        classes,
+        parents,
+        counts,
+        out,
+        count,
+        place,
+    )
 }
 
 // The same by the scheme that a number asks for.
@@ -418,10 +423,7 @@ pub extern "C" fn snow_add(
         lent,
         clause,
     );
-    lay_tally(told, tally);
-    let answer = told.answer;
-    let mut count: u32 = 0;
-    lay(answer, &mut count, place)
+    lay_added(told, tally, place)
 }
 
 // Read a text: n, and both tables with the counts of their entries.
@@ -437,22 +439,8 @@ pub extern "C" fn snow_read(
 ) -> u32
     ensures { λ r. ⌜ Told (readOrder (now (text .entry)) (now (prefix .entry)) (now (clauses .entry))) (ReadInto (now (n .exit)) (now («prefix_count» .exit)) (now («clauses_count» .exit)) (now (text .entry)) (now (prefix .entry)) (now (prefix .exit)) (now (clauses .entry)) (now (clauses .exit))) ((now (n .exit) ≡ now (n .entry)) × (now («prefix_count» .exit) ≡ now («prefix_count» .entry)) × (now («clauses_count» .exit) ≡ now («clauses_count» .entry)) × (now (prefix .exit) ≡ now (prefix .entry)) × (now (clauses .exit) ≡ now (clauses .entry))) r (now (place .entry)) (now (place .exit)) ⌝ }
 {
-    match qdimacs::read(text, prefix, clauses) {
-        Reading::Read {
-            n: variables,
-            prefix: entries,
-            clauses: literals,
-        } => {
-            *n = variables;
-            *prefix_count = entries as u32;
-            *clauses_count = literals as u32;
-            0
-        }
-        Reading::Refused { number, place: at } => {
-            *place = at as u32;
-            number
-        }
-    }
+    let answer = qdimacs::read(text, prefix, clauses);
+    lay_reading(answer, n, prefix_count, clauses_count, place)
 }
 
 // Write a text, with the count of its bytes.
@@ -468,14 +456,6 @@ pub extern "C" fn snow_write(
 ) -> u32
     ensures { λ r. ⌜ Told (writeOrderUnder rule n (now (prefix .entry)) (now (clauses .entry)) (now (text .entry))) (Stored (textOf n (now (prefix .entry)) (now (clauses .entry))) (now (text .entry)) (now (text .exit)) (now (count .exit))) ((now (count .exit) ≡ now (count .entry)) × (now (text .exit) ≡ now (text .entry))) r (now (place .entry)) (now (place .exit)) ⌝ }
 {
-    match ruled::write(rule, n, prefix, clauses, text) {
-        Output::Written { count: written } => {
-            *count = written as u32;
-            0
-        }
-        Output::Refused { number, place: at } => {
-            *place = at as u32;
-            number
-        }
-    }
+    let output = ruled::write(rule, n, prefix, clauses, text);
+    lay_output(output, count, place)
 }

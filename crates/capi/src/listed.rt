@@ -1,7 +1,7 @@
 // The calls for C that read and write text with dependency lists, the second under a reading rule.
 
-use dqdimacs::Reading;
-use spelling::Output;
+use cells::formulas::lay_listed;
+use cells::lay_output;
 ghost use mathlib.Core.Path.{_≡_};
 ghost use Rattle.spelling.specs.Stored.{Stored, writeOrder};
 ghost use mathlib.Core.List.{_++_};
@@ -25,24 +25,8 @@ pub extern "C" fn snow_read_lists(
 ) -> u32
     ensures { λ r. ⌜ Told (readOrder (now (text .entry)) (now (prefix .entry), now (clauses .entry), now (lists .entry))) (ReadInto (now (n .exit)) (now («prefix_count» .exit)) (now («clauses_count» .exit)) (now («lists_count» .exit)) (now (text .entry)) (now (prefix .entry), now (clauses .entry), now (lists .entry)) (now (prefix .exit), now (clauses .exit), now (lists .exit))) ((now (n .exit) ≡ now (n .entry)) × (now («prefix_count» .exit) ≡ now («prefix_count» .entry)) × (now («clauses_count» .exit) ≡ now («clauses_count» .entry)) × (now («lists_count» .exit) ≡ now («lists_count» .entry)) × (now (prefix .exit) ≡ now (prefix .entry)) × (now (clauses .exit) ≡ now (clauses .entry)) × (now (lists .exit) ≡ now (lists .entry))) r (now (place .entry)) (now (place .exit)) ⌝ }
 {
-    match dqdimacs::read(text, prefix, clauses, lists) {
-        Reading::Read {
-            n: variables,
-            prefix: entries,
-            clauses: literals,
-            lists: rows,
-        } => {
-            *n = variables;
-            *prefix_count = entries as u32;
-            *clauses_count = literals as u32;
-            *lists_count = rows as u32;
-            0
-        }
-        Reading::Refused { number, place: at } => {
-            *place = at as u32;
-            number
-        }
-    }
+    let answer = dqdimacs::read(text, prefix, clauses, lists);
+    lay_listed(answer, n, prefix_count, clauses_count, lists_count, place)
 }
 
 // Write a text with lists, with the count of its bytes.
@@ -59,14 +43,6 @@ pub extern "C" fn snow_write_lists(
 ) -> u32
     ensures { λ r. ⌜ Told (checkListsOrder rule n (now (prefix .entry)) (now (clauses .entry)) (now (lists .entry)) ++ writeOrder (listedTextOf n (now (prefix .entry)) (now (clauses .entry)) (now (lists .entry))) (now (text .entry))) (Stored (listedTextOf n (now (prefix .entry)) (now (clauses .entry)) (now (lists .entry))) (now (text .entry)) (now (text .exit)) (now (count .exit))) ((now (count .exit) ≡ now (count .entry)) × (now (text .exit) ≡ now (text .entry))) r (now (place .entry)) (now (place .exit)) ⌝ }
 {
-    match dqdimacs::write(rule, n, prefix, clauses, lists, text) {
-        Output::Written { count: written } => {
-            *count = written as u32;
-            0
-        }
-        Output::Refused { number, place: at } => {
-            *place = at as u32;
-            number
-        }
-    }
+    let output = dqdimacs::write(rule, n, prefix, clauses, lists, text);
+    lay_output(output, count, place)
 }

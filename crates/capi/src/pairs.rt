@@ -20,15 +20,7 @@ pub extern "C" fn snow_path(
 ) -> u32
     ensures { λ r. ⌜ Told (pathOrderUnder rule n (now (prefix .entry)) (now (clauses .entry)) x y (now (path .entry))) (Unit {0}) (Unit {0}) r (now (place .entry)) (now (place .exit)) ⌝ }
 {
-    let verdict = paths::path_verdict(
-        rule,
-        n,
-        prefix,
-        clauses,
-        Variable::new(x),
-        Variable::new(y),
-        path,
-    );
+    let verdict = paths::path_verdict(rule, n, prefix, clauses, Variable(x), Variable(y), path);
     if let Verdict::Refused(number, at) = verdict {
         *place = at;
         return number;

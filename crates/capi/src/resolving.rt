@@ -1,6 +1,6 @@
 // The call for C that lists the resolution-path set of a universal, under a reading rule.
 
-use crate::cells::lay;
+use cells::lay;
 use terms::Variable;
 ghost use mathlib.Core.Path.{_≡_};
 ghost use Rattle.tables.specs.Formula.{variables};
@@ -22,6 +22,6 @@ pub extern "C" fn snow_resolution_set(
 ) -> u32
     ensures { λ r. ⌜ Told (resolutionOrderUnder rule n (now (prefix .entry)) (now (clauses .entry)) x (now (out .entry))) (Written (DependsByPaths (variables n (readAs rule (now (prefix .entry)))) (now (clauses .entry)) x) (now (out .entry)) (now (out .exit)) (now (count .exit))) ((now (count .exit) ≡ now (count .entry)) × (now (out .exit) ≡ now (out .entry))) r (now (place .entry)) (now (place .exit)) ⌝ }
 {
-    let answer = resolution::resolution_set(rule, n, prefix, clauses, Variable::new(x), out);
+    let answer = resolution::resolution_set(rule, n, prefix, clauses, Variable(x), out);
     lay(answer, count, place)
 }

@@ -8,7 +8,6 @@ use crate::lines::told;
 use crate::words::number_at;
 use crate::words::same_bytes;
 use crate::words::word;
-use qdimacs::Output;
 use qdimacs::Reading;
 use samples::parts::bytes;
 use samples::parts::literals;
@@ -20,6 +19,7 @@ use score::rows::UNTOUCHED;
 use score::rows::same;
 use score::rows::same_literals;
 use score::rows::untouched;
+use spelling::Output;
 
 // What stands in every row of a clause table before a text is read.
 const UNREAD: i32 = 777777;

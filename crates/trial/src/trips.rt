@@ -1,6 +1,5 @@
 // The round trip of a generated formula's text.
 
-use qdimacs::Output;
 use rules::texts::UNWRITTEN;
 use rules::texts::reads_as;
 use rules::words::same_bytes;
@@ -8,6 +7,7 @@ use samples::parts::bytes;
 use samples::spelling::spell;
 use score::Score;
 use score::library;
+use spelling::Output;
 
 // How many bytes a call answers; 0, which no text has, where it refuses.
 fn written(answer: Output) -> usize {

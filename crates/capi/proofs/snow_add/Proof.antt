@@ -10,11 +10,8 @@ tally-in-requires c κs = search needs
 add-tallied-requires : tie.Need-add-tallied-requires
 add-tallied-requires c κs = search needs
 
-lay-tally-requires : tie.Need-lay-tally-requires
-lay-tally-requires c κs = search needs
-
-lay-requires : tie.Need-lay-requires
-lay-requires c κs = fits-added (c .before .before .before .before .before .before .before .before .before .before .add-tallied .ensures)
+lay-added-requires : tie.Need-lay-added-requires
+lay-added-requires c κs = fits-added (c .before .before .before .before .before .before .before .before .add-tallied .ensures)
 
 same-length : tie.Need-same-length
 same-length c = search needs
@@ -27,18 +24,9 @@ same-length-3 c = search needs
 
 returns : tie.Need-returns
 returns c =
-    let a = c .before .before .before .before .before .before .before .before .before .before .before .before .before .before .before .before .before .before .before .before .before .args in
-    tell-added (a .classes .now) (a .parents .now) (a .counts .now) (a .tally .now) _ _ _ _ (c .before .before .before .before .before .before .before .before .before .before .before .before .before .before .before .tally-in .ensures) (c .lay .ensures) (c .before .before .before .lay-tally .ensures) (c .before .before .before .before .before .before .before .before .before .before .before .add-tallied .ensures)
+    let a = c .before .before .before .before .before .before .before .before .before .before .before .before .before .before .before .before .before .before .before .args in
+    let b = c .before .before .before .before .before .before .before .before .before .add-tallied in
+    tell-added (a .classes .now) (a .parents .now) (a .counts .now) (a .tally .now) _ _ _ (a .rule) (a .n) (a .prefix .now) (a .clause .now) (b .result .tally) (b .result .answer) (c .before .before .before .before .before .before .before .before .before .before .before .before .before .tally-in .ensures) (c .lay-added .ensures) (b .ensures)
 
 pub snow-add-spec : {M : Type 1} → statement M
-snow-add-spec =
-    tie.close
-    (tie.spec
-    tally-in-requires
-    add-tallied-requires
-    lay-tally-requires
-    lay-requires
-    same-length
-    same-length-2
-    same-length-3
-    returns)
+snow-add-spec = tie.close (tie.spec tally-in-requires add-tallied-requires lay-added-requires same-length same-length-2 same-length-3 returns)

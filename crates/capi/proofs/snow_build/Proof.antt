@@ -10,11 +10,8 @@ tally-in-requires c κs = search needs
 build-tallied-requires : tie.Need-build-tallied-requires
 build-tallied-requires c κs = search needs
 
-lay-tally-requires : tie.Need-lay-tally-requires
-lay-tally-requires c κs = search needs
-
-lay-requires : tie.Need-lay-requires
-lay-requires c κs = fits-built (c .before .before .before .before .before .before .before .before .before .before .build-tallied .ensures)
+lay-built-requires : tie.Need-lay-built-requires
+lay-built-requires c κs = fits-built (c .before .before .before .before .before .before .before .before .before .build-tallied .ensures)
 
 same-length : tie.Need-same-length
 same-length c = search needs
@@ -27,18 +24,9 @@ same-length-3 c = search needs
 
 returns : tie.Need-returns
 returns c =
-    let a = c .before .before .before .before .before .before .before .before .before .before .before .before .before .before .before .before .before .before .before .before .before .args in
-    tell-built (a .classes .now) (a .parents .now) (a .counts .now) (a .tally .now) _ _ _ _ (c .before .before .before .before .before .before .before .before .before .before .before .before .before .before .before .tally-in .ensures) (c .lay .ensures) (c .before .before .before .lay-tally .ensures) (c .before .before .before .before .before .before .before .before .before .before .before .build-tallied .ensures)
+    let a = c .before .before .before .before .before .before .before .before .before .before .before .before .before .before .before .before .before .before .before .before .args in
+    let b = c .before .before .before .before .before .before .before .before .before .before .build-tallied in
+    tell-built (a .classes .now) (a .parents .now) (a .counts .now) (a .tally .now) _ _ _ (a .rule) (a .n) (a .prefix .now) (a .clauses .now) (b .result .tally) (b .result .answer) (c .before .before .before .before .before .before .before .before .before .before .before .before .before .before .tally-in .ensures) (c .lay-built .ensures) (b .ensures)
 
 pub snow-build-spec : {M : Type 1} → statement M
-snow-build-spec =
-    tie.close
-    (tie.spec
-    tally-in-requires
-    build-tallied-requires
-    lay-tally-requires
-    lay-requires
-    same-length
-    same-length-2
-    same-length-3
-    returns)
+snow-build-spec = tie.close (tie.spec tally-in-requires build-tallied-requires lay-built-requires same-length same-length-2 same-length-3 returns)

@@ -1,34 +1,32 @@
 -- `capi::snow_set_by` meets its contract.
 use borrow.Author.Needs.{needs}
+use Rattle.terms.specs.declared.Scheme.{Scheme}
 use Rattle.forest.specs.Answers.{MembersBy}
 use Rattle.joining.specs.Rules.{readAs}
-use Rattle.capi.proofs.Telling.{fits-listing, tell-listing-by}
+use Rattle.capi.proofs.Telling.{fits-listing, tell-listing}
 use Rattle.capi.proofs.snow_set_by.Statement.{statement}
 use Rattle.capi.proofs.snow_set_by.Tie as tie
 
 scheme-in-requires : tie.Need-scheme-in-requires
 scheme-in-requires c κs = search needs
 
-new-requires : tie.Need-new-requires
-new-requires c κs = search needs
-
 set-by-requires : tie.Need-set-by-requires
 set-by-requires c κs = search needs
 
 lay-requires : tie.Need-lay-requires
 lay-requires c κs =
-    let a = c .before .before .before .before .before .before .before .before .before .before .before .before .before .args in
+    let a = c .before .before .before .before .before .before .before .before .before .before .before .before .args in
     let b = c .before .before .before .before .set-by in
-    fits-listing (a .rule) (a .n) (a .prefix .now) (a .clauses .now) (a .classes .now) (a .parents .now) (a .counts .now) (MembersBy (c .before .before .before .before .before .before .before .scheme-in .result) (a .n) (readAs (a .rule) (a .prefix .now)) (a .clauses .now) (a .classes .now) (a .parents .now)) (a .out .now) _ (b .result) _ (b .ensures)
+    fits-listing (a .rule) (a .n) (a .prefix .now) (a .clauses .now) (a .classes .now) (a .parents .now) (a .counts .now) (MembersBy (c .before .before .before .before .before .before .scheme-in .result) (a .n) (readAs (a .rule) (a .prefix .now)) (a .clauses .now) (a .classes .now) (a .parents .now) (a .x)) (a .x) (a .out .now) _ (b .result) (b .ensures)
 
 same-length : tie.Need-same-length
 same-length c = search needs
 
 returns : tie.Need-returns
 returns c =
-    let a = c .before .before .before .before .before .before .before .before .before .before .before .before .before .before .args in
+    let a = c .before .before .before .before .before .before .before .before .before .before .before .before .before .args in
     let b = c .before .before .before .before .before .set-by in
-    tell-listing-by (a .rule) (a .n) (a .prefix .now) (a .clauses .now) (a .classes .now) (a .parents .now) (a .counts .now) (λ s. MembersBy s (a .n) (readAs (a .rule) (a .prefix .now)) (a .clauses .now) (a .classes .now) (a .parents .now)) (a .out .now) _ (c .before .before .before .before .before .before .before .before .scheme-in .ensures) (c .before .before .before .before .before .before .before .new .ensures) (c .lay .ensures) (b .ensures)
+    tell-listing (a .rule) (a .n) (a .prefix .now) (a .clauses .now) (a .classes .now) (a .parents .now) (a .counts .now) (λ (s : Scheme). MembersBy s (a .n) (readAs (a .rule) (a .prefix .now)) (a .clauses .now) (a .classes .now) (a .parents .now) (a .x)) (a .x) (a .out .now) _ (b .result) (c .before .before .before .before .before .before .before .scheme-in .ensures) (c .lay .ensures) (b .ensures)
 
 pub snow-set-by-spec : {M : Type 1} → statement M
-snow-set-by-spec = tie.close (tie.spec scheme-in-requires new-requires set-by-requires lay-requires same-length returns)
+snow-set-by-spec = tie.close (tie.spec scheme-in-requires set-by-requires lay-requires same-length returns)

@@ -22,7 +22,8 @@ same-length c = search needs
 returns : tie.Need-returns
 returns c =
     let a = c .before .before .before .before .before .before .before .before .before .before .before .before .before .args in
-    tell-sets (a .rule) (a .n) (a .prefix .now) (a .clauses .now) (a .classes .now) (a .parents .now) (a .counts .now) (a .out .now) _ (c .before .before .before .before .before .before .before .scheme-in .ensures) (c .lay .ensures) (c .before .before .before .before .before .sets-by .ensures)
+    let b = c .before .before .before .before .before .sets-by in
+    tell-sets (a .rule) (a .n) (a .prefix .now) (a .clauses .now) (a .classes .now) (a .parents .now) (a .counts .now) (a .out .now) _ (b .result) (c .before .before .before .before .before .before .before .scheme-in .ensures) (c .lay .ensures) (b .ensures)
 
 pub snow-sets-by-spec : {M : Type 1} → statement M
 snow-sets-by-spec = tie.close (tie.spec scheme-in-requires sets-by-requires lay-requires same-length returns)

@@ -2,8 +2,8 @@
 use borrow.Author.Needs.{needs}
 use Rattle.records.specs.Layout.{FileOf}
 use Rattle.records.specs.Causes.{storeOrder}
-use Rattle.capi.proofs.Filed.{small-store}
 use Rattle.capi.proofs.Telling.{fits-filling, tell-filling}
+use Rattle.capi.proofs.Filed.{small-store}
 use Rattle.capi.proofs.files.snow_store.Statement.{statement}
 use Rattle.capi.proofs.files.snow_store.Tie as tie
 
@@ -22,7 +22,8 @@ same-length c = search needs
 returns : tie.Need-returns
 returns c =
     let a = c .before .before .before .before .before .before .before .before .before .args in
-    tell-filling (storeOrder (a .rule) (a .n) (a .prefix .now) (a .clauses .now) (a .file .now)) (FileOf (a .rule) (a .n) (a .prefix .now) (a .clauses .now)) (a .file .now) _ (c .lay .ensures) (c .before .before .before .before .before .store .ensures)
+    let b = c .before .before .before .before .before .store in
+    tell-filling (storeOrder (a .rule) (a .n) (a .prefix .now) (a .clauses .now) (a .file .now)) (FileOf (a .rule) (a .n) (a .prefix .now) (a .clauses .now)) (a .file .now) _ (b .result) (c .lay .ensures) (b .ensures)
 
 pub snow-store-spec : {M : Type 1} → statement M
 snow-store-spec = tie.close (tie.spec store-requires lay-requires same-length returns)

@@ -1,17 +1,9 @@
 -- `capi::pairs::snow_path` meets its contract.
-use mathlib.Core.Path.{subst₂}
 use borrow.Author.Needs.{needs}
-use Rattle.terms.specs.Refusals.{Judged}
 use Rattle.paths.specs.Causes.{pathOrderUnder}
 use Rattle.capi.proofs.Telling.{tell-accepted, tell-refused}
 use Rattle.capi.proofs.pairs.snow_path.Statement.{statement}
 use Rattle.capi.proofs.pairs.snow_path.Tie as tie
-
-new-requires : tie.Need-new-requires
-new-requires c κs = search needs
-
-new-requires-2 : tie.Need-new-requires-2
-new-requires-2 c κs = search needs
 
 path-verdict-requires : tie.Need-path-verdict-requires
 path-verdict-requires c κs = search needs
@@ -21,27 +13,18 @@ enum-known-verdict c = search needs
 
 returns : tie.Need-returns
 returns c =
-    let a = c .before .before .before .before .before .before .before .before .args in
-    let judged = subst₂ (λ x y. Judged (pathOrderUnder (a .rule) (a .n) (a .prefix .now) (a .clauses .now) x y (a .path .now)) (c .before .before .before .path-verdict .result)) (c .before .before .before .before .before .new .ensures) (c .before .before .before .before .new2 .ensures) (c .before .before .before .path-verdict .ensures) in
-    tell-refused (pathOrderUnder (a .rule) (a .n) (a .prefix .now) (a .clauses .now) (a .x) (a .y) (a .path .now)) _ (c .before .verdict .given .1) judged tt
+    let a = c .before .before .before .before .before .before .args in
+    let b = c .before .before .before .path-verdict in
+    tell-refused (pathOrderUnder (a .rule) (a .n) (a .prefix .now) (a .clauses .now) (a .x) (a .y) (a .path .now)) _ (c .before .verdict .given .1) (b .ensures) tt
 
 enum-told : tie.Need-enum-told
 enum-told c = search needs
 
 returns-2 : tie.Need-returns-2
 returns-2 c =
-    let a = c .before .before .before .before .before .before .before .args in
-    let judged = subst₂ (λ x y. Judged (pathOrderUnder (a .rule) (a .n) (a .prefix .now) (a .clauses .now) x y (a .path .now)) (c .before .before .path-verdict .result)) (c .before .before .before .before .new .ensures) (c .before .before .before .new2 .ensures) (c .before .before .path-verdict .ensures) in
-    tell-accepted (pathOrderUnder (a .rule) (a .n) (a .prefix .now) (a .clauses .now) (a .x) (a .y) (a .path .now)) _ (c .enum-told .given .1) judged tt
+    let a = c .before .before .before .before .before .args in
+    let b = c .before .before .path-verdict in
+    tell-accepted (pathOrderUnder (a .rule) (a .n) (a .prefix .now) (a .clauses .now) (a .x) (a .y) (a .path .now)) _ (c .enum-told .given .1) (b .ensures) tt
 
 pub snow-path-spec : {M : Type 1} → statement M
-snow-path-spec =
-    tie.close
-    (tie.spec
-    new-requires
-    new-requires-2
-    path-verdict-requires
-    enum-known-verdict
-    returns
-    enum-told
-    returns-2)
+snow-path-spec = tie.close (tie.spec path-verdict-requires enum-known-verdict returns enum-told returns-2)

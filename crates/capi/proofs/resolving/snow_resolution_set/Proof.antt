@@ -4,26 +4,23 @@ use Rattle.capi.proofs.ResolutionTold.{fits-resolution, tell-resolution
 use Rattle.capi.proofs.resolving.snow_resolution_set.Statement.{statement}
 use Rattle.capi.proofs.resolving.snow_resolution_set.Tie as tie
 
-new-requires : tie.Need-new-requires
-new-requires c κs = search needs
-
 resolution-set-requires : tie.Need-resolution-set-requires
 resolution-set-requires c κs = search needs
 
 lay-requires : tie.Need-lay-requires
 lay-requires c κs =
-    let a = c .before .before .before .before .before .before .before .before .before .args in
+    let a = c .before .before .before .before .before .before .before .before .args in
     let b = c .before .before .before .before .resolution-set in
-    fits-resolution (a .rule) (a .n) (a .prefix .now) (a .clauses .now) (a .out .now) _ (b .result) _ (b .ensures)
+    fits-resolution (a .rule) (a .n) (a .prefix .now) (a .clauses .now) (a .x) (a .out .now) _ (b .result) (b .ensures)
 
 same-length : tie.Need-same-length
 same-length c = search needs
 
 returns : tie.Need-returns
 returns c =
-    let a = c .before .before .before .before .before .before .before .before .before .before .args in
+    let a = c .before .before .before .before .before .before .before .before .before .args in
     let b = c .before .before .before .before .before .resolution-set in
-    tell-resolution (a .rule) (a .n) (a .prefix .now) (a .clauses .now) (a .out .now) _ (c .before .before .before .before .before .before .before .new .ensures) (c .lay .ensures) (b .ensures)
+    tell-resolution (a .rule) (a .n) (a .prefix .now) (a .clauses .now) (a .x) (a .out .now) _ (b .result) (c .lay .ensures) (b .ensures)
 
 pub snow-resolution-set-spec : {M : Type 1} → statement M
-snow-resolution-set-spec = tie.close (tie.spec new-requires resolution-set-requires lay-requires same-length returns)
+snow-resolution-set-spec = tie.close (tie.spec resolution-set-requires lay-requires same-length returns)

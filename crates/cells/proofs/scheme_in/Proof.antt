@@ -1,11 +1,11 @@
--- `capi::cells::scheme_in` meets its contract.
+-- `cells::scheme_in` meets its contract.
 use mathlib.Core.Path.{sym, ap}
 use mathlib.Core.Bool.{Bool, cond}
 use borrow.Author.Tests.{eq-eqb, ne-eqb}
 use Rattle.terms.specs.declared.Scheme.the-variants.{Standard, Strict}
-use Rattle.capi.specs.Told.{schemeOf}
-use Rattle.capi.proofs.cells.scheme_in.Statement.{statement}
-use Rattle.capi.proofs.cells.scheme_in.Tie as tie
+use Rattle.cells.specs.Codes.{schemeOf}
+use Rattle.cells.proofs.scheme_in.Statement.{statement}
+use Rattle.cells.proofs.scheme_in.Tie as tie
 
 returns : tie.Need-returns
 unfolding schemeOf

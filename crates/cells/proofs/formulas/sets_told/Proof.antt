@@ -1,9 +1,9 @@
--- `capi::cells::sets_told` meets its contract.
+-- `cells::formulas::sets_told` meets its contract.
 use mathlib.Core.Path.{sym, ap}
 use mathlib.Core.Bool.{Bool, cond}
-use Rattle.capi.specs.Filed.{tellsSets}
-use Rattle.capi.proofs.cells.sets_told.Statement.{statement}
-use Rattle.capi.proofs.cells.sets_told.Tie as tie
+use Rattle.cells.specs.Codes.{tellsSets}
+use Rattle.cells.proofs.formulas.sets_told.Statement.{statement}
+use Rattle.cells.proofs.formulas.sets_told.Tie as tie
 
 returns : tie.Need-returns
 unfolding tellsSets

@@ -1,11 +1,11 @@
--- `capi::cells::lay_tally` meets its contract.
+-- `cells::tallies::lay_tally` meets its contract.
 use mathlib.Core.Path.{refl, sym, subst}
 use borrow.Author.Needs.{needs}
 use lib.Seq.{sets}
-use Rattle.capi.specs.Cells.{TallyLaid}
-use Rattle.capi.specs.Told.{cellsOf}
-use Rattle.capi.proofs.cells.lay_tally.Statement.{statement}
-use Rattle.capi.proofs.cells.lay_tally.Tie as tie
+use Rattle.cells.specs.Cells.{TallyLaid, filledSaid}
+use Rattle.cells.specs.Codes.{cellsOf}
+use Rattle.cells.proofs.tallies.lay_tally.Statement.{statement}
+use Rattle.cells.proofs.tallies.lay_tally.Tie as tie
 
 enum-told : tie.Need-enum-told
 enum-told c = search needs
@@ -25,12 +25,12 @@ enum-told-2 c = search needs
 returns : tie.Need-returns
 returns c =
     let a = c .before .before .before .args in
-    subst (λ r. TallyLaid r (a .told .tally) (a .cells .now) (sets (a .cells .now) 0 (cellsOf (a .told .tally)))) (sym (c .before .enum-told .given .1)) refl
+    subst (λ r. TallyLaid (filledSaid r) (a .told .tally) (a .cells .now) (sets (a .cells .now) 0 (cellsOf (a .told .tally)))) (sym (c .before .enum-told .given .1)) refl
 
 returns-2 : tie.Need-returns-2
 returns-2 c =
     let a = c .before .before .args in
-    subst (λ r. TallyLaid r (a .told .tally) (a .cells .now) (a .cells .now)) (sym (c .enum-told2 .given .1)) refl
+    subst (λ r. TallyLaid (filledSaid r) (a .told .tally) (a .cells .now) (a .cells .now)) (sym (c .enum-told2 .given .1)) refl
 
 pub lay-tally-spec : {M : Type 1} → statement M
 lay-tally-spec =

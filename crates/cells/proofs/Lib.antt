@@ -1,0 +1,2 @@
+-- Laws of answers in cells.
+pub mod Laying

@@ -1,0 +1,35 @@
+-- `cells::formulas::lay_listed` meets its contract.
+use mathlib.Core.Path.{refl, ap, subst}
+use borrow.Author.Needs.{needs}
+use Rattle.dqdimacs.specs.declared.Reading.{Reading}
+use Rattle.cells.specs.Cells.{Fits, given, placed}
+use Rattle.cells.specs.Formulas.{listedSaid, ThreeInCells}
+use Rattle.cells.proofs.formulas.lay_listed.Statement.{statement}
+use Rattle.cells.proofs.formulas.lay_listed.Tie as tie
+
+enum-known-answer : tie.Need-enum-known-answer
+enum-known-answer c = search needs
+
+cast-prefix-count : tie.Need-cast-prefix-count
+cast-prefix-count c = record { fits = subst (λ (a : Reading). Fits ThreeInCells (listedSaid a)) (c .before .answer .given .1) (c .before .before .before .pre) .0 }
+
+cast-clauses-count : tie.Need-cast-clauses-count
+cast-clauses-count c = record { fits = subst (λ (a : Reading). Fits ThreeInCells (listedSaid a)) (c .before .answer .given .1) (c .before .before .before .pre) .1 }
+
+cast-lists-count : tie.Need-cast-lists-count
+cast-lists-count c = record { fits = subst (λ (a : Reading). Fits ThreeInCells (listedSaid a)) (c .before .answer .given .1) (c .before .before .before .pre) .2 }
+
+enum-known-answer-2 : tie.Need-enum-known-answer-2
+enum-known-answer-2 c = search needs
+
+cast-place : tie.Need-cast-place
+cast-place c = record { fits = subst (λ (a : Reading). Fits ThreeInCells (listedSaid a)) (c .before .answer2 .given .1) (c .before .before .before .pre) }
+
+returns : tie.Need-returns
+returns c = given (ap listedSaid (c .before .answer .given .1)) refl refl refl
+
+returns-2 : tie.Need-returns-2
+returns-2 c = placed (ap listedSaid (c .before .answer2 .given .1)) refl refl refl
+
+pub lay-listed-spec : {M : Type 1} → statement M
+lay-listed-spec = tie.close (tie.spec enum-known-answer cast-prefix-count cast-clauses-count cast-lists-count enum-known-answer-2 cast-place returns returns-2)

@@ -1,0 +1,25 @@
+-- `cells::lay_verdict` meets its contract.
+use mathlib.Core.Path.{refl, ap, subst}
+use borrow.Author.Needs.{needs}
+use Rattle.terms.specs.declared.Verdict.{Verdict}
+use Rattle.cells.specs.Cells.{Fits, Any, given, placed, verdictSaid}
+use Rattle.cells.proofs.lay_verdict.Statement.{statement}
+use Rattle.cells.proofs.lay_verdict.Tie as tie
+
+enum-told : tie.Need-enum-told
+enum-told c = search needs
+
+enum-known-verdict : tie.Need-enum-known-verdict
+enum-known-verdict c = search needs
+
+cast-place : tie.Need-cast-place
+cast-place c = record { fits = subst (λ (a : Verdict). Fits Any (verdictSaid a)) (c .before .verdict .given .1) (c .before .before .before .pre) }
+
+returns : tie.Need-returns
+returns c = given (ap verdictSaid (c .enum-told .given .1)) refl refl refl
+
+returns-2 : tie.Need-returns-2
+returns-2 c = placed (ap verdictSaid (c .before .verdict .given .1)) refl refl refl
+
+pub lay-verdict-spec : {M : Type 1} → statement M
+lay-verdict-spec = tie.close (tie.spec enum-told enum-known-verdict cast-place returns returns-2)

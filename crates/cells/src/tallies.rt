@@ -1,0 +1,52 @@
+// A tally in three cells, as its struct in C has it.
+
+use crate::lay;
+use growth::Tallied;
+use growth::Tally;
+use terms::Filled;
+ghost use mathlib.Core.Path.{_≡_};
+ghost use Rattle.cells.specs.Codes.{tallyIn};
+ghost use Rattle.cells.specs.Cells.{Fits, Any, Laid, TallyLaid, filledSaid, builtSaid, addedSaid};
+
+// The tally that was lent.
+pub fn tally_in(cells: &[u32; 3]) -> Tally
+    ensures { λ r. ⌜ r ≡ tallyIn (now (cells .entry)) ⌝ }
+{
+    Tally {
+        clauses: cells[0],
+        merges: cells[1],
+        classes: cells[2],
+    }
+}
+
+// The tally of an answer that accepts goes into the cells.
+fn lay_tally(told: Tallied, cells: &mut [u32; 3])
+    ensures { λ r. ⌜ TallyLaid (filledSaid (told .answer)) (told .tally) (now (cells .entry)) (now (cells .exit)) ⌝ }
+{
+    let answer = told.answer;
+    if let Filled::Count(_) = answer {
+        let tally = told.tally;
+        cells[0] = tally.clauses;
+        cells[1] = tally.merges;
+        cells[2] = tally.classes;
+    }
+}
+
+// What build gives: a count and the tally.
+pub fn lay_built(told: Tallied, cells: &mut [u32; 3], count: &mut u32, place: &mut u32) -> u32
+    requires { ⌜ Fits Any (filledSaid (told .answer)) ⌝ }
+    ensures { λ r. ⌜ Laid (builtSaid (filledSaid (told .answer)) (told .tally) (now (cells .entry))) (now (count .entry), now (cells .entry)) (now (count .exit), now (cells .exit)) (now (place .entry)) (now (place .exit)) r ⌝ }
+{
+    lay_tally(told, cells);
+    let answer = told.answer;
+    lay(answer, count, place)
+}
+
+// What add gives: the tally.
+pub fn lay_added(told: Tallied, cells: &mut [u32; 3], place: &mut u32) -> u32
+    requires { ⌜ Fits Any (filledSaid (told .answer)) ⌝ }
+    ensures { λ r. ⌜ Laid (addedSaid (builtSaid (filledSaid (told .answer)) (told .tally) (now (cells .entry)))) (now (cells .entry)) (now (cells .exit)) (now (place .entry)) (now (place .exit)) r ⌝ }
+{
+    let mut count: u32 = 0;
+    lay_built(told, cells, &mut count, place)
+}
