@@ -1,5 +1,4 @@
 -- The answers of calls that give more than a verdict: what each case says, as document 01 numbers it.
-use Prim.Native.Nat.{ℕ}
 use Rattle.terms.specs.declared.Verdict.{Verdict}
 use Rattle.terms.specs.declared.Filled.{Filled}
 use Rattle.terms.specs.declared.Filled.the-variants.{Count, Refused}
@@ -8,8 +7,3 @@ use Rattle.terms.specs.declared.Filled.the-variants.{Count, Refused}
 abbrev pub verdictOf : Filled → Verdict
 verdictOf (Count written) = Verdict.Accepted
 verdictOf (Refused number place) = Verdict.Refused number place
-
--- the count of an answer, which a refusal has none of
-abbrev pub countOf : Filled → ℕ
-countOf (Count written) = written
-countOf (Refused number place) = 0
