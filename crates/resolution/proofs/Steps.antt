@@ -13,7 +13,7 @@ use Rattle.terms.specs.Literals.{variableOf, rowOf, otherRow}
 use Rattle.terms.proofs.Common.{clash}
 use Rattle.formula.specs.Tables.{literalAt}
 use Rattle.searching.specs.Search.{LastZero}
-use Rattle.sets.specs.Threads.{Inside, Connecting, On, Noted}
+use Rattle.sets.specs.Threads.{Inside, Connecting, linkAt, On, Noted}
 use Rattle.sets.proofs.Chains.{last-one, inside-one, on-some, on-here, on-later, on-cases}
 use Rattle.resolution.specs.Walk.{marked, Leaves, Passes, Walk, starts, steps, Grown, Walked, Chained}
 use Rattle.resolution.proofs.Marks.{row-one, row-complement, complement-row, complement-variable}
@@ -100,11 +100,11 @@ module _ {ls : List ℤ} {heads next : List ℕ} (chained : Chained ls heads nex
     pub step-within : q < length next
     step-within = let less = step-noted .before in let room = chained .links in omega arith
 
-    on-ahead : (p : ℕ) → On next p (getD next q 0) → On next p (getD heads (variableOf l) 0)
+    on-ahead : (p : ℕ) → On next p (linkAt next q) → On next p (getD heads (variableOf l) 0)
     on-ahead p o = s .ahead p (on-later q is o)
 
     -- An entry with another literal.
-    pub step-other : {row complement : ℕ} → row ≡ rowOf (literalAt ls q) → complement ≡ otherRow l → row ≢ complement → Stepping ls heads next l before after (getD next q 0)
+    pub step-other : {row complement : ℕ} → row ≡ rowOf (literalAt ls q) → complement ≡ otherRow l → row ≢ complement → Stepping ls heads next l before after (linkAt next q)
     step-other r-is c-is other =
         record {
           grown = s .grown;
@@ -116,7 +116,7 @@ module _ {ls : List ℤ} {heads next : List ℕ} (chained : Chained ls heads nex
         none e = other (r-is ∙ complement-row l (literalAt ls q) (step-noted .inside .literals q (step-noted .inside .from) (omega arith)) e ∙ sym c-is)
 
     -- An entry with the complement: its clause is left by all that it may be left by.
-    pub step-clause : {row complement : ℕ} → row ≡ rowOf (literalAt ls q) → complement ≡ otherRow l → row ≡ complement → {more : List Bool} → Walked ls (Leaves ls q) after more → Stepping ls heads next l before more (getD next q 0)
+    pub step-clause : {row complement : ℕ} → row ≡ rowOf (literalAt ls q) → complement ≡ otherRow l → row ≡ complement → {more : List Bool} → Walked ls (Leaves ls q) after more → Stepping ls heads next l before more (linkAt next q)
     step-clause r-is c-is same w =
         record {
           grown = grown-then (s .grown) (grown-as (λ m leaves. record { entry = q; entered = row-complement l (literalAt ls q) (sym r-is ∙ same ∙ c-is); leaves = leaves }) (w .grown));

@@ -22,9 +22,9 @@ pub fn literal_step(clauses: &[i32], first: &[u32], next: &[u32], from: Literal,
         let entry = (at - 1) as usize;
         if literal_at(clauses, entry).row() == complement {
             clause_step(clauses, first, next, entry, marks);
-            at = next[entry];
+            at = next[entry] % 65536;
         } else {
-            at = next[entry];
+            at = next[entry] % 65536;
         }
     }
 }

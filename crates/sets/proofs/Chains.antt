@@ -1,5 +1,5 @@
 -- The chains that tie a universal to its clauses: in which clause an entry stands, and how the chains grow entry by entry.
-use Prim.Native.Nat.{ℕ, suc, _+_, _-_, _≤_, _<_}
+use Prim.Native.Nat.{ℕ, suc, _+_, _-_, _*_, _/_, _%_, _≤_, _<_}
 use mathlib.Core.Path.{_≡_, refl, sym, ap, _∙_, subst}
 use mathlib.Core.Bool.{Bool, true, false}
 use mathlib.Core.List.{List}
@@ -17,7 +17,7 @@ use Rattle.formula.specs.Meaning.{alwaysTrue}
 use Rattle.formula.specs.Lookup.{NextZero}
 use Rattle.searching.specs.Search.{LastZero}
 use Rattle.searching.proofs.Flags.{next-one}
-use Rattle.sets.specs.Threads.{Begins, first, after, Inside, Connecting, Skipping, On, here, later, Noted, Threaded}
+use Rattle.sets.specs.Threads.{Begins, first, after, Inside, Connecting, Skipping, linkAt, startAt, On, here, later, Noted, Threaded}
 
 -- A clause begins with the first entry or behind a 0, so that an entry stands in one clause, which the last 0 before it opens.
 opens-at : {ls : List ℤ} {s : ℕ} → Begins ls s → (s ≡ 0) ⊎ (variableOf (literalAt ls (s - 1)) ≡ 0)
@@ -51,24 +51,24 @@ on-some (later o) z = omega arith
 pub on-here : {next : List ℕ} (p : ℕ) {k : ℕ} → k ≡ suc p → On next p k
 on-here {next} p q = subst (On next p) (sym q) here
 
-pub on-later : {next : List ℕ} {p k : ℕ} (q : ℕ) → k ≡ suc q → On next p (getD next q 0) → On next p k
+pub on-later : {next : List ℕ} {p k : ℕ} (q : ℕ) → k ≡ suc q → On next p (linkAt next q) → On next p k
 on-later {next} {p} q e o = subst (On next p) (sym e) (later o)
 
-pub on-cases : {next : List ℕ} {p k : ℕ} (q : ℕ) → k ≡ suc q → On next p k → (p ≡ q) ⊎ On next p (getD next q 0)
+pub on-cases : {next : List ℕ} {p k : ℕ} (q : ℕ) → k ≡ suc q → On next p k → (p ≡ q) ⊎ On next p (linkAt next q)
 on-cases q e here = inl (omega arith)
-on-cases {next} {p} q e (later {q = r} o) = let same : r ≡ q = omega arith in inr (subst (λ i. On next p (getD next i 0)) same o)
+on-cases {next} {p} q e (later {q = r} o) = let same : r ≡ q = omega arith in inr (subst (λ i. On next p (linkAt next i)) same o)
 
 on-set : {next : List ℕ} {p k i : ℕ} (a : ℕ) → ((r : ℕ) → On next r k → r < i) → On next p k → On (set next i a) p k
 on-set a all here = here
 on-set {next} {p} {k} {i} a all (later {q = q} o) =
     let less = all q here in
-    later (subst (On (set next i a) p) (sym (getD-set-other next i q a 0 (λ e. omega arith))) (on-set a (λ r o′. all r (later o′)) o))
+    later (subst (On (set next i a) p) (sym (ap (λ row. row % 65536) (getD-set-other next i q a 0 (λ e. omega arith)))) (on-set a (λ r o′. all r (later o′)) o))
 
 on-unset : {next : List ℕ} {p k j i : ℕ} (a : ℕ) → k ≡ j → ((r : ℕ) → On next r j → r < i) → On (set next i a) p k → On next p j
 on-unset {p = p} a e all here = on-here p (sym e)
 on-unset {next} {p} {k} {j} {i} a e all (later {q = q} o) =
     let less = all q (on-here q (sym e)) in
-    on-later q (sym e) (on-unset a (getD-set-other next i q a 0 (λ e. omega arith)) (λ r o′. all r (on-later q (sym e) o′)) o)
+    on-later q (sym e) (on-unset a (ap (λ row. row % 65536) (getD-set-other next i q a 0 (λ e. omega arith))) (λ r o′. all r (on-later q (sym e) o′)) o)
 
 -- a flag that is set is within its table
 pub flag-long : (flags : List Bool) (v : ℕ) → getD flags v false ≡ true → v < length flags
@@ -79,7 +79,7 @@ pub threaded-none : (ls : List ℤ) (universals : List Bool) (heads next : List 
 threaded-none ls universals heads next none = record { sound = λ x p o. absurd (on-some o (none x)); complete = λ x s p u l. absurd (omega arith) }
 
 noted-more : {ls : List ℤ} {next : List ℕ} {i x p : ℕ} (k : ℕ) → i ≤ k → Noted ls next i x p → Noted ls next k x p
-noted-more k low n = record { before = let l = n .before in omega arith; falls = n .falls; start = n .start; inside = n .inside; connecting = n .connecting; is = n .is }
+noted-more k low n = record { before = let l = n .before in omega arith; falls = n .falls; start = n .start; begun = n .begun; inside = n .inside; connecting = n .connecting; is = n .is }
 
 module _ {ls : List ℤ} {universals : List Bool} {heads next : List ℕ} {i : ℕ} (t : Threaded ls universals heads next i) where
   -- nothing to be tied at entry i
@@ -121,31 +121,38 @@ module _ {ls : List ℤ} {universals : List Bool} {heads next : List ℕ} {i : �
             (q, on, inside-between q inside (omega arith) (omega arith))
 
     -- the new entry in front of the chain of its variable
-    module _ (start last : ℕ) (inside′ : Inside ls start i) (connecting′ : Connecting ls start) (is-last : last ≡ getD heads v 0) (room : v < length heads) (room′ : i < length next) where
+    module _ (start last : ℕ) (inside′ : Inside ls start i) (connecting′ : Connecting ls start) (is-last : last ≡ getD heads v 0) (low : last ≤ start) (short : i < 16384) (room : v < length heads) (room′ : i < length next) where
       abbrev heads′ : List ℕ
       heads′ = set heads v (i + 1)
 
       abbrev next′ : List ℕ
-      next′ = set next i last
+      next′ = set next i (start * 65536 + last)
 
       head-own : getD heads′ v 0 ≡ suc i
       head-own = getD-set-same heads v (i + 1) 0 room ∙ add-one i
 
-      link-own : getD next′ i 0 ≡ getD heads v 0
-      link-own = getD-set-same next i last 0 room′ ∙ is-last
+      row-own : getD next′ i 0 ≡ start * 65536 + last
+      row-own = getD-set-same next i (start * 65536 + last) 0 room′
+
+      link-own : linkAt next′ i ≡ getD heads v 0
+      link-own = let q = row-own in let f = inside′ .from in omega arith
+
+      start-own : startAt next′ i ≡ start
+      start-own = let q = row-own in let f = inside′ .from in omega arith
 
       before-all : (x r : ℕ) → On next r (getD heads x 0) → r < i
       before-all x r o = t .sound x r o .before
 
-      last-most : last ≤ i
-      last-most = by-cases (ℕ-discrete last 0) (λ z. omega arith) (λ some. let l = before-all v (last - 1) (on-here (last - 1) (let e : last ≡ suc (last - 1) = omega arith in sym is-last ∙ e)) in omega arith)
+      row-other : (p : ℕ) → p < i → getD next′ p 0 ≡ getD next p 0
+      row-other p l = getD-set-other next i p (start * 65536 + last) 0 (λ q. omega arith)
 
       noted-still : {x p : ℕ} → Noted ls next i x p → Noted ls next′ (i + 1) x p
       noted-still {x} {p} n =
           record {
             before = let l = n .before in omega arith;
-            falls = subst (λ k. k ≤ p) (sym (getD-set-other next i p last 0 (λ q. let l = n .before in omega arith))) (n .falls);
+            falls = subst (λ row. row % 65536 ≤ p) (sym (row-other p (n .before))) (n .falls);
             start = n .start;
+            begun = ap (λ row. row / 65536) (row-other p (n .before)) ∙ n .begun;
             inside = n .inside;
             connecting = n .connecting;
             is = n .is;
@@ -155,17 +162,18 @@ module _ {ls : List ℤ} {universals : List Bool} {heads next : List ℕ} {i : �
       head-other : (x : ℕ) → x ≢ v → getD heads′ x 0 ≡ getD heads x 0
       head-other x other = getD-set-other heads v x (i + 1) 0 other
 
-      sound-own : (p : ℕ) → (p ≡ i) ⊎ On next′ p (getD next′ i 0) → Noted ls next′ (i + 1) v p
+      sound-own : (p : ℕ) → (p ≡ i) ⊎ On next′ p (linkAt next′ i) → Noted ls next′ (i + 1) v p
       sound-own p (inl q) =
           record {
             before = omega arith;
-            falls = subst (λ e. getD next′ e 0 ≤ e) (sym q) (subst (λ k. k ≤ i) (sym (link-own ∙ sym is-last)) last-most);
+            falls = subst (λ e. linkAt next′ e ≤ e) (sym q) (let k = link-own in let f = inside′ .from in omega arith);
             start = start;
+            begun = ap (startAt next′) q ∙ start-own;
             inside = subst (Inside ls start) (sym q) inside′;
             connecting = connecting′;
             is = ap (λ e. variableOf (literalAt ls e)) q ∙ sym own;
           }
-      sound-own p (inr o) = noted-still (t .sound v p (on-unset last link-own (before-all v) o))
+      sound-own p (inr o) = noted-still (t .sound v p (on-unset (start * 65536 + last) link-own (before-all v) o))
 
       pub threaded-now : Threaded ls universals heads′ next′ (i + 1)
       threaded-now = record { sound = sound′; complete = complete′ }
@@ -173,7 +181,7 @@ module _ {ls : List ℤ} {universals : List Bool} {heads next : List ℕ} {i : �
           sound′ : (x p : ℕ) → On next′ p (getD heads′ x 0) → Noted ls next′ (i + 1) x p
           sound′ x p o =
               by-cases (ℕ-discrete x v) (λ q. subst (λ w. Noted ls next′ (i + 1) w p) (sym q) (sound-own p (on-cases i (ap (λ w. getD heads′ w 0) q ∙ head-own) o)))
-              (λ other. noted-still (t .sound x p (on-unset last (head-other x other) (before-all x) o)))
+              (λ other. noted-still (t .sound x p (on-unset (start * 65536 + last) (head-other x other) (before-all x) o)))
 
           complete′ : (x s p : ℕ) → getD universals x false ≡ true → p < i + 1 → Inside ls s p → Connecting ls s → variableOf (literalAt ls p) ≡ x → (q : ℕ) × On next′ q (getD heads′ x 0) × Inside ls s q
           complete′ x s p u l inside plain is =
@@ -181,7 +189,7 @@ module _ {ls : List ℤ} {universals : List Bool} {heads next : List ℕ} {i : �
               (λ q. (i, on-here i (ap (λ w. getD heads′ w 0) (sym is ∙ ap (λ e. variableOf (literalAt ls e)) q ∙ sym own) ∙ head-own), subst (Inside ls s) q inside))
               (λ other.
               let (q, on, in′) = t .complete x s p u (omega arith) inside plain is in
-              let old : On next′ q (getD heads x 0) = on-set last (before-all x) on in
+              let old : On next′ q (getD heads x 0) = on-set (start * 65536 + last) (before-all x) on in
               by-cases (ℕ-discrete x v) (λ e. (q, on-later i (ap (λ w. getD heads′ w 0) e ∙ head-own) (subst (On next′ q) (ap (λ w. getD heads w 0) e ∙ sym link-own) old), in′))
               (λ e. (q, subst (On next′ q) (sym (head-other x e)) old, in′)))
 

@@ -17,11 +17,11 @@ use Rattle.formula.proofs.Lookups.{clauses-unclosed}
 use Rattle.tables.specs.Formula.{signed, SharesBy}
 use Rattle.searching.specs.declared.marks.Side.{Side}
 use Rattle.searching.specs.declared.marks.Signs.{Signs}
-use Rattle.searching.specs.Search.{Has, HasLiteral, Sided, By, LastZero, Connects, Flagged, Via}
-use Rattle.sets.specs.Threads.{Begins, first, after, Inside, Connecting, Beside, Together, On, Noted, Threaded, Closed}
-use Rattle.sets.proofs.Chains.{last-one, inside-between, on-some, on-here, on-later, on-cases}
+use Rattle.searching.specs.Search.{Has, HasLiteral, Sided, By, Connects, Flagged, Via}
+use Rattle.sets.specs.Threads.{Begins, first, after, Inside, Connecting, Beside, Together, linkAt, startAt, On, Noted, Threaded, Closed}
+use Rattle.sets.proofs.Chains.{inside-one, on-some, on-here, on-later, on-cases}
 use Rattle.searching.proofs.Sides.{signed-variable, sign-of}
-use Rattle.searching.proofs.Flags.{literal-past, next-none, flag-as, flag-then, via-as, via-or, connects-all, connects-has, connects-open, signed-split, sides-apart}
+use Rattle.searching.proofs.Flags.{literal-past, next-none, flag-as, via-as, via-or, connects-all, connects-has, connects-open, signed-split, sides-apart}
 
 -- An entry of a clause stands within the table, and before the next 0.
 inside-within : {ls : List ℤ} {s p : ℕ} → Inside ls s p → p < length ls
@@ -48,37 +48,24 @@ same-side {ls} {s} {p} {q} sign i j connecting x a own = let (other, is) = sign-
     go false true a b = absurd (one-side j i connecting x b a)
     go false false a b = b
 
--- What stands beside an entry: the entries from it up to the next 0, and those before it back to the last.
-module _ {ls : List ℤ} {t p z s : ℕ} (inside : Inside ls t p) (connecting : Connecting ls t) (next : NextZero ls p z) (last : LastZero ls p s) where
-  same : t ≡ s
-  same = last-one inside last
+-- What stands beside an entry: the entries of its clause.
+module _ {ls : List ℤ} {t p z : ℕ} (inside : Inside ls t p) (connecting : Connecting ls t) (next : NextZero ls t z) where
+  beside-has : (v : ℕ) → Beside ls p v → Has ls t z v
+  beside-has v b =
+      let q : b .start ≡ t = inside-one (b .own) inside in
+      let other = subst (λ s. Inside ls s (b .place)) q (b .other) in
+      record { place = b .place; from = other .from; before = inside-before next other; is = b .is }
 
-  beside-split : (v : ℕ) → Beside ls p v → Has ls p z v ⊎ Has ls s p v
-  beside-split v b =
-      let q : b .start ≡ s = last-one (b .own) last in
-      let low = b .other .from in
-      by-cases (decLt (b .place) p) (λ l. inr (record { place = b .place; from = omega arith; before = l; is = b .is }))
-      (λ l. inl (record { place = b .place; from = omega arith; before = by-cases (decLt (b .place) z) (λ g. g) (λ g. absurd (b .other .literals z (let f = b .own .from in let h = next .from in omega arith) (omega arith) (next-none next))); is = b .is }))
-
-  beside-after : (v : ℕ) → Has ls p z v → Beside ls p v
-  beside-after v h =
-      let low = inside .from in
-      let from = h .from in
+  has-beside : (v : ℕ) → Has ls t z v → Beside ls p v
+  has-beside v h =
       record {
         start = t;
         place = h .place;
         own = inside;
-        other = record { begins = inside .begins; from = omega arith; literals = λ e f g. by-cases (decLt e p) (λ l. inside .literals e f (omega arith)) (λ l. next .literals e (omega arith) (let b = h .before in omega arith)) };
+        other = record { begins = inside .begins; from = h .from; literals = λ e f g. next .literals e f (let l = h .before in omega arith) };
         connecting = connecting;
         is = h .is;
       }
-
-  beside-before : (v : ℕ) → Has ls s p v → Beside ls p v
-  beside-before v h =
-      let q = same in
-      let from = h .from in
-      let l = h .before in
-      record { start = t; place = h .place; own = inside; other = inside-between (h .place) inside (omega arith) (omega arith); connecting = connecting; is = h .is }
 
 -- What holds of signs, as it holds of each.
 by-as : (signs : Signs) {P Q : Bool → Type 0} → ((sign : Bool) → P sign → Q sign) → By signs P → By signs Q
@@ -94,7 +81,7 @@ pub record Along (ls : List ℤ) (next : List ℕ) (signs : Signs) (x k v : ℕ)
   pub beside : Beside ls entry v
 
 module _ {ls : List ℤ} {next : List ℕ} {signs : Signs} {x k v : ℕ} (q : ℕ) (e : k ≡ suc q) where
-  along-cases : Along ls next signs x k v → (By signs (λ sign. literalAt ls q ≡ signed sign x) × Beside ls q v) ⊎ Along ls next signs x (getD next q 0) v
+  along-cases : Along ls next signs x k v → (By signs (λ sign. literalAt ls q ≡ signed sign x) × Beside ls q v) ⊎ Along ls next signs x (linkAt next q) v
   along-cases a =
       ⊎-elim (λ s. inl (subst (λ p. By signs (λ sign. literalAt ls p ≡ signed sign x)) s (a .own), subst (λ p. Beside ls p v) s (a .beside)))
       (λ o. inr (record { entry = a .entry; on = o; own = a .own; beside = a .beside })) (on-cases q e (a .on))
@@ -102,7 +89,7 @@ module _ {ls : List ℤ} {next : List ℕ} {signs : Signs} {x k v : ℕ} (q : �
   along-here : By signs (λ sign. literalAt ls q ≡ signed sign x) → Beside ls q v → Along ls next signs x k v
   along-here h b = record { entry = q; on = on-here q e; own = h; beside = b }
 
-  along-past : Along ls next signs x (getD next q 0) v → Along ls next signs x k v
+  along-past : Along ls next signs x (linkAt next q) v → Along ls next signs x k v
   along-past a = record { entry = a .entry; on = on-later q e (a .on); own = a .own; beside = a .beside }
 
 along-of : (ls : List ℤ) (next : List ℕ) (signs : Signs) (x k v : ℕ) → By signs (λ sign. (q : ℕ) × On next q k × (literalAt ls q ≡ signed sign x) × Beside ls q v) → Along ls next signs x k v
@@ -148,24 +135,23 @@ module _ {n : ℕ} {tops : List ℕ} {ls : List ℤ} {next : List ℕ} {signs : 
     follow-apart = one-side (follow-noted .inside) (follow-noted .inside) (follow-noted .connecting) x
 
     -- One entry with one of the signs is passed: all beside it is flagged.
-    pub follow-more : {mid new′ : List Bool} (z s : ℕ) → By signs (λ sign. literalAt ls entry ≡ signed sign x) → NextZero ls entry z → Flagged (Via n tops (Has ls entry z)) new mid → LastZero ls entry s → Flagged (Via n tops (Has ls s entry)) mid new′
-        → Following n tops ls next signs x head old new′ (getD next entry 0)
-    follow-more z s own nz right lz left =
+    pub follow-more : {new′ : List Bool} (z : ℕ) → By signs (λ sign. literalAt ls entry ≡ signed sign x) → NextZero ls (startAt next entry) z → Flagged (Via n tops (Has ls (startAt next entry) z)) new new′ → Following n tops ls next signs x head old new′ (linkAt next entry)
+    follow-more z own nz flagged =
         record {
-          size = left .size ∙ right .size ∙ f .size;
+          size = flagged .size ∙ f .size;
           noted = λ p o. f .noted p (on-later entry is o);
           flags = λ e l.
               let m = f .flags e l in
-              let k = flag-then right left .flags e (let q = f .size in omega arith) in
-              let inside = follow-noted .inside in
-              let plain = follow-noted .connecting in (
-                ⊎-elim (λ t. ⊎-elim (λ o. m .0 (inl o)) (⊎-elim (λ h. m .0 (inr (via-as (λ v g. along-here entry is own (beside-after inside plain nz lz v g)) h))) (λ h. m .0 (inr (via-as (λ v g. along-here entry is own (beside-before inside plain nz lz v g)) h)))) (k .0 t)) (λ a. m .0 (inr (via-as (λ v b. along-past entry is b) a))),
-                λ t. ⊎-elim (λ o. inl (k .1 (inl o))) (λ a. ⊎-elim (λ b. inl (k .1 (inr (via-or (via-as (λ v g. beside-split inside plain nz lz v (g .1)) b))))) inr (via-or (via-as (λ v b. along-cases entry is b) a))) (m .1 t),
+              let k = flagged .flags e (let q = f .size in omega arith) in
+              let inside = subst (λ s. Inside ls s entry) (sym (follow-noted .begun)) (follow-noted .inside) in
+              let plain = subst (Connecting ls) (sym (follow-noted .begun)) (follow-noted .connecting) in (
+                ⊎-elim (λ t. ⊎-elim (λ o. m .0 (inl o)) (λ h. m .0 (inr (via-as (λ v g. along-here entry is own (has-beside inside plain nz v g)) h))) (k .0 t)) (λ a. m .0 (inr (via-as (λ v b. along-past entry is b) a))),
+                λ t. ⊎-elim (λ o. inl (k .1 (inl o))) (λ a. ⊎-elim (λ b. inl (k .1 (inr (via-as (λ v g. beside-has inside plain nz v (g .1)) b)))) inr (via-or (via-as (λ v b. along-cases entry is b) a))) (m .1 t),
               );
         }
 
     -- One with none of them is passed: nothing is.
-    pub follow-past : (By signs (λ sign. literalAt ls entry ≡ signed sign x) → ⊥) → Following n tops ls next signs x head old new (getD next entry 0)
+    pub follow-past : (By signs (λ sign. literalAt ls entry ≡ signed sign x) → ⊥) → Following n tops ls next signs x head old new (linkAt next entry)
     follow-past none =
         record {
           size = f .size;
@@ -178,7 +164,7 @@ module _ {n : ℕ} {tops : List ℕ} {ls : List ℤ} {next : List ℕ} {signs : 
         }
 
   -- The chain goes on within the table, to an entry before.
-  pub follow-link : k ≢ 0 → (k - 1 < length ls) × (getD next (k - 1) 0 < k)
+  pub follow-link : k ≢ 0 → (k - 1 < length ls) × (linkAt next (k - 1) < k)
   follow-link some =
       let is : k ≡ suc (k - 1) = omega arith in
       let here = follow-noted (k - 1) is in

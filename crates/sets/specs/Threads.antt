@@ -1,5 +1,5 @@
 -- Where clauses begin, and the chains that tie a variable to its clauses: what the inner functions of the call for all sets find.
-use Prim.Native.Nat.{ℕ, zero, suc, _+_, _-_, _≤_, _<_}
+use Prim.Native.Nat.{ℕ, zero, suc, _+_, _-_, _/_, _%_, _≤_, _<_}
 use mathlib.Core.Path.{_≡_}
 use mathlib.Core.Bool.{Bool, true, false}
 use mathlib.Core.List.{List}
@@ -77,16 +77,24 @@ EnteredBy scheme n tops ls x flags = Entering n (λ e. Takes scheme (λ sign. Vi
 abbrev pub Common : List Bool → List Bool → List Bool → Type 0
 Common other old new = (e : ℕ) → (getD new e false ≡ true) ↔ ((getD other e false ≡ true) × (getD old e false ≡ true))
 
+-- a row of `next`: where the chain goes on, and in the upper half the entry that the clause begins with
+abbrev pub linkAt : List ℕ → ℕ → ℕ
+linkAt next p = getD next p 0 % 65536
+
+abbrev pub startAt : List ℕ → ℕ → ℕ
+startAt next p = getD next p 0 / 65536
+
 -- Entry p is on the chain from k: 0 ends it, and suc q stands for entry q, whose row in `next` goes on.
 pub data On (next : List ℕ) (p : ℕ) : ℕ → Type 0 where
   here : On next p (suc p)
-  later : {q : ℕ} → On next p (getD next q 0) → On next p (suc q)
+  later : {q : ℕ} → On next p (linkAt next q) → On next p (suc q)
 
--- what holds of an entry p before i on the chain of x: it is x in a clause that is not always true, and the chain goes on to an entry before it
+-- what holds of an entry p before i on the chain of x: it is x in a clause that is not always true, its row has the start of the clause, and the chain goes on to an entry before it
 pub record Noted (ls : List ℤ) (next : List ℕ) (i x p : ℕ) : Type 0 where
   pub before : p < i
-  pub falls : getD next p 0 ≤ p
+  pub falls : linkAt next p ≤ p
   pub start : ℕ
+  pub begun : startAt next p ≡ start
   pub inside : Inside ls start p
   pub connecting : Connecting ls start
   pub is : variableOf (literalAt ls p) ≡ x

@@ -1,5 +1,6 @@
 // Chains through the clause table, one for each universal, that tie it to its clauses: its entry points are then found without a scan of all
-// clauses. A chain holds one entry of each clause that has the universal, the last clause first; k + 1 stands for entry k, and 0 ends it.
+// clauses. A chain holds one entry of each clause that has the universal, the last clause first; k + 1 stands for entry k, and 0 ends it. The row of
+// an entry holds what comes after it on the chain, and in its upper half the entry that its clause begins with.
 
 use formula::clauses::literal_at;
 use formula::clauses::next_zero;
@@ -7,7 +8,6 @@ use formula::clauses::variable_at;
 use formula::truth::always_true;
 use searching::marks::Signs;
 use searching::marks::flag_after;
-use searching::marks::flag_before;
 use searching::marks::has_sign;
 use searching::marks::side_of;
 use tables::rows::flag_at;
@@ -149,7 +149,7 @@ fn note(clauses: &[i32], start: usize, i: usize, first: &mut [u32], next: &mut [
     if start < last as usize {
         return;
     }
-    next[i] = last;
+    next[i] = start as u32 * 65536 + last;
     first[at] = (i + 1) as u32;
 }
 
@@ -238,13 +238,11 @@ fn flag_along(
     let mut at = first[x.0 as usize];
     while at != 0 {
         let entry = (at - 1) as usize;
+        let row = next[entry];
+        at = row % 65536;
         let side = side_of(literal_at(clauses, entry));
         if has_sign(signs, side) {
-            flag_after(n, clauses, entry, tops, flags);
-            flag_before(n, clauses, entry, tops, flags);
-            at = next[entry];
-        } else {
-            at = next[entry];
+            flag_after(n, clauses, (row / 65536) as usize, tops, flags);
         }
     }
 }

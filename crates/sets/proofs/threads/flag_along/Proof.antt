@@ -40,6 +40,22 @@ sub-entry c = omega arith
 cast-entry : tie.Need-cast-entry Inv-loop μ-loop
 cast-entry c = let small = c .before .loop .inv .2 in omega arith
 
+mul-row : tie.Need-mul-row Inv-loop μ-loop
+mul-row c =
+    let loop = c .before .loop in
+    let some = c .loop-test .taken in
+    let (less, _) = follow-link (loop .inv .0 (loop .inv .1 .0) (loop .inv .1 .1)) (λ z. omega arith) in
+    let room = c .before .before .before .before .before .before .before .before .pre .links in
+    omega arith
+
+shared-slice-read-row : tie.Need-shared-slice-read-row Inv-loop μ-loop
+shared-slice-read-row c =
+    let loop = c .before .before .loop in
+    let some = c .before .loop-test .taken in
+    let (less, _) = follow-link (loop .inv .0 (loop .inv .1 .0) (loop .inv .1 .1)) (λ z. omega arith) in
+    let room = c .before .before .before .before .before .before .before .before .before .pre .links in
+    omega arith
+
 literal-at-requires : tie.Need-literal-at-requires Inv-loop μ-loop
 literal-at-requires c κs = search needs
 
@@ -49,68 +65,35 @@ side-of-requires c κs = search needs
 has-sign-requires : tie.Need-has-sign-requires Inv-loop μ-loop
 has-sign-requires c κs = search needs
 
+cast-flag-after : tie.Need-cast-flag-after Inv-loop μ-loop
+cast-flag-after c = omega (arith, c .before .before .before .before .shared-slice-known5 .given (c .before .before .before .before .before .before .loop .at - 1))
+
 flag-after-requires : tie.Need-flag-after-requires Inv-loop μ-loop
 flag-after-requires c κs = search needs
 
-flag-before-requires : tie.Need-flag-before-requires Inv-loop μ-loop
-flag-before-requires c κs = search needs
-
-mul-at-2 : tie.Need-mul-at-2 Inv-loop μ-loop
-mul-at-2 c =
-    let loop = c .before .before .before .before .before .before .before .before .before .before .before .before .before .loop in
-    let some = c .before .before .before .before .before .before .before .before .before .before .before .before .loop-test .taken in
-    let (less, _) = follow-link (loop .inv .0 (loop .inv .1 .0) (loop .inv .1 .1)) (λ z. omega arith) in
-    let room = c .before .before .before .before .before .before .before .before .before .before .before .before .before .before .before .before .before .before .before .before .pre .links in
-    omega arith
-
-shared-slice-read-at-2 : tie.Need-shared-slice-read-at-2 Inv-loop μ-loop
-shared-slice-read-at-2 c =
-    let loop = c .before .before .before .before .before .before .before .before .before .before .before .before .before .before .loop in
-    let some = c .before .before .before .before .before .before .before .before .before .before .before .before .before .loop-test .taken in
-    let (less, _) = follow-link (loop .inv .0 (loop .inv .1 .0) (loop .inv .1 .1)) (λ z. omega arith) in
-    let room = c .before .before .before .before .before .before .before .before .before .before .before .before .before .before .before .before .before .before .before .before .before .pre .links in
-    omega arith
-
 loop-less : tie.Need-loop-less Inv-loop μ-loop
 loop-less c =
-    let loop = c .before .before .before .before .before .before .before .before .before .before .before .before .before .before .loop in
-    let some = c .before .before .before .before .before .before .before .before .before .before .before .before .before .loop-test .taken in
+    let loop = c .before .before .before .before .before .before .before .before .before .before .loop in
+    let some = c .before .before .before .before .before .before .before .before .before .loop-test .taken in
     let (_, falls) = follow-link (loop .inv .0 (loop .inv .1 .0) (loop .inv .1 .1)) (λ z. omega arith) in
     omega arith
 
 -- an entry with one of the signs
 loop-again : tie.Need-loop-again Inv-loop μ-loop
 loop-again c =
-    let a = c .before .before .before .before .before .before .before .before .before .before .before .before .before .before .before .before .before .before .before .before .before .args in
-    let loop = c .before .before .before .before .before .before .before .before .before .before .before .before .before .before .loop in
-    let some = c .before .before .before .before .before .before .before .before .before .before .before .before .before .loop-test .taken in
+    let a = c .before .before .before .before .before .before .before .before .before .before .before .before .before .before .before .before .before .args in
+    let loop = c .before .before .before .before .before .before .before .before .before .before .loop in
+    let some = c .before .before .before .before .before .before .before .before .before .loop-test .taken in
     let is : loop .at ≡ suc (loop .at - 1) = omega arith in
-    let side = c .before .before .before .before .before .before .before .before .before .before .before .side-of in
-    let (z, next, right) = c .before .before .before .before .before .before .before .flag-after .ensures in
-    let (s, last, left) = c .before .before .before .flag-before .ensures in (
+    let side = c .before .before .before .before .before .before .side-of in
+    let (z, next, flagged) = c .before .before .flag-after .ensures in (
       λ x noted.
           let f = loop .inv .0 x noted in
-          let own = side-has (a .signs) (side .result) (λ (sign : Bool). literalAt (a .clauses .now) (loop .at - 1) ≡ signed sign x) (sym (c .before .before .before .before .before .before .before .before .before .before .has-sign .ensures) ∙ c .before .before .before .before .before .before .before .before .before .if1 .taken) (follow-side f (loop .at - 1) is (side .result) (c .before .before .before .before .before .before .before .before .before .before .before .before .literal-at .result .0) (c .before .before .before .before .before .before .before .before .before .before .before .before .literal-at .ensures) (side .ensures)) in
-          follow-more f (loop .at - 1) is z s own next right last left,
+          let own = side-has (a .signs) (side .result) (λ (sign : Bool). literalAt (a .clauses .now) (loop .at - 1) ≡ signed sign x) (sym (c .before .before .before .before .before .has-sign .ensures) ∙ c .before .before .before .before .if1 .taken) (follow-side f (loop .at - 1) is (side .result) (c .before .before .before .before .before .before .before .literal-at .result .0) (c .before .before .before .before .before .before .before .literal-at .ensures) (side .ensures)) in
+          follow-more f (loop .at - 1) is z own next flagged,
       loop .inv .1,
-      omega (arith, c .shared-slice-known5 .given (loop .at - 1)),
+      omega arith,
     )
-
-mul-at-3 : tie.Need-mul-at-3 Inv-loop μ-loop
-mul-at-3 c =
-    let loop = c .before .before .before .before .before .loop in
-    let some = c .before .before .before .before .loop-test .taken in
-    let (less, _) = follow-link (loop .inv .0 (loop .inv .1 .0) (loop .inv .1 .1)) (λ z. omega arith) in
-    let room = c .before .before .before .before .before .before .before .before .before .before .before .before .pre .links in
-    omega arith
-
-shared-slice-read-at-3 : tie.Need-shared-slice-read-at-3 Inv-loop μ-loop
-shared-slice-read-at-3 c =
-    let loop = c .before .before .before .before .before .before .loop in
-    let some = c .before .before .before .before .before .loop-test .taken in
-    let (less, _) = follow-link (loop .inv .0 (loop .inv .1 .0) (loop .inv .1 .1)) (λ z. omega arith) in
-    let room = c .before .before .before .before .before .before .before .before .before .before .before .before .before .pre .links in
-    omega arith
 
 loop-less-2 : tie.Need-loop-less-2 Inv-loop μ-loop
 loop-less-2 c =
@@ -126,13 +109,13 @@ loop-again-2 c =
     let loop = c .before .before .before .before .before .before .loop in
     let some = c .before .before .before .before .before .loop-test .taken in
     let is : loop .at ≡ suc (loop .at - 1) = omega arith in
-    let side = c .before .before .before .side-of in (
+    let side = c .before .before .side-of in (
       λ x noted.
           let f = loop .inv .0 x noted in
-          let told = follow-side f (loop .at - 1) is (side .result) (c .before .before .before .before .literal-at .result .0) (c .before .before .before .before .literal-at .ensures) (side .ensures) in
-          follow-past f (loop .at - 1) is (side-not (a .signs) (side .result) (λ (sign : Bool). literalAt (a .clauses .now) (loop .at - 1) ≡ signed sign x) (sym (c .before .before .has-sign .ensures) ∙ c .before .if1 .left) told (follow-apart f (loop .at - 1) is)),
+          let told = follow-side f (loop .at - 1) is (side .result) (c .before .before .before .literal-at .result .0) (c .before .before .before .literal-at .ensures) (side .ensures) in
+          follow-past f (loop .at - 1) is (side-not (a .signs) (side .result) (λ (sign : Bool). literalAt (a .clauses .now) (loop .at - 1) ≡ signed sign x) (sym (c .before .has-sign .ensures) ∙ c .if1 .left) told (follow-apart f (loop .at - 1) is)),
       loop .inv .1,
-      omega (arith, c .shared-slice-known6 .given (loop .at - 1)),
+      omega arith,
     )
 
 same-length : tie.Need-same-length Inv-loop μ-loop
@@ -156,17 +139,15 @@ flag-along-spec =
     loop-holds
     sub-entry
     cast-entry
+    mul-row
+    shared-slice-read-row
     literal-at-requires
     side-of-requires
     has-sign-requires
+    cast-flag-after
     flag-after-requires
-    flag-before-requires
-    mul-at-2
-    shared-slice-read-at-2
     loop-less
     loop-again
-    mul-at-3
-    shared-slice-read-at-3
     loop-less-2
     loop-again-2
     same-length

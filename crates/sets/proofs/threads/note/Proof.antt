@@ -28,8 +28,17 @@ returns c universals t =
     let v = c .before .before .before .variable-at .result .0 in
     threaded-tied t v (c .before .before .before .variable-at .ensures) (a .start) (getD (a .first .now) v 0) (c .before .before .before .before .before .before .pre .3) refl (c .if1 .taken)
 
+cast-next : tie.Need-cast-next
+cast-next c = let from = c .before .before .before .before .before .before .pre .3 .from in let short = c .before .before .before .before .before .before .pre .0 in let low = c .if1 .left in omega arith
+
 mul-next : tie.Need-mul-next
-mul-next c = search needs
+mul-next c = let from = c .before .before .before .before .before .before .pre .3 .from in let short = c .before .before .before .before .before .before .pre .0 in let low = c .if1 .left in omega arith
+
+add-next : tie.Need-add-next
+add-next c = let from = c .before .before .before .before .before .before .pre .3 .from in let short = c .before .before .before .before .before .before .pre .0 in let low = c .if1 .left in omega arith
+
+mul-next-2 : tie.Need-mul-next-2
+mul-next-2 c = search needs
 
 slice-write-next : tie.Need-slice-write-next
 slice-write-next c = search needs
@@ -59,7 +68,7 @@ returns-2 c universals t =
     let v = c .before .before .before .variable-at .result .0 in
     let is = c .before .before .before .variable-at .ensures in
     let room = pre .1 in
-    threaded-now t v is (a .start) (getD (a .first .now) v 0) (pre .3) (pre .4) refl (omega arith) (pre .2)
+    threaded-now t v is (a .start) (getD (a .first .now) v 0) (pre .3) (pre .4) refl (let low = c .if1 .left in omega arith) (pre .0) (omega arith) (pre .2)
 
 pub note-spec : {M : Type 1} → statement M
 note-spec =
@@ -71,7 +80,10 @@ note-spec =
     slice-read-last
     cast-if1
     returns
+    cast-next
     mul-next
+    add-next
+    mul-next-2
     slice-write-next
     add-first
     cast-first
