@@ -10,7 +10,6 @@ use searching::marks::Signs;
 use searching::marks::flag_after;
 use searching::marks::has_sign;
 use searching::marks::side_of;
-use tables::rows::flag_at;
 use terms::Scheme;
 use terms::Variable;
 ghost use Prim.Native.Nat.{ℕ, _+_, _≤_, _<_};
@@ -24,11 +23,11 @@ ghost use Rattle.formula.specs.Tables.{literalAt};
 ghost use Rattle.formula.specs.Lookup.{SoundClauses};
 ghost use Rattle.terms.specs.declared.Scheme.the-variants.{Strict};
 ghost use Rattle.searching.specs.Search.{By, Flagged, Via, Blank};
-ghost use Rattle.sets.specs.Threads.{Inside, Connecting, Skipping, Known, marked, Gathered, Together, EnteredBy, Common, Threaded, Tied};
+ghost use Rattle.sets.specs.Threads.{Inside, Connecting, Skipping, Known, Covered, marked, Gathered, Together, EnteredBy, Common, Threaded, Tied};
 
 // Ties every universal to its clauses, those that are always true left out. Few clauses take short tables, which are cleared sooner.
 pub fn thread(clauses: &[i32], universals: &[bool], first: &mut [u32], next: &mut [u32])
-    requires { ⌜ SoundClauses (now clauses) × (length (now universals) ≤ length (now first)) × (length (now clauses) ≤ length (now next)) × ((x : ℕ) → getD (now first) x 0 ≡ 0) ⌝ }
+    requires { ⌜ SoundClauses (now clauses) × (length (now universals) ≤ length (now first)) × (length (now clauses) ≤ length (now next)) × ((x : ℕ) → getD (now first) x 0 ≡ 0) × Covered (now clauses) (now universals) ⌝ }
     ensures { λ r. ⌜ Threaded (now (clauses .entry)) (now (universals .entry)) (now (first .exit)) (now (next .exit)) (length (now (clauses .entry))) ⌝ }
 {
     if clauses.len() <= 2048 {
@@ -51,7 +50,7 @@ fn thread_by(
     first: &mut [u32],
     next: &mut [u32],
 )
-    requires { ⌜ SoundClauses (now clauses) × (length (now universals) ≤ length (now first)) × (length (now clauses) ≤ length (now next)) × ((x : ℕ) → getD (now first) x 0 ≡ 0) × (length (now clauses) ≤ length (now places)) × (length (now clauses) ≤ length (now starts)) ⌝ }
+    requires { ⌜ SoundClauses (now clauses) × (length (now universals) ≤ length (now first)) × (length (now clauses) ≤ length (now next)) × ((x : ℕ) → getD (now first) x 0 ≡ 0) × (length (now clauses) ≤ length (now places)) × (length (now clauses) ≤ length (now starts)) × Covered (now clauses) (now universals) ⌝ }
     ensures { λ r. ⌜ Threaded (now (clauses .entry)) (now (universals .entry)) (now (first .exit)) (now (next .exit)) (length (now (clauses .entry))) ⌝ }
 {
     let count = gather(clauses, universals, places, starts);
@@ -61,7 +60,7 @@ fn thread_by(
 // Writes the entries of all universals, ascending, and beside each the entry that its clause begins with; gives their count. Each entry of the
 // clauses is stored, and counted if it is a universal's, so that no branch hangs on what cannot be foreseen.
 fn gather(clauses: &[i32], universals: &[bool], places: &mut [u16], starts: &mut [u16]) -> usize
-    requires { ⌜ SoundClauses (now clauses) × (length (now clauses) ≤ length (now places)) × (length (now clauses) ≤ length (now starts)) ⌝ }
+    requires { ⌜ SoundClauses (now clauses) × (length (now clauses) ≤ length (now places)) × (length (now clauses) ≤ length (now starts)) × Covered (now clauses) (now universals) ⌝ }
     ensures { λ r. ⌜ Gathered (now (clauses .entry)) (now (universals .entry)) (now (places .exit)) (now (starts .exit)) r (length (now (clauses .entry))) ⌝ }
 {
     let mut count: usize = 0;
@@ -80,9 +79,10 @@ fn gather(clauses: &[i32], universals: &[bool], places: &mut [u16], starts: &mut
 
 // What the entry of a variable counts: 1 if that is a universal, else 0.
 fn counted(universals: &[bool], variable: Variable) -> usize
+    requires { ⌜ variable .0 < length (now universals) ⌝ }
     ensures { λ r. ⌜ r ≡ cond (marked (now (universals .entry)) (variable .0)) 1 0 ⌝ }
 {
-    if !flag_at(universals, variable) {
+    if !universals[variable.0 as usize] {
         return 0;
     }
     if variable.0 == 0 { 0 } else { 1 }

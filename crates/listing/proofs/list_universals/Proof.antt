@@ -21,7 +21,7 @@ thread-requires c κs =
     let size = pre .1 .sizes .1 in
     let heads = length-replicate {A = ℕ} 4097 0 in
     let links = length-replicate {A = ℕ} 16384 0 in
-    (few, omega arith, omega arith, new-zero 4097)
+    (few, omega arith, omega arith, new-zero 4097, λ e l. let row = few .rows e l in omega arith)
 
 slice-aggregate-list-tied : tie.Need-slice-aggregate-list-tied
 slice-aggregate-list-tied c = search needs

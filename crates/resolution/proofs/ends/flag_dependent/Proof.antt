@@ -21,9 +21,17 @@ slice-aggregate-thread-3 c = search needs
 
 thread-requires : tie.Need-thread-requires
 thread-requires c κs =
-    let read = c .before .before .before .before .before .before .pre .1 in
+    let pre = c .before .before .before .before .before .before .pre in
+    let read = pre .1 in
     let short = read .sound .short in
-    (read .sound, omega (arith, length-replicate {A = Bool} 513 true, length-replicate {A = ℕ} 513 0), omega (arith, short, length-replicate {A = ℕ} 16384 0), zeros 513)
+    let rows = length-replicate {A = Bool} 513 true in
+    let few = pre .0 in (
+      read .sound,
+      omega (arith, rows, length-replicate {A = ℕ} 513 0),
+      omega (arith, short, length-replicate {A = ℕ} 16384 0),
+      zeros 513,
+      λ e l. let most = read .upto e in omega arith,
+    )
 
 slice-aggregate-flag-tied : tie.Need-slice-aggregate-flag-tied
 slice-aggregate-flag-tied c = search needs

@@ -22,7 +22,7 @@ thread-requires c κs =
     let size = pre .1 .sizes .1 in
     let heads = length-replicate {A = ℕ} 4097 0 in
     let links = length-replicate {A = ℕ} 2048 0 in
-    (few, omega arith, omega arith, new-zero 4097)
+    (few, omega arith, omega arith, new-zero 4097, λ e l. let row = few .rows e l in omega arith)
 
 slice-aggregate-write-fitting : tie.Need-slice-aggregate-write-fitting
 slice-aggregate-write-fitting c = search needs
@@ -59,7 +59,7 @@ thread-requires-2 c κs =
     let size = pre .1 .sizes .1 in
     let heads = length-replicate {A = ℕ} 4097 0 in
     let links = length-replicate {A = ℕ} 16384 0 in
-    (few, omega arith, omega arith, new-zero 4097)
+    (few, omega arith, omega arith, new-zero 4097, λ e l. let row = few .rows e l in omega arith)
 
 slice-aggregate-write-fitting-3 : tie.Need-slice-aggregate-write-fitting-3
 slice-aggregate-write-fitting-3 c = search needs

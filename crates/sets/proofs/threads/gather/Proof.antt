@@ -48,7 +48,11 @@ add-i : tie.Need-add-i Inv-loop μ-loop
 add-i c = let less = c .before .loop-test .taken in omega arith
 
 counted-requires : tie.Need-counted-requires Inv-loop μ-loop
-counted-requires c κs = search needs
+counted-requires c κs =
+    let less = c .before .loop-test .taken in
+    let row = c .before .before .before .before .before .before .pre .3 (c .before .before .loop .i) less in
+    let is = c .variable-at .ensures in
+    omega arith
 
 add-count : tie.Need-add-count Inv-loop μ-loop
 add-count c =

@@ -17,7 +17,7 @@ thread-by-requires c κs =
     let pre = c .before .before .before .before .before .before .before .before .pre in
     let short = c .before .before .before .before .if1 .taken in
     let rows = length-replicate {A = ℕ} 2048 0 in
-    (pre .0, pre .1, pre .2, pre .3, omega arith, omega arith)
+    (pre .0, pre .1, pre .2, pre .3, omega arith, omega arith, pre .4)
 
 same-length : tie.Need-same-length
 same-length c = search needs
@@ -39,7 +39,7 @@ thread-by-requires-2 c κs =
     let pre = c .before .before .before .before .before .before .before .before .pre in
     let short = pre .0 .short in
     let rows = length-replicate {A = ℕ} 16384 0 in
-    (pre .0, pre .1, pre .2, pre .3, omega arith, omega arith)
+    (pre .0, pre .1, pre .2, pre .3, omega arith, omega arith, pre .4)
 
 same-length-3 : tie.Need-same-length-3
 same-length-3 c = search needs

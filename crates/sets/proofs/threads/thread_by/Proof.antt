@@ -5,7 +5,7 @@ use Rattle.sets.proofs.threads.thread_by.Statement.{statement}
 use Rattle.sets.proofs.threads.thread_by.Tie as tie
 
 gather-requires : tie.Need-gather-requires
-gather-requires c κs = let pre = c .before .before .before .before .before .before .before .pre in (pre .0, pre .4, pre .5)
+gather-requires c κs = let pre = c .before .before .before .before .before .before .before .pre in (pre .0, pre .4, pre .5, pre .6)
 
 tie-places-requires : tie.Need-tie-places-requires
 tie-places-requires c κs =
