@@ -43,13 +43,13 @@ pub rowed : {n : ℕ} {ls : List ℤ} (marks : List Bool) → n ≤ 512 → Read
 rowed {ls = ls} marks few read size e = let most = read .upto e in ⊎-elim (λ q. omega arith) (λ q. omega arith) (row-either (literalAt ls e))
 
 -- Every variable is tied to its clauses.
-pub threads-chained : {n : ℕ} {ls : List ℤ} {heads next : List ℕ} → n ≤ 512 → ReadClauses n ls → length heads ≡ 513 → length ls ≤ length next → Threaded ls (replicate 513 true) heads next (length ls) → Chained ls heads next
+pub threads-chained : {n : ℕ} {ls : List ℤ} {heads next : List ℕ} → n ≤ 512 → ReadClauses n ls → length heads ≡ 513 → length ls ≤ length next → Threaded ls (set (replicate 513 true) 0 false) heads next (length ls) → Chained ls heads next
 threads-chained {ls = ls} few read size room t =
     record {
       heads = λ e. let most = read .upto e in omega arith;
       links = room;
       sound = t .sound;
-      complete = λ s p inside connecting. t .complete (variableOf (literalAt ls p)) s p (getD-replicate 513 (variableOf (literalAt ls p)) true false (let most = read .upto p in omega arith)) (inside-less inside) inside connecting refl;
+      complete = λ s p inside connecting. t .complete (variableOf (literalAt ls p)) s p (getD-set-other (replicate 513 true) 0 (variableOf (literalAt ls p)) false false (inside .literals p (inside .from) (omega arith)) ∙ getD-replicate 513 (variableOf (literalAt ls p)) true false (let most = read .upto p in omega arith)) (inside-less inside) inside connecting refl;
     }
 
 -- What is barred up to v, one variable after the other.

@@ -30,7 +30,8 @@ pub fn flag_dependent(
     requires { ⌜ (n ≤ 512) × ReadClauses n (now clauses) × (x .0 ≤ n) × (length (now flags) ≡ 513) ⌝ }
     ensures { λ r. ⌜ ((v : ℕ) → 1 ≤ v → v ≤ n → (getD (now (flags .exit)) v false ≡ true) ↔ DependsByPaths (tabled n (now (levels .entry)) (now (universals .entry))) (now (clauses .entry)) (x .0) v) ⌝ }
 {
-    let all = [true; 513];
+    let mut all = [true; 513];
+    all[0] = false;
     let mut first = [0u32; 513];
     let mut next = [0u32; 16384];
     thread(clauses, &all, &mut first, &mut next);

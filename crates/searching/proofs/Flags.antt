@@ -75,17 +75,9 @@ has-more ls start i v low = (⊎-elim (λ h. record { place = h .place; from = h
         by-cases (ℕ-discrete (h .place) i) (λ q. inr (sym (h .is) ∙ ap (λ e. variableOf (literalAt ls e)) q))
         (λ other. inl (record { place = h .place; from = h .from; before = let l = h .before in omega arith; is = h .is }))
 
--- the same with the variable as it was read, and at the front
+-- the same with the variable as it was read
 pub has-next : (ls : List ℤ) (start i v : ℕ) → start ≤ i → v ≡ variableOf (literalAt ls i) → (w : ℕ) → (Has ls start i w ⊎ (w ≡ v)) ↔ Has ls start (i + 1) w
 has-next ls start i v low is w = (⊎-elim (λ h. has-more ls start i w low .0 (inl h)) (λ q. has-more ls start i w low .0 (inr (q ∙ is))), λ h. ⊎-elim inl (λ q. inr (q ∙ sym is)) (has-more ls start i w low .1 h))
-
-pub has-front : (ls : List ℤ) (i end v : ℕ) → 0 < i → i ≤ end → v ≡ variableOf (literalAt ls (i - 1)) → (w : ℕ) → (Has ls i end w ⊎ (w ≡ v)) ↔ Has ls (i - 1) end w
-has-front ls i end v some high is w = (⊎-elim (λ h. record { place = h .place; from = let f = h .from in omega arith; before = h .before; is = h .is }) (λ q. record { place = i - 1; from = omega arith; before = omega arith; is = sym (q ∙ is) }), back)
-  where
-    back : Has ls (i - 1) end w → Has ls i end w ⊎ (w ≡ v)
-    back h =
-        by-cases (ℕ-discrete (h .place) (i - 1)) (λ q. inr (sym (h .is) ∙ ap (λ e. variableOf (literalAt ls e)) q ∙ sym is))
-        (λ other. inl (record { place = h .place; from = let f = h .from in omega arith; before = h .before; is = h .is }))
 
 -- The literals and the variables of the entries from start up to z, as lists.
 module _ (ls : List ℤ) (start z : ℕ) (from : start ≤ z) (to : z ≤ length ls) where

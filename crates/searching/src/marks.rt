@@ -17,7 +17,7 @@ ghost use Rattle.formula.specs.Lookup.{NextZero, SoundClauses, Stamps};
 ghost use Rattle.connection.specs.Tables.{row};
 ghost use Rattle.terms.specs.declared.Scheme.the-variants.{Strict};
 ghost use Rattle.tables.specs.Formula.{signed, SharesBy};
-ghost use Rattle.searching.specs.Search.{Has, HasLiteral, Sided, By, sideBy, LastZero, Connects, Flagged, Takes, Via, Blank, ifFlagged, Entering};
+ghost use Rattle.searching.specs.Search.{Has, HasLiteral, Sided, By, sideBy, Connects, Flagged, Takes, Via, Blank, ifFlagged, Entering};
 
 // In which sign a clause has x. One that is not always true has it in one sign only.
 pub enum Side {
@@ -210,26 +210,6 @@ pub fn flag_after(n: u32, clauses: &[i32], start: usize, tops: &[u32], flags: &m
         } else {
             flag(flags, top);
             i += 1;
-        }
-    }
-}
-
-// Flags the tops of the variables of the entries before `end`, back to the last 0.
-pub fn flag_before(n: u32, clauses: &[i32], end: usize, tops: &[u32], flags: &mut [bool])
-    ensures { λ r. ⌜ ((s : ℕ) × LastZero (now (clauses .entry)) end s × Flagged (Via n (now (tops .entry)) (Has (now (clauses .entry)) s end)) (now (flags .entry)) (now (flags .exit))) ⌝ }
-{
-    let mut i = end;
-    while 0 < i {
-        let variable = variable_at(clauses, i - 1);
-        if variable.0 == 0 {
-            return;
-        }
-        let top = row_of(n, tops, variable);
-        if top.0 == 0 {
-            i -= 1;
-        } else {
-            flag(flags, top);
-            i -= 1;
         }
     }
 }

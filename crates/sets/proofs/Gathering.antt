@@ -2,7 +2,7 @@
 use Prim.Native.Nat.{ℕ, zero, suc, _+_, _≤_, _<_}
 use mathlib.Core.Path.{_≡_, refl, sym, ap, _∙_, subst}
 use mathlib.Core.Bool.{Bool, true, false, cond}
-use mathlib.Core.List.{List}
+use mathlib.Core.List.{List, [], _∷_}
 use mathlib.Core.Logic.{_≢_, _⊎_, inl, inr, by-cases}
 use native.Mathlib.Decide.{ℕ-discrete, decLt}
 use native.Mathlib.Omega.{arith}
@@ -14,11 +14,13 @@ use lib.ListN.{length, getD, set}
 use lib.Seq.{getD-set-same, getD-set-other}
 use Rattle.terms.specs.Literals.{variableOf}
 use Rattle.terms.proofs.Common.{clash}
-use Rattle.formula.specs.Tables.{literalAt}
-use Rattle.formula.specs.Lookup.{NextZero, Stamps}
+use Rattle.formula.specs.Tables.{literalAt, cut, push}
+use Rattle.formula.specs.Meaning.{isZero, blocks, has, names, markOf, saidOf, isUniversal}
+use Rattle.formula.specs.Levels.{Levelled}
+use Rattle.formula.specs.Lookup.{NextZero, Stamps, SoundClauses}
 use Rattle.formula.proofs.Signs.{stamps-more}
 use Rattle.searching.proofs.Flags.{next-none}
-use Rattle.sets.specs.Threads.{Inside, Skipping, Known, marked, Gathered, Threaded}
+use Rattle.sets.specs.Threads.{Inside, Skipping, Known, Covered, marked, Gathered, Threaded}
 use Rattle.sets.proofs.Chains.{inside-one, threaded-none, threaded-jump, Passing, passing-zero, passing-more}
 
 -- What is marked is a flagged variable, and no 0.
@@ -32,19 +34,57 @@ unfolding marked
 marked-some universals zero m q = clash m refl
 marked-some universals (suc v) m q = omega arith
 
-pub marked-of : (universals : List Bool) (v : ℕ) → v ≢ 0 → getD universals v false ≡ true → marked universals v ≡ true
+marked-of : (universals : List Bool) (v : ℕ) → v ≢ 0 → getD universals v false ≡ true → marked universals v ≡ true
 unfolding marked
 marked-of universals zero some u = absurd (some refl)
 marked-of universals (suc v) some u = u
 
-pub marked-zero : (universals : List Bool) (v : ℕ) → v ≡ 0 → marked universals v ≡ false
+pub marked-flags : (universals : List Bool) → getD universals 0 false ≡ false → (v : ℕ) → marked universals v ≡ getD universals v false
 unfolding marked
-marked-zero universals v q = ap (marked universals) q
+marked-flags universals none zero = sym none
+marked-flags universals none (suc v) = refl
 
-pub marked-not : (universals : List Bool) (v : ℕ) → getD universals v false ≡ false → marked universals v ≡ false
-unfolding marked
-marked-not universals zero none = refl
-marked-not universals (suc v) none = none
+-- No block of a prefix names 0, so that there is no flag for it.
+abbrev NoZero : List (List ℕ) → Type 0
+NoZero [] = Unit {0}
+NoZero (block ∷ rest) = (has block 0 ≡ false) × NoZero rest
+
+push-zero : (a : ℕ) → eqb a 0 ≡ false → (lists : List (List ℕ)) → NoZero lists → NoZero (push a lists)
+push-zero a some [] r = r
+push-zero a some (list ∷ lists) r = (ap (λ b. cond b true (has list 0)) some ∙ r .0, r .1)
+
+cut-zero : (es : List ℕ) → NoZero (cut isZero es)
+unfolding cut
+cut-zero [] = tt
+cut-zero (a ∷ es) = go (eqb a 0) refl (cut-zero es)
+  where
+    go : (b : Bool) → eqb a 0 ≡ b → NoZero (cut isZero es) → NoZero (cond b ([] ∷ cut isZero es) (push a (cut isZero es)))
+    go true q r = (refl, r)
+    go false q r = push-zero a q (cut isZero es) r
+
+names-zero : (block : List ℕ) → has block 0 ≡ false → names block 0 ≡ false
+names-zero [] h = refl
+names-zero (mark ∷ variables) h = go (eqb mark 0) h
+  where
+    go : (b : Bool) → cond b true (has variables 0) ≡ false → has variables 0 ≡ false
+    go true q = absurd (clash refl q)
+    go false q = q
+
+said-zero : (lists : List (List ℕ)) → NoZero lists → (number : ℕ) → saidOf (λ number mark. eqb mark 2) lists number false 0 ≡ false
+said-zero [] r number = refl
+said-zero (block ∷ rest) r number = ap (λ b. saidOf (λ number mark. eqb mark 2) rest (suc number) (cond b (eqb (markOf block) 2) false) 0) (names-zero block (r .0)) ∙ said-zero rest (r .1) (suc number)
+
+universal-zero : (es : List ℕ) → isUniversal es 0 ≡ false
+unfolding isUniversal blocks
+universal-zero es = said-zero (cut isZero es) (cut-zero es) 1
+
+-- The flags of a level table are for all variables of the clauses.
+pub levelled-covers : {es levels : List ℕ} {universals : List Bool} {ls : List ℤ} → Levelled es levels universals → SoundClauses ls → Covered ls universals
+levelled-covers {es} levelled sound =
+    record {
+      rows = λ e l. let row = sound .rows e l in let size = levelled .sizes .1 in omega arith;
+      none = levelled .universal-is 0 (omega arith) ∙ universal-zero es;
+    }
 
 -- An entry counts at most 1.
 pub counts-most : (b : Bool) → cond b 1 0 ≤ 1

@@ -40,9 +40,10 @@ pub record Skipping (ls : List ℤ) (s : ℕ) (skip : Bool) (seen : List ℕ) : 
 abbrev pub Known : List ℤ → ℕ → ℕ → Bool → List ℕ → Type 0
 Known ls s judged skip seen = (s ≡ judged → Skipping ls s skip seen) × (s ≢ judged → Stamps seen (s + 1))
 
--- there is a flag for the variable of every entry
-abbrev pub Covered : List ℤ → List Bool → Type 0
-Covered ls universals = (e : ℕ) → e < length ls → variableOf (literalAt ls e) < length universals
+-- there is a flag for the variable of every entry, and none is set for 0
+pub record Covered (ls : List ℤ) (universals : List Bool) : Type 0 where
+  pub rows : (e : ℕ) → e < length ls → variableOf (literalAt ls e) < length universals
+  pub none : getD universals 0 false ≡ false
 
 -- whether a variable is a universal by its flag: the 0 that closes a clause is none
 unfoldable pub marked : List Bool → ℕ → Bool

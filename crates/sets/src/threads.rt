@@ -14,7 +14,7 @@ use terms::Scheme;
 use terms::Variable;
 ghost use Prim.Native.Nat.{ℕ, _+_, _≤_, _<_};
 ghost use mathlib.Core.Path.{_≡_};
-ghost use mathlib.Core.Bool.{Bool, cond, _&&_};
+ghost use mathlib.Core.Bool.{Bool, false, cond, _&&_};
 ghost use mathlib.Core.List.{List};
 ghost use lib.Dec.{eqb};
 ghost use lib.ListN.{length, getD};
@@ -77,15 +77,16 @@ fn gather(clauses: &[i32], universals: &[bool], places: &mut [u16], starts: &mut
     count
 }
 
-// What the entry of a variable counts: 1 if that is a universal, else 0.
+// What the entry of a variable counts: 1 if that is a universal, else 0; the 0 of a clause has no flag.
 fn counted(universals: &[bool], variable: Variable) -> usize
-    requires { ⌜ variable .0 < length (now universals) ⌝ }
+    requires { ⌜ (variable .0 < length (now universals)) × (getD (now universals) 0 false ≡ false) ⌝ }
     ensures { λ r. ⌜ r ≡ cond (marked (now (universals .entry)) (variable .0)) 1 0 ⌝ }
 {
-    if !universals[variable.0 as usize] {
-        return 0;
+    if universals[variable.0 as usize] {
+        1
+    } else {
+        0
     }
-    if variable.0 == 0 { 0 } else { 1 }
 }
 
 // Where the clause of the next entry begins: there, behind a 0, and else where that of this entry does.

@@ -5,6 +5,7 @@ use native.Mathlib.Omega.{arith}
 use lib.ListN.{length-replicate}
 use Rattle.tables.proofs.Readings.{new-zero}
 use borrow.Author.Needs.{needs}
+use Rattle.sets.proofs.Gathering.{levelled-covers}
 use Rattle.listing.proofs.list_universals.Statement.{statement}
 use Rattle.listing.proofs.list_universals.Tie as tie
 
@@ -21,7 +22,7 @@ thread-requires c κs =
     let size = pre .1 .sizes .1 in
     let heads = length-replicate {A = ℕ} 4097 0 in
     let links = length-replicate {A = ℕ} 16384 0 in
-    (few, omega arith, omega arith, new-zero 4097, λ e l. let row = few .rows e l in omega arith)
+    (few, omega arith, omega arith, new-zero 4097, levelled-covers (pre .1) few)
 
 slice-aggregate-list-tied : tie.Need-slice-aggregate-list-tied
 slice-aggregate-list-tied c = search needs

@@ -5,6 +5,7 @@ use native.Mathlib.Omega.{arith}
 use lib.ListN.{length-replicate}
 use Rattle.tables.proofs.Readings.{new-zero}
 use borrow.Author.Needs.{needs}
+use Rattle.sets.proofs.Gathering.{levelled-covers}
 use Rattle.sets.proofs.all_sets.list_sets.Statement.{statement}
 use Rattle.sets.proofs.all_sets.list_sets.Tie as tie
 
@@ -22,7 +23,7 @@ thread-requires c κs =
     let size = pre .1 .sizes .1 in
     let heads = length-replicate {A = ℕ} 4097 0 in
     let links = length-replicate {A = ℕ} 2048 0 in
-    (few, omega arith, omega arith, new-zero 4097, λ e l. let row = few .rows e l in omega arith)
+    (few, omega arith, omega arith, new-zero 4097, levelled-covers (pre .1) few)
 
 slice-aggregate-write-fitting : tie.Need-slice-aggregate-write-fitting
 slice-aggregate-write-fitting c = search needs
@@ -59,7 +60,7 @@ thread-requires-2 c κs =
     let size = pre .1 .sizes .1 in
     let heads = length-replicate {A = ℕ} 4097 0 in
     let links = length-replicate {A = ℕ} 16384 0 in
-    (few, omega arith, omega arith, new-zero 4097, λ e l. let row = few .rows e l in omega arith)
+    (few, omega arith, omega arith, new-zero 4097, levelled-covers (pre .1) few)
 
 slice-aggregate-write-fitting-3 : tie.Need-slice-aggregate-write-fitting-3
 slice-aggregate-write-fitting-3 c = search needs

@@ -50,9 +50,9 @@ add-i c = let less = c .before .loop-test .taken in omega arith
 counted-requires : tie.Need-counted-requires Inv-loop μ-loop
 counted-requires c κs =
     let less = c .before .loop-test .taken in
-    let row = c .before .before .before .before .before .before .pre .3 (c .before .before .loop .i) less in
+    let row = c .before .before .before .before .before .before .pre .3 .rows (c .before .before .loop .i) less in
     let is = c .variable-at .ensures in
-    omega arith
+    (omega arith, c .before .before .before .before .before .before .pre .3 .none)
 
 add-count : tie.Need-add-count Inv-loop μ-loop
 add-count c =
