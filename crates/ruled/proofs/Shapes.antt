@@ -16,8 +16,6 @@ use Rattle.terms.specs.declared.Scheme.{Scheme}
 use Rattle.forest.specs.Causes.{entryOrder, readOrder, listOrder}
 use Rattle.forest.specs.Answers.{Answered, Entry, EntryAnswered, SizeBy, SizedBy}
 use Rattle.forest.specs.Listed.{Filling, Listing}
-use Rattle.forest.specs.Wanted.{Wanted}
-use Rattle.searching.specs.declared.listing.Asked.{Asked}
 use Rattle.tables.specs.Formula.{variables, Shares}
 use Rattle.growth.specs.Grown.{Standing, buildOrder, addOrder, many, TallyOf, Leaves, AddLeaves, Builds, Adds}
 use Rattle.sets.specs.Sets.{AllSetsBy, setsOrderBy, SetsListedBy}
@@ -65,13 +63,6 @@ module _ (rule n : ℕ) (es : List ℕ) (ls : List ℤ) (classes parents counts 
 
   pub lists-refused : (out : List ℕ) (number place : ℕ) {v : Filled} → v ≡ Refused number place → Joins rule n es (length ls) out v → ListedUnder rule n es ls classes parents counts x P before before (Refused number place)
   lists-refused out number place is joined = fills-refused rule n es (length ls) (λ read. Listed (P read)) lists-later before out number place is joined
-
--- entry points or the set, as asked for
-pub lists-asked : (scheme : Scheme) (n : ℕ) (es : List ℕ) (ls : List ℤ) (classes parents counts : List ℕ) (x : ℕ) (before after : List ℕ) (r : Filled) {asked told : Asked} → asked ≡ told
-    → Listing (listOrder n es ls classes parents counts x (Wanted scheme told n es ls classes parents x) before) (Wanted scheme told n es ls classes parents x) before after r
-    → Listing (listOrder n es ls classes parents counts x (Wanted scheme asked n es ls classes parents x) before) (Wanted scheme asked n es ls classes parents x) before after r
-lists-asked scheme n es ls classes parents counts x before after r is holds =
-    subst (λ (q : Asked). Listing (listOrder n es ls classes parents counts x (Wanted scheme q n es ls classes parents x) before) (Wanted scheme q n es ls classes parents x) before after r) (sym is) holds
 
 -- the sets of all universals by a scheme
 module _ (rule : ℕ) (scheme : Scheme) (n : ℕ) (es : List ℕ) (ls : List ℤ) (classes parents counts before : List ℕ) where

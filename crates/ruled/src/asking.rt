@@ -3,16 +3,11 @@
 
 use forest::EntryAnswer;
 use joining::join;
-use searching::listing::Asked;
 use terms::Filled;
 use terms::Scheme;
 use terms::Variable;
-ghost use mathlib.Core.Logic.{_≢_};
 ghost use Rattle.terms.specs.declared.Scheme.the-variants.{Strict};
-ghost use Rattle.forest.specs.Causes.{listOrder};
-ghost use Rattle.forest.specs.Listed.{Listing};
-ghost use Rattle.forest.specs.Wanted.{Wanted};
-ghost use Rattle.ruled.specs.Calls.{EntryUnder, ListedUnder, EntriesUnder, SetUnder, SizeUnder, SetsUnder};
+ghost use Rattle.ruled.specs.Calls.{EntryUnder, EntriesUnder, SetUnder, SizeUnder, SetsUnder};
 
 // The entry point of x for y, and the number of rises from the class of y up to it.
 pub fn entry_point(
@@ -30,23 +25,6 @@ pub fn entry_point(
     if rule == 1 {
         return forest::entry_point(n, prefix, classes, parents, counts, x, y);
     }
-    entry_point_joined(rule, n, prefix, classes, parents, counts, x, y)
-}
-
-// The same under any other rule, by the joined prefix.
-fn entry_point_joined(
-    rule: u32,
-    n: u32,
-    prefix: &[u32],
-    classes: &[u32],
-    parents: &[u32],
-    counts: &[u32],
-    x: Variable,
-    y: Variable,
-) -> EntryAnswer
-    requires { ⌜ rule ≢ 1 ⌝ }
-    ensures { λ r. ⌜ EntryUnder rule n (now (prefix .entry)) (now (classes .entry)) (now (parents .entry)) (now (counts .entry)) (x .0) (y .0) r ⌝ }
-{
     let mut read = [0u32; 4224];
     match join(rule, n, prefix, 0, &mut read) {
         Filled::Refused(number, place) => EntryAnswer::Refused(number, place),
@@ -71,7 +49,7 @@ pub fn entry_points(
 ) -> Filled
     ensures { λ r. ⌜ EntriesUnder rule Strict n (now (prefix .entry)) (now (clauses .entry)) (now (classes .entry)) (now (parents .entry)) (now (counts .entry)) (x .0) (now (out .entry)) (now (out .exit)) r ⌝ }
 {
-    list_by(
+    entry_points_by(
         rule,
         Scheme::Strict,
         n,
@@ -81,7 +59,6 @@ pub fn entry_points(
         parents,
         counts,
         x,
-        Asked::Points,
         out,
     )
 }
@@ -100,7 +77,7 @@ pub fn set_of(
 ) -> Filled
     ensures { λ r. ⌜ SetUnder rule Strict n (now (prefix .entry)) (now (clauses .entry)) (now (classes .entry)) (now (parents .entry)) (now (counts .entry)) (x .0) (now (out .entry)) (now (out .exit)) r ⌝ }
 {
-    list_by(
+    set_by(
         rule,
         Scheme::Strict,
         n,
@@ -110,7 +87,6 @@ pub fn set_of(
         parents,
         counts,
         x,
-        Asked::Set,
         out,
     )
 }
@@ -156,19 +132,37 @@ pub fn entry_points_by(
 ) -> Filled
     ensures { λ r. ⌜ EntriesUnder rule scheme n (now (prefix .entry)) (now (clauses .entry)) (now (classes .entry)) (now (parents .entry)) (now (counts .entry)) (x .0) (now (out .entry)) (now (out .exit)) r ⌝ }
 {
-    list_by(
-        rule,
-        scheme,
-        n,
-        prefix,
-        clauses,
-        classes,
-        parents,
-        counts,
-        x,
-        Asked::Points,
-        out,
-    )
+    if rule == 1 {
+        return forest::entry_points_by(
+            scheme,
+            n,
+            prefix,
+            clauses,
+            classes,
+            parents,
+            counts,
+            x,
+            out,
+        );
+    }
+    let mut read = [0u32; 4224];
+    match join(rule, n, prefix, clauses.len(), &mut read) {
+        Filled::Refused(number, place) => Filled::Refused(number, place),
+        Filled::Count(count) => {
+            let end = count as usize;
+            forest::entry_points_by(
+                scheme,
+                n,
+                &read[0..end],
+                clauses,
+                classes,
+                parents,
+                counts,
+                x,
+                out,
+            )
+        }
+    }
 }
 
 // The set of x by a scheme, written ascending into `out`, with the count of its members.
@@ -186,89 +180,15 @@ pub fn set_by(
 ) -> Filled
     ensures { λ r. ⌜ SetUnder rule scheme n (now (prefix .entry)) (now (clauses .entry)) (now (classes .entry)) (now (parents .entry)) (now (counts .entry)) (x .0) (now (out .entry)) (now (out .exit)) r ⌝ }
 {
-    list_by(
-        rule,
-        scheme,
-        n,
-        prefix,
-        clauses,
-        classes,
-        parents,
-        counts,
-        x,
-        Asked::Set,
-        out,
-    )
-}
-
-// What the two that list do: entry points or the set, as asked for.
-fn list_by(
-    rule: u32,
-    scheme: Scheme,
-    n: u32,
-    prefix: &[u32],
-    clauses: &[i32],
-    classes: &[u32],
-    parents: &[u32],
-    counts: &[u32],
-    x: Variable,
-    asked: Asked,
-    out: &mut [u32],
-) -> Filled
-    ensures { λ r. ⌜ ListedUnder rule n (now (prefix .entry)) (now (clauses .entry)) (now (classes .entry)) (now (parents .entry)) (now (counts .entry)) (x .0) (λ read. Wanted scheme asked n read (now (clauses .entry)) (now (classes .entry)) (now (parents .entry)) (x .0)) (now (out .entry)) (now (out .exit)) r ⌝ }
-{
     if rule == 1 {
-        return list_lent(
-            scheme,
-            n,
-            prefix,
-            clauses,
-            classes,
-            parents,
-            counts,
-            x,
-            asked,
-            out,
-        );
+        return forest::set_by(scheme, n, prefix, clauses, classes, parents, counts, x, out);
     }
-    list_joined(
-        rule,
-        scheme,
-        n,
-        prefix,
-        clauses,
-        classes,
-        parents,
-        counts,
-        x,
-        asked,
-        out,
-    )
-}
-
-// The same under any other rule, by the joined prefix.
-fn list_joined(
-    rule: u32,
-    scheme: Scheme,
-    n: u32,
-    prefix: &[u32],
-    clauses: &[i32],
-    classes: &[u32],
-    parents: &[u32],
-    counts: &[u32],
-    x: Variable,
-    asked: Asked,
-    out: &mut [u32],
-) -> Filled
-    requires { ⌜ rule ≢ 1 ⌝ }
-    ensures { λ r. ⌜ ListedUnder rule n (now (prefix .entry)) (now (clauses .entry)) (now (classes .entry)) (now (parents .entry)) (now (counts .entry)) (x .0) (λ read. Wanted scheme asked n read (now (clauses .entry)) (now (classes .entry)) (now (parents .entry)) (x .0)) (now (out .entry)) (now (out .exit)) r ⌝ }
-{
     let mut read = [0u32; 4224];
     match join(rule, n, prefix, clauses.len(), &mut read) {
         Filled::Refused(number, place) => Filled::Refused(number, place),
         Filled::Count(count) => {
             let end = count as usize;
-            list_lent(
+            forest::set_by(
                 scheme,
                 n,
                 &read[0..end],
@@ -277,42 +197,8 @@ fn list_joined(
                 parents,
                 counts,
                 x,
-                asked,
                 out,
             )
-        }
-    }
-}
-
-// The same of a prefix as it is lent.
-fn list_lent(
-    scheme: Scheme,
-    n: u32,
-    prefix: &[u32],
-    clauses: &[i32],
-    classes: &[u32],
-    parents: &[u32],
-    counts: &[u32],
-    x: Variable,
-    asked: Asked,
-    out: &mut [u32],
-) -> Filled
-    ensures { λ r. ⌜ Listing (listOrder n (now (prefix .entry)) (now (clauses .entry)) (now (classes .entry)) (now (parents .entry)) (now (counts .entry)) (x .0) (Wanted scheme asked n (now (prefix .entry)) (now (clauses .entry)) (now (classes .entry)) (now (parents .entry)) (x .0)) (now (out .entry))) (Wanted scheme asked n (now (prefix .entry)) (now (clauses .entry)) (now (classes .entry)) (now (parents .entry)) (x .0)) (now (out .entry)) (now (out .exit)) r ⌝ }
-{
-    match asked {
-        Asked::Points => forest::entry_points_by(
-            scheme,
-            n,
-            prefix,
-            clauses,
-            classes,
-            parents,
-            counts,
-            x,
-            out,
-        ),
-        Asked::Set => {
-            forest::set_by(scheme, n, prefix, clauses, classes, parents, counts, x, out)
         }
     }
 }
@@ -334,34 +220,6 @@ pub fn size_by(
     if rule == 1 {
         return forest::size_by(scheme, n, prefix, clauses, classes, parents, counts, x);
     }
-    size_joined(
-        rule,
-        scheme,
-        n,
-        prefix,
-        clauses,
-        classes,
-        parents,
-        counts,
-        x,
-    )
-}
-
-// The same under any other rule, by the joined prefix.
-fn size_joined(
-    rule: u32,
-    scheme: Scheme,
-    n: u32,
-    prefix: &[u32],
-    clauses: &[i32],
-    classes: &[u32],
-    parents: &[u32],
-    counts: &[u32],
-    x: Variable,
-) -> Filled
-    requires { ⌜ rule ≢ 1 ⌝ }
-    ensures { λ r. ⌜ SizeUnder rule scheme n (now (prefix .entry)) (now (clauses .entry)) (now (classes .entry)) (now (parents .entry)) (now (counts .entry)) (x .0) r ⌝ }
-{
     let mut read = [0u32; 4224];
     match join(rule, n, prefix, clauses.len(), &mut read) {
         Filled::Refused(number, place) => Filled::Refused(number, place),
@@ -425,34 +283,6 @@ pub fn sets_by(
     if rule == 1 {
         return sets::sets_by(scheme, n, prefix, clauses, classes, parents, counts, out);
     }
-    sets_joined(
-        rule,
-        scheme,
-        n,
-        prefix,
-        clauses,
-        classes,
-        parents,
-        counts,
-        out,
-    )
-}
-
-// The same under any other rule, by the joined prefix.
-fn sets_joined(
-    rule: u32,
-    scheme: Scheme,
-    n: u32,
-    prefix: &[u32],
-    clauses: &[i32],
-    classes: &[u32],
-    parents: &[u32],
-    counts: &[u32],
-    out: &mut [u32],
-) -> Filled
-    requires { ⌜ rule ≢ 1 ⌝ }
-    ensures { λ r. ⌜ SetsUnder rule scheme n (now (prefix .entry)) (now (clauses .entry)) (now (classes .entry)) (now (parents .entry)) (now (counts .entry)) (now (out .entry)) (now (out .exit)) r ⌝ }
-{
     let mut read = [0u32; 4224];
     match join(rule, n, prefix, clauses.len(), &mut read) {
         Filled::Refused(number, place) => Filled::Refused(number, place),

@@ -5,7 +5,6 @@ use growth::Tally;
 use joining::join;
 use terms::Filled;
 ghost use mathlib.Core.Path.{_≡_};
-ghost use mathlib.Core.Logic.{_≢_};
 ghost use Rattle.terms.specs.declared.Filled.the-variants.{Refused};
 ghost use Rattle.growth.specs.Grown.{standing};
 ghost use Rattle.ruled.specs.Calls.{BuildsUnder, AddsUnder};
@@ -27,23 +26,6 @@ pub fn build_tallied(
     if rule == 1 {
         return growth::build_tallied(n, prefix, clauses, classes, parents, counts, tally);
     }
-    build_joined(rule, n, prefix, clauses, classes, parents, counts, tally)
-}
-
-// The same under any other rule, by the joined prefix.
-fn build_joined(
-    rule: u32,
-    n: u32,
-    prefix: &[u32],
-    clauses: &[i32],
-    classes: &mut [u32],
-    parents: &mut [u32],
-    counts: &mut [u32],
-    tally: Tally,
-) -> Tallied
-    requires { ⌜ rule ≢ 1 ⌝ }
-    ensures { λ r. ⌜ BuildsUnder rule n (now (prefix .entry)) (now (clauses .entry)) (standing (now (classes .entry)) (now (parents .entry)) (now (counts .entry)) tally) (standing (now (classes .exit)) (now (parents .exit)) (now (counts .exit)) (r .tally)) (r .answer) ⌝ }
-{
     let mut read = [0u32; 4224];
     match join(rule, n, prefix, clauses.len(), &mut read) {
         Filled::Refused(number, place) => refused(number, place, tally),
@@ -71,23 +53,6 @@ pub fn add_tallied(
     if rule == 1 {
         return growth::add_tallied(n, prefix, classes, parents, counts, tally, clause);
     }
-    add_joined(rule, n, prefix, classes, parents, counts, tally, clause)
-}
-
-// The same under any other rule, by the joined prefix.
-fn add_joined(
-    rule: u32,
-    n: u32,
-    prefix: &[u32],
-    classes: &mut [u32],
-    parents: &mut [u32],
-    counts: &mut [u32],
-    tally: Tally,
-    clause: &[i32],
-) -> Tallied
-    requires { ⌜ rule ≢ 1 ⌝ }
-    ensures { λ r. ⌜ AddsUnder rule n (now (prefix .entry)) (standing (now (classes .entry)) (now (parents .entry)) (now (counts .entry)) tally) (now (clause .entry)) (standing (now (classes .exit)) (now (parents .exit)) (now (counts .exit)) (r .tally)) (r .answer) ⌝ }
-{
     let mut read = [0u32; 4224];
     match join(rule, n, prefix, clause.len(), &mut read) {
         Filled::Refused(number, place) => refused(number, place, tally),
