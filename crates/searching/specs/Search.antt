@@ -1,4 +1,4 @@
--- What the inner functions find in lent rows, by the level table. What a reader must believe of the calls is in Causes, Answers and Listed.
+-- What the inner functions find in lent rows, by the level table. What a reader must believe of the calls is in the definitions of `forest`.
 use Prim.Native.Nat.{ℕ, zero, suc, _+_, _-_, _≤_, _<_}
 use mathlib.Core.Path.{_≡_}
 use mathlib.Core.Bool.{Bool, true, false, cond}
