@@ -5,3 +5,4 @@ pub mod Kept
 pub mod Records
 pub mod AllSets
 pub mod Settled
+pub mod Linked

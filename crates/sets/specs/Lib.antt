@@ -1,3 +1,4 @@
 pub mod Sets
 pub mod Threads
 pub mod Passed
+pub mod Runs

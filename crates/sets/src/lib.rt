@@ -1,6 +1,7 @@
 // The sets of all universals in one call.
 
 mod all_sets;
+mod runs;
 pub mod threads;
 
 use all_sets::list_sets;

@@ -1,0 +1,191 @@
+-- Runs of tops: how one is walked, and how they grow, one variable after the other in front of the run of its top.
+use Prim.Native.Nat.{ℕ, zero, suc, _+_, _-_, _≤_, _<_}
+use mathlib.Core.Path.{_≡_, refl, sym, ap, ap₂, _∙_, subst}
+use mathlib.Core.Bool.{Bool, true, false, not-eq-not}
+use mathlib.Core.List.{List, [], _∷_, _++_, append-nil, append-assoc, List·Memᴰ, List·Memᴰ·head, List·Memᴰ·tail, List·Memᴰ·not-nil, List·Memᴰ·cases-cons}
+use mathlib.Core.Logic.{_≢_, _↔_, ⊎-elim, by-cases}
+use native.Mathlib.Decide.{ℕ-discrete, decLt}
+use native.Mathlib.Omega.{arith}
+use lib.ListN.{length, getD, set, replicate, length-set, length-append, List·getD-eq-default}
+use lib.Seq.{sets, getD-set-same, getD-set-other}
+use Rattle.terms.proofs.Common.{clash}
+use Rattle.connection.specs.Tables.{row}
+use Rattle.searching.specs.declared.listing.Asked.the-variants.{Set}
+use Rattle.searching.specs.Search.{Topless, pick, picked}
+use Rattle.searching.proofs.Picked.{picked-more, picked-same, picked-none, sets-more}
+use Rattle.forest.proofs.Entered.{fresh}
+use Rattle.sets.specs.Runs.{Run, only, Led}
+use Rattle.sets.proofs.Chains.{flag-long}
+
+-- From a number there is one run, and from one that is not 0 it goes on.
+pub run-one : (after : List ℕ) (v : ℕ) (list other : List ℕ) → Run after v list → Run after v other → list ≡ other
+run-one after v [] [] r s = refl
+run-one after v [] (b ∷ other) r s = absurd (s .1 (sym (s .0) ∙ r))
+run-one after v (a ∷ list) [] r s = absurd (r .1 (sym (r .0) ∙ s))
+run-one after v (a ∷ list) (b ∷ other) r s =
+    let same : a ≡ b = sym (r .0) ∙ s .0 in
+    ap₂ (λ (h : ℕ) (t : List ℕ). h ∷ t) same (run-one after (getD after b 0) list other (subst (λ h. Run after (getD after h 0) list) same (r .3)) (s .3))
+
+run-next : (after : List ℕ) (v : ℕ) (list : List ℕ) → v ≢ 0 → Run after v list → (rest : List ℕ) × (list ≡ v ∷ rest) × (v < length after) × Run after (getD after v 0) rest
+run-next after v [] some r = absurd (some r)
+run-next after v (w ∷ rest) some r =
+    let is = r .0 in
+    let within = r .2 in
+    (rest, ap (λ (h : ℕ). h ∷ rest) (sym is), omega arith, subst (λ h. Run after (getD after h 0) rest) (sym is) (r .3))
+
+-- a row of none of its numbers may change
+run-set : (after : List ℕ) (i a v : ℕ) (list : List ℕ) → ((w : ℕ) → List·Memᴰ w list → i < w) → Run after v list → Run (set after i a) v list
+run-set after i a v [] over r = r
+run-set after i a v (w ∷ rest) over r =
+    let less = over w (List·Memᴰ·head refl) in
+    let size = length-set after i a in
+    let within = r .2 in
+    (r .0, r .1, omega arith, subst (λ h. Run (set after i a) h rest) (sym (getD-set-other after i w a 0 (λ q. omega arith))) (run-set after i a (getD after w 0) rest (λ u m. over u (List·Memᴰ·tail m)) (r .3)))
+
+-- A run on the way: what is passed, counted from a first entry on, and what is to come, with room for both.
+pub record Walking (after : List ℕ) (head first room : ℕ) (done : List ℕ) (v count : ℕ) : Type 0 where
+  pub rest : List ℕ
+  pub whole : Run after head (done ++ rest)
+  pub run : Run after v rest
+  pub counted : count ≡ first + length done
+  pub fits : first + length (done ++ rest) ≤ room
+
+pub walk-none : {after : List ℕ} {head first room : ℕ} (list : List ℕ) → Run after head list → first + length list ≤ room → Walking after head first room [] head first
+walk-none list run fits = record { rest = list; whole = run; run = run; counted = omega arith; fits = fits }
+
+module _ {after : List ℕ} {head first room : ℕ} {done : List ℕ} {v count : ℕ} (w : Walking after head first room done v count) where
+  module _ (some : v ≢ 0) where
+    pub walk-within : v < length after
+    walk-within = run-next after v (w .rest) some (w .run) .2
+
+    -- there is room for one number more
+    pub walk-room : count < room
+    walk-room =
+        let (rest, is, _, _) = run-next after v (w .rest) some (w .run) in
+        let size = length-append done (w .rest) in
+        let one = ap length is in
+        let here = w .counted in
+        let fits = w .fits in
+        omega arith
+
+    pub walk-more : Walking after head first room (done ++ (v ∷ [])) (getD after v 0) (count + 1)
+    walk-more =
+        let (rest, is, _, run) = run-next after v (w .rest) some (w .run) in
+        let same : (done ++ w .rest) ≡ (done ++ (v ∷ [])) ++ rest = ap (λ (l : List ℕ). done ++ l) is ∙ sym (append-assoc done (v ∷ []) rest) in
+        let size = length-append done (v ∷ []) in
+        let here = w .counted in
+        record {
+          rest = rest;
+          whole = subst (Run after head) same (w .whole);
+          run = run;
+          counted = omega arith;
+          fits = subst (λ (l : List ℕ). first + length l ≤ room) same (w .fits);
+        }
+
+    -- the number is stored behind those that are passed
+    pub walk-stored : (old : List ℕ) {out : List ℕ} → out ≡ sets old first done → set out count v ≡ sets old first (done ++ (v ∷ []))
+    walk-stored old is = ap₂ (λ (o : List ℕ) (i : ℕ). set o i v) is (w .counted) ∙ sets-more old first v done
+
+  -- At its end what is passed is the run.
+  pub walk-end : v ≡ 0 → Run after head done
+  walk-end last = go (w .rest) (w .run) (w .whole)
+    where
+      go : (rest : List ℕ) → Run after v rest → Run after head (done ++ rest) → Run after head done
+      go [] run whole = subst (Run after head) (append-nil done) whole
+      go (a ∷ rest) run whole = absurd (run .1 (sym (run .0) ∙ last))
+
+-- The flag that is set alone: that of the top, if there is one for it.
+pub only-set : (top e : ℕ) → getD (only top) e false ≡ true → (e ≡ top) × (e ≢ 0) × (e < 4097)
+unfolding only
+only-set zero e t = absurd (clash t (fresh .blank e))
+only-set (suc top) e t =
+    by-cases (ℕ-discrete e (suc top))
+    (λ q. (q, λ z. some (sym q ∙ z), subst (λ k. e < k) (length-set (replicate 4097 false) (suc top) true ∙ fresh .size) (flag-long (set (replicate 4097 false) (suc top) true) e t)))
+    (λ other. absurd (clash t (getD-set-other (replicate 4097 false) (suc top) e true false other ∙ fresh .blank e)))
+  where
+    some : suc top ≢ 0
+    some z = omega arith
+
+pub only-own : (top : ℕ) → top ≢ 0 → top < 4097 → getD (only top) top false ≡ true
+unfolding only
+only-own zero some l = absurd (some refl)
+only-own (suc top) some l = getD-set-same (replicate 4097 false) (suc top) true false (subst (λ k. suc top < k) (sym (fresh .size)) l)
+
+-- The runs on the way downwards: that of a top has the variables over v that have it.
+pub record Over (n : ℕ) (tops lead after : List ℕ) (v top : ℕ) : Type 0 where
+  pub list : List ℕ
+  pub run : Run after (getD lead top 0) list
+  pub over : (w : ℕ) → List·Memᴰ w list → v < w
+  pub all : picked (pick Set n (only top) tops) n ≡ picked (pick Set n (only top) tops) v ++ list
+
+pub over-none : (n : ℕ) (tops lead after : List ℕ) (top : ℕ) → getD lead top 0 ≡ 0 → Over n tops lead after n top
+over-none n tops lead after top none = record { list = []; run = none; over = λ w m. absurd (List·Memᴰ·not-nil m); all = sym (append-nil (picked (pick Set n (only top) tops) n)) }
+
+module _ {n : ℕ} {tops lead after : List ℕ} {v top : ℕ} (o : Over n tops lead after v top) (above : ℕ) (is : above ≡ row n tops v) (some : v ≢ 0) where
+  abbrev f : ℕ → Bool
+  f = pick Set n (only top) tops
+
+  next : v ≡ (v - 1) + 1
+  next = omega arith
+
+  -- another top stays as it is, whatever is stored for this one
+  other-top : top ≢ above → f ((v - 1) + 1) ≡ false
+  unfolding pick
+  other-top other = not-eq-not {b = false} .0 (λ t. let (q, _, _) = only-set top (row n tops ((v - 1) + 1)) t in other (sym q ∙ ap (row n tops) (sym next) ∙ sym is))
+
+  over-past : {lead′ after′ : List ℕ} → getD lead′ top 0 ≡ getD lead top 0 → Run after′ (getD lead top 0) (o .list) → top ≢ above → Over n tops lead′ after′ (v - 1) top
+  over-past {lead′} {after′} same run other =
+      record {
+        list = o .list;
+        run = subst (λ h. Run after′ h (o .list)) (sym same) run;
+        over = λ w m. let l = o .over w m in omega arith;
+        all = o .all ∙ ap (λ (l : List ℕ). l ++ o .list) (ap (picked f) next ∙ picked-same f (v - 1) (other-top other));
+      }
+
+  -- v comes in front of the run of its own
+  over-own : top ≡ above → top ≢ 0 → top < 4097 → length lead ≡ 4097 → v < length after → Over n tops (set lead above v) (set after v (getD lead above 0)) (v - 1) top
+  unfolding pick
+  over-own own named small heads within =
+      record {
+        list = v ∷ o .list;
+        run = (ap (λ t. getD (set lead above v) t 0) own ∙ getD-set-same lead above v 0 (omega arith), some, subst (λ l. v < l) (sym (length-set after v (getD lead above 0))) within, subst (λ h. Run (set after v (getD lead above 0)) h (o .list)) (sym goes) (run-set after v (getD lead above 0) (getD lead top 0) (o .list) (o .over) (o .run)));
+        over = λ w m. ⊎-elim (λ q. omega arith) (λ later. let l = o .over w later in omega arith) (List·Memᴰ·cases-cons m);
+        all = o .all ∙ ap (λ (l : List ℕ). l ++ o .list) (ap (picked f) next ∙ picked-more f (v - 1) flag) ∙ append-assoc (picked f (v - 1)) (((v - 1) + 1) ∷ []) (o .list) ∙ ap (λ (u : ℕ). picked f (v - 1) ++ (u ∷ o .list)) (sym next);
+      }
+    where
+      goes : getD (set after v (getD lead above 0)) v 0 ≡ getD lead top 0
+      goes = getD-set-same after v (getD lead above 0) 0 within ∙ ap (λ t. getD lead t 0) (sym own)
+
+      flag : f ((v - 1) + 1) ≡ true
+      flag = ap (λ u. getD (only top) (row n tops u) false) (sym next) ∙ ap (λ t. getD (only top) t false) (sym is ∙ sym own) ∙ only-own top named small
+
+-- All runs on the way: those of the tops that there are flags for.
+abbrev pub Linking : ℕ → List ℕ → List ℕ → List ℕ → ℕ → Type 0
+Linking n tops lead after v = (top : ℕ) → top ≢ 0 → top < 4097 → Over n tops lead after v top
+
+module _ {n : ℕ} {tops lead after : List ℕ} {v : ℕ} (l : Linking n tops lead after v) (above : ℕ) (is : above ≡ row n tops v) (some : v ≢ 0) where
+  pub link-more : length lead ≡ 4097 → v < length after → Linking n tops (set lead above v) (set after v (getD lead above 0)) (v - 1)
+  link-more heads within top named small =
+      let o = l top named small in
+      by-cases (ℕ-discrete top above) (λ own. over-own o above is some own named small heads within)
+      (λ other. over-past o above is some (getD-set-other lead above top v 0 other) (run-set after v (getD lead above 0) (getD lead top 0) (o .list) (o .over) (o .run)) other)
+
+  -- a top that there is no flag for has no run
+  pub link-past : 4097 ≤ above → Linking n tops lead after (v - 1)
+  link-past over top named small = let o = l top named small in over-past o above is some refl (o .run) (λ q. omega arith)
+
+-- All variables over `from` are passed, and no other has a top.
+pub link-all : {n from v : ℕ} {tops lead after : List ℕ} → Linking n tops lead after v → v ≤ from → Topless n tops from → length lead ≡ 4097 → Led n tops (set lead 0 0) after
+unfolding pick
+link-all {n} {from} {v} {tops} {lead} {after} l low none heads top = by-cases (ℕ-discrete top 0) (λ z. empty (λ e t. let (q, some, _) = only-set top e t in some (q ∙ z)) (ap (λ t. getD (set lead 0 0) t 0) z ∙ getD-set-same lead 0 0 0 (omega arith)))
+    (λ named. by-cases (decLt top 4097) (λ small. whole named small (l top named small))
+    (λ over. empty (λ e t. let (q, _, less) = only-set top e t in omega arith) (List·getD-eq-default (set lead 0 0) 0 {n = top} (let size = length-set lead 0 0 in omega arith))))
+  where
+    empty : ((e : ℕ) → getD (only top) e false ≡ true → ⊥) → getD (set lead 0 0) top 0 ≡ 0 → Run after (getD (set lead 0 0) top 0) (picked (pick Set n (only top) tops) n)
+    empty never zero′ = subst (Run after (getD (set lead 0 0) top 0)) (sym (picked-none (pick Set n (only top) tops) n (λ u a b. not-eq-not {b = false} .0 (never (row n tops u))))) zero′
+
+    whole : top ≢ 0 → top < 4097 → Over n tops lead after v top → Run after (getD (set lead 0 0) top 0) (picked (pick Set n (only top) tops) n)
+    whole named small o =
+        let front : picked (pick Set n (only top) tops) v ≡ [] = picked-none (pick Set n (only top) tops) v (λ u a b. not-eq-not {b = false} .0 (λ t. let (_, some, _) = only-set top (row n tops u) t in some (none u a (omega arith)))) in
+        let same : picked (pick Set n (only top) tops) n ≡ o .list = o .all ∙ ap (λ (p : List ℕ). p ++ o .list) front in
+        subst (λ h. Run after h (picked (pick Set n (only top) tops) n)) (sym (getD-set-other lead 0 top 0 0 named)) (subst (Run after (getD lead top 0)) (sym same) (o .run))

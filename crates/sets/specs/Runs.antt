@@ -1,0 +1,27 @@
+-- The runs of tops: the variables of one top, each tied to the next higher of the same, as the call for all sets keeps them.
+use Prim.Native.Nat.{ℕ, zero, suc, _+_, _≤_, _<_}
+use mathlib.Core.Path.{_≡_}
+use mathlib.Core.Bool.{Bool, true, false}
+use mathlib.Core.List.{List, [], _∷_}
+use mathlib.Core.Logic.{_≢_}
+use lib.ListN.{length, getD, set, replicate}
+use Rattle.searching.specs.declared.listing.Asked.the-variants.{Set}
+use Rattle.searching.specs.Search.{pick, picked}
+
+-- the table leads from v over the numbers of the list, from each to the next, and ends with 0
+abbrev pub Run : List ℕ → ℕ → List ℕ → Type 0
+Run after v [] = v ≡ 0
+Run after v (w ∷ rest) = (v ≡ w) × (w ≢ 0) × (w < length after) × Run after (getD after w 0) rest
+
+-- a run that is no longer than some room
+abbrev pub Fitting : List ℕ → ℕ → ℕ → ℕ → Type 0
+Fitting after head at room = (list : List ℕ) × Run after head list × (at + length list ≤ room)
+
+-- a table of flags in which only that of a top is set, and none for 0
+unfoldable pub only : ℕ → List Bool
+only zero = replicate 4097 false
+only (suc top) = set (replicate 4097 false) (suc top) true
+
+-- the run of every top goes over the variables that have it
+abbrev pub Led : ℕ → List ℕ → List ℕ → List ℕ → Type 0
+Led n tops lead after = (top : ℕ) → Run after (getD lead top 0) (picked (pick Set n (only top) tops) n)
