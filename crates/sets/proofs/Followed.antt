@@ -102,20 +102,26 @@ along-of ls next Signs.Negative x k v (q, on, is, b) = record { entry = q; on = 
 abbrev pub Heading : List ℤ → List ℕ → ℕ → ℕ → Type 0
 Heading ls next x head = (p : ℕ) → On next p head → Noted ls next (length ls) x p
 
--- What is flagged, and what is to come, are the flags at first and all along the chain from its head.
-pub record Following (n : ℕ) (tops : List ℕ) (ls : List ℤ) (next : List ℕ) (signs : Signs) (x head : ℕ) (old new : List Bool) (k : ℕ) : Type 0 where
-  pub size : length new ≡ length old
+-- What is told and what is to come, of the tops that are asked for, are what was told at first and all along the chain from its head.
+pub record Following (n : ℕ) (tops : List ℕ) (ls : List ℤ) (next : List ℕ) (signs : Signs) (x head : ℕ) (Asked Old New : ℕ → Type 0) (k : ℕ) : Type 0 where
   pub noted : Heading ls next x k
-  pub flags : (e : ℕ) → e < length old → ((getD new e false ≡ true) ⊎ Via n tops (Along ls next signs x k) e) ↔ ((getD old e false ≡ true) ⊎ Via n tops (Along ls next signs x head) e)
+  pub told : (e : ℕ) → Asked e → (New e ⊎ Via n tops (Along ls next signs x k) e) ↔ (Old e ⊎ Via n tops (Along ls next signs x head) e)
 
-pub follow-none : (n : ℕ) (tops : List ℕ) (ls : List ℤ) (next : List ℕ) (signs : Signs) (x head : ℕ) (old : List Bool) → Heading ls next x head → Following n tops ls next signs x head old old head
-follow-none n tops ls next signs x head old noted = record { size = refl; noted = noted; flags = λ e l. (λ s. s, λ s. s) }
+pub follow-none : (n : ℕ) (tops : List ℕ) (ls : List ℤ) (next : List ℕ) (signs : Signs) (x head : ℕ) (Asked Old : ℕ → Type 0) → Heading ls next x head → Following n tops ls next signs x head Asked Old Old head
+follow-none n tops ls next signs x head Asked Old noted = record { noted = noted; told = λ e l. (λ s. s, λ s. s) }
 
-module _ {n : ℕ} {tops : List ℕ} {ls : List ℤ} {next : List ℕ} {signs : Signs} {x head : ℕ} {old new : List Bool} {k : ℕ} (f : Following n tops ls next signs x head old new k) where
+module _ {n : ℕ} {tops : List ℕ} {ls : List ℤ} {next : List ℕ} {signs : Signs} {x head : ℕ} {Asked Old New : ℕ → Type 0} {k : ℕ} (f : Following n tops ls next signs x head Asked Old New k) where
   module _ (entry : ℕ) (is : k ≡ suc entry) where
     -- the entry that the chain stands at
     pub follow-noted : Noted ls next (length ls) x entry
     follow-noted = f .noted entry (on-here entry is)
+
+    -- its clause, by the start that its row has
+    inside : Inside ls (startAt next entry) entry
+    inside = subst (λ s. Inside ls s entry) (sym (follow-noted .begun)) (follow-noted .inside)
+
+    pub follow-clause : Connecting ls (startAt next entry)
+    follow-clause = subst (Connecting ls) (sym (follow-noted .begun)) (follow-noted .connecting)
 
     -- it is a literal of x, of one sign only
     pub follow-side : (side : Side) (z : ℤ) → z ≡ literalAt ls entry → Sided side (λ sign. z ≡ signed sign (variableOf z)) → Sided side (λ sign. literalAt ls entry ≡ signed sign x)
@@ -134,30 +140,26 @@ module _ {n : ℕ} {tops : List ℕ} {ls : List ℤ} {next : List ℕ} {signs : 
     pub follow-apart : literalAt ls entry ≡ signed true x → literalAt ls entry ≡ signed false x → ⊥
     follow-apart = one-side (follow-noted .inside) (follow-noted .inside) (follow-noted .connecting) x
 
-    -- One entry with one of the signs is passed: all beside it is flagged.
-    pub follow-more : {new′ : List Bool} (z : ℕ) → By signs (λ sign. literalAt ls entry ≡ signed sign x) → NextZero ls (startAt next entry) z → Flagged (Via n tops (Has ls (startAt next entry) z)) new new′ → Following n tops ls next signs x head old new′ (linkAt next entry)
-    follow-more z own nz flagged =
+    -- One entry with one of the signs is passed: all beside it is told.
+    pub follow-more : (New′ : ℕ → Type 0) (z : ℕ) → By signs (λ sign. literalAt ls entry ≡ signed sign x) → NextZero ls (startAt next entry) z → ((e : ℕ) → Asked e → New′ e ↔ (New e ⊎ Via n tops (Has ls (startAt next entry) z) e)) → Following n tops ls next signs x head Asked Old New′ (linkAt next entry)
+    follow-more New′ z own nz more =
         record {
-          size = flagged .size ∙ f .size;
           noted = λ p o. f .noted p (on-later entry is o);
-          flags = λ e l.
-              let m = f .flags e l in
-              let k = flagged .flags e (let q = f .size in omega arith) in
-              let inside = subst (λ s. Inside ls s entry) (sym (follow-noted .begun)) (follow-noted .inside) in
-              let plain = subst (Connecting ls) (sym (follow-noted .begun)) (follow-noted .connecting) in (
-                ⊎-elim (λ t. ⊎-elim (λ o. m .0 (inl o)) (λ h. m .0 (inr (via-as (λ v g. along-here entry is own (has-beside inside plain nz v g)) h))) (k .0 t)) (λ a. m .0 (inr (via-as (λ v b. along-past entry is b) a))),
-                λ t. ⊎-elim (λ o. inl (k .1 (inl o))) (λ a. ⊎-elim (λ b. inl (k .1 (inr (via-as (λ v g. beside-has inside plain nz v (g .1)) b)))) inr (via-or (via-as (λ v b. along-cases entry is b) a))) (m .1 t),
+          told = λ e l.
+              let m = f .told e l in
+              let k = more e l in (
+                ⊎-elim (λ t. ⊎-elim (λ o. m .0 (inl o)) (λ h. m .0 (inr (via-as (λ v g. along-here entry is own (has-beside inside follow-clause nz v g)) h))) (k .0 t)) (λ a. m .0 (inr (via-as (λ v b. along-past entry is b) a))),
+                λ t. ⊎-elim (λ o. inl (k .1 (inl o))) (λ a. ⊎-elim (λ b. inl (k .1 (inr (via-as (λ v g. beside-has inside follow-clause nz v (g .1)) b)))) inr (via-or (via-as (λ v b. along-cases entry is b) a))) (m .1 t),
               );
         }
 
     -- One with none of them is passed: nothing is.
-    pub follow-past : (By signs (λ sign. literalAt ls entry ≡ signed sign x) → ⊥) → Following n tops ls next signs x head old new (linkAt next entry)
+    pub follow-past : (By signs (λ sign. literalAt ls entry ≡ signed sign x) → ⊥) → Following n tops ls next signs x head Asked Old New (linkAt next entry)
     follow-past none =
         record {
-          size = f .size;
           noted = λ p o. f .noted p (on-later entry is o);
-          flags = λ e l.
-              let m = f .flags e l in (
+          told = λ e l.
+              let m = f .told e l in (
                 ⊎-elim (λ o. m .0 (inl o)) (λ a. m .0 (inr (via-as (λ v b. along-past entry is b) a))),
                 λ t. ⊎-elim inl (λ a. inr (via-as (λ v b. ⊎-elim (λ h. absurd (none (h .0))) (λ later. later) (along-cases entry is b)) a)) (m .1 t),
               );
@@ -170,13 +172,12 @@ module _ {n : ℕ} {tops : List ℕ} {ls : List ℤ} {next : List ℕ} {signs : 
       let here = follow-noted (k - 1) is in
       (here .before, let l = here .falls in omega arith)
 
-  -- The chain is at its end.
-  follow-end : k ≡ 0 → Flagged (Via n tops (Along ls next signs x head)) old new
-  follow-end done = record { size = f .size; flags = λ e l. (λ t. f .flags e l .0 (inl t), λ t. ⊎-elim (λ o. o) (λ a. absurd (on-some (a .holds .on) done)) (f .flags e l .1 t)) }
-
-  -- What is along the chain of a universal is what is together with it in a clause.
-  pub follow-all : (universals : List Bool) (heads : List ℕ) → head ≡ getD heads x 0 → Threaded ls universals heads next (length ls) → getD universals x false ≡ true → k ≡ 0 → Flagged (Via n tops (λ v. By signs (λ sign. Together ls sign x v))) old new
-  follow-all universals heads is threaded u done = flag-as (follow-end done) (λ e. (via-as there, via-as (λ v t. along-of ls next signs x head v (by-as signs (back v) t))))
+  -- The chain is at its end, and what is along the chain of a universal is what is together with it in a clause.
+  pub follow-all : (universals : List Bool) (heads : List ℕ) → head ≡ getD heads x 0 → Threaded ls universals heads next (length ls) → getD universals x false ≡ true → k ≡ 0 → (e : ℕ) → Asked e → New e ↔ (Old e ⊎ Via n tops (λ v. By signs (λ sign. Together ls sign x v)) e)
+  follow-all universals heads is threaded u done e l = (
+    λ t. ⊎-elim inl (λ a. inr (via-as there a)) (f .told e l .0 (inl t)),
+    λ t. ⊎-elim (λ o. o) (λ a. absurd (on-some (a .holds .on) done)) (f .told e l .1 (⊎-elim inl (λ a. inr (via-as (λ v b. along-of ls next signs x head v (by-as signs (back v) b)) a)) t)),
+  )
     where
       there : (v : ℕ) → Along ls next signs x head v → By signs (λ sign. Together ls sign x v)
       there v a = by-as signs (λ sign q. record { place = a .entry; is = q; beside = a .beside }) (a .own)

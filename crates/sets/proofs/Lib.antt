@@ -6,3 +6,4 @@ pub mod Records
 pub mod AllSets
 pub mod Settled
 pub mod Linked
+pub mod Soles
