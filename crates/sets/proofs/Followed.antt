@@ -17,11 +17,11 @@ use Rattle.formula.proofs.Lookups.{clauses-unclosed}
 use Rattle.tables.specs.Formula.{signed, SharesBy}
 use Rattle.searching.specs.declared.marks.Side.{Side}
 use Rattle.searching.specs.declared.marks.Signs.{Signs}
-use Rattle.searching.specs.Search.{Has, HasLiteral, Sided, By, Connects, Flagged, Via}
+use Rattle.searching.specs.Search.{Has, HasLiteral, Sided, By, Connects, Via}
 use Rattle.sets.specs.Threads.{Begins, first, after, Inside, Connecting, Beside, Together, linkAt, startAt, On, Noted, Threaded, Closed}
 use Rattle.sets.proofs.Chains.{inside-one, on-some, on-here, on-later, on-cases}
 use Rattle.searching.proofs.Sides.{signed-variable, sign-of}
-use Rattle.searching.proofs.Flags.{literal-past, next-none, flag-as, via-as, via-or, connects-all, connects-has, connects-open, signed-split, sides-apart}
+use Rattle.searching.proofs.Flags.{literal-past, next-none, via-as, via-or, connects-all, connects-has, connects-open, signed-split, sides-apart}
 
 -- An entry of a clause stands within the table, and before the next 0.
 inside-within : {ls : List ℤ} {s p : ℕ} → Inside ls s p → p < length ls

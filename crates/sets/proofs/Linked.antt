@@ -11,10 +11,11 @@ use lib.Seq.{sets, getD-set-same, getD-set-other}
 use Rattle.terms.proofs.Common.{clash}
 use Rattle.connection.specs.Tables.{row}
 use Rattle.searching.specs.declared.listing.Asked.the-variants.{Set}
-use Rattle.searching.specs.Search.{Topless, pick, picked}
+use Rattle.searching.specs.Search.{Topless, Entering, pick, picked}
 use Rattle.searching.proofs.Picked.{picked-more, picked-same, picked-none, sets-more}
 use Rattle.forest.proofs.Entered.{fresh}
-use Rattle.sets.specs.Runs.{Run, only, Led}
+use Rattle.sets.specs.Runs.{Run, Fitting, only, Led}
+use Rattle.sets.specs.Points.{Is}
 use Rattle.sets.proofs.Chains.{flag-long}
 
 -- From a number there is one run, and from one that is not 0 it goes on.
@@ -25,6 +26,9 @@ run-one after v (a ∷ list) [] r s = absurd (r .1 (sym (r .0) ∙ s))
 run-one after v (a ∷ list) (b ∷ other) r s =
     let same : a ≡ b = sym (r .0) ∙ s .0 in
     ap₂ (λ (h : ℕ) (t : List ℕ). h ∷ t) same (run-one after (getD after b 0) list other (subst (λ h. Run after (getD after h 0) list) same (r .3)) (s .3))
+
+pub fits-run : (after : List ℕ) (head at room : ℕ) → Fitting after head at room → (list : List ℕ) → Run after head list → at + length list ≤ room
+fits-run after head at room (other, run, fits) list r = subst (λ (l : List ℕ). at + length l ≤ room) (run-one after head other list run r) fits
 
 run-next : (after : List ℕ) (v : ℕ) (list : List ℕ) → v ≢ 0 → Run after v list → (rest : List ℕ) × (list ≡ v ∷ rest) × (v < length after) × Run after (getD after v 0) rest
 run-next after v [] some r = absurd (some r)
@@ -174,18 +178,30 @@ module _ {n : ℕ} {tops lead after : List ℕ} {v : ℕ} (l : Linking n tops le
   pub link-past : 4097 ≤ above → Linking n tops lead after (v - 1)
   link-past over top named small = let o = l top named small in over-past o above is some refl (o .run) (λ q. omega arith)
 
+-- A top that no variable has, or that there is no flag for, has no run.
+empty-run : (n : ℕ) (tops lead after : List ℕ) (top : ℕ) → ((v : ℕ) → getD (only top) (row n tops v) false ≡ true → ⊥) → getD lead top 0 ≡ 0 → Run after (getD lead top 0) (picked (pick Set n (only top) tops) n)
+unfolding pick
+empty-run n tops lead after top never none = subst (Run after (getD lead top 0)) (sym (picked-none (pick Set n (only top) tops) n (λ v a b. not-eq-not {b = false} .0 (never v)))) none
+
+-- There are no runs where there are no tops.
+pub led-none : (n : ℕ) (tops lead after : List ℕ) → ((v : ℕ) → row n tops v ≡ 0) → ((top : ℕ) → getD lead top 0 ≡ 0) → Led n tops lead after
+led-none n tops lead after none zeros top = empty-run n tops lead after top (λ v t. only-set top (row n tops v) t .1 (none v)) (zeros top)
+
 -- All variables over `from` are passed, and no other has a top.
 pub link-all : {n from v : ℕ} {tops lead after : List ℕ} → Linking n tops lead after v → v ≤ from → Topless n tops from → length lead ≡ 4097 → Led n tops (set lead 0 0) after
 unfolding pick
-link-all {n} {from} {v} {tops} {lead} {after} l low none heads top = by-cases (ℕ-discrete top 0) (λ z. empty (λ e t. let (q, some, _) = only-set top e t in some (q ∙ z)) (ap (λ t. getD (set lead 0 0) t 0) z ∙ getD-set-same lead 0 0 0 (omega arith)))
-    (λ named. by-cases (decLt top 4097) (λ small. whole named small (l top named small))
-    (λ over. empty (λ e t. let (q, _, less) = only-set top e t in omega arith) (List·getD-eq-default (set lead 0 0) 0 {n = top} (let size = length-set lead 0 0 in omega arith))))
+link-all {n} {from} {v} {tops} {lead} {after} l low none heads top =
+    by-cases (ℕ-discrete top 0)
+    (λ z. empty-run n tops (set lead 0 0) after top (λ u t. let (q, some, _) = only-set top (row n tops u) t in some (q ∙ z)) (ap (λ t. getD (set lead 0 0) t 0) z ∙ getD-set-same lead 0 0 0 (omega arith)))
+    (λ named. by-cases (decLt top 4097) (λ small. whole named (l top named small))
+    (λ over. empty-run n tops (set lead 0 0) after top (λ u t. let (q, _, less) = only-set top (row n tops u) t in omega arith) (List·getD-eq-default (set lead 0 0) 0 {n = top} (let size = length-set lead 0 0 in omega arith))))
   where
-    empty : ((e : ℕ) → getD (only top) e false ≡ true → ⊥) → getD (set lead 0 0) top 0 ≡ 0 → Run after (getD (set lead 0 0) top 0) (picked (pick Set n (only top) tops) n)
-    empty never zero′ = subst (Run after (getD (set lead 0 0) top 0)) (sym (picked-none (pick Set n (only top) tops) n (λ u a b. not-eq-not {b = false} .0 (never (row n tops u))))) zero′
-
-    whole : top ≢ 0 → top < 4097 → Over n tops lead after v top → Run after (getD (set lead 0 0) top 0) (picked (pick Set n (only top) tops) n)
-    whole named small o =
-        let front : picked (pick Set n (only top) tops) v ≡ [] = picked-none (pick Set n (only top) tops) v (λ u a b. not-eq-not {b = false} .0 (λ t. let (_, some, _) = only-set top (row n tops u) t in some (none u a (omega arith)))) in
+    whole : top ≢ 0 → Over n tops lead after v top → Run after (getD (set lead 0 0) top 0) (picked (pick Set n (only top) tops) n)
+    whole named o =
+        let front : picked (pick Set n (only top) tops) v ≡ [] = picked-none (pick Set n (only top) tops) v (λ u a b. not-eq-not {b = false} .0 (λ t. only-set top (row n tops u) t .1 (none u a (omega arith)))) in
         let same : picked (pick Set n (only top) tops) n ≡ o .list = o .all ∙ ap (λ (p : List ℕ). p ++ o .list) front in
         subst (λ h. Run after h (picked (pick Set n (only top) tops) n)) (sym (getD-set-other lead 0 top 0 0 named)) (subst (Run after (getD lead top 0)) (sym same) (o .run))
+
+-- The flag of the sole top tells of which numbers P holds.
+pub sole-entering : {n : ℕ} {P : ℕ → Type 0} {tops : List ℕ} (top : ℕ) → ((e : ℕ) → Is top e ↔ P e) → Entering n P tops tops (only top)
+sole-entering top sole = record { tells = λ e l. (λ t. let (q, some, _) = only-set top e t in sole e .0 (q, some), λ p. let (q, some) = sole e .1 p in ap (λ t. getD (only t) e false) (sym q) ∙ only-own e some (omega arith)); same = λ y. refl }

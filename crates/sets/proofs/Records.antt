@@ -99,9 +99,10 @@ set-front before at i a [] l = refl
 set-front before at i a (b ∷ list) l = set-front (set before at b) (suc at) i a list (omega arith) ∙ ap (λ o. sets o (suc at) list) (set-comm before at i b a (λ q. omega arith))
 
 -- The record of x, its set written first.
-pub record-stored : (before : List ℕ) (at start x k : ℕ) (members : List ℕ) → start ≡ at + 2 → k ≡ length members → set (set (sets before start members) at x) (at + 1) k ≡ sets before at (x ∷ length members ∷ members)
-record-stored before at start x k members is size =
-    ap₂ (λ i j. set (set (sets before i members) at x) (at + 1) j) is size
+pub record-stored : (before : List ℕ) (at x : ℕ) (members : List ℕ) {end : ℕ} {mid out : List ℕ} → end ≡ at + 2 + length members → mid ≡ sets before (at + 2) members → out ≡ set (set mid at x) (at + 1) (end - (at + 2)) → out ≡ sets before at (x ∷ length members ∷ members)
+record-stored before at x members {end} size written stored =
+    let k : end - (at + 2) ≡ length members = omega arith in
+    stored ∙ ap₂ (λ (o : List ℕ) (j : ℕ). set (set o at x) (at + 1) j) written k
     ∙ ap (λ o. set o (at + 1) (length members)) (set-front before (at + 2) at x members (omega arith))
     ∙ set-front (set before at x) (at + 2) (at + 1) (length members) members (omega arith)
     ∙ ap₂ (λ i j. sets (set (set before at x) i (length members)) j members) (add-one at) (let q : at + 2 ≡ suc (suc at) = omega arith in q)

@@ -32,10 +32,13 @@ pub record Ready (n : ℕ) (es levels : List ℕ) (universals : List Bool) (ls :
   pub links : length ls ≤ length next
   pub threaded : Threaded ls universals first next (length ls)
 
--- the set that some flags pick, written or only counted: `end` is the entry behind its record
+-- the record of x with a set, written or only counted: `end` is the entry behind it
+abbrev pub PutList : List ℕ → ℕ → ℕ → Bool → List ℕ → List ℕ → ℕ → Type 0
+PutList list x at writing before after end = (end ≡ at + 2 + length list) × (after ≡ cond writing (sets before at (x ∷ length list ∷ list)) before)
+
+-- the same with the set that some flags pick
 abbrev pub Put : ℕ → List ℕ → List Bool → ℕ → ℕ → Bool → List ℕ → List ℕ → ℕ → Type 0
-Put n tops flags x at writing before after end =
-    (end ≡ at + 2 + length (picked (pick Set n flags tops) n)) × (after ≡ cond writing (sets before at (x ∷ length (picked (pick Set n flags tops) n) ∷ picked (pick Set n flags tops) n)) before)
+Put n tops flags = PutList (picked (pick Set n flags tops) n)
 
 -- the same for the flags of the entry points of x by a scheme
 pub record PutSet (scheme : Scheme) (n : ℕ) (tops : List ℕ) (ls : List ℤ) (x at : ℕ) (writing : Bool) (before after : List ℕ) (end : ℕ) : Type 0 where

@@ -6,7 +6,9 @@ use mathlib.Core.List.{List, [], _∷_}
 use mathlib.Core.Logic.{_≢_}
 use lib.ListN.{length, getD, set, replicate}
 use Rattle.searching.specs.declared.listing.Asked.the-variants.{Set}
-use Rattle.searching.specs.Search.{pick, picked}
+use Rattle.connection.specs.Tables.{lent}
+use Rattle.tables.specs.Formula.{variables}
+use Rattle.searching.specs.Search.{pick, picked, TopsOver}
 
 -- the table leads from v over the numbers of the list, from each to the next, and ends with 0
 abbrev pub Run : List ℕ → ℕ → List ℕ → Type 0
@@ -25,3 +27,11 @@ only (suc top) = set (replicate 4097 false) (suc top) true
 -- the run of every top goes over the variables that have it
 abbrev pub Led : ℕ → List ℕ → List ℕ → List ℕ → Type 0
 Led n tops lead after = (top : ℕ) → Run after (getD lead top 0) (picked (pick Set n (only top) tops) n)
+
+-- the tops over a floor, and their runs, in tables of their lengths
+pub record Floored (n : ℕ) (es classes parents : List ℕ) (floor from : ℕ) (tops lead after : List ℕ) : Type 0 where
+  pub over : TopsOver (variables n es) (lent (variables n es) classes parents) floor from tops
+  pub led : Led n tops lead after
+  pub rows : length tops ≡ 4096
+  pub heads : length lead ≡ 4097
+  pub links : length after ≡ 4097

@@ -1,29 +1,29 @@
 // The sets of all universals by a scheme, one after the other, each with its number and its count in front. The tables are judged once, and a
-// universal costs its own clauses and one pass over the rows.
+// universal costs its own clauses and its own set, and one pass over the rows if it has more than one entry point.
 
-use crate::threads::flag_points;
+use crate::one_set::put_set;
+use crate::runs::link_runs;
 use crate::threads::thread;
-use searching::listing::Asked;
-use searching::listing::count_picked;
-use searching::listing::write_picked;
 use searching::search::Floor;
 use searching::search::retop;
+use tables::rows::level_at;
 use tables::rows::universal_at;
 use terms::Filled;
 use terms::Level;
 use terms::Scheme;
 use terms::Variable;
-ghost use Prim.Native.Nat.{_+_, _≤_, _<_};
+ghost use Prim.Native.Nat.{_≤_};
 ghost use mathlib.Core.Path.{_≡_};
-ghost use mathlib.Core.Bool.{true, false};
+ghost use mathlib.Core.Bool.{Bool, true};
+ghost use mathlib.Core.List.{List};
 ghost use lib.ListN.{length};
+ghost use Rattle.formula.specs.Meaning.{level};
 ghost use Rattle.formula.specs.Levels.{SoundPrefix, Levelled};
 ghost use Rattle.formula.specs.Lookup.{SoundClauses};
-ghost use Rattle.searching.specs.declared.listing.Asked.the-variants.{Set};
 ghost use Rattle.tables.specs.Counting.{FormedBy};
-ghost use Rattle.searching.specs.Search.{pick, picked, NoneUpto, Topless};
-ghost use Rattle.sets.specs.Threads.{Closed, Tied};
-ghost use Rattle.sets.specs.Passed.{SetsUpto, Ready, Put, PutSet, RoomFor, RoomUpto, TellsRoom, PutAll, Fills};
+ghost use Rattle.sets.specs.Runs.{Floored};
+ghost use Rattle.sets.specs.Threads.{Closed};
+ghost use Rattle.sets.specs.Passed.{SetsUpto, Ready, RoomUpto, TellsRoom, PutAll, Fills};
 
 // Writes the sets of all universals into the front of `out`, if there is room for all of them. Few clauses take a short table of links, which is
 // cleared sooner.
@@ -167,8 +167,8 @@ fn sets_fit(
     true
 }
 
-// Passes over all universals in ascending order and writes their sets, or only counts; gives the count of all entries. The tops depend on the
-// block of the universal only, and stay while it does; at first they are those over a level that nothing is deeper than.
+// Passes over all universals in ascending order and writes their sets, or only counts; gives the count of all entries. The tops and their runs
+// depend on the block of the universal only, and stay while it does; at first they are those over a level that nothing is deeper than.
 fn pass_sets(
     scheme: Scheme,
     n: u32,
@@ -188,6 +188,8 @@ fn pass_sets(
     ensures { λ r. ⌜ PutAll (SetsUpto scheme n (now (prefix .entry)) (now (clauses .entry)) (now (classes .entry)) (now (parents .entry)) n) writing (now (out .entry)) (now (out .exit)) r ⌝ }
 {
     let mut tops = [0u32; 4096];
+    let mut lead = [0u32; 4097];
+    let mut after = [0u32; 4097];
     let mut floor = Floor {
         level: Level::new(4294967295),
         from: 0,
@@ -198,7 +200,18 @@ fn pass_sets(
         passed += 1;
         let x = Variable::new(passed);
         if universal_at(n, universals, x) {
-            floor = retop(n, prefix, levels, classes, parents, floor, x, &mut tops);
+            floor = refloor(
+                n,
+                prefix,
+                levels,
+                classes,
+                parents,
+                floor,
+                x,
+                &mut tops,
+                &mut lead,
+                &mut after,
+            );
             end = put_set(
                 scheme,
                 n,
@@ -208,6 +221,8 @@ fn pass_sets(
                 x,
                 &tops,
                 floor,
+                &lead,
+                &after,
                 end,
                 writing,
                 out,
@@ -217,51 +232,30 @@ fn pass_sets(
     end
 }
 
-// Writes the record of the universal x from the entry `at` on, or only counts; gives the entry behind it.
-fn put_set(
-    scheme: Scheme,
+// Refills the tops and ties their runs anew, if the level of x is another than that which they are over; gives the floor that they are over now.
+fn refloor(
     n: u32,
-    clauses: &[i32],
-    first: &[u32],
-    next: &[u32],
+    prefix: &[u32],
+    levels: &[u32],
+    classes: &[u32],
+    parents: &[u32],
+    was: Floor,
     x: Variable,
-    tops: &[u32],
-    floor: Floor,
-    at: usize,
-    writing: bool,
-    out: &mut [u32],
-) -> usize
-    requires { ⌜ (n ≤ 4096) × (at < 4294967296) × Tied (now clauses) (now first) (now next) (x .0) ⌝ }
-    requires { ⌜ (floor .from ≤ n) × Topless n (now tops) (floor .from) ⌝ }
-    requires { ⌜ RoomFor scheme n (now tops) (now clauses) (x .0) at writing (now out) ⌝ }
-    ensures { λ r. ⌜ PutSet scheme n (now (tops .entry)) (now (clauses .entry)) (x .0) at writing (now (out .entry)) (now (out .exit)) r ⌝ }
+    tops: &mut [u32],
+    lead: &mut [u32],
+    after: &mut [u32],
+) -> Floor
+    requires { ⌜ SoundPrefix n (now prefix) × FormedBy n (now prefix) (now classes) (now parents) × (x .0 ≤ 4096) × ((universals : List Bool) × Levelled (now prefix) (now levels) universals) ⌝ }
+    requires { ⌜ Floored n (now prefix) (now classes) (now parents) (was .level .0) (was .from) (now tops) (now lead) (now after) ⌝ }
+    ensures { λ r. ⌜ Floored n (now (prefix .entry)) (now (classes .entry)) (now (parents .entry)) (r .level .0) (r .from) (now (tops .exit)) (now (lead .exit)) (now (after .exit)) ⌝ }
+    ensures { λ r. ⌜ r .level .0 ≡ level (now (prefix .entry)) (x .0) ⌝ }
 {
-    let mut entered = [false; 4097];
-    flag_points(scheme, n, clauses, first, next, x, tops, &mut entered);
-    if !writing {
-        let count = count_picked(n, Asked::Set, &entered, tops, floor.from);
-        return at + 2 + count as usize;
+    let level = level_at(levels, x);
+    let old = was.level;
+    if old.0 == level.0 {
+        return was;
     }
-    write_record(n, &entered, tops, x, floor.from, at, out)
-}
-
-// Writes a record: the number of x, the count of its set, and the set, which is what its flags pick.
-fn write_record(
-    n: u32,
-    entered: &[bool],
-    tops: &[u32],
-    x: Variable,
-    from: u32,
-    at: usize,
-    out: &mut [u32],
-) -> usize
-    requires { ⌜ (from ≤ n) × NoneUpto (pick Set n (now entered) (now tops)) from ⌝ }
-    requires { ⌜ (at < 4294967296) × (at + 2 + length (picked (pick Set n (now entered) (now tops)) n) ≤ length (now out)) ⌝ }
-    ensures { λ r. ⌜ Put n (now (tops .entry)) (now (entered .entry)) (x .0) at true (now (out .entry)) (now (out .exit)) r ⌝ }
-{
-    let start = at + 2;
-    let end = write_picked(n, Asked::Set, entered, tops, from, start, out);
-    out[at] = x.0;
-    out[at + 1] = (end - start) as u32;
-    end
+    let floor = retop(n, prefix, levels, classes, parents, was, x, tops);
+    link_runs(n, tops, floor.from, lead, after);
+    floor
 }

@@ -1,6 +1,7 @@
 // The sets of all universals in one call.
 
 mod all_sets;
+mod one_set;
 mod points;
 mod runs;
 pub mod threads;

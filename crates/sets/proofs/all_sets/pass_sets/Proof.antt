@@ -3,27 +3,28 @@ use Prim.Native.Nat.{ℕ, _≤_, _-_}
 use mathlib.Core.Path.{_≡_, sym, ap, _∙_, subst}
 use mathlib.Core.Bool.{true, false}
 use native.Mathlib.Omega.{arith}
-use lib.ListN.{length, getD, length-replicate}
-use lib.Seq.{sets}
-use Rattle.formula.specs.Meaning.{level, isExistential}
+use lib.ListN.{length, getD, replicate, length-replicate}
+use Rattle.formula.specs.Meaning.{level}
 use Rattle.connection.specs.Tables.{lent}
 use Rattle.tables.specs.Formula.{variables, universalIn}
-use Rattle.searching.specs.Search.{TopsOver}
+use Rattle.sets.specs.Runs.{Floored}
 use Rattle.sets.specs.Passed.{SetsUpto, PutAll}
-use Rattle.tables.proofs.Readings.{flag-within}
+use Rattle.connection.specs.Reach.{Variables}
+use Rattle.tables.proofs.Readings.{flag-within, new-zero}
 use Rattle.tables.proofs.Agreeing.{lawful, level-agrees, universal-agrees}
 use Rattle.searching.proofs.Tops.{tops-over}
 use Rattle.sets.proofs.AllSets.{put-length, sets-small, put-room, put-next, put-other, put-none}
+use Rattle.sets.proofs.Linked.{led-none}
 use borrow.Author.Needs.{needs}
 use Rattle.sets.proofs.all_sets.pass_sets.Statement.{statement}
 use Rattle.sets.proofs.all_sets.pass_sets.Tie as tie
 
 abbrev Inv-loop : tie.InvT-loop
-Inv-loop scheme n prefix levels universals clauses classes parents first next writing out₀ tops₀ floor₀ end₀ passed₀ out tops floor end passed =
-    (passed ≤ n) × (length tops ≡ 4096) × TopsOver (variables n prefix) (lent (variables n prefix) classes parents) (floor .level .0) (floor .from) tops × PutAll (SetsUpto scheme n prefix clauses classes parents passed) writing out₀ out end
+Inv-loop scheme n prefix levels universals clauses classes parents first next writing out₀ tops₀ lead₀ after₀ floor₀ end₀ passed₀ out tops lead after floor end passed =
+    (passed ≤ n) × Floored n prefix classes parents (floor .level .0) (floor .from) tops lead after × PutAll (SetsUpto scheme n prefix clauses classes parents passed) writing out₀ out end
 
 abbrev μ-loop : tie.MeasureT-loop
-μ-loop scheme n prefix levels universals clauses classes parents first next writing out₀ tops₀ floor₀ end₀ passed₀ out tops floor end passed = n - passed
+μ-loop scheme n prefix levels universals clauses classes parents first next writing out₀ tops₀ lead₀ after₀ floor₀ end₀ passed₀ out tops lead after floor end passed = n - passed
 
 new-requires : tie.Need-new-requires Inv-loop μ-loop
 new-requires c κs = search needs
@@ -32,8 +33,11 @@ loop-holds : tie.Need-loop-holds Inv-loop μ-loop
 loop-holds c =
     let a = c .before .before .before .before .before .before .before .before .before .args in
     let ready = c .before .before .before .before .before .before .before .before .before .pre .0 in
-    let over : (v : ℕ) → isExistential (a .n) (a .prefix .now) v ≡ true → level (a .prefix .now) v ≤ c .new .result .0 = λ v ex. let is = c .new .ensures in let own = level-agrees (ready .sound) (ready .table) v (lawful (a .n) (a .prefix .now) .within v ex .1) in omega (arith, c .before .before .before .before .before .before .before .shared-slice-known2 .given v) in
-    (omega arith, length-replicate {A = ℕ} 4096 0, tops-over {X = variables (a .n) (a .prefix .now)} {W = lent (variables (a .n) (a .prefix .now)) (a .classes .now) (a .parents .now)} (c .new .result .0) 4096 over, put-none (a .scheme) (a .n) (a .prefix .now) (a .clauses .now) (a .classes .now) (a .parents .now) (a .writing) (a .out .now))
+    let X : Variables = variables (a .n) (a .prefix .now) in
+    let low : (v : ℕ) → X .ex v ≡ true → X .lev v ≤ c .new .result .0 = λ v ex. let is = c .new .ensures in let own = level-agrees (ready .sound) (ready .table) v (lawful (a .n) (a .prefix .now) .within v ex .1) in omega (arith, c .before .before .before .before .before .before .before .shared-slice-known2 .given v) in
+    let over = tops-over {X = X} {W = lent X (a .classes .now) (a .parents .now)} (c .new .result .0) 4096 low in
+    let led = led-none (a .n) (replicate {A = ℕ} 4096 0) (replicate {A = ℕ} 4097 0) (replicate {A = ℕ} 4097 0) (λ v. over .rows v .none (λ u. let l = low v (u .0) in let d = u .1 in omega arith)) (new-zero 4097) in
+    (omega arith, record { over = over; led = led; rows = length-replicate {A = ℕ} 4096 0; heads = length-replicate {A = ℕ} 4097 0; links = length-replicate {A = ℕ} 4097 0 }, put-none (a .scheme) (a .n) (a .prefix .now) (a .clauses .now) (a .classes .now) (a .parents .now) (a .writing) (a .out .now))
 
 add-passed : tie.Need-add-passed Inv-loop μ-loop
 add-passed c = omega arith
@@ -44,54 +48,72 @@ new-requires-2 c κs = search needs
 universal-at-requires : tie.Need-universal-at-requires Inv-loop μ-loop
 universal-at-requires c κs = search needs
 
-slice-aggregate-retop : tie.Need-slice-aggregate-retop Inv-loop μ-loop
-slice-aggregate-retop c = search needs
+slice-aggregate-refloor : tie.Need-slice-aggregate-refloor Inv-loop μ-loop
+slice-aggregate-refloor c = search needs
 
-retop-requires : tie.Need-retop-requires Inv-loop μ-loop
-retop-requires c κs =
-    let a = c .before .before .before .before .before .before .before .before .before .before .before .before .before .before .before .args in
-    let ready = c .before .before .before .before .before .before .before .before .before .before .before .before .before .before .before .pre .0 in
+slice-aggregate-refloor-2 : tie.Need-slice-aggregate-refloor-2 Inv-loop μ-loop
+slice-aggregate-refloor-2 c = search needs
+
+slice-aggregate-refloor-3 : tie.Need-slice-aggregate-refloor-3 Inv-loop μ-loop
+slice-aggregate-refloor-3 c = search needs
+
+refloor-requires : tie.Need-refloor-requires Inv-loop μ-loop
+refloor-requires c κs =
+    let a = c .before .before .before .before .before .before .before .before .before .before .before .before .before .before .before .before .before .args in
+    let ready = c .before .before .before .before .before .before .before .before .before .before .before .before .before .before .before .before .before .pre .0 in
     let few = ready .sound .few in
-    let inv = c .before .before .before .before .before .loop .inv in
-    let long = inv .1 in
-    let is = c .before .before .before .new2 .ensures in
-    let less = c .before .before .before .before .loop-test .taken in
-    ((ready .sound, ready .formed, omega arith), ((omega arith, (a .universals .now, ready .table)), inv .2))
+    let is = c .before .before .before .before .before .new2 .ensures in
+    let less = c .before .before .before .before .before .before .loop-test .taken in
+    ((ready .sound, ready .formed, omega arith, (a .universals .now, ready .table)), c .before .before .before .before .before .before .before .loop .inv .1)
 
 slice-aggregate-put-set : tie.Need-slice-aggregate-put-set Inv-loop μ-loop
 slice-aggregate-put-set c = search needs
 
+slice-aggregate-put-set-2 : tie.Need-slice-aggregate-put-set-2 Inv-loop μ-loop
+slice-aggregate-put-set-2 c = search needs
+
+slice-aggregate-put-set-3 : tie.Need-slice-aggregate-put-set-3 Inv-loop μ-loop
+slice-aggregate-put-set-3 c = search needs
+
 put-set-requires : tie.Need-put-set-requires Inv-loop μ-loop
 unfolding universalIn
 put-set-requires c κs =
-    let a = c .before .before .before .before .before .before .before .before .before .before .before .before .before .before .before .before .before .before .before .args in
-    let ready = c .before .before .before .before .before .before .before .before .before .before .before .before .before .before .before .before .before .before .before .pre .0 in
+    let a = c .before .before .before .before .before .before .before .before .before .before .before .before .before .before .before .before .before .before .before .before .before .before .before .before .before .args in
+    let ready = c .before .before .before .before .before .before .before .before .before .before .before .before .before .before .before .before .before .before .before .before .before .before .before .before .before .pre .0 in
     let few = ready .sound .few in
     let heads = ready .heads in
-    let inv = c .before .before .before .before .before .before .before .before .before .loop .inv in
-    let m = c .before .before .before .before .before .before .before .before .before .loop .passed in
-    let x = c .before .before .before .before .before .before .before .new2 .result .0 in
-    let is = c .before .before .before .before .before .before .before .new2 .ensures in
-    let less = c .before .before .before .before .before .before .before .before .loop-test .taken in
-    let retop = c .before .before .before .retop in
-    let u = sym (c .before .before .before .before .before .before .universal-at .ensures) ∙ c .before .before .before .before .before .if1 .taken in
+    let inv = c .before .before .before .before .before .before .before .before .before .before .before .before .before .before .before .loop .inv in
+    let m = c .before .before .before .before .before .before .before .before .before .before .before .before .before .before .before .loop .passed in
+    let x = c .before .before .before .before .before .before .before .before .before .before .before .before .before .new2 .result .0 in
+    let is = c .before .before .before .before .before .before .before .before .before .before .before .before .before .new2 .ensures in
+    let less = c .before .before .before .before .before .before .before .before .before .before .before .before .before .before .loop-test .taken in
+    let refloor = c .before .before .before .before .before .before .before .refloor in
+    let floored = refloor .ensures .0 in
+    let u = sym (c .before .before .before .before .before .before .before .before .before .before .before .before .universal-at .ensures) ∙ c .before .before .before .before .before .before .before .before .before .before .before .if1 .taken in
     let flag = flag-within (a .n) x (getD (a .universals .now) x false) u .2 in
-    let small = sets-small (a .scheme) (a .n) (a .prefix .now) (a .clauses .now) (a .classes .now) (a .parents .now) few m (inv .3 .0) (inv .0) (inv .3 .1) in
-    let size = inv .3 .2 in
-    ((few, omega arith, record { heads = omega arith; links = ready .links; universals = a .universals .now; threaded = ready .threaded; universal = flag }), ((retop .ensures .0 .most, retop .ensures .0 .none), put-room (a .scheme) (a .n) (a .prefix .now) (a .clauses .now) (a .classes .now) (a .parents .now) few (ready .closed) (ready .formed) m x (retop .result .level .0) (retop .last .1 .1 .1 .1 .1 .1 .1 .0) (a .writing) (a .out .now) is (inv .3) (sym (universal-agrees (ready .sound) (ready .table) x) ∙ u) (retop .ensures .1) (retop .ensures .0 .rows) less (c .before .before .before .before .before .before .before .before .before .before .before .before .before .before .before .before .before .before .before .pre .1)))
+    let small = sets-small (a .scheme) (a .n) (a .prefix .now) (a .clauses .now) (a .classes .now) (a .parents .now) few m (inv .2 .0) (inv .0) (inv .2 .1) in
+    let size = inv .2 .2 in (
+      (few, omega arith, record { heads = omega arith; links = ready .links; universals = a .universals .now; threaded = ready .threaded; universal = flag }),
+      (
+        (floored .over .most, floored .over .none, floored .led),
+        put-room (a .scheme) (a .n) (a .prefix .now) (a .clauses .now) (a .classes .now) (a .parents .now) few (ready .closed) (ready .formed) m x (refloor .result .level .0) (refloor .last .1 .1 .1 .1 .1 .1 .1 .0) (a .writing) (a .out .now) is (inv .2) (sym (universal-agrees (ready .sound) (ready .table) x) ∙ u) (refloor .ensures .1) (floored .over .rows) less (c .before .before .before .before .before .before .before .before .before .before .before .before .before .before .before .before .before .before .before .before .before .before .before .before .before .pre .1),
+      ),
+    )
 
 loop-less : tie.Need-loop-less Inv-loop μ-loop
 loop-less c = omega arith
 
 loop-again : tie.Need-loop-again Inv-loop μ-loop
 loop-again c =
-    let a = c .before .before .before .before .before .before .before .before .before .before .before .before .before .before .before .before .before .before .before .before .before .before .args in
-    let ready = c .before .before .before .before .before .before .before .before .before .before .before .before .before .before .before .before .before .before .before .before .before .before .pre .0 in
-    let inv = c .before .before .before .before .before .before .before .before .before .before .before .before .loop .inv in
-    let retop = c .before .before .before .before .before .before .retop in
-    let u = sym (c .before .before .before .before .before .before .before .before .before .universal-at .ensures) ∙ c .before .before .before .before .before .before .before .before .if1 .taken in
-    let less = c .before .before .before .before .before .before .before .before .before .before .before .loop-test .taken in
-    (omega arith, retop .kept .1 .1 .1 .1 .1 .1 .1 .0 ∙ inv .1, retop .ensures .0, put-next (a .scheme) (a .n) (a .prefix .now) (a .clauses .now) (a .classes .now) (a .parents .now) (ready .sound .few) (ready .closed) (ready .formed) (c .before .before .before .before .before .before .before .before .before .before .before .before .loop .passed) (c .before .before .before .before .before .before .before .before .before .before .new2 .result .0) (retop .result .level .0) (retop .last .1 .1 .1 .1 .1 .1 .1 .0) (a .writing) (a .out .now) (c .before .before .before .before .before .before .before .before .before .before .new2 .ensures) (inv .3) (sym (universal-agrees (ready .sound) (ready .table) (c .before .before .before .before .before .before .before .before .before .before .new2 .result .0)) ∙ u) (retop .ensures .1) (retop .ensures .0 .rows) (c .before .before .put-set .ensures))
+    let a = c .before .before .before .before .before .before .before .before .before .before .before .before .before .before .before .before .before .before .before .before .before .before .before .before .before .before .before .before .args in
+    let ready = c .before .before .before .before .before .before .before .before .before .before .before .before .before .before .before .before .before .before .before .before .before .before .before .before .before .before .before .before .pre .0 in
+    let inv = c .before .before .before .before .before .before .before .before .before .before .before .before .before .before .before .before .before .before .loop .inv in
+    let x = c .before .before .before .before .before .before .before .before .before .before .before .before .before .before .before .before .new2 .result .0 in
+    let refloor = c .before .before .before .before .before .before .before .before .before .before .refloor in
+    let floored = refloor .ensures .0 in
+    let u = sym (c .before .before .before .before .before .before .before .before .before .before .before .before .before .before .before .universal-at .ensures) ∙ c .before .before .before .before .before .before .before .before .before .before .before .before .before .before .if1 .taken in
+    let less = c .before .before .before .before .before .before .before .before .before .before .before .before .before .before .before .before .before .loop-test .taken in
+    (omega arith, floored, put-next (a .scheme) (a .n) (a .prefix .now) (a .clauses .now) (a .classes .now) (a .parents .now) (ready .sound .few) (ready .closed) (ready .formed) (c .before .before .before .before .before .before .before .before .before .before .before .before .before .before .before .before .before .before .loop .passed) x (refloor .result .level .0) (refloor .last .1 .1 .1 .1 .1 .1 .1 .0) (a .writing) (a .out .now) (c .before .before .before .before .before .before .before .before .before .before .before .before .before .before .before .before .new2 .ensures) (inv .2) (sym (universal-agrees (ready .sound) (ready .table) x) ∙ u) (refloor .ensures .1) (floored .over .rows) (c .before .before .put-set .ensures))
 
 loop-less-2 : tie.Need-loop-less-2 Inv-loop μ-loop
 loop-less-2 c = omega arith
@@ -99,19 +121,19 @@ loop-less-2 c = omega arith
 loop-again-2 : tie.Need-loop-again-2 Inv-loop μ-loop
 loop-again-2 c =
     let a = c .before .before .before .before .before .before .before .before .before .before .before .before .before .before .args in
+    let ready = c .before .before .before .before .before .before .before .before .before .before .before .before .before .before .pre .0 in
     let inv = c .before .before .before .before .loop .inv in
-    (omega arith, inv .1, inv .2, put-other (a .scheme) (a .n) (a .prefix .now) (a .clauses .now) (a .classes .now) (a .parents .now) (c .before .before .before .before .loop .passed) (c .before .before .new2 .result .0) (a .writing) (a .out .now) (c .before .before .new2 .ensures) (inv .3) (sym (universal-agrees (c .before .before .before .before .before .before .before .before .before .before .before .before .before .before .pre .0 .sound) (c .before .before .before .before .before .before .before .before .before .before .before .before .before .before .pre .0 .table) (c .before .before .new2 .result .0)) ∙ sym (c .before .universal-at .ensures) ∙ c .if1 .left))
+    let x = c .before .before .new2 .result .0 in
+    (omega arith, inv .1, put-other (a .scheme) (a .n) (a .prefix .now) (a .clauses .now) (a .classes .now) (a .parents .now) (c .before .before .before .before .loop .passed) x (a .writing) (a .out .now) (c .before .before .new2 .ensures) (inv .2) (sym (universal-agrees (ready .sound) (ready .table) x) ∙ sym (c .before .universal-at .ensures) ∙ c .if1 .left))
 
 same-length : tie.Need-same-length Inv-loop μ-loop
-same-length c =
-    let a = c .before .before .before .before .before .before .before .before .before .before .before .args in
-    ap length (c .before .loop .inv .3 .3) ∙ put-length (a .writing) (a .out .now) (c .before .loop .inv .3 .0)
+same-length c = let a = c .before .before .before .before .before .before .before .before .before .before .before .args in ap length (c .before .loop .inv .2 .3) ∙ put-length (a .writing) (a .out .now) (c .before .loop .inv .2 .0)
 
 returns : tie.Need-returns Inv-loop μ-loop
 returns c =
     let a = c .before .before .before .before .before .before .before .before .before .before .before .args in
     let q : c .before .loop .passed ≡ a .n = let most = c .before .loop .inv .0 in let l = c .loop-test .left in omega arith in
-    subst (λ m. PutAll (SetsUpto (a .scheme) (a .n) (a .prefix .now) (a .clauses .now) (a .classes .now) (a .parents .now) m) (a .writing) (a .out .now) (c .before .loop .out) (c .before .loop .end)) q (c .before .loop .inv .3)
+    subst (λ m. PutAll (SetsUpto (a .scheme) (a .n) (a .prefix .now) (a .clauses .now) (a .classes .now) (a .parents .now) m) (a .writing) (a .out .now) (c .before .loop .out) (c .before .loop .end)) q (c .before .loop .inv .2)
 
 pub pass-sets-spec : {M : Type 1} → statement M
 pass-sets-spec =
@@ -124,9 +146,13 @@ pass-sets-spec =
     add-passed
     new-requires-2
     universal-at-requires
-    slice-aggregate-retop
-    retop-requires
+    slice-aggregate-refloor
+    slice-aggregate-refloor-2
+    slice-aggregate-refloor-3
+    refloor-requires
     slice-aggregate-put-set
+    slice-aggregate-put-set-2
+    slice-aggregate-put-set-3
     put-set-requires
     loop-less
     loop-again

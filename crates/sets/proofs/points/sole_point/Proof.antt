@@ -1,5 +1,4 @@
 -- `sets::points::sole_point` meets its contract.
-use Prim.Native.Nat.{ℕ}
 use mathlib.Core.Path.{sym, subst}
 use mathlib.Core.Bool.{Bool}
 use mathlib.Core.Logic.{inl, inr, ⊎-elim}

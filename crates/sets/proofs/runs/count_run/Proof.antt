@@ -1,8 +1,7 @@
 -- `sets::runs::count_run` meets its contract.
-use Prim.Native.Nat.{ℕ, _+_, _-_, _<_}
+use Prim.Native.Nat.{ℕ, _-_, _<_}
 use mathlib.Core.List.{List, []}
 use native.Mathlib.Omega.{arith}
-use borrow.Author.Needs.{needs}
 use Rattle.sets.proofs.Linked.{Walking, walk-none, walk-within, walk-room, walk-more, walk-end}
 use Rattle.sets.proofs.runs.count_run.Statement.{statement}
 use Rattle.sets.proofs.runs.count_run.Tie as tie

@@ -1,9 +1,8 @@
 -- `sets::runs::write_run` meets its contract.
-use Prim.Native.Nat.{ℕ, _+_, _-_, _<_}
+use Prim.Native.Nat.{ℕ, _-_, _<_}
 use mathlib.Core.Path.{_≡_, refl, ap, _∙_}
 use mathlib.Core.List.{List, []}
 use native.Mathlib.Omega.{arith}
-use borrow.Author.Needs.{needs}
 use lib.ListN.{length}
 use lib.Seq.{sets, length-sets}
 use Rattle.sets.proofs.Linked.{Walking, walk-none, walk-within, walk-room, walk-more, walk-stored, walk-end}

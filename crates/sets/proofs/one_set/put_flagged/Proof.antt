@@ -1,4 +1,4 @@
--- `sets::all_sets::put_set` meets its contract.
+-- `sets::one_set::put_flagged` meets its contract.
 use mathlib.Core.Path.{sym, ap, _∙_}
 use mathlib.Core.Bool.{cond}
 use mathlib.Core.List.{_∷_}
@@ -12,8 +12,8 @@ use Rattle.searching.proofs.Picked.{picked-most}
 use Rattle.forest.proofs.Entered.{fresh}
 use Rattle.sets.proofs.AllSets.{topless-none}
 use borrow.Author.Needs.{needs}
-use Rattle.sets.proofs.all_sets.put_set.Statement.{statement}
-use Rattle.sets.proofs.all_sets.put_set.Tie as tie
+use Rattle.sets.proofs.one_set.put_flagged.Statement.{statement}
+use Rattle.sets.proofs.one_set.put_flagged.Tie as tie
 
 slice-aggregate-flag-points : tie.Need-slice-aggregate-flag-points
 slice-aggregate-flag-points c = search needs
@@ -67,8 +67,8 @@ returns-2 c =
     let part = a .x .0 ∷ length (picked (pick Set (a .n) flags (a .tops .now)) (a .n)) ∷ picked (pick Set (a .n) flags (a .tops .now)) (a .n) in
     record { flags = flags; flagged = c .before .before .before .before .before .before .before .flag-points .ensures; put = (c .before .before .write-record .ensures .0, c .before .before .write-record .ensures .1 ∙ sym (ap (λ w. cond w (sets (a .out .now) (a .at) part) (a .out .now)) (not-false (a .writing) (c .before .before .before .before .before .if1 .left)))) }
 
-pub put-set-spec : {M : Type 1} → statement M
-put-set-spec =
+pub put-flagged-spec : {M : Type 1} → statement M
+put-flagged-spec =
     tie.close
     (tie.spec
     slice-aggregate-flag-points
