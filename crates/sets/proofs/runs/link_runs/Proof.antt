@@ -70,7 +70,7 @@ loop-again c =
     let less = c .before .before .before .before .before .loop-test .taken in
     let top = c .before .before .before .row-of .result .0 in
     let is = c .before .before .before .row-of .ensures ∙ ap (row (c .before .before .before .before .before .before .before .before .before .before .before .before .before .before .args .n) (c .before .before .before .before .before .before .before .before .before .before .before .before .before .before .args .tops .now)) (c .before .before .before .before .new .ensures) in
-    (omega arith, length-set (loop .lead) top (loop .v) ∙ inv .1, length-set (loop .after) (loop .v) _ ∙ inv .2, link-more (inv .3) top is (λ z. omega arith) (inv .1) (omega arith))
+    (omega arith, length-set (loop .lead) top _ ∙ inv .1, length-set (loop .after) (loop .v) _ ∙ inv .2, link-more (inv .3) top is (λ z. omega arith) (inv .1) (omega arith))
 
 sub-v-2 : tie.Need-sub-v-2 Inv-loop μ-loop
 sub-v-2 c = omega arith
