@@ -9,7 +9,7 @@ use lib.ListN.{length, take, length-append}
 use lib.Seq.{length-take-le}
 use Rattle.terms.specs.Refusals.{NoneOf}
 use Rattle.qdimacs.specs.declared.Stage.{Stage}
-use Rattle.qdimacs.specs.Words.{words}
+use Rattle.tokens.specs.Words.{words}
 use Rattle.qdimacs.specs.Grammar.{placeAfter}
 use Rattle.spelling.specs.Texts.{Overlong, overlong}
 use Rattle.dqdimacs.specs.declared.Reading.{Reading}

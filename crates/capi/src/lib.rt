@@ -64,7 +64,7 @@ pub extern "C" fn snow_clause(
 ) -> u32
     ensures { λ r. ⌜ Told (clauseOrder n (now (clauses .entry)) asked) (Clause (now (clauses .entry)) asked (now (start .exit)) (now (len .exit))) ((now (start .exit) ≡ now (start .entry)) × (now (len .exit) ≡ now (len .entry))) r (now (place .entry)) (now (place .exit)) ⌝ }
 {
-    match formula::clause_verdict(n, clauses, asked) {
+    match checks::clause_verdict(n, clauses, asked) {
         Verdict::Refused(number, at) => {
             *place = at as u32;
             number

@@ -15,11 +15,12 @@ use Rattle.tables.specs.Formula.{universal, Shares, SharesBy}
 use Rattle.tables.proofs.Agreeing.{lawful}
 use Rattle.terms.specs.declared.Scheme.{Scheme}
 use Rattle.terms.specs.declared.Scheme.the-variants.{Standard, Strict}
-use Rattle.searching.specs.declared.listing.Asked.the-variants.{Set}
-use Rattle.searching.specs.Search.{Takes, Via, Entering, pick, picked}
-use Rattle.searching.proofs.Picked.{picked-listed}
+use Rattle.picking.specs.declared.Asked.the-variants.{Set}
+use Rattle.marks.specs.Flags.{Takes, Via, Entering}
+use Rattle.picking.specs.Picked.{pick, picked}
+use Rattle.picking.proofs.Picked.{picked-listed}
 use Rattle.forest.proofs.Demands.{universal-alone}
-use Rattle.searching.proofs.Sides.{shares-some, shares-signed}
+use Rattle.marks.proofs.Sides.{shares-some, shares-signed}
 use Rattle.lists.specs.Lists.{ListHas, DependsOn, DependsOnBy}
 use Rattle.dependents.specs.Inner.{ToldRows, Flat, Classed}
 

@@ -18,9 +18,8 @@ use Rattle.formula.specs.Levels.{SoundPrefix, Levelled}
 use Rattle.formula.proofs.Ordered.{deeper-named}
 use Rattle.connection.specs.Tables.{row}
 use Rattle.tables.specs.Formula.{universal, existentialIn}
-use Rattle.tables.proofs.Readings.{row-none, row-over, flag-in, flag-within}
+use Rattle.tables.proofs.Readings.{row-none, row-over, flag-in, flag-within, row-stored, row-kept}
 use Rattle.tables.proofs.Agreeing.{tables-agree, level-agrees, lawful, universal-within}
-use Rattle.searching.proofs.Tops.{row-stored, row-kept}
 use Rattle.lists.specs.Lists.{InBlock, Given, ListHas}
 use Rattle.lists.specs.Causes.{ListCause, outside, in-block}
 use Rattle.dependents.specs.Inner.{Told, ToldRows, WithGiven}

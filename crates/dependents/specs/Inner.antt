@@ -11,8 +11,8 @@ use Rattle.terms.specs.declared.Verdict.the-variants.{Accepted, Refused}
 use Rattle.connection.specs.Reach.{Reach}
 use Rattle.connection.specs.Tables.{row}
 use Rattle.tables.specs.Formula.{Shares}
-use Rattle.searching.specs.declared.listing.Asked.the-variants.{Set}
-use Rattle.searching.specs.Search.{pick}
+use Rattle.picking.specs.declared.Asked.the-variants.{Set}
+use Rattle.picking.specs.Picked.{pick}
 use Rattle.lists.specs.Lists.{Given, DependsOnBy}
 
 -- a row is 1 where P holds of v, and 0 where it does not

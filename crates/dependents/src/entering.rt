@@ -2,10 +2,10 @@
 
 use crate::classing::class_rows;
 use crate::opening::open_rows;
-use formula::levels::fill_levels;
+use levelling::fill_levels;
 use lists::checking::check_lists;
 use lists::checking::formula_verdict;
-use searching::marks::flag_entries;
+use marks::flag_entries;
 use tables::rows::universal_at;
 use terms::Scheme;
 use terms::Variable;

@@ -10,12 +10,12 @@ use lib.ListN.{length, drop}
 use lib.IntN.{ℤ}
 use Rattle.qdimacs.specs.declared.Stage.{Stage}
 use Rattle.qdimacs.specs.declared.Stage.the-variants.{Body}
-use Rattle.qdimacs.specs.declared.Spelt.{Spelt}
-use Rattle.qdimacs.specs.declared.Spelt.the-variants.{Missing, Spelled}
-use Rattle.qdimacs.specs.Words.{LF, pieces, filled, words, entriesOf}
+use Rattle.tokens.specs.declared.Spelt.{Spelt}
+use Rattle.tokens.specs.declared.Spelt.the-variants.{Missing, Spelled}
+use Rattle.tokens.specs.Words.{LF, pieces, filled, words, entriesOf}
 use Rattle.qdimacs.specs.Grammar.{variables, Line, TooMany, Fault}
-use Rattle.qdimacs.specs.Places.{front, lineAt, afterAt, wordsAt, WholeRow, unread, endless-row}
-use Rattle.qdimacs.specs.Steps.{SpeltIs}
+use Rattle.tokens.specs.Places.{front, lineAt, afterAt, wordsAt, WholeRow, unread, endless-row}
+use Rattle.tokens.specs.Expected.{SpeltIs}
 use Rattle.qdimacs.specs.Steps as plain
 use Rattle.qdimacs.proofs.Bodies.{last-line, line-then, line-passed}
 use Rattle.qdimacs.proofs.Unique.{line-same, many-stuck}

@@ -7,7 +7,7 @@ use native.Mathlib.Omega.{arith}
 use lib.IntN.{ℤ}
 use Rattle.qdimacs.specs.declared.Stage.{Stage}
 use Rattle.qdimacs.specs.declared.Stage.the-variants.{Body}
-use Rattle.qdimacs.specs.Words.{LETTER-A, LETTER-E, words, allDigits, isNumber, numberOf, plainItem, itemOf, entry, entriesOf}
+use Rattle.tokens.specs.Words.{LETTER-A, LETTER-E, words, allDigits, isNumber, numberOf, plainItem, itemOf, entry, entriesOf}
 use Rattle.qdimacs.specs.Grammar.{variables, literals, QuantifierLine, e-line, a-line, ClauseLine, literals-line, Line, a-block, a-clause, TooMany, too-many}
 use Rattle.dqdimacs.specs.Grammar.{LETTER-D, ListLine, d-line}
 

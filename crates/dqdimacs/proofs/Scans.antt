@@ -10,11 +10,11 @@ use lib.Seq.{length-sets}
 use lib.IntN.{ℤ}
 use Rattle.qdimacs.specs.declared.Stage.{Stage}
 use Rattle.qdimacs.specs.declared.Stage.the-variants.{Opening}
-use Rattle.qdimacs.specs.Words.{LF, pieces}
+use Rattle.tokens.specs.Words.{LF, pieces}
 use Rattle.qdimacs.specs.Grammar.{placeAfter}
-use Rattle.qdimacs.specs.Places.{lineAt}
+use Rattle.tokens.specs.Places.{lineAt}
 use Rattle.qdimacs.specs.Steps.{Sound, announcedAt}
-use Rattle.qdimacs.proofs.Lines.{line-length}
+use Rattle.tokens.proofs.Lines.{line-length}
 use Rattle.qdimacs.proofs.Bodies.{line-then}
 use Rattle.qdimacs.proofs.Scans.{line-sound, place-more, stored-more}
 use Rattle.dqdimacs.specs.declared.Reading.{Reading}

@@ -9,7 +9,7 @@ use borrow.Author.Tests.{ne-eqb}
 use lib.IntN.{ℤ}
 use Rattle.qdimacs.specs.declared.Stage.{Stage}
 use Rattle.qdimacs.specs.declared.Stage.the-variants.{Opening, Body}
-use Rattle.qdimacs.specs.Words.{LF, SPACE, ZERO, onto, pieces, words, entriesOf}
+use Rattle.tokens.specs.Words.{LF, SPACE, ZERO, onto, pieces, words, entriesOf}
 use Rattle.qdimacs.specs.Grammar.{variables, p-cnf, the-problem}
 use Rattle.spelling.specs.Writing.{decimal, digitsOf, spaced, ended, prefixText, clauseText, clauseCount}
 use Rattle.qdimacs.proofs.Decimal.{decimal-number}

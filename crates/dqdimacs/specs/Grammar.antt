@@ -8,7 +8,7 @@ use mathlib.Core.Option.{some}
 use lib.IntN.{ℤ}
 use Rattle.qdimacs.specs.declared.Stage.{Stage}
 use Rattle.qdimacs.specs.declared.Stage.the-variants.{Opening, Body}
-use Rattle.qdimacs.specs.Words.{LF, pieces, words, entriesOf}
+use Rattle.tokens.specs.Words.{LF, pieces, words, entriesOf}
 use Rattle.qdimacs.specs.Grammar.{variables, Line, TooMany, placeAfter}
 
 -- The letter that list lines begin with.

@@ -9,14 +9,15 @@ use lib.Seq.{sets}
 use lib.IntN.{ℤ}
 use Rattle.qdimacs.specs.declared.Stage.{Stage}
 use Rattle.qdimacs.specs.declared.Stage.the-variants.{Body}
-use Rattle.qdimacs.specs.declared.Spelt.{Spelt}
-use Rattle.qdimacs.specs.declared.Spelt.the-variants.{Missing, Spelled}
-use Rattle.qdimacs.specs.declared.Row.{Row}
-use Rattle.qdimacs.specs.declared.Row.the-variants.{Broken, Whole}
-use Rattle.qdimacs.specs.Words.{LF, pieces, entriesOf}
+use Rattle.tokens.specs.declared.Spelt.{Spelt}
+use Rattle.tokens.specs.declared.Spelt.the-variants.{Missing, Spelled}
+use Rattle.tokens.specs.declared.Row.{Row}
+use Rattle.tokens.specs.declared.Row.the-variants.{Broken, Whole}
+use Rattle.tokens.specs.Words.{LF, pieces, entriesOf}
 use Rattle.qdimacs.specs.Grammar.{variables}
-use Rattle.qdimacs.specs.Places.{lineAt, wordsAt, Passed, WholeRow, NoRow}
-use Rattle.qdimacs.specs.Steps.{Goes, announcedAt}
+use Rattle.tokens.specs.Places.{lineAt, wordsAt, Passed, WholeRow, NoRow}
+use Rattle.tokens.specs.Expected.{Goes}
+use Rattle.qdimacs.specs.Steps.{announcedAt}
 use Rattle.dqdimacs.specs.declared.Reading.{Reading}
 use Rattle.dqdimacs.specs.declared.Reading.the-variants.{Read, Refused}
 use Rattle.dqdimacs.specs.declared.Onward.{Onward}

@@ -2,12 +2,12 @@
 
 use crate::LETTER_D;
 use crate::Onward;
-use qdimacs::Row;
-use qdimacs::Spelt;
 use qdimacs::Stage;
 use qdimacs::Step;
-use qdimacs::expected::letter_at;
 use qdimacs::tables::variables_at;
+use tokens::Row;
+use tokens::Spelt;
+use tokens::expected::letter_at;
 ghost use Prim.Native.Nat.{_<_};
 ghost use lib.ListN.{length};
 ghost use Rattle.qdimacs.specs.Steps.{Sound};

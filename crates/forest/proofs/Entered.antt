@@ -3,10 +3,10 @@ use Prim.Native.Nat.{ℕ, _≤_, _<_}
 use mathlib.Core.Path.{_≡_, refl, sym, ap, _∙_, subst}
 use mathlib.Core.Bool.{Bool, true, false, not}
 use mathlib.Core.List.{List}
-use mathlib.Core.Logic.{_≢_, inl, inr, ⊎-elim, _↔_, by-cases}
+use mathlib.Core.Logic.{_≢_, inl, inr, ⊎-elim, _↔_}
 use native.Mathlib.Decide.{decLt}
 use native.Mathlib.Omega.{arith}
-use lib.ListN.{getD, replicate, length-replicate, getD-replicate, List·getD-eq-default}
+use lib.ListN.{getD}
 use Rattle.terms.specs.Refusals.{None}
 use Rattle.terms.proofs.Common.{clash}
 use Rattle.formula.specs.Meaning.{level, isExistential}
@@ -20,13 +20,10 @@ use Rattle.tables.specs.Causes.{ForestCause}
 use Rattle.forest.specs.Causes.{NotUniversal, NotDeeper}
 use Rattle.forest.specs.Answers.{Entry}
 use Rattle.tables.specs.Rows.{rowsOf}
-use Rattle.searching.specs.Search.{Deeper, EntryRows, Flagged, Via, Blank}
+use Rattle.searching.specs.Search.{Deeper, EntryRows}
+use Rattle.marks.specs.Flags.{Via}
 use Rattle.tables.proofs.Agreeing.{Same, same-back, formed-same, tables-agree, level-agrees, universal-agrees, universal-within, none-formed}
 use Rattle.forest.proofs.Agreeing.{deeper-same, entry-same}
-
--- A new table of flags, and what is flagged in it.
-pub fresh : Blank (replicate 4097 false)
-fresh = record { size = length-replicate 4097 false; blank = λ v. by-cases (decLt v 4097) (λ l. getD-replicate 4097 v false false l) (λ l. List·getD-eq-default (replicate 4097 false) false {n = v} (let q = length-replicate 4097 false in omega arith)) }
 
 module _ {X : Variables} {W : Table} (law : Lawful X) (formed : WellFormed X W) {x : ℕ} where
   -- An entry point is a class name, and so one of the variables.

@@ -23,11 +23,11 @@ use Rattle.tables.specs.Formula.{variables}
 use Rattle.forest.specs.Causes.{readOrder}
 use Rattle.forest.specs.Answers.{Answered, EntriesBy, MembersBy, SizeBy}
 use Rattle.forest.specs.Listed.{TooLong, Listing}
-use Rattle.searching.specs.declared.listing.Asked.{Asked}
-use Rattle.searching.specs.declared.listing.Asked.the-variants.{Points, Set}
-use Rattle.searching.specs.Search.{pick, picked, Picks, Enters}
-use Rattle.forest.specs.Wanted.{Wanted}
-use Rattle.searching.proofs.Picked.{picked-listed}
+use Rattle.picking.specs.declared.Asked.{Asked}
+use Rattle.picking.specs.declared.Asked.the-variants.{Points, Set}
+use Rattle.picking.specs.Picked.{pick, picked, Picks}
+use Rattle.forest.specs.Wanted.{Enters, Wanted}
+use Rattle.picking.proofs.Picked.{picked-listed}
 use Rattle.tables.proofs.Agreeing.{lawful, none-formed, none-counted}
 use Rattle.formula.proofs.Sound.{sound-check}
 use Rattle.forest.proofs.Entered.{of-within, members-of}

@@ -13,19 +13,20 @@ use Rattle.terms.proofs.Common.{clash}
 use Rattle.formula.specs.Meaning.{level}
 use Rattle.connection.specs.Tables.{row, lent, WellFormed, EntryPointOf}
 use Rattle.connection.proofs.Strict.{strict-entry-within}
-use Rattle.searching.specs.declared.marks.Signs.{Signs}
+use Rattle.marks.specs.declared.Signs.{Signs}
 use Rattle.terms.specs.declared.Scheme.{Scheme}
 use Rattle.tables.specs.Formula.{variables, Shares, SharesBy}
 use Rattle.forest.specs.Answers.{EntriesBy}
 use Rattle.tables.specs.Counting.{FormedBy}
-use Rattle.searching.specs.Search.{EntryRows, TopRows, By, Flagged, Takes, Via, Blank, ifFlagged, Entering, Enters}
-use Rattle.tables.proofs.Readings.{row-none, row-over}
-use Rattle.searching.proofs.Tops.{row-stored, row-kept}
+use Rattle.searching.specs.Search.{EntryRows, TopRows}
+use Rattle.marks.specs.Flags.{By, Flagged, Takes, Via, Blank, ifFlagged, Entering}
+use Rattle.forest.specs.Wanted.{Enters}
+use Rattle.tables.proofs.Readings.{row-none, row-over, row-stored, row-kept}
 use Rattle.searching.proofs.Climbing.{tops-entries}
-use Rattle.searching.proofs.Flags.{via-as, via-or}
+use Rattle.marks.proofs.Flags.{via-as, via-or}
 use Rattle.tables.proofs.Agreeing.{lawful}
 use Rattle.forest.proofs.Entered.{entries-of}
-use Rattle.searching.proofs.Sides.{shares-some, shares-signed}
+use Rattle.marks.proofs.Sides.{shares-some, shares-signed}
 
 -- The entry points by a scheme are among the standard ones.
 pub scheme-points : (n : ℕ) (es : List ℕ) (ls : List ℤ) (classes parents : List ℕ) (x : ℕ) (scheme : Scheme) (e : ℕ) → EntriesBy scheme n es ls classes parents x e → EntryPointOf (variables n es) (lent (variables n es) classes parents) (Shares ls) x e

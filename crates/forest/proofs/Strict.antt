@@ -16,7 +16,7 @@ use Rattle.connection.proofs.Strict.{strict-member-within, one-sign-entry}
 use Rattle.terms.specs.declared.Scheme.the-variants.{Standard, Strict}
 use Rattle.tables.specs.Formula.{signed, SharesBy}
 use Rattle.forest.specs.Answers.{EntriesBy, MembersBy, EntriesListedBy, SetListedBy, SizedBy}
-use Rattle.searching.proofs.Sides.{connected-open, shares-some, shares-x}
+use Rattle.marks.proofs.Sides.{connected-open, shares-some, shares-x}
 
 -- The strict set lies within the standard one, by the lent tables, whatever they are.
 pub strict-set-within : (n : ℕ) (es : List ℕ) (ls : List ℤ) (classes parents : List ℕ) (x y : ℕ) → MembersBy Strict n es ls classes parents x y → MembersBy Standard n es ls classes parents x y

@@ -1,8 +1,8 @@
 // What the calls for entry points, sets and sizes share: every refusal but 14, and then the entry of each variable and the entry points of x.
 
-use formula::levels::fill_levels;
-use searching::marks::flag_entries;
-use searching::search::fill_tops;
+use levelling::fill_levels;
+use marks::flag_entries;
+use searching::fill_tops;
 use tables::checking::check_forest;
 use tables::rows::level_at;
 use tables::rows::universal_at;
@@ -25,7 +25,7 @@ ghost use Rattle.tables.specs.Causes.{ForestCause};
 ghost use Rattle.forest.specs.Causes.{NotUniversal, readOrder};
 ghost use Rattle.forest.specs.Answers.{EntriesBy};
 ghost use Rattle.tables.specs.Counting.{FormedBy};
-ghost use Rattle.searching.specs.Search.{Enters};
+ghost use Rattle.forest.specs.Wanted.{Enters};
 
 // Refusals 1 to 13, and where there is none the flags of all entry points of x by the scheme, and rows `tops` that say for each variable by
 // whose flag it is a member. The two tables hold the levels and the universals before, so that x needs no table of its own.
@@ -45,7 +45,7 @@ pub fn enter(
     ensures { λ r. ⌜ Judged (readOrder n (now (prefix .entry)) (now (clauses .entry)) (now (classes .entry)) (now (parents .entry)) (now (counts .entry)) (x .0)) r ⌝ }
     ensures { λ r. ⌜ Enters (variables n (now (prefix .entry))) (lent (variables n (now (prefix .entry))) (now (classes .entry)) (now (parents .entry))) (EntriesBy scheme n (now (prefix .entry)) (now (clauses .entry)) (now (classes .entry)) (now (parents .entry)) (x .0)) (x .0) (now (tops .exit)) (now (entered .exit)) r ⌝ }
 {
-    match formula::check(n, prefix, clauses) {
+    match checks::check(n, prefix, clauses) {
         Verdict::Refused(number, place) => Verdict::Refused(number, place),
         Verdict::Accepted => sound_enter(
             scheme,

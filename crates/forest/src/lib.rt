@@ -2,14 +2,14 @@
 
 mod entering;
 
+use checks::prefix::prefix_verdict;
 use entering::enter;
-use formula::levels::fill_levels;
-use formula::prefix::prefix_verdict;
-use searching::listing::Asked;
-use searching::listing::list_picked;
-use searching::listing::sum_flagged;
-use searching::search::Found;
-use searching::search::find_entry;
+use levelling::fill_levels;
+use picking::Asked;
+use picking::list_picked;
+use picking::sum_flagged;
+use searching::Found;
+use searching::find_entry;
 use tables::checking::check_forest;
 use tables::rows::universal_at;
 use terms::Filled;

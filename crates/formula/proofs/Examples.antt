@@ -45,7 +45,7 @@ smallest-literal v judged =
         at0-none 2 (⊎-elim (λ l. omega arith) (λ l. omega arith)),
         inr (
           no-prefix 4096,
-          inl (fault-at-literal (read-none 4096 smallest) 2147483648 (omega arith) refl (lit< tt)),
+          inl (fault-at-literal (record { within = omega arith; low = λ e l. absurd (omega arith); over = λ _. lit< tt }) (omega arith)),
         ),
       ),
     ))

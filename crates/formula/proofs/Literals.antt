@@ -1,20 +1,22 @@
--- What the scan of a clause table knows at entry i, and that a fault found there is the first.
+-- What the scans of a clause table know, and that a fault found there is the first.
 use Prim.Native.Nat.{ℕ, zero, suc, _≤_, _<_, _+_, _-_}
 use mathlib.Core.Path.{_≡_, refl, sym, ap, _∙_}
 use mathlib.Core.Bool.{Bool, true, false, not}
 use mathlib.Core.List.{List}
+use mathlib.Core.Logic.{_⊎_, _≢_, ⊎-elim}
 use native.Mathlib.Numerals.{add-one}
 use native.Mathlib.Omega.{arith}
-use borrow.Author.Tests.{eqb-true, eqb-false, not-true, not-false}
+use borrow.Author.Tests.{eqb-true, not-false}
 use lib.Dec.{eqb}
 use lib.IntN.{ℤ, pos, negsuc}
 use lib.ListN.{length}
 use Rattle.terms.specs.Literals.{variableOf}
 use Rattle.terms.specs.Refusals.{First, None}
-use Rattle.terms.proofs.Common.{below-suc, clash}
+use Rattle.terms.proofs.Common.{below-suc}
 use Rattle.terms.proofs.Verdicts.{first-at}
 use Rattle.formula.specs.Tables.{literalAt, EndsInside}
 use Rattle.formula.specs.Causes.{ClauseCause, outside, ends-inside}
+use Rattle.formula.specs.Scan.{AllUpto, FirstOver}
 
 -- only the literal 0 has no variable
 pub no-variable : (z : ℤ) → variableOf z ≡ 0 → z ≡ pos 0
@@ -46,21 +48,7 @@ module _ {n : ℕ} {ls : List ℤ} {i : ℕ} {inside : Bool} (r : Read n ls i in
       here number (outside _ _ _ over) = omega arith
       here number (ends-inside _ q _) = omega arith
 
-  pub fault-at-literal : (v : ℕ) → i < length ls → v ≡ variableOf (literalAt ls i) → n < v → First (ClauseCause n ls) 10 i
-  fault-at-literal v more is over =
-      first-at (r .clean) (outside refl more (λ q. let z = ap variableOf q in omega arith) (rw (← is) over)) low
-    where
-      low : (k : ℕ) → ClauseCause n ls k i → 10 ≤ k
-      low k (outside q _ _ _) = omega arith
-      low k (ends-inside q _ _) = omega arith
-
--- The table ends inside a clause exactly if its last entry is a literal.
-open-end : (ls : List ℤ) (m : ℕ) → length ls ≡ m → insideAt ls m ≡ true → EndsInside (pos 0) ls
-open-end ls zero q t = absurd (clash t refl)
-open-end ls (suc m) q t =
-    let last : length ls - 1 ≡ m = omega arith in
-    (omega arith, λ z. eqb-false _ 0 (not-true _ t) (ap (λ e. variableOf (literalAt ls e)) (sym last) ∙ ap variableOf z))
-
+-- The table does not end inside a clause if its last entry is no literal.
 shut-end : (ls : List ℤ) (m : ℕ) → length ls ≡ m → insideAt ls m ≡ false → EndsInside (pos 0) ls → ⊥
 shut-end ls zero q t (some, last) = omega arith
 shut-end ls (suc m) q t (some, last) =
@@ -70,14 +58,37 @@ module _ {n : ℕ} {ls : List ℤ} {i : ℕ} {inside : Bool} (r : Read n ls i in
   end : length ls ≡ i
   end = let w = r .within in omega arith
 
-  -- A table that is read to its end between two clauses has no cause, one that ends inside a clause has 11.
+  -- A table that is read to its end between two clauses has no cause.
   pub none-in-clauses : inside ≡ false → None (ClauseCause n ls)
   none-in-clauses shut k e (outside q l some over) = r .clean e (let w = end in omega arith) k (outside q l some over)
   none-in-clauses shut k e (ends-inside q p inside) = shut-end ls i end (sym (r .inside-is) ∙ shut) inside
 
-  pub fault-at-end : inside ≡ true → First (ClauseCause n ls) 11 i
-  fault-at-end open′ = first-at (r .clean) (ends-inside refl (sym end) (open-end ls i end (sym (r .inside-is) ∙ open′))) low
+-- Up to the first variable over n there is no fault, and there the first.
+all-clean : {n : ℕ} {ls : List ℤ} {i : ℕ} → i ≤ length ls → AllUpto n ls i → (e : ℕ) → e < i → (number : ℕ) → ClauseCause n ls number e → ⊥
+all-clean within low e l number (outside _ _ _ over) = let u = low e l in omega arith
+all-clean within low e l number (ends-inside _ q _) = omega arith
+
+pub fault-at-literal : {n : ℕ} {ls : List ℤ} {i : ℕ} → FirstOver n ls i → i < length ls → First (ClauseCause n ls) 10 i
+fault-at-literal {n} {ls} {i} f more =
+    let over = f .over more in
+    first-at (all-clean (f .within) (f .low)) (outside refl more (λ q. let z = ap variableOf q in omega arith) over) least
+  where
+    least : (k : ℕ) → ClauseCause n ls k i → 10 ≤ k
+    least k (outside q _ _ _) = omega arith
+    least k (ends-inside q _ _) = omega arith
+
+-- Where there is none, the last entry tells: the table ends inside a clause exactly if that is a literal.
+module _ {n : ℕ} {ls : List ℤ} {i : ℕ} (f : FirstOver n ls i) (done : length ls ≤ i) where
+  low : AllUpto n ls (length ls)
+  low e l = f .low e (omega arith)
+
+  pub none-over : ((length ls ≡ 0) ⊎ (variableOf (literalAt ls (length ls - 1)) ≡ 0)) → None (ClauseCause n ls)
+  none-over shut k e (outside q l some over) = let u = low e l in omega arith
+  none-over shut k e (ends-inside q p (some, last)) = ⊎-elim (λ none. omega arith) (λ closed. last (no-variable (literalAt ls (length ls - 1)) closed)) shut
+
+  pub fault-at-end : length ls ≢ 0 → variableOf (literalAt ls (length ls - 1)) ≢ 0 → First (ClauseCause n ls) 11 (length ls)
+  fault-at-end some last = first-at (all-clean (omega arith) low) (ends-inside refl refl (omega arith, λ z. last (ap variableOf z))) least
     where
-      low : (k : ℕ) → ClauseCause n ls k i → 11 ≤ k
-      low k (outside _ l _ _) = absurd (let w = end in omega arith)
-      low k (ends-inside q _ _) = omega arith
+      least : (k : ℕ) → ClauseCause n ls k (length ls) → 11 ≤ k
+      least k (outside _ l _ _) = absurd (omega arith)
+      least k (ends-inside q _ _) = omega arith

@@ -1,11 +1,14 @@
--- How the scan of a prefix judges one mark, and one variable. What a reader must believe is in Causes; a proof ties the two.
+-- How the scan of a prefix judges one mark, and one variable, and what that of a clause table finds. What a reader must believe is in Causes; a proof ties the two.
 use Prim.Native.Nat.{ℕ, _≤_, _<_}
 use mathlib.Core.Path.{_≡_}
 use mathlib.Core.Bool.{Bool, true, false}
 use mathlib.Core.List.{List}
 use mathlib.Core.Logic.{_⊎_, _≢_}
-use lib.ListN.{getD, set}
+use lib.IntN.{ℤ}
+use lib.ListN.{length, getD, set}
 use Rattle.terms.specs.Limits.{mostBlocks}
+use Rattle.terms.specs.Literals.{variableOf}
+use Rattle.formula.specs.Tables.{literalAt}
 
 -- 1 existential, 2 universal
 abbrev pub IsMark : ℕ → Type 0
@@ -23,3 +26,13 @@ pub data NameFault (n entry : ℕ) (named named′ : List Bool) (number : ℕ) :
   fresh : number ≡ 0 → entry ≤ n → getD named entry false ≡ false → named′ ≡ set named entry true → NameFault n entry named named′ number
   outside : number ≡ 7 → n < entry → NameFault n entry named named′ number
   named-before : number ≡ 8 → entry ≤ n → getD named entry false ≡ true → NameFault n entry named named′ number
+
+-- no entry before i has a variable over n
+abbrev pub AllUpto : ℕ → List ℤ → ℕ → Type 0
+AllUpto n ls i = (e : ℕ) → e < i → variableOf (literalAt ls e) ≤ n
+
+-- entry e is the first with a variable over n, or the end of the table if there is none
+pub record FirstOver (n : ℕ) (ls : List ℤ) (e : ℕ) : Type 0 where
+  pub within : e ≤ length ls
+  pub low : AllUpto n ls e
+  pub over : e < length ls → n < variableOf (literalAt ls e)

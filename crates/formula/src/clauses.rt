@@ -5,11 +5,14 @@ use terms::Variable;
 use terms::Verdict;
 ghost use Prim.Native.Nat.{_<_};
 ghost use mathlib.Core.Path.{_≡_};
+ghost use mathlib.Core.Bool.{false};
 ghost use mathlib.Core.List.{[], _∷_};
+ghost use lib.ListN.{length};
 ghost use Rattle.terms.specs.Literals.{variableOf};
 ghost use Rattle.terms.specs.Refusals.{Judged};
 ghost use Rattle.formula.specs.Tables.{literalAt};
 ghost use Rattle.formula.specs.Causes.{ClauseCause};
+ghost use Rattle.formula.specs.Scan.{AllUpto, FirstOver};
 ghost use Rattle.formula.specs.Lookup.{NextZero, Stands};
 
 // The literal at entry i; 0 past the end.
@@ -34,22 +37,56 @@ pub fn variable_at(clauses: &[i32], i: usize) -> Variable
 pub fn check_clauses(n: u32, clauses: &[i32]) -> Verdict
     ensures { λ r. ⌜ Judged (ClauseCause n (now (clauses .entry)) ∷ []) r ⌝ }
 {
-    let mut inside = false;
+    let end = clauses.len();
+    let at = first_over(n, clauses);
+    if at < end {
+        return Verdict::Refused(10, at);
+    }
+    if end == 0 {
+        return Verdict::Accepted;
+    }
+    let last = variable_at(clauses, end - 1);
+    if last.0 == 0 {
+        Verdict::Accepted
+    } else {
+        Verdict::Refused(11, end)
+    }
+}
+
+// The first entry with a variable over n; the end of the table where there is none.
+fn first_over(n: u32, clauses: &[i32]) -> usize
+    ensures { λ r. ⌜ FirstOver n (now (clauses .entry)) r ⌝ }
+{
+    if !any_over(n, clauses) {
+        return clauses.len();
+    }
     let mut i = 0;
     while i < clauses.len() {
         let variable = variable_at(clauses, i);
-        let number = variable.0;
-        if n < number {
-            return Verdict::Refused(10, i);
+        if n < variable.0 {
+            return i;
         }
-        inside = number != 0;
         i += 1;
     }
-    if inside {
-        Verdict::Refused(11, i)
-    } else {
-        Verdict::Accepted
+    i
+}
+
+// Whether some entry has a variable over n. No entry ends the pass, so that many are looked at together.
+fn any_over(n: u32, clauses: &[i32]) -> bool
+    ensures { λ r. ⌜ (r ≡ false → AllUpto n (now (clauses .entry)) (length (now (clauses .entry)))) ⌝ }
+{
+    let mut over = false;
+    let mut i = 0;
+    while i < clauses.len() {
+        let variable = variable_at(clauses, i);
+        if n < variable.0 {
+            over = true;
+            i += 1;
+        } else {
+            i += 1;
+        }
     }
+    over
 }
 
 // The first entry from `start` on with a 0; the end of the table where there is none.

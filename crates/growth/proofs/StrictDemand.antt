@@ -12,7 +12,7 @@ use Rattle.tables.specs.Formula.{variables, universal, Shares, SharesBy}
 use Rattle.forest.specs.Answers.{EntriesBy, MembersBy, DependsBy}
 use Rattle.tables.proofs.Agreeing.{lawful}
 use Rattle.forest.proofs.Demands.{universal-alone}
-use Rattle.searching.proofs.Sides.{shares-some}
+use Rattle.marks.proofs.Sides.{shares-some}
 use Rattle.forest.proofs.Strict.{shares-last}
 use Rattle.connection.specs.Reach.{Variables, Joined, StrictlyDepends}
 use Rattle.connection.specs.Growth.{LeavesAlone}

@@ -1,7 +1,7 @@
 // What is looked at of an added clause and its prefix before any table: refusals 1 to 9, and 10.
 
+use checks::prefix::prefix_verdict;
 use formula::clauses::variable_at;
-use formula::prefix::prefix_verdict;
 use terms::Verdict;
 ghost use mathlib.Core.List.{[], _∷_};
 ghost use Rattle.terms.specs.Refusals.{Judged};

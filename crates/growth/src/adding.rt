@@ -6,7 +6,7 @@ use crate::counted;
 use crate::refused;
 use crate::tallying::disagrees;
 use crate::tallying::take;
-use formula::levels::fill_levels;
+use levelling::fill_levels;
 use settling::counts::recount;
 use settling::counts::take_census;
 use settling::put_in;

@@ -46,7 +46,7 @@ pub fn build_tallied(
 ) -> Tallied
     ensures { λ r. ⌜ Builds n (now (prefix .entry)) (now (clauses .entry)) (standing (now (classes .entry)) (now (parents .entry)) (now (counts .entry)) tally) (standing (now (classes .exit)) (now (parents .exit)) (now (counts .exit)) (r .tally)) (r .answer) ⌝ }
 {
-    match formula::check(n, prefix, clauses) {
+    match checks::check(n, prefix, clauses) {
         Verdict::Refused(number, place) => refused(number, place, tally),
         Verdict::Accepted => {
             if !has_room(n, classes, parents, counts) {

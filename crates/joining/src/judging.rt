@@ -1,6 +1,6 @@
 // The prefix under rule 2, scanned once from the left for refusals 3, 4, 6, 7 and 8.
 
-use formula::prefix::name_fault;
+use checks::prefix::name_fault;
 use terms::Level;
 use terms::Verdict;
 ghost use Prim.Native.Nat.{_≤_, _<_};

@@ -3,7 +3,7 @@
 mod judging;
 mod laying;
 
-use formula::prefix::prefix_verdict;
+use checks::prefix::prefix_verdict;
 use judging::joined_verdict;
 use laying::lay_out;
 use terms::Filled;

@@ -1,4 +1,3 @@
--- The laws of the listing program: bytes of a line, counts, and what is printed of a universal.
-pub mod Spelt
+-- The laws of the listing program: counts, and what is printed of a universal.
 pub mod Counts
 pub mod Printed

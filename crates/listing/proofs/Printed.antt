@@ -8,9 +8,9 @@ use native.Mathlib.Omega.{arith}
 use lib.ListN.{length, getD, take, drop}
 use lib.Seq.{sets-eq, length-sets, take-at}
 use Rattle.terms.specs.declared.Filled.the-variants.{Count}
-use Rattle.searching.specs.Search.{picked, Picks}
-use Rattle.searching.proofs.Picked.{picked-most, picked-flag}
-use Rattle.listing.specs.Lines.{Small}
+use Rattle.picking.specs.Picked.{picked, Picks}
+use Rattle.picking.proofs.Picked.{picked-most, picked-flag}
+use Rattle.lines.specs.Lines.{Small}
 
 -- what stands at an index is in the list
 member-at : (l : List ℕ) (i : ℕ) → i < length l → List·Memᴰ (getD l i 0) l

@@ -1,35 +1,32 @@
 // Lists the strict dependency sets of a QDIMACS text on standard input: a line for the formula, and one for each universal.
 
-mod lines;
-
 use formula::clauses::variable_at;
-use formula::levels::fill_levels;
 use growth::Tally;
+use levelling::fill_levels;
 use libc::STDIN_FILENO;
 use libc::STDOUT_FILENO;
+use picking::Asked;
+use picking::list_picked;
 use qdimacs::Reading;
-use searching::listing::Asked;
-use searching::listing::list_picked;
-use searching::search::Floor;
-use searching::search::retop;
-use sets::threads::flag_points;
-use sets::threads::thread;
+use searching::Floor;
+use searching::retop;
 use tables::rows::universal_at;
 use terms::Filled;
 use terms::Level;
 use terms::Scheme;
 use terms::Variable;
+use threads::flag_points;
+use threads::thread;
 ghost use Prim.Native.Nat.{_≤_, _<_};
 ghost use mathlib.Core.Path.{_≡_};
 ghost use lib.ListN.{length};
 ghost use Rattle.formula.specs.Levels.{SoundPrefix, Levelled};
 ghost use Rattle.formula.specs.Lookup.{SoundClauses};
-ghost use Rattle.formula.specs.Meaning.{blocks};
-ghost use Rattle.formula.specs.Meaning.{clauses as Meaning·clauses};
+ghost use Rattle.formula.specs.Meaning.{blocks, clauses as Meaning·clauses};
 ghost use Rattle.tables.specs.Counting.{FormedBy};
-ghost use Rattle.sets.specs.Threads.{Closed, Tied};
+ghost use Rattle.threads.specs.Threads.{Closed, Tied};
 ghost use Rattle.sets.specs.Passed.{Ready};
-ghost use Rattle.listing.specs.Lines.{Small};
+ghost use Rattle.lines.specs.Lines.{Small};
 
 fn main() {
     let mut text = [0u8; 65537];

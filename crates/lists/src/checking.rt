@@ -1,9 +1,9 @@
 // What is refused before x is looked at: n, lengths, prefix and clauses, and the table of lists, which is scanned once from the left for 25, 26 and 11.
 
 use crate::Dependent;
+use checks::prefix::prefix_verdict;
 use formula::clauses::check_clauses;
-use formula::levels::fill_levels;
-use formula::prefix::prefix_verdict;
+use levelling::fill_levels;
 use tables::rows::universal_at;
 use terms::Literal;
 use terms::Variable;

@@ -1,13 +1,13 @@
 // The lent tables, once everything is judged: whether they have room for what the file has, and their rows.
 
+use decoding::fill_formula;
+use decoding::fill_numbers;
 use layout::places::clause_entries;
 use layout::places::has_sets;
 use layout::places::prefix_entries;
 use layout::places::third_at;
 use records::Loaded;
 use records::numbers::two_at;
-use verifying::decoding::fill_formula;
-use verifying::decoding::fill_numbers;
 ghost use Prim.Native.Nat.{_≤_};
 ghost use mathlib.Core.Path.{_≡_};
 ghost use lib.ListN.{length};

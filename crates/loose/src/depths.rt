@@ -1,6 +1,6 @@
 // The depth of each variable, which says in one number whether it is existential and how deep it stands.
 
-use formula::levels::fill_levels;
+use levelling::fill_levels;
 ghost use Prim.Native.Nat.{ℕ, _≤_, _<_};
 ghost use mathlib.Core.Path.{_≡_};
 ghost use mathlib.Core.Bool.{false};

@@ -17,8 +17,8 @@ use Rattle.formula.specs.Meaning.{clauses, alwaysTrue}
 use Rattle.formula.proofs.Lookups.{clauses-closed}
 use Rattle.formula.proofs.Signs.{connected-all}
 use Rattle.formula.specs.Tables.{at}
-use Rattle.searching.specs.Search.{Has}
-use Rattle.searching.proofs.Flags.{connects-all}
+use Rattle.marks.specs.Flags.{Has}
+use Rattle.marks.proofs.Flags.{connects-all}
 use Rattle.paths.specs.Paths.{clauseAt, HasVariable}
 use Rattle.paths.specs.Causes.{NumberOver}
 use Rattle.paths.specs.Walk.{StandsFrom, Begin, idle, from, RowOf, Rows, Known, Small}

@@ -11,8 +11,8 @@ use lib.Seq.{getD-set-same, getD-set-other}
 use Rattle.terms.specs.Literals.{variableOf}
 use Rattle.formula.specs.Lookup.{NextZero}
 use Rattle.formula.specs.Tables.{literalAt}
-use Rattle.searching.specs.Search.{Has}
-use Rattle.searching.proofs.Flags.{has-none, has-next, next-none}
+use Rattle.marks.specs.Flags.{Has}
+use Rattle.marks.proofs.Flags.{has-none, has-next, next-none}
 use Rattle.paths.specs.Walk.{Stamped}
 
 -- From start up to i stand literals only, and P holds of none of their variables.

@@ -16,7 +16,7 @@ use Rattle.formula.specs.Meaning.{alwaysTrue}
 use Rattle.formula.specs.Tables.{at}
 use Rattle.connection.specs.Reach.{Variables}
 use Rattle.tables.specs.Rows.{Tells}
-use Rattle.searching.specs.Search.{Has}
+use Rattle.marks.specs.Flags.{Has}
 use Rattle.paths.specs.Paths.{clauseAt, HasVariable, Shared}
 use Rattle.paths.specs.Causes.{PathCause, empty, without-x, always-true, apart, without-y}
 use Rattle.paths.specs.Walk.{StandsFrom, Joins, Meets, Stamped, Walked}

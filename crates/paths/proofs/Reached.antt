@@ -19,7 +19,7 @@ use Rattle.connection.specs.Search.{has}
 use Rattle.connection.proofs.Numbered.{numbered-one, numbered-none, numbered-more, numbered-same, how-many-numbered, how-many-less}
 use Rattle.connection.proofs.Search.{has-member, member-has}
 use Rattle.tables.specs.Formula.{joined, Shares}
-use Rattle.searching.proofs.Sides.{mem-at, connected-open}
+use Rattle.marks.proofs.Sides.{mem-at, connected-open}
 use Rattle.paths.specs.Paths.{clauseAt, HasVariable, Deep, Shared, Acceptable}
 use Rattle.paths.proofs.Deciding.{tells-or, member-tells}
 

@@ -12,7 +12,7 @@ use Rattle.formula.specs.Lookup.{NextZero}
 use Rattle.formula.specs.Meaning.{clauses, alwaysTrue}
 use Rattle.formula.specs.Tables.{at}
 use Rattle.connection.specs.Reach.{Variables}
-use Rattle.searching.specs.Search.{Has}
+use Rattle.marks.specs.Flags.{Has}
 use Rattle.paths.specs.Paths.{clauseAt, HasVariable, Deep, Shared}
 
 -- the clause with the number k stands from `start` up to the 0 at `end`, and is not always true

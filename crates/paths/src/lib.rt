@@ -5,9 +5,9 @@ mod walk;
 
 use begins::fill_begins;
 use begins::some_over;
-use formula::check;
-use formula::levels::fill_levels;
+use checks::check;
 use joining::join;
+use levelling::fill_levels;
 use tables::rows::universal_at;
 use terms::Filled;
 use terms::Variable;

@@ -16,7 +16,7 @@ ghost use Rattle.formula.specs.Meaning.{alwaysTrue};
 ghost use Rattle.formula.specs.Tables.{at};
 ghost use Rattle.tables.specs.Formula.{tabled};
 ghost use Rattle.tables.specs.Rows.{Tells};
-ghost use Rattle.searching.specs.Search.{Has};
+ghost use Rattle.marks.specs.Flags.{Has};
 ghost use Rattle.paths.specs.Paths.{clauseAt, Deep};
 ghost use Rattle.paths.specs.Causes.{PathCause};
 ghost use Rattle.paths.specs.Walk.{Joins, Known, Meets, Small, Stamped, StandsFrom, Walked};

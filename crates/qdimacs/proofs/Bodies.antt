@@ -5,16 +5,19 @@ use mathlib.Core.List.{List, [], _∷_}
 use mathlib.Core.Option.{none, some}
 use native.Mathlib.Omega.{arith}
 use native.Mathlib.Nat.{add-zero}
-use lib.ListN.{length, drop, length-drop}
+use lib.ListN.{length, getD, drop, length-drop}
 use lib.IntN.{ℤ}
 use Rattle.qdimacs.specs.declared.Stage.{Stage}
 use Rattle.qdimacs.specs.declared.Stage.the-variants.{Opening, Body}
-use Rattle.qdimacs.specs.declared.Spelt.the-variants.{Missing}
-use Rattle.qdimacs.specs.Words.{LF, LETTER-A, LETTER-E, pieces, allDigits, isNumber, numberOf, plainItem, itemOf, entry, entriesOf}
+use Rattle.qdimacs.specs.declared.Mark.the-variants.{Unmarked}
+use Rattle.tokens.specs.declared.Spelt.the-variants.{Missing}
+use Rattle.tokens.specs.Words.{LF, LETTER-A, LETTER-E, pieces, allDigits, isNumber, numberOf, plainItem, itemOf, entry, entriesOf}
 use Rattle.qdimacs.specs.Grammar.{variables, literals, CommentLine, ProblemLine, QuantifierLine, e-line, a-line, ClauseLine, literals-line, Line, a-comment, the-problem, a-block, a-clause, TooMany, too-many, Fault, outside, unended, many}
-use Rattle.qdimacs.specs.Places.{past, inLine, front, later, lineAt, afterAt, wordsAt, Passed, WholeRow, NoRow, unread, endless-row}
-use Rattle.qdimacs.specs.Steps.{Goes, SpeltIs, NoOpening, no-opening, endless-line, MarkAt, e-mark, a-mark, WholeBlock, Went}
-use Rattle.qdimacs.proofs.Lines.{Byte, byte, space, feed, letter, front-later, front-onto}
+use Rattle.tokens.specs.Places.{past, isSpace, inLine, front, later, lineAt, afterAt, wordsAt, Passed, WholeRow, NoRow, unread, endless-row}
+use Rattle.tokens.specs.Expected.{Goes, SpeltIs}
+use Rattle.qdimacs.specs.Steps.{NoOpening, no-opening, endless-line, MarkIs, MarkAt, e-mark, a-mark, WholeBlock, Went}
+use Rattle.tokens.proofs.Lines.{Byte, byte, space, feed, letter, front-later, front-onto}
+use Rattle.tokens.proofs.Spelling.{spelt-unlike}
 
 -- A last line without LF is not empty.
 record Filled (xs : List ℕ) : Type 0 where
@@ -248,3 +251,10 @@ module _ (text : List ℕ) (at n m k : ℕ) (h : at < length text) where
           few-entries = omega arith;
           few-literals = w .few;
         }
+
+-- The first byte but spaces is neither mark.
+pub unmarked : (text : List ℕ) (at start : ℕ) → start ≡ past isSpace text at → (getD text start 0 ≡ LETTER-E → ⊥) → (getD text start 0 ≡ LETTER-A → ⊥) → MarkIs text at Unmarked
+unmarked text at start is no-e no-a = (spelt-unlike text at LETTER-E (λ e. no-e (read ∙ e)), spelt-unlike text at LETTER-A (λ e. no-a (read ∙ e)))
+  where
+    read : getD text start 0 ≡ getD text (past isSpace text at) 0
+    read = ap (λ (n : ℕ). getD text n 0) is

@@ -10,8 +10,8 @@ use lib.Dec.{leb, ltb}
 use lib.ListN.{length, getD, length-append}
 use Rattle.spelling.specs.Writing.{decimal}
 use Rattle.spelling.proofs.Decimal.{decimal-small, decimal-large, digits-most}
-use Rattle.qdimacs.specs.declared.Number.the-variants.{Is}
-use Rattle.qdimacs.specs.Words.{ZERO, NINE, allDigits, spelt, isNumber, numberOf}
+use Rattle.tokens.specs.declared.Number.the-variants.{Is}
+use Rattle.tokens.specs.Words.{ZERO, NINE, allDigits, spelt, isNumber, numberOf}
 
 -- Reading digits with one more at the end.
 spelt-more : (before : ℕ) (xs : List ℕ) (digit : ℕ) → spelt before (xs ++ (digit ∷ [])) ≡ spelt before xs * 10 + (digit - ZERO)

@@ -1,13 +1,8 @@
 -- The laws of QDIMACS text, in reading order.
--- Bytes, numbers, lines and their words.
-pub mod Leading
-pub mod Numbers
+-- Padded numbers, the entries of lines, and lines.
 pub mod Padded
-pub mod Lines
-pub mod Entries
 pub mod Rows
 pub mod Copies
-pub mod Spelling
 pub mod Openings
 pub mod Bodies
 pub mod Scans

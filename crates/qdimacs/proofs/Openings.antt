@@ -7,14 +7,15 @@ use native.Mathlib.Omega.{arith}
 use lib.Dec.{eqb}
 use lib.ListN.{length, getD, drop, length-drop}
 use lib.Seq.{drop-cons, drop-drop}
-use Rattle.qdimacs.specs.declared.Number.the-variants.{Is}
-use Rattle.qdimacs.specs.declared.Spelt.the-variants.{Missing}
-use Rattle.qdimacs.specs.declared.Counted.the-variants.{Uncounted}
-use Rattle.qdimacs.specs.Words.{LF, LETTER-C, LETTER-F, LETTER-N, LETTER-P, pieces, words, numberOf}
+use Rattle.tokens.specs.declared.Number.the-variants.{Is}
+use Rattle.tokens.specs.declared.Spelt.the-variants.{Missing}
+use Rattle.tokens.specs.declared.Counted.the-variants.{Uncounted}
+use Rattle.tokens.specs.Words.{LF, LETTER-C, LETTER-F, LETTER-N, LETTER-P, pieces, words, numberOf}
 use Rattle.qdimacs.specs.Grammar.{CommentLine, comment, ProblemLine, p-cnf}
-use Rattle.qdimacs.specs.Places.{leading, past, inLine, front, later, lineAt, afterAt, wordsAt, Passed, Open, words-left, no-feed}
-use Rattle.qdimacs.specs.Steps.{Goes, SpeltIs, Counts, CountedIs, NoOpening, no-opening, endless-line, NoComment}
-use Rattle.qdimacs.proofs.Lines.{Byte, byte, space, feed, letter, front-onto, later-onto}
+use Rattle.tokens.specs.Places.{leading, past, inLine, front, later, lineAt, afterAt, wordsAt, Passed, Open, words-left, no-feed}
+use Rattle.tokens.specs.Expected.{Goes, SpeltIs, Counts, CountedIs}
+use Rattle.qdimacs.specs.Steps.{NoOpening, no-opening, endless-line, NoComment}
+use Rattle.tokens.proofs.Lines.{Byte, byte, space, feed, letter, front-onto, later-onto}
 
 -- The line at a place, by its first byte.
 first-byte : (b : ℕ) (bs : List ℕ) → eqb b LF ≡ false → front (pieces LF (b ∷ bs)) ≡ b ∷ front (pieces LF bs)

@@ -2,9 +2,9 @@
 use mathlib.Core.Path.{_≡_, refl}
 use mathlib.Core.List.{List, [], _∷_}
 use Prim.Native.Nat.{ℕ}
-use Rattle.qdimacs.specs.declared.Number.the-variants.{Is, Not}
-use Rattle.qdimacs.specs.declared.Item.the-variants.{Closing, Negated, Other}
-use Rattle.qdimacs.specs.Words.{SPACE, MINUS, ZERO, LETTER-E, onto, pieces, filled, words, allDigits, spelt, isNumber, numberOf, plainItem, negatedItem, itemOf, prepend, closed, entry, entriesOf}
+use Rattle.tokens.specs.declared.Number.the-variants.{Is, Not}
+use Rattle.tokens.specs.declared.Item.the-variants.{Closing, Negated, Other}
+use Rattle.tokens.specs.Words.{SPACE, MINUS, ZERO, LETTER-E, onto, pieces, filled, words, allDigits, spelt, isNumber, numberOf, plainItem, negatedItem, itemOf, prepend, closed, entry, entriesOf}
 use Rattle.qdimacs.specs.Grammar.{QuantifierLine, e-line}
 
 -- the digits 4 and 5 as bytes, and so many zeros

@@ -13,12 +13,12 @@ use mir.Syntax.{w32}
 use mir.Val.{SFits, toZ, ofZ}
 use mir.Facts.{toZ-ofZ}
 use Rattle.spelling.proofs.Stores.{sets-append}
-use Rattle.qdimacs.specs.declared.Item.{Item}
-use Rattle.qdimacs.specs.declared.Row.{Row}
-use Rattle.qdimacs.specs.declared.Row.the-variants.{Broken, Whole}
+use Rattle.tokens.specs.declared.Item.{Item}
+use Rattle.tokens.specs.declared.Row.{Row}
+use Rattle.tokens.specs.declared.Row.the-variants.{Broken, Whole}
 use Rattle.qdimacs.specs.Grammar.{variables}
-use Rattle.qdimacs.specs.Words.{Kind, prepend, closed, entry, entriesOf}
-use Rattle.qdimacs.specs.Places.{past, inLine, wordsAt, afterAt, Taken, Unread, wordless, strange, early, endless, Closes, WholeRow, NoRow, unread, endless-row, RowIs}
+use Rattle.tokens.specs.Words.{Kind, prepend, closed, entry, entriesOf}
+use Rattle.tokens.specs.Places.{past, inLine, wordsAt, afterAt, Taken, Unread, wordless, strange, early, endless, Closes, WholeRow, NoRow, unread, endless-row, RowIs}
 use Rattle.qdimacs.specs.Steps.{BlockIs}
 
 module _ {A : Type 0} where

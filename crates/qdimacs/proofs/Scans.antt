@@ -11,11 +11,11 @@ use Rattle.qdimacs.specs.declared.Stage.{Stage}
 use Rattle.qdimacs.specs.declared.Stage.the-variants.{Opening}
 use Rattle.qdimacs.specs.declared.Reading.{Reading}
 use Rattle.qdimacs.specs.declared.Reading.the-variants.{Read, Refused}
-use Rattle.qdimacs.specs.Words.{LF, pieces}
+use Rattle.tokens.specs.Words.{LF, pieces}
 use Rattle.qdimacs.specs.Grammar.{Line, a-comment, the-problem, a-block, a-clause, Lines, no-line, one-more, Fault, placeAfter, FaultIn}
-use Rattle.qdimacs.specs.Places.{lineAt}
+use Rattle.tokens.specs.Places.{lineAt}
 use Rattle.qdimacs.specs.Steps.{Went, Sound, announcedAt, FinishIs, ScanIs}
-use Rattle.qdimacs.proofs.Lines.{front-later, line-length}
+use Rattle.tokens.proofs.Lines.{front-later, line-length}
 use Rattle.spelling.proofs.Stores.{sets-append}
 
 -- No line lets more clause lines stand than were announced.

@@ -10,15 +10,15 @@ use borrow.Author.Tests.{leb-true, ne-eqb}
 use lib.Dec.{eqb, leb}
 use lib.ListN.{length}
 use lib.IntN.{ℤ, pos, negsuc, natAbs}
-use Rattle.qdimacs.specs.declared.Item.the-variants.{Plain, Negated}
+use Rattle.tokens.specs.declared.Item.the-variants.{Plain, Negated}
 use Rattle.qdimacs.specs.declared.Stage.{Stage}
 use Rattle.qdimacs.specs.declared.Stage.the-variants.{Body}
-use Rattle.qdimacs.specs.Words.{LF, SPACE, MINUS, ZERO, NINE, LETTER-A, LETTER-C, LETTER-E, LETTER-F, LETTER-N, LETTER-P, onto, pieces, filled, words, allDigits, spelt, isNumber, numberOf, plainItem, negatedItem, itemOf, Kind, prepend, closed, entry, entriesOf}
+use Rattle.tokens.specs.Words.{LF, SPACE, MINUS, ZERO, NINE, LETTER-A, LETTER-C, LETTER-E, LETTER-F, LETTER-N, LETTER-P, onto, pieces, filled, words, allDigits, spelt, isNumber, numberOf, plainItem, negatedItem, itemOf, Kind, prepend, closed, entry, entriesOf}
 use Rattle.qdimacs.specs.Grammar.{variables, literals, p-cnf, QuantifierLine, e-line, a-line, literals-line, the-problem, a-block, a-clause, Lines, no-line, one-more, TextOf}
 use Rattle.spelling.specs.Writing.{decimal, digitsOf, markWord, literalWord, spaced, ended, prefixText, clauseText, clauseCount, problemBytes, textOf}
 use Rattle.qdimacs.proofs.Holdable.{Blocks, no-block, block, block-end, variable, Clauses, no-clause, clause-end, literal, Holdable}
-use Rattle.qdimacs.proofs.Numbers.{both}
-use Rattle.qdimacs.proofs.Lines.{filled-some}
+use Rattle.tokens.proofs.Numbers.{both}
+use Rattle.tokens.proofs.Lines.{filled-some}
 use Rattle.qdimacs.proofs.Decimal.{Digits, digits, decimal-number}
 
 -- Bytes among which a mark does not stand.

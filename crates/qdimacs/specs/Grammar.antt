@@ -6,10 +6,10 @@ use mathlib.Core.List.{List, [], _∷_, _++_}
 use mathlib.Core.Option.{none, some}
 use lib.ListN.{length}
 use lib.IntN.{ℤ, pos, negℤ}
-use Rattle.qdimacs.specs.declared.Number.the-variants.{Is}
+use Rattle.tokens.specs.declared.Number.the-variants.{Is}
 use Rattle.qdimacs.specs.declared.Stage.{Stage}
 use Rattle.qdimacs.specs.declared.Stage.the-variants.{Opening, Body}
-use Rattle.qdimacs.specs.Words.{LF, LETTER-A, LETTER-C, LETTER-E, LETTER-F, LETTER-N, LETTER-P, pieces, words, numberOf, Kind, entriesOf}
+use Rattle.tokens.specs.Words.{LF, LETTER-A, LETTER-C, LETTER-E, LETTER-F, LETTER-N, LETTER-P, pieces, words, numberOf, Kind, entriesOf}
 
 -- Quantifier lines hold variables, none of which carries `-`; clause lines hold literals.
 abbrev pub variables : Kind ℕ

@@ -1,54 +1,28 @@
 -- What the functions on one line promise, in the grammar's words, for the line that stands at a place of a text.
-use Prim.Native.Nat.{ℕ, _+_, _<_, _≤_}
+use Prim.Native.Nat.{ℕ, _+_, _≤_}
 use mathlib.Core.Path.{_≡_}
 use mathlib.Core.List.{List, [], _∷_}
 use mathlib.Core.Option.{some}
 use lib.ListN.{length, drop}
 use lib.Seq.{sets}
 use lib.IntN.{ℤ}
-use Rattle.qdimacs.specs.declared.Number.the-variants.{Is}
 use Rattle.qdimacs.specs.declared.Stage.{Stage}
 use Rattle.qdimacs.specs.declared.Stage.the-variants.{Opening, Body}
 use Rattle.qdimacs.specs.declared.Reading.{Reading}
 use Rattle.qdimacs.specs.declared.Reading.the-variants.{Read, Refused}
-use Rattle.qdimacs.specs.declared.Spelt.{Spelt}
-use Rattle.qdimacs.specs.declared.Spelt.the-variants.{Missing, Spelled}
-use Rattle.qdimacs.specs.declared.Counted.{Counted}
-use Rattle.qdimacs.specs.declared.Counted.the-variants.{Uncounted, Count}
+use Rattle.tokens.specs.declared.Spelt.the-variants.{Missing}
 use Rattle.qdimacs.specs.declared.Opened.{Opened}
 use Rattle.qdimacs.specs.declared.Opened.the-variants.{Misfit, Comment, Problem}
 use Rattle.qdimacs.specs.declared.Mark.{Mark}
 use Rattle.qdimacs.specs.declared.Mark.the-variants.{Unmarked, Marked}
-use Rattle.qdimacs.specs.declared.Row.{Row}
-use Rattle.qdimacs.specs.declared.Row.the-variants.{Broken, Whole}
+use Rattle.tokens.specs.declared.Row.{Row}
+use Rattle.tokens.specs.declared.Row.the-variants.{Broken, Whole}
 use Rattle.qdimacs.specs.declared.Step.{Step}
 use Rattle.qdimacs.specs.declared.Step.the-variants.{Wrong, On}
-use Rattle.qdimacs.specs.Words.{LF, LETTER-A, LETTER-E, pieces, numberOf, entriesOf}
+use Rattle.tokens.specs.Words.{LF, LETTER-A, LETTER-E, pieces, entriesOf}
 use Rattle.qdimacs.specs.Grammar.{variables, CommentLine, ProblemLine, Line, TextOf, Fault, FaultIn}
-use Rattle.qdimacs.specs.Places.{past, inLine, lineAt, afterAt, wordsAt, Passed, NoRow}
-
--- The next word of a line is this one, and the line goes on at `next`.
-pub record Goes (word : List ℕ) (text : List ℕ) (at next : ℕ) : Type 0 where
-  pub first : wordsAt text at ≡ word ∷ wordsAt text next
-  pub after : afterAt text at ≡ afterAt text next
-  pub line : past inLine text at ≡ past inLine text next
-  pub on : at < next
-  pub within : next ≤ length text
-
--- Whether the next word is this one.
-abbrev pub SpeltIs : List ℕ → List ℕ → ℕ → Spelt → Type 0
-SpeltIs word text at Missing = (more : List (List ℕ)) → wordsAt text at ≡ word ∷ more → ⊥
-SpeltIs word text at (Spelled next) = Goes word text at next
-
--- Whether the next word is a number.
-pub record Counts (text : List ℕ) (at value next : ℕ) : Type 0 where
-  pub word : List ℕ
-  pub goes : Goes word text at next
-  pub is : numberOf word ≡ Is value
-
-abbrev pub CountedIs : List ℕ → ℕ → Counted → Type 0
-CountedIs text at Uncounted = (word : List ℕ) (more : List (List ℕ)) (value : ℕ) → wordsAt text at ≡ word ∷ more → numberOf word ≡ Is value → ⊥
-CountedIs text at (Count value next) = Counts text at value next
+use Rattle.tokens.specs.Places.{lineAt, afterAt, wordsAt, Passed, NoRow}
+use Rattle.tokens.specs.Expected.{Goes, SpeltIs}
 
 -- The line at a place is no comment.
 abbrev pub NoComment : List ℕ → ℕ → Type 0

@@ -3,14 +3,14 @@
 use crate::LETTER_A;
 use crate::LETTER_E;
 use crate::Mark;
-use crate::Row;
-use crate::Spelt;
 use crate::Stage;
 use crate::Step;
-use crate::expected::letter_at;
 use crate::tables::block_at;
 use crate::tables::literals_at;
-use crate::words::gap_end;
+use tokens::Row;
+use tokens::Spelt;
+use tokens::expected::letter_at;
+use tokens::words::gap_end;
 ghost use mathlib.Core.Path.{_≡_};
 ghost use mathlib.Core.Bool.{false};
 ghost use Prim.Native.Nat.{_<_, _≤_};

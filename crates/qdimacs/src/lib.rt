@@ -1,28 +1,19 @@
 // QDIMACS text: reading a text into lent tables, and writing the text of a formula, if it is accepted, into a lent buffer.
 
 mod body;
-pub mod expected;
 mod filling;
-mod items;
 mod opening;
 pub mod scanning;
 pub mod tables;
-mod words;
 
 use filling::read_by_way;
 use spelling::LETTER_A;
 use spelling::LETTER_C;
 use spelling::LETTER_E;
-use spelling::LETTER_F;
-use spelling::LETTER_N;
 use spelling::LETTER_P;
 use spelling::LF;
-use spelling::MINUS;
-use spelling::NINE;
 use spelling::Output;
-use spelling::SPACE;
 use spelling::TEXT_MOST;
-use spelling::ZERO;
 use spelling::writing::write_accepted;
 use terms::Verdict;
 ghost use Rattle.qdimacs.specs.Stored.{Writes};
@@ -66,7 +57,7 @@ pub fn read(text: &[u8], prefix: &mut [u32], clauses: &mut [i32]) -> Reading
 pub fn write(n: u32, prefix: &[u32], clauses: &[i32], out: &mut [u8]) -> Output
     ensures { λ r. ⌜ Writes n (now (prefix .entry)) (now (clauses .entry)) (now (out .entry)) (now (out .exit)) r ⌝ }
 {
-    match formula::check(n, prefix, clauses) {
+    match checks::check(n, prefix, clauses) {
         Verdict::Refused(number, place) => Output::Refused { number, place },
         Verdict::Accepted => write_accepted(n, prefix, clauses, out),
     }
@@ -76,20 +67,6 @@ pub fn write(n: u32, prefix: &[u32], clauses: &[i32], out: &mut [u8]) -> Output
 pub enum Stage {
     Opening,
     Body { n: u32, announced: u32, stood: u32 },
-}
-
-// A word of a quantifier or clause line: the closing 0, a nonzero number, one that carries `-`, or none of these.
-pub enum Item {
-    Closing,
-    Plain(u32),
-    Negated(u32),
-    Other,
-}
-
-// A word as a number.
-pub enum Number {
-    Is(u32),
-    Not,
 }
 
 // What a line makes of a stage: the number of the refusal if it may not stand there, or the stage and the counts of entries that it leads to.
@@ -114,42 +91,4 @@ enum Opened {
 enum Mark {
     Unmarked,
     Marked { mark: u32, next: usize },
-}
-
-// A line of entries: where the next line stands, and the count of entries with it.
-pub enum Row {
-    Broken,
-    Whole { next: usize, count: usize },
-}
-
-// What stands next in a line of entries: a number and where the line goes on, or the closing 0 and where the next line stands.
-enum Entry {
-    Unfit,
-    Close { next: usize },
-    Take { value: u32, next: usize },
-    Negate { value: u32, next: usize },
-}
-
-// Whether the next word of a line is the one looked for, and where the line goes on.
-pub enum Spelt {
-    Missing,
-    Spelled(usize),
-}
-
-// Whether the next word of a line is a number, and where the line goes on.
-pub enum Counted {
-    Uncounted,
-    Count { value: u32, next: usize },
-}
-
-// Where the next line stands, if nothing but spaces stands before the LF of this one.
-pub enum Ended {
-    Nowhere,
-    Next(usize),
-}
-
-// What stands next in a line: a word, from its first byte up to its end, or the line's end, an LF or the text's end.
-enum Word {
-    Found { start: usize, end: usize },
-    End { at: usize },
 }

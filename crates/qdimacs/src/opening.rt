@@ -1,22 +1,22 @@
 // The lines before the body: comments and the problem line.
 
-use crate::Counted;
-use crate::Ended;
 use crate::LETTER_C;
 use crate::LETTER_P;
 use crate::LF;
 use crate::Opened;
-use crate::Spelt;
-use crate::expected::cnf_at;
-use crate::expected::letter_at;
-use crate::expected::line_ended;
-use crate::expected::number_at;
+use tokens::Counted;
+use tokens::Ended;
+use tokens::Spelt;
+use tokens::expected::cnf_at;
+use tokens::expected::letter_at;
+use tokens::expected::line_ended;
+use tokens::expected::number_at;
 ghost use mathlib.Core.Path.{_≡_};
 ghost use Prim.Native.Nat.{_<_};
 ghost use lib.ListN.{length};
 ghost use Rattle.qdimacs.specs.Grammar.{CommentLine};
 ghost use Rattle.qdimacs.specs.Steps.{NoComment, OpenedIs};
-ghost use Rattle.qdimacs.specs.Places.{past, inLine, lineAt};
+ghost use Rattle.tokens.specs.Places.{past, inLine, lineAt};
 
 // A line before or at the problem line.
 pub fn opening_at(text: &[u8], at: usize) -> Opened

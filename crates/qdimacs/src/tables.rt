@@ -1,15 +1,15 @@
 // The entries of a line in its table: they are stored from a row on, as far as the table has rows.
 
-use crate::Entry;
-use crate::Row;
-use crate::items::entry_at;
+use tokens::Entry;
+use tokens::Row;
+use tokens::items::entry_at;
 ghost use mathlib.Core.Path.{_≡_};
 ghost use Prim.Native.Nat.{_<_, _≤_};
 ghost use lib.ListN.{set};
 ghost use lib.IntN.{pos, negℤ};
 ghost use Rattle.qdimacs.specs.Grammar.{variables, literals};
 ghost use Rattle.qdimacs.specs.Steps.{BlockIs};
-ghost use Rattle.qdimacs.specs.Places.{RowIs};
+ghost use Rattle.tokens.specs.Places.{RowIs};
 
 // The entries of a quantifier line, its mark first, stored in the prefix table from a row on. The place is the one after the mark.
 pub fn block_at(text: &[u8], at: usize, mark: u32, prefix: &mut [u32], from: usize) -> Row

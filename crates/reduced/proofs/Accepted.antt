@@ -18,7 +18,7 @@ use Rattle.formula.proofs.Sound.{sound-clauses}
 use Rattle.connection.specs.Reach.{Variables}
 use Rattle.connection.proofs.Choice.{choice}
 use Rattle.tables.specs.Formula.{variables}
-use Rattle.searching.proofs.Sides.{mem-at}
+use Rattle.marks.proofs.Sides.{mem-at}
 use Rattle.growth.specs.Grown.{AddedCause, clauseFirst, withLast}
 use Rattle.growth.proofs.Appended.{clauses-last, last-accepted}
 use Rattle.reduced.specs.Reduced.{reducible, without, reducedClause, Reduces, Reduction}

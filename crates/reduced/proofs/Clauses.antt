@@ -14,7 +14,7 @@ use Rattle.formula.specs.Meaning.{clauses, opposite, denied, alwaysTrue, connec
 use Rattle.formula.proofs.Signs.{connected-all}
 use Rattle.connection.specs.Reach.{Variables}
 use Rattle.connection.proofs.Choice.{choice, neither}
-use Rattle.searching.proofs.Sides.{connected-open}
+use Rattle.marks.proofs.Sides.{connected-open}
 use Rattle.reduced.specs.Reduced.{deeperThanAll, reducible, without, reducedClause, Reduces, Reduction}
 use Rattle.reduced.proofs.Carried.{Step}
 

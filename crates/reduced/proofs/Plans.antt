@@ -14,7 +14,7 @@ use Rattle.tables.specs.Formula.{variables, signed, joined, Shares, SharesBy}
 use Rattle.tables.proofs.Agreeing.{lawful}
 use Rattle.terms.specs.declared.Scheme.{Scheme}
 use Rattle.forest.specs.Answers.{EntriesBy, MembersBy, SizeBy, DependsBy}
-use Rattle.searching.proofs.Sides.{signed-variable}
+use Rattle.marks.proofs.Sides.{signed-variable}
 use Rattle.forest.proofs.Demands.{listed-as}
 use Rattle.reduced.specs.Reduced.{Reduction}
 use Rattle.reduced.proofs.Carried.{Step, Carries, depends-carried, strictly-carried, forest-carried, entries-carried, strict-entries-carried}

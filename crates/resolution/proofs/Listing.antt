@@ -18,10 +18,10 @@ use Rattle.connection.specs.Listed.{Listed}
 use Rattle.tables.specs.Formula.{variables, tabled, universalIn, signed}
 use Rattle.tables.proofs.Agreeing.{lawful, same-back, tables-agree, level-agrees}
 use Rattle.tables.proofs.Readings.{flag-within}
-use Rattle.searching.specs.declared.listing.Asked.the-variants.{Points}
-use Rattle.searching.specs.Search.{pick, picked}
-use Rattle.searching.proofs.Flags.{literal-past}
-use Rattle.searching.proofs.Picked.{picked-listed}
+use Rattle.picking.specs.declared.Asked.the-variants.{Points}
+use Rattle.picking.specs.Picked.{pick, picked}
+use Rattle.marks.proofs.Flags.{literal-past}
+use Rattle.picking.proofs.Picked.{picked-listed}
 use Rattle.sets.proofs.AllSets.{sound-closed}
 use Rattle.resolution.specs.Paths.{DependsByPaths}
 use Rattle.resolution.specs.Walk.{ReadClauses}

@@ -15,11 +15,11 @@ use Rattle.formula.specs.Lookup.{NextZero}
 use Rattle.formula.proofs.Lookups.{clauses-closed, clauses-unclosed}
 use Rattle.formula.proofs.Signs.{connected-all}
 use Rattle.tables.specs.Formula.{signed}
-use Rattle.searching.specs.Search.{HasLiteral}
-use Rattle.searching.proofs.Flags.{literal-past, next-none, clause-literal}
-use Rattle.searching.proofs.Sides.{sign-of, one-sign}
-use Rattle.sets.specs.Threads.{Begins, first, after, Inside, Connecting, Closed}
-use Rattle.sets.proofs.Followed.{next-from, closed-next}
+use Rattle.marks.specs.Flags.{HasLiteral}
+use Rattle.marks.proofs.Flags.{literal-past, next-none, clause-literal}
+use Rattle.marks.proofs.Sides.{sign-of, one-sign}
+use Rattle.threads.specs.Threads.{Begins, first, after, Inside, Connecting, Closed}
+use Rattle.threads.proofs.Followed.{next-from, closed-next}
 use Rattle.resolution.specs.Paths.{Crosses}
 use Rattle.resolution.specs.Walk.{Passes}
 

@@ -17,8 +17,8 @@ use Rattle.tables.specs.Formula.{existentialIn, tabled, signed}
 use Rattle.tables.specs.Rows.{Tells}
 use Rattle.tables.proofs.Readings.{flag-within}
 use Rattle.tables.proofs.Agreeing.{Same}
-use Rattle.searching.proofs.Sides.{signed-variable}
-use Rattle.sets.specs.Threads.{Threaded}
+use Rattle.marks.proofs.Sides.{signed-variable}
+use Rattle.threads.specs.Threads.{Threaded}
 use Rattle.resolution.specs.Paths.{Deeper, Crosses, Path, enters, goes-on, DependsByPaths}
 use Rattle.resolution.specs.Walk.{marked, Passes, Walk, starts, steps, Walked, Chained, Rowed, Barred, ReadClauses, Ends, Pairs}
 use Rattle.resolution.proofs.Places.{inside-less, passes-crosses}

@@ -12,7 +12,7 @@ use Rattle.connection.specs.Reach.{Variables, From, here, step, Follows}
 use Rattle.tables.specs.Formula.{variables, signed, joined, Shares, SharesBy}
 use Rattle.terms.specs.declared.Scheme.the-variants.{Strict}
 use Rattle.forest.specs.Answers.{DependsBy}
-use Rattle.searching.proofs.Sides.{signed-variable}
+use Rattle.marks.proofs.Sides.{signed-variable}
 use Rattle.resolution.specs.Paths.{Deeper, Crosses, Path, enters, goes-on, DependsByPaths}
 use Rattle.resolution.proofs.Marks.{complement-variable}
 

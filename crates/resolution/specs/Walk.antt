@@ -15,7 +15,7 @@ use Rattle.connection.specs.Reach.{Variables}
 use Rattle.tables.specs.Formula.{variables, signed}
 use Rattle.forest.specs.Causes.{NotUniversal}
 use Rattle.forest.specs.Listed.{TooLong, Listing}
-use Rattle.sets.specs.Threads.{Inside, Connecting, On, Noted, Closed}
+use Rattle.threads.specs.Threads.{Inside, Connecting, On, Noted, Closed}
 use Rattle.resolution.specs.Paths.{Deeper, Path, DependsByPaths, mostPathVariables}
 
 -- whether a literal is marked, in a table with a row for each literal

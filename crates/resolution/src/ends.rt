@@ -1,11 +1,11 @@
 // The ends of all resolution paths from x and from its negation, and what depends on x by them.
 
 use crate::walking::literal_step;
-use sets::threads::thread;
 use tables::rows::existential_at;
 use tables::rows::level_at;
 use terms::Literal;
 use terms::Variable;
+use threads::thread;
 ghost use Prim.Native.Nat.{ℕ, _≤_, _<_};
 ghost use mathlib.Core.Path.{_≡_};
 ghost use mathlib.Core.Bool.{true, false, _&&_, _||_};

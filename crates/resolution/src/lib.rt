@@ -4,10 +4,10 @@ mod ends;
 mod walking;
 
 use ends::flag_dependent;
-use formula::levels::fill_levels;
 use joining::join;
-use searching::listing::Asked;
-use searching::listing::list_picked;
+use levelling::fill_levels;
+use picking::Asked;
+use picking::list_picked;
 use tables::rows::universal_at;
 use terms::Filled;
 use terms::Variable;
@@ -67,7 +67,7 @@ fn set_joined(
 fn set_as_read(n: u32, prefix: &[u32], clauses: &[i32], x: Variable, out: &mut [u32]) -> Filled
     ensures { λ r. ⌜ Listing (resolutionOrder n (now (prefix .entry)) (now (clauses .entry)) (x .0) (now (out .entry))) (DependsByPaths (variables n (now (prefix .entry))) (now (clauses .entry)) (x .0)) (now (out .entry)) (now (out .exit)) r ⌝ }
 {
-    match formula::check(n, prefix, clauses) {
+    match checks::check(n, prefix, clauses) {
         Verdict::Refused(number, place) => Filled::Refused(number, place),
         Verdict::Accepted => sound_set(n, prefix, clauses, x, out),
     }

@@ -8,7 +8,7 @@ ghost use Prim.Native.Nat.{_<_};
 ghost use lib.IntN.{negℤ};
 ghost use lib.ListN.{length};
 ghost use Rattle.terms.specs.Literals.{variableOf};
-ghost use Rattle.searching.specs.Search.{LastZero};
+ghost use Rattle.threads.specs.Threads.{LastZero};
 ghost use Rattle.resolution.specs.Walk.{Leaves, Passes, Walked, Chained, Rowed, InClause};
 
 // From a literal to its complement: every clause that has it is entered by it, along the chain of its variable.

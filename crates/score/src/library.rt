@@ -11,15 +11,15 @@ use terms::Variable;
 use terms::Verdict;
 
 pub fn check(n: u32, prefix: &[u32], clauses: &[i32]) -> Verdict {
-    formula::check(n, prefix, clauses)
+    checks::check(n, prefix, clauses)
 }
 
 pub fn clause_verdict(n: u32, clauses: &[i32], asked: u32) -> Verdict {
-    formula::clause_verdict(n, clauses, asked)
+    checks::clause_verdict(n, clauses, asked)
 }
 
 pub fn clause(n: u32, clauses: &[i32], asked: u32) -> &[i32] {
-    formula::clause(n, clauses, asked)
+    checks::clause(n, clauses, asked)
 }
 
 // Build, with the tally before, which a refusal leaves, and the tally afterwards.

@@ -24,7 +24,7 @@ use Rattle.connection.proofs.Climb.{above-class}
 use Rattle.tables.specs.Formula.{variables}
 use Rattle.tables.specs.Counting.{FormedBy}
 use Rattle.searching.specs.Search.{Searched, topBy, TopRow, TopRows, TopsOver}
-use Rattle.tables.proofs.Readings.{new-zero, row-none, row-over, row-at}
+use Rattle.tables.proofs.Readings.{new-zero, row-none, row-over, row-at, row-stored, row-kept}
 use Rattle.tables.proofs.Agreeing.{lawful}
 
 module _ {X : Variables} {W : Table} {floor v : ℕ} where
@@ -108,15 +108,6 @@ tops-over {X} {W} floor k low =
       most = omega arith;
       none = λ v some most. absurd (omega arith);
     }
-
--- A row that is stored anew, and any other.
-pub row-stored : (n : ℕ) (rows : List ℕ) (v x : ℕ) → v ≢ 0 → v ≤ n → n ≤ length rows → row n (set rows (v - 1) x) v ≡ x
-row-stored n rows v x some l long = row-at n (set rows (v - 1) x) v some l ∙ getD-set-same rows (v - 1) x 0 (omega arith)
-
-pub row-kept : (n : ℕ) (rows : List ℕ) (v x w : ℕ) → v ≢ 0 → w ≢ v → row n (set rows (v - 1) x) w ≡ row n rows w
-row-kept n rows v x w some other = by-cases (ℕ-discrete w 0) (λ z. row-none n (set rows (v - 1) x) w z ∙ sym (row-none n rows w z))
-    (λ named. by-cases (decLe w n) (λ l. row-at n (set rows (v - 1) x) w named l ∙ getD-set-other rows (v - 1) (w - 1) x 0 (λ q. other (omega arith)) ∙ sym (row-at n rows w named l))
-    (λ l. row-over n (set rows (v - 1) x) w (omega arith) ∙ sym (row-over n rows w (omega arith))))
 
 -- The rows on the way along the prefix: a variable that is named before entry i has its top, and any other 0.
 pub record Topping (n : ℕ) (es classes parents : List ℕ) (floor : ℕ) (tops : List ℕ) (i : ℕ) : Type 0 where

@@ -1,5 +1,202 @@
-// Finding in lent forest tables: the climb and the tops of all variables, flags of what shares a clause with x, and the numbers that are picked by them.
+// The search for entry points: from the class of y, from parent to parent, while the next class is still deeper than x.
 
-pub mod listing;
-pub mod marks;
-pub mod search;
+use tables::rows::existential_at;
+use tables::rows::level_at;
+use tables::rows::row_of;
+use terms::Level;
+use terms::Variable;
+ghost use Prim.Native.Nat.{ℕ, _+_, _≤_, _<_};
+ghost use mathlib.Core.Path.{_≡_};
+ghost use mathlib.Core.Bool.{Bool};
+ghost use mathlib.Core.List.{List};
+ghost use lib.ListN.{length, getD};
+ghost use Rattle.formula.specs.Meaning.{level};
+ghost use Rattle.formula.specs.Levels.{SoundPrefix, Levelled};
+ghost use Rattle.connection.specs.Tables.{row, lent, WellFormed};
+ghost use Rattle.tables.specs.Formula.{variables, tabled};
+ghost use Rattle.tables.specs.Counting.{FormedBy};
+ghost use Rattle.tables.specs.Rows.{rowsOf};
+ghost use Rattle.searching.specs.Search.{Falling, Climbs, Finds, topBy, TopRows, Topless, TopsOver};
+
+// Where a climb ends, and how many classes it passed, the first not counted.
+pub struct End {
+    pub class: Variable,
+    pub rises: u32,
+}
+
+// What a table of tops is over: a level, and a number up to which no variable has a top.
+pub struct Floor {
+    pub level: Level,
+    pub from: u32,
+}
+
+// What the search for y finds: the entry point and its rises; nowhere for a y that is not existential and deeper than x.
+pub enum Found {
+    At(Variable, u32),
+    Nowhere,
+}
+
+// The climb from a class, with some rises behind it: while the parent is deeper than the floor, on to the parent.
+// The block number falls at each call.
+fn climb(n: u32, levels: &[u32], parents: &[u32], floor: Level, class: Variable, rises: u32) -> End
+    requires { ⌜ Falling n (now levels) (now parents) × (floor .0 < getD (now levels) (class .0) 0) × (rises + getD (now levels) (class .0) 0 < 4294967296) ⌝ }
+    ensures { λ r. ⌜ Climbs n (now (levels .entry)) (now (parents .entry)) (floor .0) (class .0) rises (r .class .0) (r .rises) ⌝ }
+{
+    let parent = row_of(n, parents, class);
+    if parent.0 == 0 {
+        return End { class, rises };
+    }
+    let next = level_at(levels, parent);
+    if next.0 <= floor.0 {
+        return End { class, rises };
+    }
+    climb(n, levels, parents, floor, parent, rises + 1)
+}
+
+// The entry point of x for y, if y is existential and deeper than x.
+pub fn find_entry(
+    n: u32,
+    levels: &[u32],
+    universals: &[bool],
+    classes: &[u32],
+    parents: &[u32],
+    x: Variable,
+    y: Variable,
+) -> Found
+    requires { ⌜ WellFormed (tabled n (now levels) (now universals)) (rowsOf n (now classes) (now parents)) ⌝ }
+    ensures { λ r. ⌜ Finds (tabled n (now (levels .entry)) (now (universals .entry))) (rowsOf n (now (classes .entry)) (now (parents .entry))) (x .0) (y .0) r ⌝ }
+{
+    let floor = level_at(levels, x);
+    let deep = level_at(levels, y);
+    if !existential_at(n, universals, y) {
+        return Found::Nowhere;
+    }
+    if deep.0 <= floor.0 {
+        return Found::Nowhere;
+    }
+    let own = row_of(n, classes, y);
+    let end = climb(n, levels, parents, floor, own, 0);
+    let class = end.class;
+    let rises = end.rises;
+    Found::At(class, rises)
+}
+
+// Fills the row of each variable with its top over the level of x: the class name where the search from its class ends, 0 for a variable that
+// is not existential and deeper. The prefix names a class behind the classes above it, so that one pass along it needs no climb.
+pub fn fill_tops(
+    n: u32,
+    prefix: &[u32],
+    classes: &[u32],
+    parents: &[u32],
+    floor: Level,
+    tops: &mut [u32],
+)
+    requires { ⌜ SoundPrefix n (now prefix) × FormedBy n (now prefix) (now classes) (now parents) × (n ≤ length (now tops)) × ((x : ℕ) × (x ≤ 4096) × (floor .0 ≡ level (now prefix) x)) ⌝ }
+    ensures { λ r. ⌜ TopRows (variables n (now (prefix .entry))) (lent (variables n (now (prefix .entry))) (now (classes .entry)) (now (parents .entry))) (floor .0) (now (tops .exit)) ⌝ }
+{
+    clear_rows(n, tops);
+    top_blocks(n, prefix, classes, parents, floor, tops);
+}
+
+// Makes the first n rows 0: no other is read.
+fn clear_rows(n: u32, rows: &mut [u32])
+    requires { ⌜ n ≤ length (now rows) ⌝ }
+    ensures { λ r. ⌜ ((v : ℕ) → v < n → getD (now (rows .exit)) v 0 ≡ 0) ⌝ }
+{
+    let count = n as usize;
+    let mut i = 0;
+    while i < count {
+        rows[i] = 0;
+        i += 1;
+    }
+}
+
+// Gives each variable of a block deeper than the floor its top, in the order of the prefix, where the first n rows are 0 before.
+fn top_blocks(
+    n: u32,
+    prefix: &[u32],
+    classes: &[u32],
+    parents: &[u32],
+    floor: Level,
+    tops: &mut [u32],
+)
+    requires { ⌜ SoundPrefix n (now prefix) × FormedBy n (now prefix) (now classes) (now parents) × (n ≤ length (now tops)) × ((x : ℕ) × (x ≤ 4096) × (floor .0 ≡ level (now prefix) x)) × ((v : ℕ) → v < n → getD (now tops) v 0 ≡ 0) ⌝ }
+    ensures { λ r. ⌜ TopRows (variables n (now (prefix .entry))) (lent (variables n (now (prefix .entry))) (now (classes .entry)) (now (parents .entry))) (floor .0) (now (tops .exit)) ⌝ }
+{
+    let mut opens = true;
+    let mut block: u32 = 0;
+    let mut i = 0;
+    while i < prefix.len() {
+        let entry = prefix[i];
+        if opens {
+            block += 1;
+            opens = false;
+            i += 1;
+        } else if entry == 0 {
+            opens = true;
+            i += 1;
+        } else if block <= floor.0 {
+            i += 1;
+        } else {
+            let top = top_of(n, classes, parents, tops, Variable::new(entry));
+            tops[(entry - 1) as usize] = top.0;
+            i += 1;
+        }
+    }
+}
+
+// The top of v, of a block deeper than the floor, once its parent has its own: none for a universal, else that of the parent of its class, and
+// the class itself if the parent has none.
+fn top_of(n: u32, classes: &[u32], parents: &[u32], tops: &[u32], v: Variable) -> Variable
+    ensures { λ r. ⌜ r .0 ≡ topBy (row n (now (classes .entry)) (v .0)) (row n (now (tops .entry)) (row n (now (parents .entry)) (row n (now (classes .entry)) (v .0)))) ⌝ }
+{
+    let class = row_of(n, classes, v);
+    if class.0 == 0 {
+        return class;
+    }
+    let above = row_of(n, tops, row_of(n, parents, class));
+    if above.0 == 0 { class } else { above }
+}
+
+// Refills the rows, which are tops over one floor, with those over the level of x, if that is another; gives the floor that they are over now.
+pub fn retop(
+    n: u32,
+    prefix: &[u32],
+    levels: &[u32],
+    classes: &[u32],
+    parents: &[u32],
+    was: Floor,
+    x: Variable,
+    tops: &mut [u32],
+) -> Floor
+    requires { ⌜ SoundPrefix n (now prefix) × FormedBy n (now prefix) (now classes) (now parents) × (n ≤ length (now tops)) ⌝ }
+    requires { ⌜ (x .0 ≤ 4096) × ((universals : List Bool) × Levelled (now prefix) (now levels) universals) ⌝ }
+    requires { ⌜ TopsOver (variables n (now prefix)) (lent (variables n (now prefix)) (now classes) (now parents)) (was .level .0) (was .from) (now tops) ⌝ }
+    ensures { λ r. ⌜ TopsOver (variables n (now (prefix .entry))) (lent (variables n (now (prefix .entry))) (now (classes .entry)) (now (parents .entry))) (r .level .0) (r .from) (now (tops .exit)) ⌝ }
+    ensures { λ r. ⌜ r .level .0 ≡ level (now (prefix .entry)) (x .0) ⌝ }
+{
+    let level = level_at(levels, x);
+    let old = was.level;
+    if old.0 == level.0 {
+        return was;
+    }
+    fill_tops(n, prefix, classes, parents, level, tops);
+    let from = topless(n, tops);
+    Floor { level, from }
+}
+
+// The last number up to which no variable has a top.
+fn topless(n: u32, tops: &[u32]) -> u32
+    ensures { λ r. ⌜ (r ≤ n) × Topless n (now (tops .entry)) r ⌝ }
+{
+    let mut passed: u32 = 0;
+    while passed < n {
+        let v = passed + 1;
+        let top = row_of(n, tops, Variable::new(v));
+        if top.0 != 0 {
+            return passed;
+        }
+        passed = v;
+    }
+    passed
+}

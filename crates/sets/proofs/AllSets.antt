@@ -19,19 +19,21 @@ use Rattle.formula.specs.Meaning.{level}
 use Rattle.connection.specs.Reach.{Variables}
 use Rattle.connection.specs.Tables.{Table, lent, WellFormed}
 use Rattle.connection.specs.Listed.{Listed}
-use Rattle.searching.specs.declared.listing.Asked.the-variants.{Set}
+use Rattle.picking.specs.declared.Asked.the-variants.{Set}
 use Rattle.terms.specs.declared.Scheme.{Scheme}
 use Rattle.tables.specs.Formula.{variables, universal, SharesBy}
 use Rattle.tables.specs.Causes.{ForestCause}
 use Rattle.forest.specs.Answers.{MembersBy}
 use Rattle.forest.specs.Listed.{Filling}
-use Rattle.searching.specs.Search.{TopRows, Topless, Takes, Via, Entering, pick, picked, NoneUpto}
+use Rattle.searching.specs.Search.{TopRows, Topless}
+use Rattle.marks.specs.Flags.{Takes, Via, Entering}
+use Rattle.picking.specs.Picked.{pick, picked, NoneUpto}
 use Rattle.sets.specs.Sets.{AllSetsBy, SetsTooLongBy}
-use Rattle.sets.specs.Threads.{Closed, Together, EnteredBy}
+use Rattle.threads.specs.Threads.{Closed, Together, EnteredBy}
 use Rattle.sets.specs.Passed.{SetsUpto, PutSet, RoomFor, RoomUpto, PutAll, Fills}
-use Rattle.searching.proofs.Flags.{via-as}
+use Rattle.marks.proofs.Flags.{via-as}
 use Rattle.forest.proofs.Schemes.{over-enters}
-use Rattle.sets.proofs.Followed.{together-shares}
+use Rattle.threads.proofs.Followed.{together-shares}
 use Rattle.tables.proofs.Agreeing.{lawful}
 use Rattle.forest.proofs.Listings.{members-picked}
 use Rattle.sets.proofs.Records.{records-one, records-most, records-set, records-other, put-more}

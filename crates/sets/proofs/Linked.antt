@@ -10,13 +10,15 @@ use lib.ListN.{length, getD, set, replicate, length-set, length-append, List·ge
 use lib.Seq.{sets, getD-set-same, getD-set-other}
 use Rattle.terms.proofs.Common.{clash}
 use Rattle.connection.specs.Tables.{row}
-use Rattle.searching.specs.declared.listing.Asked.the-variants.{Set}
-use Rattle.searching.specs.Search.{Topless, Entering, pick, picked}
-use Rattle.searching.proofs.Picked.{picked-more, picked-same, picked-none, sets-more}
-use Rattle.forest.proofs.Entered.{fresh}
+use Rattle.picking.specs.declared.Asked.the-variants.{Set}
+use Rattle.searching.specs.Search.{Topless}
+use Rattle.marks.specs.Flags.{Entering}
+use Rattle.picking.specs.Picked.{pick, picked}
+use Rattle.picking.proofs.Picked.{picked-more, picked-same, picked-none, sets-more}
+use Rattle.marks.proofs.Flags.{fresh}
 use Rattle.sets.specs.Runs.{Run, Fitting, only, Led}
-use Rattle.sets.specs.Points.{Is}
-use Rattle.sets.proofs.Chains.{flag-long}
+use Rattle.threads.specs.Points.{Is}
+use Rattle.threads.proofs.Chains.{flag-long}
 
 -- From a number there is one run, and from one that is not 0 it goes on.
 pub run-one : (after : List ℕ) (v : ℕ) (list other : List ℕ) → Run after v list → Run after v other → list ≡ other

@@ -9,14 +9,14 @@ use lib.Seq.{sets}
 use Rattle.terms.specs.declared.Filled.{Filled}
 use Rattle.terms.specs.declared.Filled.the-variants.{Count, Refused}
 use Rattle.formula.specs.Levels.{SoundPrefix, Levelled}
-use Rattle.searching.specs.declared.listing.Asked.the-variants.{Set}
+use Rattle.picking.specs.declared.Asked.the-variants.{Set}
 use Rattle.tables.specs.Formula.{universal}
 use Rattle.terms.specs.declared.Scheme.{Scheme}
 use Rattle.forest.specs.Answers.{MembersBy}
 use Rattle.tables.specs.Counting.{FormedBy}
-use Rattle.searching.specs.Search.{pick, picked}
+use Rattle.picking.specs.Picked.{pick, picked}
 use Rattle.sets.specs.Sets.{Records}
-use Rattle.sets.specs.Threads.{EnteredBy, Threaded, Closed}
+use Rattle.threads.specs.Threads.{EnteredBy, Threaded, Closed}
 
 -- the sets of the universals 1 to m by a scheme
 abbrev pub SetsUpto : Scheme → ℕ → List ℕ → List ℤ → List ℕ → List ℕ → ℕ → List ℕ → Type 0

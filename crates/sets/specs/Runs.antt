@@ -5,10 +5,11 @@ use mathlib.Core.Bool.{Bool, true, false}
 use mathlib.Core.List.{List, [], _∷_}
 use mathlib.Core.Logic.{_≢_}
 use lib.ListN.{length, getD, set, replicate}
-use Rattle.searching.specs.declared.listing.Asked.the-variants.{Set}
+use Rattle.picking.specs.declared.Asked.the-variants.{Set}
 use Rattle.connection.specs.Tables.{lent}
 use Rattle.tables.specs.Formula.{variables}
-use Rattle.searching.specs.Search.{pick, picked, TopsOver}
+use Rattle.picking.specs.Picked.{pick, picked}
+use Rattle.searching.specs.Search.{TopsOver}
 
 -- the table leads from v over the numbers of the list, from each to the next, and ends with 0
 abbrev pub Run : List ℕ → ℕ → List ℕ → Type 0

@@ -3,15 +3,15 @@
 
 use crate::one_set::put_set;
 use crate::runs::link_runs;
-use crate::threads::thread;
-use searching::search::Floor;
-use searching::search::retop;
+use searching::Floor;
+use searching::retop;
 use tables::rows::level_at;
 use tables::rows::universal_at;
 use terms::Filled;
 use terms::Level;
 use terms::Scheme;
 use terms::Variable;
+use threads::thread;
 ghost use Prim.Native.Nat.{_≤_};
 ghost use mathlib.Core.Path.{_≡_};
 ghost use mathlib.Core.Bool.{Bool, true};
@@ -22,7 +22,7 @@ ghost use Rattle.formula.specs.Levels.{SoundPrefix, Levelled};
 ghost use Rattle.formula.specs.Lookup.{SoundClauses};
 ghost use Rattle.tables.specs.Counting.{FormedBy};
 ghost use Rattle.sets.specs.Runs.{Floored};
-ghost use Rattle.sets.specs.Threads.{Closed};
+ghost use Rattle.threads.specs.Threads.{Closed};
 ghost use Rattle.sets.specs.Passed.{SetsUpto, Ready, RoomUpto, TellsRoom, PutAll, Fills};
 
 // Writes the sets of all universals into the front of `out`, if there is room for all of them. Few clauses take a short table of links, which is

@@ -2,12 +2,10 @@
 
 mod all_sets;
 mod one_set;
-mod points;
 mod runs;
-pub mod threads;
 
 use all_sets::list_sets;
-use formula::levels::fill_levels;
+use levelling::fill_levels;
 use tables::checking::check_forest;
 use terms::Filled;
 use terms::Scheme;
@@ -19,7 +17,7 @@ ghost use Rattle.formula.specs.Lookup.{SoundClauses};
 ghost use Rattle.tables.specs.Causes.{ForestCause};
 ghost use Rattle.forest.specs.Listed.{Filling};
 ghost use Rattle.sets.specs.Sets.{AllSetsBy, SetsTooLongBy, SetsListedBy, SetsListed};
-ghost use Rattle.sets.specs.Threads.{Closed};
+ghost use Rattle.threads.specs.Threads.{Closed};
 
 // The sets of all universals by the strict scheme.
 pub fn sets(
@@ -59,7 +57,7 @@ pub fn sets_by(
 ) -> Filled
     ensures { λ r. ⌜ SetsListedBy scheme n (now (prefix .entry)) (now (clauses .entry)) (now (classes .entry)) (now (parents .entry)) (now (counts .entry)) (now (out .entry)) (now (out .exit)) r ⌝ }
 {
-    match formula::check(n, prefix, clauses) {
+    match checks::check(n, prefix, clauses) {
         Verdict::Refused(number, place) => Filled::Refused(number, place),
         Verdict::Accepted => sound_sets(scheme, n, prefix, clauses, classes, parents, counts, out),
     }

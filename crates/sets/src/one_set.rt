@@ -1,25 +1,26 @@
 // The record of one universal: its number, the count of its set, and its set, written or only counted.
 
-use crate::points::Sole;
-use crate::points::sole_point;
 use crate::runs::count_run;
 use crate::runs::lead_of;
 use crate::runs::write_run;
-use crate::threads::flag_points;
-use searching::listing::Asked;
-use searching::listing::count_picked;
-use searching::listing::write_picked;
-use searching::search::Floor;
+use picking::Asked;
+use picking::count_picked;
+use picking::write_picked;
+use searching::Floor;
 use terms::Scheme;
 use terms::Variable;
+use threads::flag_points;
+use threads::points::Sole;
+use threads::points::sole_point;
 ghost use Prim.Native.Nat.{ℕ, _+_, _-_, _≤_, _<_};
 ghost use mathlib.Core.Path.{_≡_};
 ghost use mathlib.Core.Bool.{true};
 ghost use mathlib.Core.List.{List};
 ghost use lib.ListN.{length, set};
-ghost use Rattle.searching.specs.declared.listing.Asked.the-variants.{Set};
-ghost use Rattle.searching.specs.Search.{pick, picked, NoneUpto, Topless};
-ghost use Rattle.sets.specs.Threads.{Tied};
+ghost use Rattle.picking.specs.declared.Asked.the-variants.{Set};
+ghost use Rattle.picking.specs.Picked.{pick, picked, NoneUpto};
+ghost use Rattle.searching.specs.Search.{Topless};
+ghost use Rattle.threads.specs.Threads.{Tied};
 ghost use Rattle.sets.specs.Runs.{Run, Fitting, Led};
 ghost use Rattle.sets.specs.Passed.{PutList, Put, PutSet, RoomFor};
 

@@ -4,11 +4,12 @@ use mathlib.Core.Path.{_≡_, refl, sym, ap, _∙_, subst}
 use mathlib.Core.Bool.{Bool, true, false, cond, _&&_}
 use mathlib.Core.List.{List}
 use mathlib.Core.Logic.{_≢_, by-cases}
-use native.Mathlib.Decide.{decLt}
+use native.Mathlib.Decide.{ℕ-discrete, decLe, decLt}
 use native.Mathlib.Omega.{arith}
 use borrow.Author.Tests.{lt-ltb, le-ltb, le-leb, lt-leb, leb-true}
 use lib.Dec.{leb}
-use lib.ListN.{getD, replicate, length-replicate, getD-replicate, List·getD-eq-default}
+use lib.ListN.{length, getD, set, replicate, length-replicate, getD-replicate, List·getD-eq-default}
+use lib.Seq.{getD-set-same, getD-set-other}
 use Rattle.terms.proofs.Common.{clash}
 use Rattle.connection.specs.Tables.{row}
 use Rattle.tables.specs.Rows.{Tells}
@@ -27,6 +28,15 @@ pub row-at : (n : ℕ) (rows : List ℕ) (v : ℕ) → v ≢ 0 → v ≤ n → r
 unfolding row
 row-at n rows zero some l = absurd (some refl)
 row-at n rows (suc v) some l = let q : v ≡ suc v - 1 = omega arith in ap (λ b. cond b (getD rows v 0) 0) (lt-ltb v n (omega arith)) ∙ ap (λ i. getD rows i 0) q
+
+-- A store into the row of a variable: its own row holds it, and every other stays.
+pub row-stored : (n : ℕ) (rows : List ℕ) (v x : ℕ) → v ≢ 0 → v ≤ n → n ≤ length rows → row n (set rows (v - 1) x) v ≡ x
+row-stored n rows v x some l long = row-at n (set rows (v - 1) x) v some l ∙ getD-set-same rows (v - 1) x 0 (omega arith)
+
+pub row-kept : (n : ℕ) (rows : List ℕ) (v x w : ℕ) → v ≢ 0 → w ≢ v → row n (set rows (v - 1) x) w ≡ row n rows w
+row-kept n rows v x w some other = by-cases (ℕ-discrete w 0) (λ z. row-none n (set rows (v - 1) x) w z ∙ sym (row-none n rows w z))
+    (λ named. by-cases (decLe w n) (λ l. row-at n (set rows (v - 1) x) w named l ∙ getD-set-other rows (v - 1) (w - 1) x 0 (λ q. other (omega arith)) ∙ sym (row-at n rows w named l))
+    (λ l. row-over n (set rows (v - 1) x) w (omega arith) ∙ sym (row-over n rows w (omega arith))))
 
 -- A flag of a variable from 1 to n is itself, and any other is none.
 pub flag-none : (n v : ℕ) (b : Bool) → v ≡ 0 → (leb 1 v && leb v n && b) ≡ false

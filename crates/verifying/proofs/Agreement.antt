@@ -2,28 +2,20 @@
 use Prim.Native.Nat.{ℕ, zero, suc, _+_, _*_}
 use mathlib.Core.Path.{_≡_, refl, sym, ap, ap₂, _∙_}
 use mathlib.Core.Bool.{Bool}
-use mathlib.Core.List.{List, _∷_, _++_, map}
+use mathlib.Core.List.{List, _∷_, _++_}
 use mathlib.Core.Logic.{_↔_, _≢_}
 use native.Mathlib.Omega.{arith}
 use lib.ListN.{length, take, drop, length-append}
 use lib.Seq.{take-append-seam, take-at, drop-at}
 use Rattle.tables.specs.Rows.{Tells}
 use Rattle.tables.proofs.Readings.{told-both}
-use Rattle.records.specs.Numbers.{numberAt, numbersAt, literalOf}
-use Rattle.records.specs.Places.{sizeAt, payloadAt, secondAt, thirdAt, countIn, prefixIn, clausesIn, Holds}
+use Rattle.records.specs.Numbers.{numberAt, numbersAt}
+use Rattle.records.specs.Places.{sizeAt, payloadAt, thirdAt, countIn, Holds}
 use Rattle.verifying.specs.Verified.{classesIn, parentsIn, countsIn}
-use Rattle.layout.proofs.Spans.{numbers-length, prefix-length, clauses-length}
+use Rattle.layout.proofs.Spans.{numbers-length}
 
--- The prefix, the clauses and the rows of a file, as so many numbers from a place on.
+-- The rows of a file, as so many numbers from a place on.
 module _ (file : List ℕ) where
-  pub prefix-is : numbersAt 2 file 8 (length (prefixIn file)) ≡ prefixIn file
-  unfolding prefixIn
-  prefix-is = ap (numbersAt 2 file 8) (prefix-length file)
-
-  pub clauses-are : map literalOf (numbersAt 4 file (secondAt file + 6) (length (clausesIn file))) ≡ clausesIn file
-  unfolding clausesIn
-  clauses-are = ap (λ (k : ℕ). map literalOf (numbersAt 4 file (secondAt file + 6) k)) (clauses-length file)
-
   pub rows-are : (n p : ℕ) → n ≡ countIn file → p ≡ thirdAt file
       → (numbersAt 4 file (p + 6) n ≡ classesIn file) × (numbersAt 4 file (p + 6 + 4 * n) n ≡ parentsIn file) × (numbersAt 4 file (p + 6 + 4 * n + 4 * n) n ≡ countsIn file)
   unfolding classesIn parentsIn countsIn

@@ -16,10 +16,6 @@ use Rattle.records.specs.Causes.{RightRows, ForestFileCause, fileOrder, afterRu
 abbrev pub IsRule : ℕ → Type 0
 IsRule rule = (rule ≡ 1) ⊎ (rule ≡ 2)
 
--- numbers of a file have two bytes or four
-abbrev pub Width : ℕ → Type 0
-Width width = (width ≡ 2) ⊎ (width ≡ 4)
-
 -- a formula in tables is that of the file
 pub record HeldIn (file : List ℕ) (n : ℕ) (es : List ℕ) (ls : List ℤ) : Type 0 where
   pub count : n ≡ countIn file

@@ -1,7 +1,7 @@
 // What the records of a file hold: the formula is checked under a reading rule, its forest is built, and rows and sets are held against it.
 
-use crate::decoding::fill_formula;
-use crate::decoding::same_numbers;
+use decoding::fill_formula;
+use decoding::same_numbers;
 use growth::Tally;
 use layout::places::clause_entries;
 use layout::places::fourth_at;

@@ -2,7 +2,6 @@
 // formula.
 
 mod contents;
-pub mod decoding;
 
 use contents::contents_verdict;
 use layout::layout_verdict;

@@ -6,9 +6,9 @@ use mathlib.Core.List.{[], _∷_}
 use lib.ListN.{length-replicate}
 use Rattle.terms.specs.Refusals.{At0, Judged}
 use Rattle.terms.proofs.Verdicts.{refused-first}
-use Rattle.searching.specs.declared.listing.Asked.the-variants.{Set}
+use Rattle.picking.specs.declared.Asked.the-variants.{Set}
 use Rattle.forest.specs.Listed.{TooLong}
-use Rattle.searching.specs.Search.{pick}
+use Rattle.picking.specs.Picked.{pick}
 use Rattle.forest.proofs.Listings.{picks-listing}
 use Rattle.lists.specs.Lists.{DependsOnBy}
 use Rattle.lists.specs.Inner.{enterOrder}

@@ -11,8 +11,8 @@ use Rattle.tables.specs.Formula.{variables}
 use Rattle.forest.specs.Answers.{EntriesBy}
 use Rattle.forest.specs.Causes.{readOrder}
 use Rattle.forest.specs.Listed.{TooLong}
-use Rattle.searching.specs.Search.{pick, Enters}
-use Rattle.forest.specs.Wanted.{Wanted}
+use Rattle.picking.specs.Picked.{pick}
+use Rattle.forest.specs.Wanted.{Enters, Wanted}
 use Rattle.forest.proofs.Listings.{picks-listing, asked-listed}
 use borrow.Author.Needs.{needs}
 use Rattle.forest.proofs.list_asked.Statement.{statement}

@@ -9,7 +9,7 @@ use Rattle.connection.specs.Tables.{lent}
 use Rattle.tables.specs.Formula.{variables}
 use Rattle.forest.specs.Causes.{readOrder}
 use Rattle.forest.specs.Answers.{EntriesBy, SizeBy}
-use Rattle.searching.specs.Search.{Enters}
+use Rattle.forest.specs.Wanted.{Enters}
 use Rattle.forest.proofs.Listings.{counts-small, entries-sized}
 use borrow.Author.Needs.{needs}
 use Rattle.forest.proofs.size_by.Statement.{statement}

@@ -1,5 +1,5 @@
 -- `listing::list_universal` meets its contract.
-use Rattle.forest.proofs.Entered.{fresh}
+use Rattle.marks.proofs.Flags.{fresh}
 use borrow.Author.Needs.{needs}
 use Rattle.listing.proofs.list_universal.Statement.{statement}
 use Rattle.listing.proofs.list_universal.Tie as tie

@@ -2,8 +2,8 @@
 use mathlib.Core.Path.{sym, subst}
 use lib.ListN.{replicate}
 use lib.Seq.{length-take-le}
-use Rattle.searching.specs.declared.listing.Asked.the-variants.{Points, Set}
-use Rattle.searching.specs.Search.{pick, Picks}
+use Rattle.picking.specs.declared.Asked.the-variants.{Points, Set}
+use Rattle.picking.specs.Picked.{pick, Picks}
 use Rattle.listing.proofs.Printed.{picks-room, picks-small}
 use borrow.Author.Needs.{needs}
 use Rattle.listing.proofs.print_universal.Statement.{statement}

@@ -12,9 +12,9 @@ use Rattle.terms.specs.Refusals.{At0, NoneOf}
 use Rattle.terms.proofs.Common.{clash}
 use Rattle.terms.proofs.Verdicts.{at0-first, at0-none}
 use Rattle.tables.proofs.Agreeing.{universal-agrees}
-use Rattle.searching.specs.declared.listing.Asked.the-variants.{Points}
+use Rattle.picking.specs.declared.Asked.the-variants.{Points}
 use Rattle.forest.specs.Causes.{NotUniversal}
-use Rattle.searching.specs.Search.{pick}
+use Rattle.picking.specs.Picked.{pick}
 use Rattle.forest.proofs.Listings.{picks-listing}
 use Rattle.resolution.specs.Paths.{mostPathVariables}
 use Rattle.resolution.proofs.Listing.{universal-upto, dependents-listed}

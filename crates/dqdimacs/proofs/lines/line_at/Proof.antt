@@ -1,8 +1,8 @@
 -- `dqdimacs::lines::line_at` meets its contract.
 use mathlib.Core.Path.{subst}
 use native.Mathlib.Omega.{arith}
-use Rattle.qdimacs.specs.declared.Spelt.{Spelt}
-use Rattle.qdimacs.specs.declared.Row.{Row}
+use Rattle.tokens.specs.declared.Spelt.{Spelt}
+use Rattle.tokens.specs.declared.Row.{Row}
 use Rattle.dqdimacs.specs.Steps.{ListMarkIs, ListIs}
 use Rattle.dqdimacs.proofs.Faults.{fault-list, went-list}
 use borrow.Author.Needs.{needs}

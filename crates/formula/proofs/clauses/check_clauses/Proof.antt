@@ -1,54 +1,44 @@
--- `formula::clauses::check_clauses` meets its contract: the scan's invariant is `Read`.
-use Prim.Native.Nat.{_-_}
-use mathlib.Core.Logic.{inl}
-use native.Mathlib.Omega.{arith}
+-- `formula::clauses::check_clauses` meets its contract.
+use mathlib.Core.Path.{sym, _∙_}
+use mathlib.Core.Logic.{inl, inr}
 use borrow.Author.Needs.{needs}
-use lib.ListN.{length}
-use Rattle.formula.proofs.Literals.{Read, read-none, read-literal, fault-at-literal, fault-at-end, none-in-clauses}
+use Rattle.formula.proofs.Literals.{fault-at-literal, none-over, fault-at-end}
 use Rattle.formula.proofs.clauses.check_clauses.Statement.{statement}
 use Rattle.formula.proofs.clauses.check_clauses.Tie as tie
 
-abbrev Inv-loop : tie.InvT-loop
-Inv-loop n clauses inside₀ i₀ inside i = Read n clauses i inside
+first-over-requires : tie.Need-first-over-requires
+first-over-requires c κs = search needs
 
-abbrev μ-loop : tie.MeasureT-loop
-μ-loop n clauses inside₀ i₀ inside i = length clauses - i
+returns : tie.Need-returns
+returns c = inl (fault-at-literal (c .before .first-over .ensures) (c .if1 .taken))
 
-loop-holds : tie.Need-loop-holds Inv-loop μ-loop
-loop-holds c = read-none (c .args .n) (c .args .clauses .now)
+returns-2 : tie.Need-returns-2
+returns-2 c = (none-over (c .before .before .first-over .ensures) (c .before .if1 .left) (inl (c .if2 .taken)), tt)
 
-variable-at-requires : tie.Need-variable-at-requires Inv-loop μ-loop
+sub-variable-at : tie.Need-sub-variable-at
+sub-variable-at c = search needs
+
+variable-at-requires : tie.Need-variable-at-requires
 variable-at-requires c κs = search needs
 
-returns : tie.Need-returns Inv-loop μ-loop
-returns c = inl (fault-at-literal (c .before .before .before .loop .inv) (c .before .variable-at .result .0) (c .before .before .loop-test .taken) (c .before .variable-at .ensures) (c .if1 .taken))
+returns-3 : tie.Need-returns-3
+returns-3 c =
+    let at = c .before .before .before .before .before .first-over .ensures in
+    (none-over at (c .before .before .before .before .if1 .left) (inr (sym (c .before .before .variable-at .ensures) ∙ c .if3 .taken)), tt)
 
-add-i : tie.Need-add-i Inv-loop μ-loop
-add-i c = omega arith
-
-loop-less : tie.Need-loop-less Inv-loop μ-loop
-loop-less c = omega arith
-
-loop-again : tie.Need-loop-again Inv-loop μ-loop
-loop-again c = read-literal (c .before .before .before .loop .inv) (c .before .variable-at .result .0) (c .before .before .loop-test .taken) (c .before .variable-at .ensures) (c .if1 .left)
-
-returns-2 : tie.Need-returns-2 Inv-loop μ-loop
-returns-2 c = inl (fault-at-end (c .before .before .loop .inv) (c .before .loop-test .left) (c .if2 .taken))
-
-returns-3 : tie.Need-returns-3 Inv-loop μ-loop
-returns-3 c = (none-in-clauses (c .before .before .loop .inv) (c .before .loop-test .left) (c .if2 .left), tt)
+returns-4 : tie.Need-returns-4
+returns-4 c =
+    let at = c .before .before .before .before .before .first-over .ensures in
+    inl (fault-at-end at (c .before .before .before .before .if1 .left) (c .before .before .before .if2 .left) (λ z. c .if3 .left (c .before .before .variable-at .ensures ∙ z)))
 
 pub check-clauses-spec : {M : Type 1} → statement M
 check-clauses-spec =
     tie.close
     (tie.spec
-    Inv-loop
-    μ-loop
-    loop-holds
-    variable-at-requires
+    first-over-requires
     returns
-    add-i
-    loop-less
-    loop-again
     returns-2
-    returns-3)
+    sub-variable-at
+    variable-at-requires
+    returns-3
+    returns-4)

@@ -4,7 +4,7 @@ use mathlib.Core.Path.{_≡_, sym, _∙_}
 use native.Mathlib.Omega.{arith}
 use borrow.Author.Needs.{needs}
 use lib.ListN.{length, getD}
-use Rattle.searching.proofs.Flags.{literal-past}
+use Rattle.marks.proofs.Flags.{literal-past}
 use Rattle.tables.proofs.Readings.{told, told-not}
 use Rattle.tables.specs.Formula.{tabled}
 use Rattle.paths.specs.Paths.{Deep}

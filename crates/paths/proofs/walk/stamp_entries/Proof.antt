@@ -4,8 +4,8 @@ use mathlib.Core.Path.{sym, subst, _∙_}
 use native.Mathlib.Omega.{arith}
 use borrow.Author.Needs.{needs}
 use lib.ListN.{length}
-use Rattle.searching.proofs.Flags.{literal-past}
-use Rattle.searching.specs.Search.{Has}
+use Rattle.marks.proofs.Flags.{literal-past}
+use Rattle.marks.specs.Flags.{Has}
 use Rattle.paths.specs.Walk.{Stamped}
 use Rattle.paths.proofs.Entries.{Passing, pass-none, pass-more, ends-here, stamped-none, stamped-more}
 use Rattle.paths.proofs.walk.stamp_entries.Statement.{statement}

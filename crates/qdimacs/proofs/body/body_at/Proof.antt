@@ -5,10 +5,10 @@ use native.Mathlib.Omega.{arith}
 use native.Mathlib.Numerals.{add-one}
 use Rattle.qdimacs.specs.declared.Mark.{Mark}
 use Rattle.qdimacs.specs.declared.Mark.the-variants.{Unmarked}
-use Rattle.qdimacs.specs.declared.Row.{Row}
+use Rattle.tokens.specs.declared.Row.{Row}
 use Rattle.qdimacs.specs.declared.Stage.the-variants.{Body}
 use Rattle.qdimacs.specs.Grammar.{literals, literals-line, too-many}
-use Rattle.qdimacs.specs.Places.{RowIs}
+use Rattle.tokens.specs.Places.{RowIs}
 use Rattle.qdimacs.specs.Steps.{MarkAt, MarkIs, BlockIs, Went}
 use Rattle.qdimacs.proofs.Bodies.{fault-many, mark-on, unmarked-none, fault-marked, fault-block, fault-clause, went-block, went-clause}
 use borrow.Author.Needs.{needs}

@@ -3,7 +3,7 @@ use mathlib.Core.Path.{_≡_}
 use mathlib.Core.Bool.{true≢false}
 use native.Mathlib.Omega.{arith}
 use lib.ListN.{getD, List·getD-eq-default}
-use Rattle.qdimacs.proofs.Spelling.{unmarked}
+use Rattle.qdimacs.proofs.Bodies.{unmarked}
 use borrow.Author.Needs.{needs}
 use Rattle.qdimacs.proofs.body.may_be_mark.Statement.{statement}
 use Rattle.qdimacs.proofs.body.may_be_mark.Tie as tie

@@ -1,9 +1,10 @@
 -- `qdimacs::body::spelt_mark` meets its contract.
 use mathlib.Core.Path.{refl, subst}
 use mathlib.Core.List.{[], _∷_}
-use Rattle.qdimacs.specs.declared.Spelt.{Spelt}
-use Rattle.qdimacs.specs.Words.{LETTER-A, LETTER-E}
-use Rattle.qdimacs.specs.Steps.{SpeltIs, e-mark, a-mark}
+use Rattle.tokens.specs.declared.Spelt.{Spelt}
+use Rattle.tokens.specs.Words.{LETTER-A, LETTER-E}
+use Rattle.tokens.specs.Expected.{SpeltIs}
+use Rattle.qdimacs.specs.Steps.{e-mark, a-mark}
 use borrow.Author.Needs.{needs}
 use Rattle.qdimacs.proofs.body.spelt_mark.Statement.{statement}
 use Rattle.qdimacs.proofs.body.spelt_mark.Tie as tie

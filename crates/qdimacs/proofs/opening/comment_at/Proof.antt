@@ -2,7 +2,7 @@
 use Prim.Native.Nat.{ℕ, _+_}
 use mathlib.Core.Path.{sym, subst}
 use native.Mathlib.Omega.{arith}
-use Rattle.qdimacs.specs.Places.{Passed}
+use Rattle.tokens.specs.Places.{Passed}
 use Rattle.qdimacs.specs.Steps.{endless-line}
 use Rattle.qdimacs.proofs.Openings.{passed-line, unpassed-line}
 use borrow.Author.Needs.{needs}

@@ -4,9 +4,9 @@ use Prim.Native.Nat.{_-_}
 use mathlib.Core.Path.{_≡_, sym, _∙_}
 use lib.ListN.{length, getD}
 use borrow.Author.Tests.{eq-eqb, ne-eqb}
-use Rattle.qdimacs.specs.Words.{LF}
-use Rattle.qdimacs.specs.Places.{past, inLine}
-use Rattle.qdimacs.proofs.Leading.{past-more, past-stop, past-end}
+use Rattle.tokens.specs.Words.{LF}
+use Rattle.tokens.specs.Places.{past, inLine}
+use Rattle.tokens.proofs.Leading.{past-more, past-stop, past-end}
 use Rattle.qdimacs.proofs.opening.line_end.Statement.{statement}
 use Rattle.qdimacs.proofs.opening.line_end.Tie as tie
 

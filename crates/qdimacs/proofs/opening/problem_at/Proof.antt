@@ -1,10 +1,10 @@
 -- `qdimacs::opening::problem_at` meets its contract.
 use mathlib.Core.Path.{subst}
-use Rattle.qdimacs.specs.declared.Spelt.{Spelt}
-use Rattle.qdimacs.specs.declared.Counted.{Counted}
-use Rattle.qdimacs.specs.declared.Ended.{Ended}
-use Rattle.qdimacs.specs.Places.{EndedIs}
-use Rattle.qdimacs.specs.Steps.{Goes, SpeltIs, Counts, CountedIs}
+use Rattle.tokens.specs.declared.Spelt.{Spelt}
+use Rattle.tokens.specs.declared.Counted.{Counted}
+use Rattle.tokens.specs.declared.Ended.{Ended}
+use Rattle.tokens.specs.Places.{EndedIs}
+use Rattle.tokens.specs.Expected.{Goes, SpeltIs, Counts, CountedIs}
 use Rattle.qdimacs.proofs.Openings.{p-word, cnf-word, no-p, no-cnf, no-number, no-count, no-end, problem-line, problem-passed}
 use borrow.Author.Needs.{needs}
 use Rattle.qdimacs.proofs.opening.problem_at.Statement.{statement}

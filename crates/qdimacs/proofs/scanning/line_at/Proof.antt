@@ -4,7 +4,7 @@ use lib.ListN.{drop}
 use Rattle.qdimacs.specs.declared.Opened.{Opened}
 use Rattle.qdimacs.specs.declared.Stage.{Stage}
 use Rattle.qdimacs.specs.declared.Stage.the-variants.{Opening, Body}
-use Rattle.qdimacs.specs.Words.{LF, pieces}
+use Rattle.tokens.specs.Words.{LF, pieces}
 use Rattle.qdimacs.specs.Grammar.{Fault}
 use Rattle.qdimacs.specs.Steps.{OpenedIs, Went, StepIs, Sound}
 use Rattle.qdimacs.proofs.Bodies.{fault-opening, went-comment, went-problem}

@@ -5,12 +5,12 @@ use Prim.Native.Nat.{_-_}
 use native.Mathlib.Omega.{arith}
 use lib.ListN.{length}
 use lib.IntN.{pos, negℤ}
-use Rattle.qdimacs.specs.declared.Item.the-variants.{Plain, Negated}
-use Rattle.qdimacs.specs.declared.Entry.{Entry}
-use Rattle.qdimacs.specs.Words.{entry}
+use Rattle.tokens.specs.declared.Item.the-variants.{Plain, Negated}
+use Rattle.tokens.specs.declared.Entry.{Entry}
+use Rattle.tokens.specs.Words.{entry}
 use Rattle.qdimacs.specs.Grammar.{literals}
-use Rattle.qdimacs.specs.Places.{Taken, Closes, EntryIs}
-use Rattle.qdimacs.proofs.Numbers.{plain-most, negated-most}
+use Rattle.tokens.specs.Places.{Taken, Closes, EntryIs}
+use Rattle.tokens.proofs.Numbers.{plain-most, negated-most}
 use Rattle.qdimacs.proofs.Rows.{literal-put, Partly, partly-none, partly-length, partly-more, partly-whole, partly-broken}
 use Rattle.qdimacs.proofs.tables.literals_at.Statement.{statement}
 use Rattle.qdimacs.proofs.tables.literals_at.Tie as tie

@@ -4,11 +4,11 @@ use borrow.Author.Needs.{needs}
 use Prim.Native.Nat.{_-_}
 use native.Mathlib.Omega.{arith}
 use lib.ListN.{length}
-use Rattle.qdimacs.specs.declared.Item.the-variants.{Plain}
-use Rattle.qdimacs.specs.declared.Entry.{Entry}
-use Rattle.qdimacs.specs.Words.{entry, prepend}
+use Rattle.tokens.specs.declared.Item.the-variants.{Plain}
+use Rattle.tokens.specs.declared.Entry.{Entry}
+use Rattle.tokens.specs.Words.{entry, prepend}
 use Rattle.qdimacs.specs.Grammar.{variables}
-use Rattle.qdimacs.specs.Places.{Taken, Closes, EntryIs}
+use Rattle.tokens.specs.Places.{Taken, Closes, EntryIs}
 use Rattle.qdimacs.proofs.Rows.{Partly, partly-none, partly-length, partly-more, partly-barred, partly-whole, partly-broken}
 use Rattle.qdimacs.proofs.tables.variables_at.Statement.{statement}
 use Rattle.qdimacs.proofs.tables.variables_at.Tie as tie

@@ -8,7 +8,7 @@ use borrow.Author.Needs.{needs}
 use lib.IntN.{ℤ, negℤ}
 use lib.ListN.{length, getD, set, length-set}
 use Rattle.terms.specs.Literals.{variableOf, rowOf, otherRow}
-use Rattle.searching.proofs.Flags.{literal-past}
+use Rattle.marks.proofs.Flags.{literal-past}
 use Rattle.resolution.specs.Walk.{unmarked, Passes, Walked}
 use Rattle.resolution.proofs.Marks.{other-one, unmarked-less, unmarked-set}
 use Rattle.resolution.proofs.Steps.{Stepping, step-none, step-noted, step-within, step-other, step-clause, step-end, Leaving, leave-none, leave-past, leave-new, leave-end}

@@ -5,7 +5,7 @@ use native.Mathlib.Omega.{arith}
 use lib.ListN.{length-replicate}
 use Rattle.tables.proofs.Readings.{new-zero}
 use borrow.Author.Needs.{needs}
-use Rattle.sets.proofs.Gathering.{levelled-covers}
+use Rattle.threads.proofs.Gathering.{levelled-covers}
 use Rattle.sets.proofs.all_sets.list_sets.Statement.{statement}
 use Rattle.sets.proofs.all_sets.list_sets.Tie as tie
 

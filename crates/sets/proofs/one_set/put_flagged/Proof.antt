@@ -6,10 +6,10 @@ use native.Mathlib.Omega.{arith}
 use borrow.Author.Tests.{not-true, not-false}
 use lib.ListN.{length}
 use lib.Seq.{sets}
-use Rattle.searching.specs.declared.listing.Asked.the-variants.{Set}
-use Rattle.searching.specs.Search.{pick, picked}
-use Rattle.searching.proofs.Picked.{picked-most}
-use Rattle.forest.proofs.Entered.{fresh}
+use Rattle.picking.specs.declared.Asked.the-variants.{Set}
+use Rattle.picking.specs.Picked.{pick, picked}
+use Rattle.picking.proofs.Picked.{picked-most}
+use Rattle.marks.proofs.Flags.{fresh}
 use Rattle.sets.proofs.AllSets.{topless-none}
 use borrow.Author.Needs.{needs}
 use Rattle.sets.proofs.one_set.put_flagged.Statement.{statement}

@@ -4,11 +4,12 @@ use mathlib.Core.Path.{sym, subst}
 use mathlib.Core.Bool.{Bool}
 use mathlib.Core.List.{List}
 use native.Mathlib.Omega.{arith}
-use Rattle.searching.specs.declared.listing.Asked.the-variants.{Set}
-use Rattle.searching.specs.Search.{Takes, Via, pick, picked}
-use Rattle.searching.proofs.Picked.{picked-most}
-use Rattle.sets.specs.Threads.{Together, EnteredBy}
-use Rattle.sets.specs.Points.{SoleOf}
+use Rattle.picking.specs.declared.Asked.the-variants.{Set}
+use Rattle.marks.specs.Flags.{Takes, Via}
+use Rattle.picking.specs.Picked.{pick, picked}
+use Rattle.picking.proofs.Picked.{picked-most}
+use Rattle.threads.specs.Threads.{Together, EnteredBy}
+use Rattle.threads.specs.Points.{SoleOf}
 use Rattle.sets.specs.Runs.{Run, only}
 use Rattle.sets.specs.Passed.{PutList}
 use Rattle.sets.proofs.Linked.{run-one, sole-entering}

@@ -4,9 +4,9 @@ use mathlib.Core.Path.{_∙_, ap}
 use native.Mathlib.Omega.{arith}
 use lib.ListN.{length}
 use lib.Seq.{length-sets}
-use Rattle.searching.specs.declared.listing.Asked.the-variants.{Set}
-use Rattle.searching.specs.Search.{pick, picked}
-use Rattle.searching.proofs.Picked.{picked-most}
+use Rattle.picking.specs.declared.Asked.the-variants.{Set}
+use Rattle.picking.specs.Picked.{pick, picked}
+use Rattle.picking.proofs.Picked.{picked-most}
 use Rattle.sets.proofs.Records.{record-stored}
 use borrow.Author.Needs.{needs}
 use Rattle.sets.proofs.one_set.write_record.Statement.{statement}

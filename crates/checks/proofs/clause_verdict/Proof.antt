@@ -1,0 +1,90 @@
+-- `checks::clause_verdict` meets its contract.
+use Prim.Native.Nat.{ℕ, _≤_}
+use mathlib.Core.Path.{refl, subst}
+use mathlib.Core.List.{List, [], _∷_}
+use mathlib.Core.Logic.{inl, inr}
+use native.Mathlib.Omega.{arith}
+use borrow.Author.Needs.{needs}
+use lib.IntN.{ℤ}
+use lib.ListN.{length}
+use Rattle.terms.specs.declared.Verdict.{Verdict}
+use Rattle.terms.specs.declared.Verdict.the-variants.{Accepted, Refused}
+use Rattle.terms.specs.Refusals.{At0, Judged}
+use Rattle.terms.proofs.Verdicts.{at0-first, at0-none, refused-first, accepted-then}
+use Rattle.formula.specs.Causes.{VariableCount, ClausesLong, ClauseCause, clauseOrder}
+use Rattle.formula.specs.Lookup.{Stands}
+use Rattle.formula.specs.Meaning.{clauses}
+use Rattle.checks.proofs.clause_verdict.Statement.{statement}
+use Rattle.checks.proofs.clause_verdict.Tie as tie
+
+-- What is left to judge once n and the length are within their limits.
+within : (n : ℕ) (ls : List ℤ) (asked : ℕ) (v : Verdict) → n ≤ 4096 → length ls ≤ 16384 → Judged (ClauseCause n ls ∷ At0 13 (length (clauses ls) ≤ asked) ∷ []) v → Judged (clauseOrder n ls asked) v
+within n ls asked v few small later =
+    accepted-then (VariableCount n ∷ At0 2 (ClausesLong (length ls)) ∷ []) (ClauseCause n ls ∷ At0 13 (length (clauses ls) ≤ asked) ∷ []) {v = Accepted} v refl
+    (at0-none 1 (λ over. omega arith), (at0-none 2 (λ over. omega arith), tt))
+    later
+
+returns : tie.Need-returns
+returns c = inl (at0-first 1 (c .if1 .taken))
+
+returns-2 : tie.Need-returns-2
+returns-2 c = inr (at0-none 1 (λ over. omega arith), inl (at0-first 2 (c .if2 .taken)))
+
+check-clauses-requires : tie.Need-check-clauses-requires
+check-clauses-requires c κs = search needs
+
+enum-known-number : tie.Need-enum-known-number
+enum-known-number c = search needs
+
+enum-told : tie.Need-enum-told
+enum-told c = search needs
+
+find-requires : tie.Need-find-requires
+find-requires c κs = search needs
+
+enum-told-2 : tie.Need-enum-told-2
+enum-told-2 c = search needs
+
+enum-told-3 : tie.Need-enum-told-3
+enum-told-3 c = search needs
+
+returns-3 : tie.Need-returns-3
+returns-3 c =
+    let a = c .before .before .before .before .before .before .args in
+    let said = c .before .number .given in
+    within (a .n) (a .clauses .now) (a .asked) (Refused (said .0 .0) (said .0 .1 .0)) (c .before .before .before .before .before .if1 .left) (c .before .before .before .before .if2 .left)
+    (refused-first (ClauseCause (a .n) (a .clauses .now) ∷ []) (At0 13 (length (clauses (a .clauses .now)) ≤ a .asked) ∷ []) (said .1) (c .before .before .before .check-clauses .ensures))
+
+returns-4 : tie.Need-returns-4
+unfolding Stands
+returns-4 c =
+    let a = c .before .before .before .before .before .before .before .before .args in
+    let stands = subst (Stands (a .clauses .now) (a .asked)) (c .enum-told2 .given .1) (c .before .before .find .ensures) in
+    within (a .n) (a .clauses .now) (a .asked) Accepted (c .before .before .before .before .before .before .before .if1 .left) (c .before .before .before .before .before .before .if2 .left)
+    (accepted-then (ClauseCause (a .n) (a .clauses .now) ∷ []) (At0 13 (length (clauses (a .clauses .now)) ≤ a .asked) ∷ []) Accepted (c .before .before .before .enum-told .given .1) (c .before .before .before .before .before .check-clauses .ensures)
+    (at0-none 13 (λ past. let below = stands .2 in omega arith), tt))
+
+returns-5 : tie.Need-returns-5
+unfolding Stands
+returns-5 c =
+    let a = c .before .before .before .before .before .before .before .before .args in
+    let past = subst (Stands (a .clauses .now) (a .asked)) (c .enum-told3 .given .1) (c .before .before .find .ensures) in
+    within (a .n) (a .clauses .now) (a .asked) (Refused 13 0) (c .before .before .before .before .before .before .before .if1 .left) (c .before .before .before .before .before .before .if2 .left)
+    (accepted-then (ClauseCause (a .n) (a .clauses .now) ∷ []) (At0 13 (length (clauses (a .clauses .now)) ≤ a .asked) ∷ []) (Refused 13 0) (c .before .before .before .enum-told .given .1) (c .before .before .before .before .before .check-clauses .ensures)
+    (inl (at0-first 13 past)))
+
+pub clause-verdict-spec : {M : Type 1} → statement M
+clause-verdict-spec =
+    tie.close
+    (tie.spec
+    returns
+    returns-2
+    check-clauses-requires
+    enum-known-number
+    enum-told
+    find-requires
+    enum-told-2
+    enum-told-3
+    returns-3
+    returns-4
+    returns-5)

@@ -1,0 +1,79 @@
+-- `decoding::fill_numbers` meets its contract: with the numbers that are left the table would be full.
+use Prim.Native.Nat.{ℕ, _-_}
+use mathlib.Core.Path.{ap, _∙_}
+use native.Mathlib.Omega.{arith}
+use lib.Seq.{sets}
+use Rattle.records.specs.Numbers.{numbersAt}
+use Rattle.decoding.proofs.Stores.{Going, going-none, going-more, going-small, Storing, storing-none, storing-more, storing-all, map-same}
+use borrow.Author.Needs.{needs}
+use Rattle.decoding.proofs.fill_numbers.Statement.{statement}
+use Rattle.decoding.proofs.fill_numbers.Tie as tie
+
+abbrev Inv-loop : tie.InvT-loop
+Inv-loop file width from many table₀ i₀ at₀ table i at = Going width from many i at × Storing (λ (x : ℕ). x) width file from many table₀ table i at
+
+abbrev μ-loop : tie.MeasureT-loop
+μ-loop file width from many table₀ i₀ at₀ table i at = many - i
+
+loop-holds : tie.Need-loop-holds Inv-loop μ-loop
+loop-holds c =
+    let a = c .before .before .args in
+    (going-none (a .width) (a .from) (a .many), storing-none (λ (x : ℕ). x) (a .width) (a .file .now) (a .from) (a .many) (a .table .now) (c .before .before .pre .2))
+
+number-in-requires : tie.Need-number-in-requires Inv-loop μ-loop
+number-in-requires c κs =
+    let pre = c .before .before .before .before .pre in
+    let small = going-small (c .before .loop .inv .0) (c .loop-test .taken) 4294967294 (pre .1) in
+    (pre .0, omega arith)
+
+mul-table : tie.Need-mul-table Inv-loop μ-loop
+mul-table c = search needs
+
+slice-write-table : tie.Need-slice-write-table Inv-loop μ-loop
+slice-write-table c =
+    let room = c .before .before .loop .inv .1 .room in
+    let l = c .before .loop-test .taken in
+    omega arith
+
+add-i : tie.Need-add-i Inv-loop μ-loop
+add-i c = search needs
+
+add-at : tie.Need-add-at Inv-loop μ-loop
+add-at c =
+    let small = going-small (c .before .before .loop .inv .0) (c .before .loop-test .taken) 4294967294 (c .before .before .before .before .before .pre .1) in
+    omega arith
+
+loop-less : tie.Need-loop-less Inv-loop μ-loop
+loop-less c = let l = c .before .loop-test .taken in omega arith
+
+loop-again : tie.Need-loop-again Inv-loop μ-loop
+loop-again c =
+    let a = c .before .before .before .before .before .args in
+    let l = c .before .before .loop in
+    (going-more (l .inv .0) (c .before .loop-test .taken), storing-more (λ (x : ℕ). x) (a .width) (a .file .now) (a .from) (a .many) (a .table .now) (l .inv .1) (c .before .loop-test .taken) (c .number-in .result) (c .number-in .ensures))
+
+same-length : tie.Need-same-length Inv-loop μ-loop
+same-length c = c .before .loop .inv .1 .same
+
+returns : tie.Need-returns Inv-loop μ-loop
+returns c =
+    let a = c .before .before .before .before .args in
+    storing-all (λ (x : ℕ). x) (a .width) (a .file .now) (a .from) (a .many) (a .table .now) (c .before .loop .inv .1) (c .loop-test .left)
+    ∙ ap (sets (a .table .now) 0) (map-same (numbersAt (a .width) (a .file .now) (a .from) (a .many)))
+
+pub fill-numbers-spec : {M : Type 1} → statement M
+fill-numbers-spec =
+    tie.close
+    (tie.spec
+    Inv-loop
+    μ-loop
+    loop-holds
+    number-in-requires
+    mul-table
+    slice-write-table
+    add-i
+    add-at
+    loop-less
+    loop-again
+    same-length
+    returns)

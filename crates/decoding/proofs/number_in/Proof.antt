@@ -1,0 +1,28 @@
+-- `decoding::number_in` meets its contract, by its width.
+use Prim.Native.Nat.{ℕ}
+use mathlib.Core.Path.{sym, ap, _∙_}
+use mathlib.Core.Logic.{⊎-elim}
+use Rattle.records.specs.Numbers.{numberAt}
+use borrow.Author.Needs.{needs}
+use Rattle.decoding.proofs.number_in.Statement.{statement}
+use Rattle.decoding.proofs.number_in.Tie as tie
+
+two-at-requires : tie.Need-two-at-requires
+two-at-requires c κs = search needs
+
+four-at-requires : tie.Need-four-at-requires
+four-at-requires c κs = search needs
+
+returns : tie.Need-returns
+returns c =
+    let a = c .before .before .before .args in
+    c .two-at .ensures .0 ∙ sym (ap (λ (w : ℕ). numberAt w (a .file .now) (a .at)) (c .before .if1 .taken))
+
+returns-2 : tie.Need-returns-2
+returns-2 c =
+    let a = c .before .before .before .args in
+    let four = ⊎-elim (λ two. absurd (c .before .if1 .left two)) (λ e. e) (c .before .before .before .pre .0) in
+    c .four-at .ensures ∙ sym (ap (λ (w : ℕ). numberAt w (a .file .now) (a .at)) four)
+
+pub number-in-spec : {M : Type 1} → statement M
+number-in-spec = tie.close (tie.spec two-at-requires four-at-requires returns returns-2)

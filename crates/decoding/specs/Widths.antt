@@ -1,0 +1,8 @@
+-- How many bytes the numbers of a file have; nothing of it is cited by a call.
+use Prim.Native.Nat.{ℕ}
+use mathlib.Core.Path.{_≡_}
+use mathlib.Core.Logic.{_⊎_}
+
+-- numbers of a file have two bytes or four
+abbrev pub Width : ℕ → Type 0
+Width width = (width ≡ 2) ⊎ (width ≡ 4)

@@ -1,0 +1,28 @@
+-- `levelling::free_level` meets its contract.
+use mathlib.Core.Path.{ap, sym, _∙_}
+use mathlib.Core.Bool.{cond}
+use borrow.Author.Needs.{needs}
+use borrow.Author.Tests.{eq-eqb, ne-eqb}
+use Rattle.formula.specs.Tables.{at}
+use Rattle.formula.proofs.Levelling.{free-of-none, free-of-first}
+use Rattle.levelling.proofs.free_level.Statement.{statement}
+use Rattle.levelling.proofs.free_level.Tie as tie
+
+returns : tie.Need-returns
+returns c = free-of-none (c .before .args .prefix .now) (c .if1 .taken)
+
+shared-slice-read-if2 : tie.Need-shared-slice-read-if2
+shared-slice-read-if2 c = search needs
+
+returns-2 : tie.Need-returns-2
+returns-2 c =
+    let es = c .before .before .before .args .prefix .now in
+    sym (ap (λ b. cond b 1 0) (eq-eqb (at es 0) 1 (c .if2 .taken))) ∙ free-of-first es (c .before .before .before .pre .1) (c .before .before .if1 .left)
+
+returns-3 : tie.Need-returns-3
+returns-3 c =
+    let es = c .before .before .before .args .prefix .now in
+    sym (ap (λ b. cond b 1 0) (ne-eqb (at es 0) 1 (c .if2 .left))) ∙ free-of-first es (c .before .before .before .pre .1) (c .before .before .if1 .left)
+
+pub free-level-spec : {M : Type 1} → statement M
+free-level-spec = tie.close (tie.spec returns shared-slice-read-if2 returns-2 returns-3)

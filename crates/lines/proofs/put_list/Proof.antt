@@ -1,0 +1,30 @@
+-- `lines::put_list` meets its contract.
+use native.Mathlib.Omega.{arith}
+use Rattle.spelling.proofs.Stores.{wrote-more}
+use Rattle.lines.proofs.Spelt.{numbers-most}
+use borrow.Author.Needs.{needs}
+use Rattle.lines.proofs.put_list.Statement.{statement}
+use Rattle.lines.proofs.put_list.Tie as tie
+
+put-word-requires : tie.Need-put-word-requires
+put-word-requires c κs = search needs
+
+put-numbers-requires : tie.Need-put-numbers-requires
+put-numbers-requires c κs = search needs
+
+same-length : tie.Need-same-length
+same-length c = search needs
+
+returns : tie.Need-returns
+returns c =
+    let word = c .before .before .before .before .before .before .put-word .ensures in
+    let list = c .before .before .put-numbers .ensures in
+    let first = word .end in
+    let last = list .end in
+    let short = c .before .before .before .before .before .before .before .before .before .before .before .pre in
+    let few = short .2 .few in
+    let most = numbers-most (c .before .before .before .before .before .before .before .before .before .before .before .args .list .now) (short .2 .short) in
+    record { wrote = wrote-more word list; near = omega arith }
+
+pub put-list-spec : {M : Type 1} → statement M
+put-list-spec = tie.close (tie.spec put-word-requires put-numbers-requires same-length returns)

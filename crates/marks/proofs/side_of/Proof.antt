@@ -1,0 +1,15 @@
+-- `marks::side_of` meets its contract.
+use mir.Syntax.{w32}
+use mir.Facts.{toZ-ofZ}
+use Rattle.marks.proofs.Sides.{negative-sign, positive-sign}
+use Rattle.marks.proofs.side_of.Statement.{statement}
+use Rattle.marks.proofs.side_of.Tie as tie
+
+returns : tie.Need-returns
+returns c = negative-sign (toZ-ofZ {w = w32} {z = c .before .before .before .args .literal .0} (record { sfits = c .before .struct-told .given .0 .1 })) (c .if1 .taken)
+
+returns-2 : tie.Need-returns-2
+returns-2 c = positive-sign (toZ-ofZ {w = w32} {z = c .before .before .before .args .literal .0} (record { sfits = c .before .struct-told .given .0 .1 })) (c .if1 .left)
+
+pub side-of-spec : {M : Type 1} → statement M
+side-of-spec = tie.close (tie.spec returns returns-2)

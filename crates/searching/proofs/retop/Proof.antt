@@ -1,0 +1,43 @@
+-- `searching::retop` meets its contract.
+use mathlib.Core.Path.{_∙_}
+use borrow.Author.Needs.{needs}
+use Rattle.searching.proofs.retop.Statement.{statement}
+use Rattle.searching.proofs.retop.Tie as tie
+
+level-at-requires : tie.Need-level-at-requires
+level-at-requires c κs = search needs
+
+returns : tie.Need-returns
+returns c =
+    let a = c .before .before .before .before .before .before .before .before .before .before .args in
+    let pre = c .before .before .before .before .before .before .before .before .before .before .pre in
+    let (universals, table) = pre .1 .0 .1 in
+    let own = c .before .before .before .before .level-at .ensures ∙ table .level-is (a .x .0) (pre .1 .0 .0) in
+    (pre .1 .1, c .if1 .taken ∙ own)
+
+fill-tops-requires : tie.Need-fill-tops-requires
+fill-tops-requires c κs =
+    let a = c .before .before .before .before .before .before .before .before .before .before .before .args in
+    let pre = c .before .before .before .before .before .before .before .before .before .before .before .pre in
+    let (universals, table) = pre .1 .0 .1 in
+    let own = c .before .before .before .before .before .level-at .ensures ∙ table .level-is (a .x .0) (pre .1 .0 .0) in
+    (pre .0 .0, pre .0 .1, pre .0 .2, (a .x .0, pre .1 .0 .0, own))
+
+topless-requires : tie.Need-topless-requires
+topless-requires c κs = search needs
+
+same-length : tie.Need-same-length
+same-length c = search needs
+
+returns-2 : tie.Need-returns-2
+returns-2 c =
+    let a = c .before .before .before .before .before .before .before .before .before .before .before .before .before .before .before .before .args in
+    let pre = c .before .before .before .before .before .before .before .before .before .before .before .before .before .before .before .before .pre in
+    let (universals, table) = pre .1 .0 .1 in
+    let own = c .before .before .before .before .before .before .before .before .before .before .level-at .ensures ∙ table .level-is (a .x .0) (pre .1 .0 .0) in
+    (record { rows = c .before .before .before .before .fill-tops .ensures; most = c .topless .ensures .0; none = c .topless .ensures .1 }, own)
+
+pub retop-spec : {M : Type 1} → statement M
+retop-spec =
+    tie.close
+    (tie.spec level-at-requires returns fill-tops-requires topless-requires same-length returns-2)

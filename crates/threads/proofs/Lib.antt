@@ -1,0 +1,5 @@
+pub mod Chains
+pub mod Gathering
+pub mod Followed
+pub mod Kept
+pub mod Soles

@@ -1,0 +1,26 @@
+-- `threads::counted` meets its contract.
+use mathlib.Core.Path.{sym, ap, _∙_}
+use mathlib.Core.Bool.{cond}
+use borrow.Author.Needs.{needs}
+use Rattle.threads.proofs.Gathering.{marked-flags}
+use Rattle.threads.proofs.counted.Statement.{statement}
+use Rattle.threads.proofs.counted.Tie as tie
+
+cast-if1 : tie.Need-cast-if1
+cast-if1 c = search needs
+
+shared-slice-read-if1 : tie.Need-shared-slice-read-if1
+shared-slice-read-if1 c = search needs
+
+returns : tie.Need-returns
+returns c =
+    let a = c .before .before .before .args in
+    sym (ap (λ b. cond b 1 0) (marked-flags (a .universals .now) (c .before .before .before .pre .1) (a .variable .0) ∙ c .if1 .taken))
+
+returns-2 : tie.Need-returns-2
+returns-2 c =
+    let a = c .before .before .before .args in
+    sym (ap (λ b. cond b 1 0) (marked-flags (a .universals .now) (c .before .before .before .pre .1) (a .variable .0) ∙ c .if1 .left))
+
+pub counted-spec : {M : Type 1} → statement M
+counted-spec = tie.close (tie.spec cast-if1 shared-slice-read-if1 returns returns-2)

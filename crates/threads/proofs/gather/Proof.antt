@@ -1,0 +1,129 @@
+-- `threads::gather` meets its contract.
+use Prim.Native.Nat.{_+_, _-_}
+use mathlib.Core.Path.{_≡_, refl, sym, ap, _∙_, subst}
+use mathlib.Core.Bool.{cond}
+use native.Mathlib.Omega.{arith}
+use borrow.Author.Needs.{needs}
+use lib.Dec.{eqb}
+use lib.ListN.{length, length-set, set}
+use Rattle.terms.specs.Literals.{variableOf}
+use Rattle.formula.specs.Tables.{literalAt}
+use Rattle.threads.specs.Threads.{marked, Gathered}
+use Rattle.threads.proofs.Chains.{Passing, passing-none, passing-inside}
+use Rattle.threads.proofs.Gathering.{marked-some, counts-most, gathered-none, gathered-more, passing-begun}
+use Rattle.threads.proofs.gather.Statement.{statement}
+use Rattle.threads.proofs.gather.Tie as tie
+
+abbrev Inv-loop : tie.InvT-loop
+Inv-loop clauses universals places₀ starts₀ count₀ start₀ i₀ places starts count start i = (length places ≡ length places₀) × (length starts ≡ length starts₀) × Passing clauses start i × Gathered clauses universals places starts count i
+
+abbrev μ-loop : tie.MeasureT-loop
+μ-loop clauses universals places₀ starts₀ count₀ start₀ i₀ places starts count start i = length clauses - i
+
+loop-holds : tie.Need-loop-holds Inv-loop μ-loop
+loop-holds c = let a = c .before .before .before .args in (refl, refl, passing-none (a .clauses .now), gathered-none (a .clauses .now) (a .universals .now) (a .places .now) (a .starts .now))
+
+cast-places : tie.Need-cast-places Inv-loop μ-loop
+cast-places c = let short = c .before .before .before .before .before .pre .0 .short in let less = c .loop-test .taken in omega arith
+
+mul-places : tie.Need-mul-places Inv-loop μ-loop
+mul-places c = let few = c .before .loop .inv .3 .few in let less = c .loop-test .taken in let room = c .before .before .before .before .before .pre .1 in omega arith
+
+slice-write-places : tie.Need-slice-write-places Inv-loop μ-loop
+slice-write-places c = let few = c .before .loop .inv .3 .few in let less = c .loop-test .taken in let room = c .before .before .before .before .before .pre .1 in let size = c .before .loop .inv .0 in omega arith
+
+cast-starts : tie.Need-cast-starts Inv-loop μ-loop
+cast-starts c = let short = c .before .before .before .before .before .pre .0 .short in let less = c .loop-test .taken in let from = c .before .loop .inv .2 .from in omega arith
+
+mul-starts : tie.Need-mul-starts Inv-loop μ-loop
+mul-starts c = let few = c .before .loop .inv .3 .few in let less = c .loop-test .taken in let room = c .before .before .before .before .before .pre .2 in omega arith
+
+slice-write-starts : tie.Need-slice-write-starts Inv-loop μ-loop
+slice-write-starts c = let few = c .before .loop .inv .3 .few in let less = c .loop-test .taken in let room = c .before .before .before .before .before .pre .2 in let size = c .before .loop .inv .1 in omega arith
+
+variable-at-requires : tie.Need-variable-at-requires Inv-loop μ-loop
+variable-at-requires c κs = search needs
+
+add-i : tie.Need-add-i Inv-loop μ-loop
+add-i c = let less = c .before .loop-test .taken in omega arith
+
+counted-requires : tie.Need-counted-requires Inv-loop μ-loop
+counted-requires c κs =
+    let less = c .before .loop-test .taken in
+    let row = c .before .before .before .before .before .before .pre .3 .rows (c .before .before .loop .i) less in
+    let is = c .variable-at .ensures in
+    (omega arith, c .before .before .before .before .before .before .pre .3 .none)
+
+add-count : tie.Need-add-count Inv-loop μ-loop
+add-count c =
+    let few = c .before .before .before .loop .inv .3 .few in
+    let less = c .before .before .loop-test .taken in
+    let short = c .before .before .before .before .before .before .before .pre .0 .short in
+    let one = counts-most (marked (c .before .before .before .before .before .before .before .args .universals .now) (c .before .variable-at .result .0)) in
+    let is = c .counted .ensures in
+    omega arith
+
+begun-requires : tie.Need-begun-requires Inv-loop μ-loop
+begun-requires c κs = search needs
+
+loop-less : tie.Need-loop-less Inv-loop μ-loop
+loop-less c = let less = c .before .before .before .loop-test .taken in omega arith
+
+loop-again : tie.Need-loop-again Inv-loop μ-loop
+loop-again c =
+    let a = c .before .before .before .before .before .before .before .before .args in
+    let pre = c .before .before .before .before .before .before .before .before .pre in
+    let l = c .before .before .before .before .loop in
+    let inv = l .inv in
+    let less = c .before .before .before .loop-test .taken in
+    let ls = a .clauses .now in
+    let flags = a .universals .now in
+    let own = c .before .before .variable-at .ensures in
+    let few = inv .3 .few in
+    let room = pre .1 in
+    let room′ = pre .2 in
+    let size = inv .0 in
+    let size′ = inv .1 in (
+      length-set (l .places) (l .count) (l .i) ∙ size,
+      length-set (l .starts) (l .count) (l .start) ∙ size′,
+      subst (λ s. Passing ls s (l .i + 1)) (sym (c .begun .ensures ∙ ap (λ v. cond (eqb v 0) (l .i + 1) (l .start)) own)) (passing-begun (inv .2) less),
+      subst (λ k. Gathered ls flags (set (l .places) (l .count) (l .i)) (set (l .starts) (l .count) (l .start)) (l .count + k) (l .i + 1)) (sym (c .before .counted .ensures ∙ ap (λ v. cond (marked flags v) 1 0) own))
+          (gathered-more (inv .3) (l .start) (omega arith) (omega arith) (marked flags (variableOf (literalAt ls (l .i)))) refl (λ m. passing-inside (inv .2) less (marked-some flags (variableOf (literalAt ls (l .i))) m))),
+    )
+
+same-length : tie.Need-same-length Inv-loop μ-loop
+same-length c = c .before .loop .inv .0
+
+same-length-2 : tie.Need-same-length-2 Inv-loop μ-loop
+same-length-2 c = c .before .loop .inv .1
+
+returns : tie.Need-returns Inv-loop μ-loop
+returns c =
+    let a = c .before .before .before .before .before .args in
+    let l = c .before .loop in
+    let q : l .i ≡ length (a .clauses .now) = let w = l .inv .2 .within in let done = c .loop-test .left in omega arith in
+    subst (Gathered (a .clauses .now) (a .universals .now) (l .places) (l .starts) (l .count)) q (l .inv .3)
+
+pub gather-spec : {M : Type 1} → statement M
+gather-spec =
+    tie.close
+    (tie.spec
+    Inv-loop
+    μ-loop
+    loop-holds
+    cast-places
+    mul-places
+    slice-write-places
+    cast-starts
+    mul-starts
+    slice-write-starts
+    variable-at-requires
+    add-i
+    counted-requires
+    add-count
+    begun-requires
+    loop-less
+    loop-again
+    same-length
+    same-length-2
+    returns)

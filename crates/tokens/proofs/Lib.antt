@@ -1,0 +1,6 @@
+-- Bytes, numbers, lines and their words.
+pub mod Leading
+pub mod Numbers
+pub mod Lines
+pub mod Entries
+pub mod Spelling

@@ -1,0 +1,122 @@
+// The words of a line, each from its first byte up to its end: the word reader, and a word as a number.
+
+use crate::Number;
+use crate::Word;
+use spelling::LF;
+use spelling::NINE;
+use spelling::SPACE;
+use spelling::ZERO;
+ghost use mathlib.Core.Path.{_≡_};
+ghost use Prim.Native.Nat.{_+_, _≤_};
+ghost use lib.ListN.{length};
+ghost use lib.Seq.{slice};
+ghost use Rattle.tokens.specs.Words.{numberOf};
+ghost use Rattle.tokens.specs.Places.{past, isSpace, inWord, wordAt, speltOf};
+
+// The word reader: the lent text and a place in it.
+pub struct Words<'a> {
+    pub text: &'a [u8],
+    pub at: usize,
+}
+
+// The word that stands next in a text from a place on, through a reader: whoever calls this holds no reader.
+pub fn word_in(text: &[u8], at: usize) -> Word
+    ensures { λ r. ⌜ r ≡ wordAt (now (text .entry)) at ⌝ }
+{
+    next(reader(text, at))
+}
+
+// A reader of a text at a place.
+fn reader<'a>(text: &'a [u8], at: usize) -> Words<'a>
+    ensures { λ r. ⌜ (r .text ≡ text .entry) × (r .at ≡ at) ⌝ }
+{
+    Words { text, at }
+}
+
+// The word that stands next.
+fn next<'a>(words: Words<'a>) -> Word
+    ensures { λ r. ⌜ r ≡ wordAt (now (words .entry .text)) (words .entry .at) ⌝ }
+{
+    word_at(words.text, words.at)
+}
+
+// The word that stands next in a line.
+fn word_at(text: &[u8], at: usize) -> Word
+    ensures { λ r. ⌜ r ≡ wordAt (now (text .entry)) at ⌝ }
+{
+    let start = gap_end(text, at);
+    let end = run_end(text, start);
+    if start < end {
+        Word::Found { start, end }
+    } else {
+        Word::End { at: start }
+    }
+}
+
+// The place after the spaces that stand at a place.
+pub fn gap_end(text: &[u8], at: usize) -> usize
+    ensures { λ r. ⌜ r ≡ past isSpace (now (text .entry)) at ⌝ }
+{
+    let mut i = at;
+    while i < text.len() {
+        if text[i] != SPACE {
+            return i;
+        }
+        i += 1;
+    }
+    i
+}
+
+// The place after the bytes that stand at a place before the next space or LF.
+fn run_end(text: &[u8], at: usize) -> usize
+    ensures { λ r. ⌜ r ≡ past inWord (now (text .entry)) at ⌝ }
+{
+    let mut i = at;
+    while i < text.len() {
+        let byte = text[i];
+        if byte == SPACE {
+            return i;
+        }
+        if byte == LF {
+            return i;
+        }
+        i += 1;
+    }
+    i
+}
+
+// A word as a number.
+pub fn number_in(text: &[u8], start: usize, end: usize) -> Number
+    requires { ⌜ (start ≤ end) × (end ≤ length (now text)) ⌝ }
+    ensures { λ r. ⌜ r ≡ numberOf (slice start end (now (text .entry))) ⌝ }
+{
+    let size = end - start;
+    if size < 1 {
+        return Number::Not;
+    }
+    if 5 < size {
+        return Number::Not;
+    }
+    digits_in(text, start, end)
+}
+
+// The number that the digits from a place up to an end spell, at most five.
+fn digits_in(text: &[u8], start: usize, end: usize) -> Number
+    requires { ⌜ (start ≤ end) × (end ≤ start + 5) × (end ≤ length (now text)) ⌝ }
+    ensures { λ r. ⌜ r ≡ speltOf 0 (slice start end (now (text .entry))) ⌝ }
+{
+    let mut value: u32 = 0;
+    let mut i = start;
+    while i < end {
+        let byte = text[i];
+        if byte < ZERO {
+            return Number::Not;
+        }
+        if NINE < byte {
+            return Number::Not;
+        }
+        value = value * 10 + ((byte - ZERO) as u32);
+        i += 1;
+    }
+    Number::Is(value)
+}
