@@ -479,8 +479,7 @@ static void print_growth(const struct row *before, const struct row *after, cons
             continue;
         }
         printf("%11.2f", growth);
-        /* all sets are a pass over the rows for each universal, of which there are twice as many */
-        if (w < DEPQBF_READ && w != SETS && output_growth(w, before, after) <= MOST_GROWTH)
+        if (w < DEPQBF_READ && output_growth(w, before, after) <= MOST_GROWTH)
             note(worst->growth, growth, n == family->last, family->name, titles[w], n);
     }
     printf("\n");
