@@ -1,33 +1,47 @@
 -- The laws of entries: what the next word of a line says of the line as a row of entries.
-use Prim.Native.Nat.{ℕ, _+_, _<_, _≤_}
-use mathlib.Core.Path.{_≡_, sym, ap, _∙_}
-use mathlib.Core.List.{List, _∷_}
+use Prim.Native.Nat.{ℕ, _+_}
+use mathlib.Core.Path.{_≡_, refl, sym, ap, _∙_, subst}
+use mathlib.Core.Bool.{Bool, true, false, cond}
+use mathlib.Core.List.{List, [], _∷_}
 use native.Mathlib.Omega.{arith}
-use native.Mathlib.Numerals.{add-one}
-use borrow.Author.Tests.{eq-eqb, ne-eqb}
-use lib.ListN.{length, getD}
-use lib.Seq.{slice, slice-cons}
+use lib.Dec.{eqb}
+use lib.Seq.{slice}
+use Rattle.tokens.specs.declared.Word.the-variants.{Found}
+use Rattle.tokens.specs.declared.Number.{Number}
+use Rattle.tokens.specs.declared.Number.the-variants.{Not}
 use Rattle.tokens.specs.declared.Item.{Item}
-use Rattle.tokens.specs.declared.Item.the-variants.{Closing}
+use Rattle.tokens.specs.declared.Item.the-variants.{Closing, Plain, Negated, Other}
 use Rattle.tokens.specs.declared.Entry.{Entry}
 use Rattle.tokens.specs.declared.Entry.the-variants.{Unfit, Close, Take, Negate}
-use Rattle.tokens.specs.Words.{MINUS, numberOf, plainItem, negatedItem, itemOf}
-use Rattle.tokens.specs.Places.{Passed, Taken, words-left, no-feed, CloseIs, early, endless, EntryIs}
-use Rattle.tokens.proofs.Lines.{FoundIs}
+use Rattle.tokens.specs.Words.{MINUS, isNumber, numberOf, plainItem, negatedItem, itemOf}
+use Rattle.tokens.specs.Places.{signed, bare, signedItem, wordAt, Passed, Taken, words-left, no-feed, CloseIs, ItemIs, early, endless, strange, EntryIs}
+use Rattle.tokens.proofs.Lines.{FoundIs, found-parts}
 
--- a word as an item, by its first byte
-module _ (text : List ℕ) (start end : ℕ) (h : start < end) (e : end ≤ length text) where
-  pub item-minus : getD text start 0 ≡ MINUS → itemOf (slice start end text) ≡ negatedItem (numberOf (slice (start + 1) end text))
-  unfolding itemOf
-  item-minus m = rw (slice-cons start end text 0 h e, eq-eqb (getD text start 0) MINUS m, add-one)
+-- a word as an item, by its sign and its number
+item-signed : (word : List ℕ) → itemOf word ≡ signedItem (signed word) (numberOf (bare word))
+unfolding itemOf signedItem signed bare numberOf isNumber plainItem
+item-signed [] = refl
+item-signed (byte ∷ bytes) = go (eqb byte MINUS)
+  where
+    go : (t : Bool) → cond t (negatedItem (numberOf bytes)) (plainItem (numberOf (byte ∷ bytes))) ≡ cond t (negatedItem (numberOf (cond t bytes (byte ∷ bytes)))) (plainItem (numberOf (cond t bytes (byte ∷ bytes))))
+    go true = refl
+    go false = refl
 
-  pub item-plain : (getD text start 0 ≡ MINUS → ⊥) → itemOf (slice start end text) ≡ plainItem (numberOf (slice start end text))
-  unfolding itemOf
-  item-plain m = rw (slice-cons start end text 0 h e, ne-eqb (getD text start 0) MINUS m)
+pub found-item : (text : List ℕ) (at s e : ℕ) (number : Number) (negative : Bool) → wordAt text at ≡ Found s e number negative → itemOf (slice s e text) ≡ signedItem negative number
+found-item text at s e number negative q =
+    let p = found-parts text at s e number negative q in
+    let word = slice s e text in
+    item-signed word ∙ ap (λ (b : Bool). signedItem b (numberOf (bare word))) (p .1) ∙ ap (signedItem negative) (p .0)
+
+-- what is no number is no item, with `-` or without
+pub not-item : (negative : Bool) → signedItem negative Not ≡ Other
+unfolding signedItem plainItem negatedItem
+not-item true = refl
+not-item false = refl
 
 module _ {text : List ℕ} {at start end : ℕ} (found : FoundIs text at start end) where
   -- the word found is an item, and the line goes on after it
-  pub taken : (item : Item) → itemOf (slice start end text) ≡ item → Taken item text at end
+  taken : (item : Item) → itemOf (slice start end text) ≡ item → Taken item text at end
   taken item is =
       record {
         word = slice start end text;
@@ -44,7 +58,7 @@ module _ {text : List ℕ} {at start end : ℕ} (found : FoundIs text at start e
   passed-on next p = record { after = found .after ∙ p .after; place = p .place ∙ sym (ap (λ (n : ℕ). n + 1) (found .line)); within = p .within }
 
   -- the word found is the closing 0
-  pub closes : itemOf (slice start end text) ≡ Closing → (r : Entry) → CloseIs text end r → EntryIs text at r
+  closes : itemOf (slice start end text) ≡ Closing → (r : Entry) → CloseIs text end r → EntryIs text at r
   closes is Unfit (words-left left) = early (found .first ∙ ap (λ (ws : List (List ℕ)). slice start end text ∷ ws) left) is
   closes is Unfit (no-feed none) = endless (found .after ∙ none)
   closes is (Close next) c =
@@ -57,3 +71,10 @@ module _ {text : List ℕ} {at start end : ℕ} (found : FoundIs text at start e
       }
   closes is (Take value next) c = absurd c
   closes is (Negate value next) c = absurd c
+
+  -- the entry that it is, by its item
+  pub found-entry : (item : Item) → itemOf (slice start end text) ≡ item → (r : Entry) → ItemIs item text end r → EntryIs text at r
+  found-entry Closing is r c = closes is r c
+  found-entry (Plain value) is r q = subst (EntryIs text at) (sym q) (taken (Plain value) is)
+  found-entry (Negated value) is r q = subst (EntryIs text at) (sym q) (taken (Negated value) is)
+  found-entry Other is r q = subst (EntryIs text at) (sym q) (strange (found .first) is)

@@ -2,14 +2,25 @@
 use Prim.Native.Nat.{ℕ, suc, _+_, _<_, _≤_}
 use mathlib.Core.Path.{_≡_, sym, ap, _∙_}
 use mathlib.Core.Bool.{Bool, true, false, cond}
-use mathlib.Core.List.{List}
+use mathlib.Core.List.{List, [], _∷_}
+use native.Mathlib.Omega.{arith}
 use native.Mathlib.Nat.{add-zero, add-suc, suc-add}
 use native.Mathlib.Numerals.{add-one}
-use lib.ListN.{length, drop, getD, drop-of-length-le}
+use lib.ListN.{length, drop, getD, drop-of-length-le, length-drop}
 use lib.Seq.{drop-cons}
 use borrow.Author.Tests.{lt-ltb, le-ltb}
-use Rattle.tokens.specs.declared.Word.the-variants.{Found, End}
-use Rattle.tokens.specs.Places.{leading, past, isSpace, inWord, wordFrom, wordAt}
+use Rattle.tokens.specs.declared.Word.the-variants.{End}
+use Rattle.tokens.specs.Places.{leading, past, isSpace, inWord, foundFrom, wordFrom, wordAt}
+
+-- No more bytes pass a test than there are.
+pub leading-most : (test : ℕ → Bool) (xs : List ℕ) → leading test xs ≤ length xs
+unfolding leading
+leading-most test [] = omega arith
+leading-most test (b ∷ bs) = go (test b) (leading-most test bs)
+  where
+    go : (t : Bool) → leading test bs ≤ length bs → cond t (suc (leading test bs)) 0 ≤ suc (length bs)
+    go true h = omega arith
+    go false h = omega arith
 
 module _ (test : ℕ → Bool) (text : List ℕ) (i : ℕ) where
   -- a byte that passes: the place after it
@@ -33,11 +44,23 @@ module _ (test : ℕ → Bool) (text : List ℕ) (i : ℕ) where
   unfolding leading
   past-end h = ap (λ (xs : List ℕ). i + leading test xs) (drop-of-length-le text h) ∙ add-zero i
 
--- the word at a place, from where its spaces end and where its bytes do
-pub word-found : (text : List ℕ) (at start end : ℕ) → start ≡ past isSpace text at → end ≡ past inWord text start → start < end → wordAt text at ≡ Found start end
-unfolding wordAt wordFrom
-word-found text at start end s e h = rw (← s, ← e, lt-ltb start end h)
+  -- where some pass, the place after them stands in the text
+  pub past-within : i < past test text i → past test text i ≤ length text
+  past-within h =
+      let most = leading-most test (drop i text) in
+      let left = length-drop i text in
+      omega arith
 
-pub word-none : (text : List ℕ) (at start end : ℕ) → start ≡ past isSpace text at → end ≡ past inWord text start → end ≤ start → wordAt text at ≡ End start
-unfolding wordAt wordFrom
-word-none text at start end s e h = rw (← s, ← e, le-ltb start end h)
+-- the word at a place where no space stands, from where its bytes end
+pub from-found : (text : List ℕ) (start end : ℕ) → end ≡ past inWord text start → start < end → wordFrom text start (past inWord text start) ≡ foundFrom text start end
+unfolding wordFrom
+from-found text start end e h = rw (← e, lt-ltb start end h)
+
+pub from-none : (text : List ℕ) (start end : ℕ) → end ≡ past inWord text start → end ≤ start → wordFrom text start (past inWord text start) ≡ End start
+unfolding wordFrom
+from-none text start end e h = rw (← e, le-ltb start end h)
+
+-- the word at a place, from where its spaces end
+pub from-word : (text : List ℕ) (at start : ℕ) → start ≡ past isSpace text at → wordFrom text start (past inWord text start) ≡ wordAt text at
+unfolding wordAt
+from-word text at start s = rw s

@@ -3,4 +3,5 @@ pub mod Leading
 pub mod Numbers
 pub mod Lines
 pub mod Entries
+pub mod Numerals
 pub mod Spelling

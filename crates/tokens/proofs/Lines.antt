@@ -10,8 +10,10 @@ use lib.Dec.{eqb, ltb}
 use lib.ListN.{length, take, drop, length-drop}
 use lib.Seq.{slice, take-nil, drop-drop, length-take-le}
 use Rattle.tokens.specs.declared.Word.the-variants.{Found, End}
-use Rattle.tokens.specs.Words.{LF, SPACE, onto, pieces, filled, words}
-use Rattle.tokens.specs.Places.{leading, isSpace, inWord, inLine, past, wordFrom, wordAt, front, later, lineAt, afterAt, wordsAt, Passed}
+use Rattle.tokens.specs.declared.Number.{Number}
+use Rattle.tokens.specs.Words.{LF, SPACE, onto, pieces, filled, words, numberOf}
+use Rattle.tokens.specs.Places.{leading, isSpace, inWord, inLine, past, signed, bare, foundFrom, wordFrom, wordAt, front, later, lineAt, afterAt, wordsAt, Passed}
+use Rattle.tokens.proofs.Leading.{leading-most}
 
 -- A byte is a space, an LF or neither.
 pub data Byte (b : ℕ) : Type 0 where
@@ -113,16 +115,6 @@ run (b ∷ bs) =
             rest = rw l (rw (front-onto b LF bs) (rw s (ap filled (later-onto b SPACE (front (pieces LF bs))) ∙ run bs .rest)));
           })
     ]
-
--- No more bytes pass a test than there are.
-leading-most : (test : ℕ → Bool) (xs : List ℕ) → leading test xs ≤ length xs
-unfolding leading
-leading-most test [] = omega arith
-leading-most test (b ∷ bs) = go (test b) (leading-most test bs)
-  where
-    go : (t : Bool) → leading test bs ≤ length bs → cond t (suc (leading test bs)) 0 ≤ suc (length bs)
-    go true h = omega arith
-    go false h = omega arith
 
 -- A word that is not empty is one of the words.
 pub filled-some : (word : List ℕ) (more : List (List ℕ)) → 0 < length word → filled (word ∷ more) ≡ word ∷ filled more
@@ -237,22 +229,36 @@ module _ (text : List ℕ) (at : ℕ) where
       }
 
   -- the same, from the word itself
-  pub found-of : (s e : ℕ) → wordAt text at ≡ Found s e → FoundIs text at s e
+  pub found-of : (s e : ℕ) (number : Number) (negative : Bool) → wordAt text at ≡ Found s e number negative → FoundIs text at s e
   unfolding wordAt wordFrom
-  found-of s e q = go (ltb start (past inWord text start)) refl q
+  found-of s e number negative q = go (ltb start (past inWord text start)) refl q
     where
-      go : (t : Bool) → ltb start (past inWord text start) ≡ t → cond t (Found start (past inWord text start)) (End start) ≡ Found s e → FoundIs text at s e
+      go : (t : Bool) → ltb start (past inWord text start) ≡ t → cond t (foundFrom text start (past inWord text start)) (End start) ≡ Found s e number negative → FoundIs text at s e
       go true t-is r =
           let p : start ≡ s = cc in
           let o : past inWord text start ≡ e = cc in
           subst₂ (λ (x y : ℕ). FoundIs text at x y) p o (found-is (ltb-true start (past inWord text start) t-is))
       go false t-is r = let no : _≡_ {A = ℕ} 0 1 = cc in let no : ⊥ = omega arith in absurd no
 
+  -- and the number and the sign that come with it are its own
+  pub found-parts : (s e : ℕ) (number : Number) (negative : Bool) → wordAt text at ≡ Found s e number negative → (numberOf (bare (slice s e text)) ≡ number) × (signed (slice s e text) ≡ negative)
+  unfolding wordAt wordFrom
+  found-parts s e number negative q = go (ltb start (past inWord text start)) q
+    where
+      go : (t : Bool) → cond t (foundFrom text start (past inWord text start)) (End start) ≡ Found s e number negative → (numberOf (bare (slice s e text)) ≡ number) × (signed (slice s e text) ≡ negative)
+      go true r =
+          let p : start ≡ s = cc in
+          let o : past inWord text start ≡ e = cc in
+          let n : numberOf (bare (slice start (past inWord text start) text)) ≡ number = cc in
+          let m : signed (slice start (past inWord text start) text) ≡ negative = cc in
+          subst₂ (λ (x y : ℕ). (numberOf (bare (slice x y text)) ≡ number) × (signed (slice x y text) ≡ negative)) p o (n, m)
+      go false r = let no : _≡_ {A = ℕ} 0 1 = cc in let no : ⊥ = omega arith in absurd no
+
   pub end-of : (s : ℕ) → wordAt text at ≡ End s → EndIs text at s
   unfolding wordAt wordFrom
   end-of s q = go (ltb start (past inWord text start)) refl q
     where
-      go : (t : Bool) → ltb start (past inWord text start) ≡ t → cond t (Found start (past inWord text start)) (End start) ≡ End s → EndIs text at s
+      go : (t : Bool) → ltb start (past inWord text start) ≡ t → cond t (foundFrom text start (past inWord text start)) (End start) ≡ End s → EndIs text at s
       go true t-is r = let no : _≡_ {A = ℕ} 0 1 = cc in let no : ⊥ = omega arith in absurd no
       go false t-is r =
           let p : start ≡ s = cc in

@@ -9,8 +9,9 @@ use lib.Dec.{ltb}
 use lib.ListN.{length, getD, take}
 use lib.Seq.{slice, slice-empty, slice-cons, length-slice, getD-drop, getD-take}
 use Rattle.tokens.specs.declared.Spelt.the-variants.{Missing}
-use Rattle.tokens.specs.declared.Word.the-variants.{Found, End}
-use Rattle.tokens.specs.Places.{wordsAt, past, isSpace, inWord, wordAt, wordFrom}
+use Rattle.tokens.specs.declared.Word.the-variants.{End}
+use Rattle.tokens.specs.Places.{wordsAt, past, isSpace, inWord, signed, bare, foundFrom, wordAt, wordFrom}
+use Rattle.tokens.specs.Words.{numberOf}
 use Rattle.tokens.specs.Expected.{Goes, SpeltIs}
 use Rattle.tokens.proofs.Lines.{FoundIs, EndIs, found-of, end-of}
 
@@ -79,6 +80,6 @@ spelt-unlike text at letter differs = go (ltb start stop) refl
 
     go : (t : Bool) → ltb start stop ≡ t → SpeltIs (letter ∷ []) text at Missing
     go true is =
-        let f = found-of text at start stop (ap (λ (t : Bool). cond t (Found start stop) (End start)) is) in
+        let f = found-of text at start stop (numberOf (bare (slice start stop text))) (signed (slice start stop text)) (ap (λ (t : Bool). cond t (foundFrom text start stop) (End start)) is) in
         spelt-other f (letter ∷ []) 0 (let more = f .some in omega arith) (λ e. differs (sym (ap (λ (n : ℕ). getD text n 0) (add-zero start)) ∙ e))
-    go false is = spelt-end (end-of text at start (ap (λ (t : Bool). cond t (Found start stop) (End start)) is)) (letter ∷ [])
+    go false is = spelt-end (end-of text at start (ap (λ (t : Bool). cond t (foundFrom text start stop) (End start)) is)) (letter ∷ [])

@@ -2,12 +2,12 @@
 -- it says of the line in the grammar's words.
 use Prim.Native.Nat.{ℕ, suc, _+_, _<_, _≤_}
 use mathlib.Core.Path.{_≡_}
-use mathlib.Core.Bool.{Bool, not, cond, _&&_}
+use mathlib.Core.Bool.{Bool, false, not, cond, _&&_}
 use mathlib.Core.List.{List, [], _∷_}
 use mathlib.Core.Option.{none, some}
 use lib.Dec.{eqb, ltb}
-use lib.ListN.{length, drop}
-use lib.Seq.{sets}
+use lib.ListN.{length, drop, getD}
+use lib.Seq.{sets, slice}
 use Rattle.tokens.specs.declared.Word.{Word}
 use Rattle.tokens.specs.declared.Word.the-variants.{Found, End}
 use Rattle.tokens.specs.declared.Number.{Number}
@@ -20,7 +20,9 @@ use Rattle.tokens.specs.declared.Entry.{Entry}
 use Rattle.tokens.specs.declared.Entry.the-variants.{Unfit, Close, Take, Negate}
 use Rattle.tokens.specs.declared.Row.{Row}
 use Rattle.tokens.specs.declared.Row.the-variants.{Broken, Whole}
-use Rattle.tokens.specs.Words.{LF, SPACE, pieces, words, allDigits, spelt, itemOf, Kind, entriesOf}
+use Rattle.tokens.specs.declared.Counted.{Counted}
+use Rattle.tokens.specs.declared.Counted.the-variants.{Uncounted, Count}
+use Rattle.tokens.specs.Words.{LF, SPACE, MINUS, pieces, words, allDigits, spelt, numberOf, plainItem, negatedItem, itemOf, Kind, entriesOf}
 
 -- How many bytes that pass a test stand in front: spaces, the bytes of a word, the bytes of a line.
 unfoldable pub leading : (ℕ → Bool) → List ℕ → ℕ
@@ -40,12 +42,48 @@ inLine byte = not (eqb byte LF)
 abbrev pub past : (ℕ → Bool) → List ℕ → ℕ → ℕ
 past test text at = at + leading test (drop at text)
 
--- The word that stands next in a line, from its first byte up to its end, or the line's end if there is none.
-unfoldable pub wordFrom : ℕ → ℕ → Word
-wordFrom start end = cond (ltb start end) (Found start end) (End start)
+-- Whether a word carries `-`, the word without it, and the item that it is by both.
+unfoldable pub signed : List ℕ → Bool
+signed [] = false
+signed (byte ∷ bytes) = eqb byte MINUS
+
+unfoldable pub bare : List ℕ → List ℕ
+bare [] = []
+bare (byte ∷ bytes) = cond (eqb byte MINUS) bytes (byte ∷ bytes)
+
+unfoldable pub signedItem : Bool → Number → Item
+signedItem negative number = cond negative (negatedItem number) (plainItem number)
+
+-- The word that stands next in a line, from its first byte up to its end, with its number and its sign, or the line's end if there is none.
+abbrev pub foundFrom : List ℕ → ℕ → ℕ → Word
+foundFrom text start end = Found start end (numberOf (bare (slice start end text))) (signed (slice start end text))
+
+unfoldable pub wordFrom : List ℕ → ℕ → ℕ → Word
+wordFrom text start end = cond (ltb start end) (foundFrom text start end) (End start)
 
 unfoldable pub wordAt : List ℕ → ℕ → Word
-wordAt text at = let start = past isSpace text at in wordFrom start (past inWord text start)
+wordAt text at = let start = past isSpace text at in wordFrom text start (past inWord text start)
+
+-- The place after a `-`, if one stands at a place.
+pub data SignIs (text : List ℕ) (at from : ℕ) : Type 0 where
+  minus : at < length text → getD text at 0 ≡ MINUS → from ≡ at + 1 → SignIs text at from
+  unsigned : (getD text at 0 ≡ MINUS → ⊥) → from ≡ at → SignIs text at from
+
+-- A number stands at a place, with nothing of its word behind it; nothing is said where none was told.
+pub record Numeral (text : List ℕ) (from value end : ℕ) : Type 0 where
+  pub is : numberOf (slice from end text) ≡ Is value
+  pub stop : end ≡ past inWord text from
+  pub some : from < end
+  pub within : end ≤ length text
+
+abbrev pub NumeralIs : List ℕ → ℕ → Counted → Type 0
+NumeralIs text from Uncounted = Unit {0}
+NumeralIs text from (Count value end) = Numeral text from value end
+
+-- The same for digits up to a place, by the byte that stands there.
+abbrev pub StopIs : ℕ → ℕ → ℕ → ℕ → Counted → Type 0
+StopIs byte value from end Uncounted = Unit {0}
+StopIs byte value from end (Count v e) = (v ≡ value) × (e ≡ end) × (from < end) × (inWord byte ≡ false)
 
 -- Digits as the number that they spell after the number `before`.
 unfoldable pub speltOf : ℕ → List ℕ → Number
@@ -100,6 +138,13 @@ CloseIs text at Unfit = Open text at
 CloseIs text at (Close next) = (wordsAt text at ≡ []) × Passed text at next
 CloseIs text at (Take value next) = ⊥
 CloseIs text at (Negate value next) = ⊥
+
+-- What a word that is an item says, where the line goes on after it.
+abbrev pub ItemIs : Item → List ℕ → ℕ → Entry → Type 0
+ItemIs Closing text next r = CloseIs text next r
+ItemIs (Plain value) text next r = r ≡ Take value next
+ItemIs (Negated value) text next r = r ≡ Negate value next
+ItemIs Other text next r = r ≡ Unfit
 
 -- The words of the line at a place are no entries: no word is left, the next is no number, a 0 is not the last, or no LF follows.
 pub data Unread (text : List ℕ) (at : ℕ) : Type 0 where

@@ -21,7 +21,12 @@ pub fn letter_at(text: &[u8], at: usize, letter: u8) -> Spelt
 {
     match word_in(text, at) {
         Word::End { at: _ } => Spelt::Missing,
-        Word::Found { start, end } => {
+        Word::Found {
+            start,
+            end,
+            number: _,
+            negative: _,
+        } => {
             if end - start != 1 {
                 return Spelt::Missing;
             }
@@ -39,7 +44,12 @@ pub fn cnf_at(text: &[u8], at: usize) -> Spelt
 {
     match word_in(text, at) {
         Word::End { at: _ } => Spelt::Missing,
-        Word::Found { start, end } => {
+        Word::Found {
+            start,
+            end,
+            number: _,
+            negative: _,
+        } => {
             if end - start != 3 {
                 return Spelt::Missing;
             }
@@ -63,7 +73,12 @@ pub fn number_at(text: &[u8], at: usize) -> Counted
 {
     match word_in(text, at) {
         Word::End { at: _ } => Counted::Uncounted,
-        Word::Found { start, end } => match number_in(text, start, end) {
+        Word::Found {
+            start,
+            end,
+            number: _,
+            negative: _,
+        } => match number_in(text, start, end) {
             Number::Is(value) => Counted::Count { value, next: end },
             Number::Not => Counted::Uncounted,
         },
@@ -75,7 +90,12 @@ pub fn line_ended(text: &[u8], at: usize) -> Ended
     ensures { λ r. ⌜ EndedIs (now (text .entry)) at r ⌝ }
 {
     match word_in(text, at) {
-        Word::Found { start: _, end: _ } => Ended::Nowhere,
+        Word::Found {
+            start: _,
+            end: _,
+            number: _,
+            negative: _,
+        } => Ended::Nowhere,
         Word::End { at: stop } => {
             if stop < text.len() {
                 Ended::Next(stop + 1)

@@ -24,11 +24,12 @@ pub enum Row {
     Whole { next: usize, count: usize },
 }
 
-// What stands next in a line of entries: a number and where the line goes on, or the closing 0 and where the next line stands.
+// What stands next in a line of entries: a number and where the line goes on, or the closing 0 and where the next line stands. Take and Negate are
+// not neighbours: the compiler makes one sum of the tags of neighbours, and then branches on the sign, where it takes either value otherwise.
 pub enum Entry {
     Unfit,
-    Close { next: usize },
     Take { value: u32, next: usize },
+    Close { next: usize },
     Negate { value: u32, next: usize },
 }
 
@@ -50,8 +51,16 @@ pub enum Ended {
     Next(usize),
 }
 
-// What stands next in a line: a word, from its first byte up to its end, or the line's end, an LF or the text's end.
+// What stands next in a line: a word, from its first byte up to its end, or the line's end, an LF or the text's end. With a word comes whether it
+// carries `-`, and the number that the rest of it is: apart, so that a reader of entries need not branch on a sign, which no processor foresees.
 pub enum Word {
-    Found { start: usize, end: usize },
-    End { at: usize },
+    Found {
+        start: usize,
+        end: usize,
+        number: Number,
+        negative: bool,
+    },
+    End {
+        at: usize,
+    },
 }

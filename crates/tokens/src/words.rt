@@ -1,8 +1,10 @@
 // The words of a line, each from its first byte up to its end: the word reader, and a word as a number.
 
+use crate::Counted;
 use crate::Number;
 use crate::Word;
 use spelling::LF;
+use spelling::MINUS;
 use spelling::NINE;
 use spelling::SPACE;
 use spelling::ZERO;
@@ -11,7 +13,7 @@ ghost use Prim.Native.Nat.{_+_, _≤_};
 ghost use lib.ListN.{length};
 ghost use lib.Seq.{slice};
 ghost use Rattle.tokens.specs.Words.{numberOf};
-ghost use Rattle.tokens.specs.Places.{past, isSpace, inWord, wordAt, speltOf};
+ghost use Rattle.tokens.specs.Places.{past, isSpace, inWord, wordFrom, wordAt, speltOf, SignIs, NumeralIs, StopIs};
 
 // The word reader: the lent text and a place in it.
 pub struct Words<'a> {
@@ -40,17 +42,88 @@ fn next<'a>(words: Words<'a>) -> Word
     word_at(words.text, words.at)
 }
 
-// The word that stands next in a line.
+// The word that stands next in a line. Nearly all are short numbers, which are read while their end is found.
 fn word_at(text: &[u8], at: usize) -> Word
     ensures { λ r. ⌜ r ≡ wordAt (now (text .entry)) at ⌝ }
 {
     let start = gap_end(text, at);
+    let from = after_sign(text, start);
+    match digits_at(text, from) {
+        Counted::Count { value, next: end } => Word::Found {
+            start,
+            end,
+            number: Number::Is(value),
+            negative: start < from,
+        },
+        Counted::Uncounted => any_word(text, start, from),
+    }
+}
+
+// The word at a place at which no space stands, whatever it is, where the place after its `-` is known.
+fn any_word(text: &[u8], start: usize, from: usize) -> Word
+    requires { ⌜ SignIs (now text) start from ⌝ }
+    ensures { λ r. ⌜ r ≡ wordFrom (now (text .entry)) start (past inWord (now (text .entry)) start) ⌝ }
+{
     let end = run_end(text, start);
     if start < end {
-        Word::Found { start, end }
+        Word::Found {
+            start,
+            end,
+            number: number_in(text, from, end),
+            negative: start < from,
+        }
     } else {
         Word::End { at: start }
     }
+}
+
+// The place after a `-`, if one stands at a place.
+fn after_sign(text: &[u8], at: usize) -> usize
+    ensures { λ r. ⌜ SignIs (now (text .entry)) at r ⌝ }
+{
+    if text.len() <= at {
+        return at;
+    }
+    if text[at] == MINUS { at + 1 } else { at }
+}
+
+// The number that stands at a place, if it is one to five digits and a space or LF follows: what is not told here has to be looked at again.
+fn digits_at(text: &[u8], from: usize) -> Counted
+    ensures { λ r. ⌜ NumeralIs (now (text .entry)) from r ⌝ }
+{
+    let mut value: u32 = 0;
+    let mut i = from;
+    while i < text.len() {
+        let byte = text[i];
+        if byte < ZERO {
+            return number_to(byte, value, from, i);
+        }
+        if NINE < byte {
+            return Counted::Uncounted;
+        }
+        if 4 < i - from {
+            return Counted::Uncounted;
+        }
+        value = value * 10 + ((byte - ZERO) as u32);
+        i += 1;
+    }
+    Counted::Uncounted
+}
+
+// The number of the digits up to a place, if there are any and the byte there ends their word.
+fn number_to(byte: u8, value: u32, from: usize, end: usize) -> Counted
+    ensures { λ r. ⌜ StopIs byte value from end r ⌝ }
+{
+    if end <= from {
+        return Counted::Uncounted;
+    }
+    if byte == SPACE {
+        return Counted::Count { value, next: end };
+    }
+    if byte == LF {
+        return Counted::Count { value, next: end };
+    }
+    Counted::Uncounted
 }
 
 // The place after the spaces that stand at a place.

@@ -16,7 +16,7 @@ found-at : (c : tie.After-known-told) → FoundIs (c .before .before .before .be
 found-at c =
     let a = c .before .before .before .before .before .args in
     let w = c .before .start .given in
-    found-of (a .text .now) (a .at) (w .0 .0) (w .0 .1 .0) (sym (c .before .before .before .word-in .ensures) ∙ w .1)
+    found-of (a .text .now) (a .at) (w .0 .0) (w .0 .1 .0) (w .0 .1 .1 .0) (w .0 .1 .1 .1 .0) (sym (c .before .before .before .word-in .ensures) ∙ w .1)
 
 word-in-requires : tie.Need-word-in-requires
 word-in-requires c κs = search needs

@@ -22,7 +22,7 @@ returns : tie.Need-returns
 returns c =
     let a = c .before .before .before .before .args in
     let w = c .enum-told .given .0 in
-    words-left (found-of (a .text .now) (a .at) (w .0) (w .1 .0) (sym (c .before .before .word-in .ensures) ∙ c .enum-told .given .1) .first)
+    words-left (found-of (a .text .now) (a .at) (w .0) (w .1 .0) (w .1 .1 .0) (w .1 .1 .1 .0) (sym (c .before .before .word-in .ensures) ∙ c .enum-told .given .1) .first)
 
 returns-2 : tie.Need-returns-2
 returns-2 c =

@@ -1,19 +1,27 @@
 -- `tokens::items::entry_at` meets its contract.
-use mathlib.Core.Path.{sym, _∙_}
-use Rattle.tokens.specs.declared.Item.the-variants.{Plain, Negated}
-use Rattle.tokens.specs.Places.{wordless, strange}
+use mathlib.Core.Path.{_≡_, sym, ap, _∙_}
+use lib.Seq.{slice}
+use Rattle.tokens.specs.declared.Number.the-variants.{Is}
+use Rattle.tokens.specs.Words.{itemOf}
+use Rattle.tokens.specs.Places.{signedItem, wordless, strange}
 use Rattle.tokens.proofs.Lines.{FoundIs, found-of, end-of}
-use Rattle.tokens.proofs.Entries.{taken, closes}
+use Rattle.tokens.proofs.Entries.{found-item, not-item, found-entry}
 use borrow.Author.Needs.{needs}
 use Rattle.tokens.proofs.items.entry_at.Statement.{statement}
 use Rattle.tokens.proofs.items.entry_at.Tie as tie
 
--- where a word was found, what it says of the line
-found-at : (c : tie.After-known-told) → FoundIs (c .before .before .before .before .before .args .text .now) (c .before .before .before .before .before .args .at) (c .before .start .given .0 .0) (c .before .start .given .0 .1 .0)
+-- where a word was found, what it says of the line, and which item it is
+found-at : (c : tie.After-known-told) → FoundIs (c .before .before .before .before .before .args .text .now) (c .before .before .before .before .before .args .at) (c .before .end .given .0 .0) (c .before .end .given .0 .1 .0)
 found-at c =
     let a = c .before .before .before .before .before .args in
-    let w = c .before .start .given in
-    found-of (a .text .now) (a .at) (w .0 .0) (w .0 .1 .0) (sym (c .before .before .before .word-in .ensures) ∙ w .1)
+    let w = c .before .end .given in
+    found-of (a .text .now) (a .at) (w .0 .0) (w .0 .1 .0) (w .0 .1 .1 .0) (w .0 .1 .1 .1 .0) (sym (c .before .before .before .word-in .ensures) ∙ w .1)
+
+item-at : (c : tie.After-known-told) → itemOf (slice (c .before .end .given .0 .0) (c .before .end .given .0 .1 .0) (c .before .before .before .before .before .args .text .now)) ≡ signedItem (c .before .end .given .0 .1 .1 .1 .0) (c .before .end .given .0 .1 .1 .0)
+item-at c =
+    let a = c .before .before .before .before .before .args in
+    let w = c .before .end .given in
+    found-item (a .text .now) (a .at) (w .0 .0) (w .0 .1 .0) (w .0 .1 .1 .0) (w .0 .1 .1 .1 .0) (sym (c .before .before .before .word-in .ensures) ∙ w .1)
 
 word-in-requires : tie.Need-word-in-requires
 word-in-requires c κs = search needs
@@ -21,26 +29,17 @@ word-in-requires c κs = search needs
 enum-told : tie.Need-enum-told
 enum-told c = search needs
 
-enum-known-start : tie.Need-enum-known-start
-enum-known-start c = search needs
-
-item-in-requires : tie.Need-item-in-requires
-item-in-requires c κs = let f = found-at c in (f .some, f .within)
+enum-known-end : tie.Need-enum-known-end
+enum-known-end c = search needs
 
 enum-told-2 : tie.Need-enum-told-2
 enum-told-2 c = search needs
 
-enum-known-value : tie.Need-enum-known-value
-enum-known-value c = search needs
+enum-known-number : tie.Need-enum-known-number
+enum-known-number c = search needs
 
-enum-known-value-2 : tie.Need-enum-known-value-2
-enum-known-value-2 c = search needs
-
-enum-told-3 : tie.Need-enum-told-3
-enum-told-3 c = search needs
-
-close-at-requires : tie.Need-close-at-requires
-close-at-requires c κs = search needs
+numbered-requires : tie.Need-numbered-requires
+numbered-requires c κs = search needs
 
 returns : tie.Need-returns
 returns c =
@@ -50,29 +49,16 @@ returns c =
 
 returns-2 : tie.Need-returns-2
 returns-2 c =
-    let k = c .before .before .before in
-    strange (found-at k .first) (sym (c .before .before .item-in .ensures) ∙ c .enum-told2 .given .1)
+    let k = c .before .before in
+    let negative = k .before .end .given .0 .1 .1 .1 .0 in
+    strange (found-at k .first) (item-at k ∙ ap (signedItem negative) (c .enum-told2 .given .1) ∙ not-item negative)
 
 returns-3 : tie.Need-returns-3
 returns-3 c =
     let k = c .before .before .before .before in
-    let a = k .before .before .before .before .before .args in
-    let w = k .before .start .given .0 in
-    taken (found-at k) (Plain (c .before .value .given .0 .0)) (sym (c .before .before .before .item-in .ensures) ∙ c .before .value .given .1)
-
-returns-4 : tie.Need-returns-4
-returns-4 c =
-    let k = c .before .before .before .before in
-    let a = k .before .before .before .before .before .args in
-    let w = k .before .start .given .0 in
-    taken (found-at k) (Negated (c .before .value2 .given .0 .0)) (sym (c .before .before .before .item-in .ensures) ∙ c .before .value2 .given .1)
-
-returns-5 : tie.Need-returns-5
-returns-5 c =
-    let k = c .before .before .before .before in
-    let a = k .before .before .before .before .before .args in
-    let w = k .before .start .given .0 in
-    closes (found-at k) (sym (c .before .before .before .item-in .ensures) ∙ c .before .enum-told3 .given .1) (c .close-at .result) (c .close-at .ensures)
+    let negative = k .before .end .given .0 .1 .1 .1 .0 in
+    let number = c .before .before .number .given in
+    found-entry (found-at k) (signedItem negative (Is (number .0 .0))) (item-at k ∙ ap (signedItem negative) (number .1)) (c .numbered .result) (c .numbered .ensures)
 
 pub entry-at-spec : {M : Type 1} → statement M
 entry-at-spec =
@@ -80,15 +66,10 @@ entry-at-spec =
     (tie.spec
     word-in-requires
     enum-told
-    enum-known-start
-    item-in-requires
+    enum-known-end
     enum-told-2
-    enum-known-value
-    enum-known-value-2
-    enum-told-3
-    close-at-requires
+    enum-known-number
+    numbered-requires
     returns
     returns-2
-    returns-3
-    returns-4
-    returns-5)
+    returns-3)

@@ -1,0 +1,39 @@
+-- `tokens::words::any_word` meets its contract.
+use mathlib.Core.Path.{sym}
+use native.Mathlib.Omega.{arith}
+use Rattle.tokens.specs.Places.{inWord}
+use Rattle.tokens.proofs.Leading.{past-within, from-none}
+use Rattle.tokens.proofs.Numerals.{sign-on, signed-word}
+use borrow.Author.Needs.{needs}
+use Rattle.tokens.proofs.words.any_word.Statement.{statement}
+use Rattle.tokens.proofs.words.any_word.Tie as tie
+
+run-end-requires : tie.Need-run-end-requires
+run-end-requires c κs = search needs
+
+number-in-requires : tie.Need-number-in-requires
+number-in-requires c κs =
+    let a = c .before .before .before .args in
+    let r = c .before .run-end in
+    let stop = r .ensures in
+    let some = c .if1 .taken in
+    let within = past-within inWord (a .text .now) (a .start) (omega arith) in
+    (sign-on (a .text .now) (a .start) (a .from) (r .result) (c .before .before .before .pre) some, omega arith)
+
+returns : tie.Need-returns
+returns c =
+    let a = c .before .before .before .before .args in
+    let r = c .before .before .run-end in
+    let stop = r .ensures in
+    let some = c .before .if1 .taken in
+    let within = past-within inWord (a .text .now) (a .start) (omega arith) in
+    signed-word (a .text .now) (a .start) (a .from) (r .result) (c .before .before .before .before .pre) (c .number-in .result) stop some (omega arith) (c .number-in .ensures)
+
+returns-2 : tie.Need-returns-2
+returns-2 c =
+    let a = c .before .before .before .args in
+    let r = c .before .run-end in
+    sym (from-none (a .text .now) (a .start) (r .result) (r .ensures) (c .if1 .left))
+
+pub any-word-spec : {M : Type 1} → statement M
+any-word-spec = tie.close (tie.spec run-end-requires number-in-requires returns returns-2)
