@@ -1,19 +1,14 @@
 -- Entries stored one run after another, and a loop that stores: what is still to be stored, from where it stands, gives what all of it gives from the start.
-use Prim.Native.Nat.{ℕ, suc, _+_}
+use Prim.Native.Nat.{ℕ, _+_}
 use mathlib.Core.Path.{_≡_, refl, sym, ap, _∙_, subst}
 use mathlib.Core.List.{List, [], _∷_, _++_}
 use native.Mathlib.Omega.{arith}
 use lib.ListN.{length, set, length-append}
 use lib.Seq.{sets, length-sets}
+use Rattle.terms.proofs.Common.{sets-append}
 use Rattle.expansion.specs.Writing.{Stored}
 
 module _ {A : Type 0} where
-  pub sets-append : (table : List A) (at : ℕ) (front bs : List A) → sets table at (front ++ bs) ≡ sets (sets table at front) (at + length front) bs
-  sets-append table at [] bs = let q : at ≡ at + 0 = omega arith in ap (λ (k : ℕ). sets table k bs) q
-  sets-append table at (a ∷ front) bs =
-      let q : suc at + length front ≡ at + suc (length front) = omega arith in
-      sets-append (set table at a) (suc at) front bs ∙ ap (λ (k : ℕ). sets (sets (set table at a) (suc at) front) k bs) q
-
   pub stored-none : (table : List A) (at : ℕ) → Stored [] table table at at
   stored-none table at = record { count = omega arith; store = refl }
 

@@ -9,6 +9,7 @@ use native.Mathlib.Numerals.{add-one}
 use native.Mathlib.Omega.{arith}
 use lib.ListN.{length, set, length-append}
 use lib.Seq.{sets}
+use Rattle.terms.proofs.Common.{sets-append}
 use Rattle.connection.specs.Listed.{Ascending, Listed}
 use Rattle.connection.specs.Counts.{sum}
 use Rattle.connection.proofs.Counts.{sum-more}
@@ -49,8 +50,7 @@ picked-grows f m (suc k) = let q : m + suc k ≡ suc (m + k) = omega arith in rw
 
 -- A store behind a run of stores lengthens it.
 pub sets-more : (before : List ℕ) (at a : ℕ) (list : List ℕ) → set (sets before at list) (at + length list) a ≡ sets before at (list ++ (a ∷ []))
-sets-more before at a [] = let q : at + 0 ≡ at = omega arith in ap (λ i. set before i a) q
-sets-more before at a (b ∷ list) = let q : at + suc (length list) ≡ suc at + length list = omega arith in ap (λ i. set (sets (set before at b) (suc at) list) i a) q ∙ sets-more (set before at b) (suc at) a list
+sets-more before at a list = sym (sets-append before at list (a ∷ []))
 
 -- What is picked is from 1 to m and has f, and all of that is picked.
 pub picked-flag : (f : ℕ → Bool) (m v : ℕ) → List·Memᴰ v (picked f m) → (1 ≤ v) × (v ≤ m) × (f v ≡ true)

@@ -8,7 +8,7 @@ use native.Mathlib.Numerals.{add-one}
 use lib.ListN.{length, take, drop, getD, set}
 use lib.Seq.{sets, sets-eq, length-sets, take-suc, take-at, length-take-le}
 use lib.IntN.{ℤ}
-use Rattle.spelling.proofs.Stores.{sets-append}
+use Rattle.terms.proofs.Common.{sets-append}
 use Rattle.qdimacs.specs.Steps.{Scanned, Held}
 
 module _ {A : Type 0} where

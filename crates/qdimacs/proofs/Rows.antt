@@ -12,7 +12,7 @@ use lib.IntN.{ℤ}
 use mir.Syntax.{w32}
 use mir.Val.{SFits, toZ, ofZ}
 use mir.Facts.{toZ-ofZ}
-use Rattle.spelling.proofs.Stores.{sets-append}
+use Rattle.terms.proofs.Common.{sets-append}
 use Rattle.tokens.specs.declared.Item.{Item}
 use Rattle.tokens.specs.declared.Row.{Row}
 use Rattle.tokens.specs.declared.Row.the-variants.{Broken, Whole}

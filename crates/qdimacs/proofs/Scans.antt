@@ -16,7 +16,7 @@ use Rattle.qdimacs.specs.Grammar.{Line, a-comment, the-problem, a-block,
 use Rattle.tokens.specs.Places.{lineAt}
 use Rattle.qdimacs.specs.Steps.{Went, Sound, announcedAt, FinishIs, ScanIs}
 use Rattle.tokens.proofs.Lines.{front-later, line-length}
-use Rattle.spelling.proofs.Stores.{sets-append}
+use Rattle.terms.proofs.Common.{sets-append}
 
 -- No line lets more clause lines stand than were announced.
 pub line-sound : {s s′ : Stage} {l p : List ℕ} {c : List ℤ} → Line s l s′ p c → Sound s → Sound s′

@@ -2,3 +2,4 @@ pub mod Records
 pub mod AllSets
 pub mod Settled
 pub mod Linked
+pub mod Places

@@ -1,6 +1,6 @@
 -- Runs of tops: how one is walked, and how they grow, one variable after the other in front of the run of its top.
-use Prim.Native.Nat.{ℕ, zero, suc, _+_, _-_, _≤_, _<_}
-use mathlib.Core.Path.{_≡_, refl, sym, ap, ap₂, _∙_, subst}
+use Prim.Native.Nat.{ℕ, zero, suc, _+_, _-_, _*_, _/_, _%_, _≤_, _<_}
+use mathlib.Core.Path.{_≡_, refl, sym, ap, ap₂, _∙_, subst, subst₂}
 use mathlib.Core.Bool.{Bool, true, false, not-eq-not}
 use mathlib.Core.List.{List, [], _∷_, _++_, append-nil, append-assoc, List·Memᴰ, List·Memᴰ·head, List·Memᴰ·tail, List·Memᴰ·not-nil, List·Memᴰ·cases-cons}
 use mathlib.Core.Logic.{_≢_, _↔_, ⊎-elim, by-cases}
@@ -16,7 +16,7 @@ use Rattle.marks.specs.Flags.{Entering}
 use Rattle.picking.specs.Picked.{pick, picked}
 use Rattle.picking.proofs.Picked.{picked-more, picked-same, picked-none, sets-more}
 use Rattle.marks.proofs.Flags.{fresh}
-use Rattle.sets.specs.Runs.{Run, Fitting, only, Led}
+use Rattle.sets.specs.Runs.{Run, Leads, only, having, Led}
 use Rattle.threads.specs.Points.{Is}
 use Rattle.threads.proofs.Chains.{flag-long}
 
@@ -28,9 +28,6 @@ run-one after v (a ∷ list) [] r s = absurd (r .1 (sym (r .0) ∙ s))
 run-one after v (a ∷ list) (b ∷ other) r s =
     let same : a ≡ b = sym (r .0) ∙ s .0 in
     ap₂ (λ (h : ℕ) (t : List ℕ). h ∷ t) same (run-one after (getD after b 0) list other (subst (λ h. Run after (getD after h 0) list) same (r .3)) (s .3))
-
-pub fits-run : (after : List ℕ) (head at room : ℕ) → Fitting after head at room → (list : List ℕ) → Run after head list → at + length list ≤ room
-fits-run after head at room (other, run, fits) list r = subst (λ (l : List ℕ). at + length l ≤ room) (run-one after head other list run r) fits
 
 run-next : (after : List ℕ) (v : ℕ) (list : List ℕ) → v ≢ 0 → Run after v list → (rest : List ℕ) × (list ≡ v ∷ rest) × (v < length after) × Run after (getD after v 0) rest
 run-next after v [] some r = absurd (some r)
@@ -120,12 +117,16 @@ only-own (suc top) some l = getD-set-same (replicate 4097 false) (suc top) true 
 -- The runs on the way downwards: that of a top has the variables over v that have it.
 pub record Over (n : ℕ) (tops lead after : List ℕ) (v top : ℕ) : Type 0 where
   pub list : List ℕ
-  pub run : Run after (getD lead top 0) list
+  pub leads : Leads after (getD lead top 0) list
   pub over : (w : ℕ) → List·Memᴰ w list → v < w
-  pub all : picked (pick Set n (only top) tops) n ≡ picked (pick Set n (only top) tops) v ++ list
+  pub all : having n tops top ≡ picked (pick Set n (only top) tops) v ++ list
+
+-- a row that is 0 leads to nothing
+leads-none : (after : List ℕ) {row : ℕ} → row ≡ 0 → Leads after row []
+leads-none after none = (omega arith, omega arith)
 
 pub over-none : (n : ℕ) (tops lead after : List ℕ) (top : ℕ) → getD lead top 0 ≡ 0 → Over n tops lead after n top
-over-none n tops lead after top none = record { list = []; run = none; over = λ w m. absurd (List·Memᴰ·not-nil m); all = sym (append-nil (picked (pick Set n (only top) tops) n)) }
+over-none n tops lead after top none = record { list = []; leads = leads-none after none; over = λ w m. absurd (List·Memᴰ·not-nil m); all = sym (append-nil (having n tops top)) }
 
 module _ {n : ℕ} {tops lead after : List ℕ} {v top : ℕ} (o : Over n tops lead after v top) (above : ℕ) (is : above ≡ row n tops v) (some : v ≢ 0) where
   abbrev f : ℕ → Bool
@@ -139,51 +140,59 @@ module _ {n : ℕ} {tops lead after : List ℕ} {v top : ℕ} (o : Over n tops l
   unfolding pick
   other-top other = not-eq-not {b = false} .0 (λ t. let (q, _, _) = only-set top (row n tops ((v - 1) + 1)) t in other (sym q ∙ ap (row n tops) (sym next) ∙ sym is))
 
-  over-past : {lead′ after′ : List ℕ} → getD lead′ top 0 ≡ getD lead top 0 → Run after′ (getD lead top 0) (o .list) → top ≢ above → Over n tops lead′ after′ (v - 1) top
+  over-past : {lead′ after′ : List ℕ} → getD lead′ top 0 ≡ getD lead top 0 → Run after′ (getD lead top 0 % 65536) (o .list) → top ≢ above → Over n tops lead′ after′ (v - 1) top
   over-past {lead′} {after′} same run other =
       record {
         list = o .list;
-        run = subst (λ h. Run after′ h (o .list)) (sym same) run;
+        leads = subst (λ row. Leads after′ row (o .list)) (sym same) (run, o .leads .1);
         over = λ w m. let l = o .over w m in omega arith;
         all = o .all ∙ ap (λ (l : List ℕ). l ++ o .list) (ap (picked f) next ∙ picked-same f (v - 1) (other-top other));
       }
 
   -- v comes in front of the run of its own
-  over-own : top ≡ above → top ≢ 0 → top < 4097 → length lead ≡ 4097 → v < length after → Over n tops (set lead above v) (set after v (getD lead above 0)) (v - 1) top
+  over-own : {was : ℕ} → was ≡ getD lead above 0 → top ≡ above → top ≢ 0 → top < 4097 → length lead ≡ 4097 → v < length after → v < 65536 → Over n tops (set lead above ((was / 65536 + 1) * 65536 + v)) (set after v (was % 65536)) (v - 1) top
   unfolding pick
-  over-own own named small heads within =
+  over-own {was} read own named small heads within low =
       record {
         list = v ∷ o .list;
-        run = (ap (λ t. getD (set lead above v) t 0) own ∙ getD-set-same lead above v 0 (omega arith), some, subst (λ l. v < l) (sym (length-set after v (getD lead above 0))) within, subst (λ h. Run (set after v (getD lead above 0)) h (o .list)) (sym goes) (run-set after v (getD lead above 0) (getD lead top 0) (o .list) (o .over) (o .run)));
+        leads = subst (λ r. Leads (set after v (was % 65536)) r (v ∷ o .list)) (sym stored) ((omega arith, some, subst (λ l. v < l) (sym (length-set after v (was % 65536))) within, subst (λ h. Run (set after v (was % 65536)) h (o .list)) (sym (getD-set-same after v (was % 65536) 0 within)) (subst (λ h. Run (set after v (was % 65536)) h (o .list)) (sym (ap (λ r. r % 65536) here)) (run-set after v (was % 65536) (getD lead top 0 % 65536) (o .list) (o .over) (o .leads .0)))), let size = o .leads .1 in let q = ap (λ r. r / 65536) here in omega arith);
         over = λ w m. ⊎-elim (λ q. omega arith) (λ later. let l = o .over w later in omega arith) (List·Memᴰ·cases-cons m);
         all = o .all ∙ ap (λ (l : List ℕ). l ++ o .list) (ap (picked f) next ∙ picked-more f (v - 1) flag) ∙ append-assoc (picked f (v - 1)) (((v - 1) + 1) ∷ []) (o .list) ∙ ap (λ (u : ℕ). picked f (v - 1) ++ (u ∷ o .list)) (sym next);
       }
     where
-      goes : getD (set after v (getD lead above 0)) v 0 ≡ getD lead top 0
-      goes = getD-set-same after v (getD lead above 0) 0 within ∙ ap (λ t. getD lead t 0) (sym own)
+      here : was ≡ getD lead top 0
+      here = read ∙ ap (λ t. getD lead t 0) (sym own)
+
+      stored : getD (set lead above ((was / 65536 + 1) * 65536 + v)) top 0 ≡ (was / 65536 + 1) * 65536 + v
+      stored = ap (λ t. getD (set lead above ((was / 65536 + 1) * 65536 + v)) t 0) own ∙ getD-set-same lead above ((was / 65536 + 1) * 65536 + v) 0 (omega arith)
 
       flag : f ((v - 1) + 1) ≡ true
       flag = ap (λ u. getD (only top) (row n tops u) false) (sym next) ∙ ap (λ t. getD (only top) t false) (sym is ∙ sym own) ∙ only-own top named small
 
--- All runs on the way: those of the tops that there are flags for.
+-- All runs on the way: those of the tops that there are flags for; and no row counts more than are passed.
 abbrev pub Linking : ℕ → List ℕ → List ℕ → List ℕ → ℕ → Type 0
-Linking n tops lead after v = (top : ℕ) → top ≢ 0 → top < 4097 → Over n tops lead after v top
+Linking n tops lead after v = ((top : ℕ) → top ≢ 0 → top < 4097 → Over n tops lead after v top) × ((top : ℕ) → getD lead top 0 / 65536 + v ≤ n)
 
 module _ {n : ℕ} {tops lead after : List ℕ} {v : ℕ} (l : Linking n tops lead after v) (above : ℕ) (is : above ≡ row n tops v) (some : v ≢ 0) where
-  pub link-more : length lead ≡ 4097 → v < length after → Linking n tops (set lead above v) (set after v (getD lead above 0)) (v - 1)
-  link-more heads within top named small =
-      let o = l top named small in
-      by-cases (ℕ-discrete top above) (λ own. over-own o above is some own named small heads within)
-      (λ other. over-past o above is some (getD-set-other lead above top v 0 other) (run-set after v (getD lead above 0) (getD lead top 0) (o .list) (o .over) (o .run)) other)
+  pub link-more : {was : ℕ} → was ≡ getD lead above 0 → length lead ≡ 4097 → v < length after → v < 65536 → above < 4097 → Linking n tops (set lead above ((was / 65536 + 1) * 65536 + v)) (set after v (was % 65536)) (v - 1)
+  link-more {was} read heads within low room = (
+    λ top named small.
+        let o = l .0 top named small in
+        by-cases (ℕ-discrete top above) (λ own. over-own o above is some read own named small heads within low)
+        (λ other. over-past o above is some (getD-set-other lead above top ((was / 65536 + 1) * 65536 + v) 0 other) (run-set after v (was % 65536) (getD lead top 0 % 65536) (o .list) (o .over) (o .leads .0)) other),
+    λ top. let few = l .1 top in by-cases (ℕ-discrete top above)
+        (λ own. let stored = ap (λ t. getD (set lead above ((was / 65536 + 1) * 65536 + v)) t 0) own ∙ getD-set-same lead above ((was / 65536 + 1) * 65536 + v) 0 (omega arith) in let here = read ∙ ap (λ t. getD lead t 0) (sym own) in omega arith)
+        (λ other. let same = getD-set-other lead above top ((was / 65536 + 1) * 65536 + v) 0 other in omega arith),
+  )
 
   -- a top that there is no flag for has no run
   pub link-past : 4097 ≤ above → Linking n tops lead after (v - 1)
-  link-past over top named small = let o = l top named small in over-past o above is some refl (o .run) (λ q. omega arith)
+  link-past over = (λ top named small. let o = l .0 top named small in over-past o above is some refl (o .leads .0) (λ q. omega arith), λ top. let few = l .1 top in omega arith)
 
 -- A top that no variable has, or that there is no flag for, has no run.
-empty-run : (n : ℕ) (tops lead after : List ℕ) (top : ℕ) → ((v : ℕ) → getD (only top) (row n tops v) false ≡ true → ⊥) → getD lead top 0 ≡ 0 → Run after (getD lead top 0) (picked (pick Set n (only top) tops) n)
+empty-run : (n : ℕ) (tops lead after : List ℕ) (top : ℕ) → ((v : ℕ) → getD (only top) (row n tops v) false ≡ true → ⊥) → getD lead top 0 ≡ 0 → Leads after (getD lead top 0) (having n tops top)
 unfolding pick
-empty-run n tops lead after top never none = subst (Run after (getD lead top 0)) (sym (picked-none (pick Set n (only top) tops) n (λ v a b. not-eq-not {b = false} .0 (never v)))) none
+empty-run n tops lead after top never none = subst (Leads after (getD lead top 0)) (sym (picked-none (pick Set n (only top) tops) n (λ v a b. not-eq-not {b = false} .0 (never v)))) (leads-none after none)
 
 -- There are no runs where there are no tops.
 pub led-none : (n : ℕ) (tops lead after : List ℕ) → ((v : ℕ) → row n tops v ≡ 0) → ((top : ℕ) → getD lead top 0 ≡ 0) → Led n tops lead after
@@ -195,14 +204,14 @@ unfolding pick
 link-all {n} {from} {v} {tops} {lead} {after} l low none heads top =
     by-cases (ℕ-discrete top 0)
     (λ z. empty-run n tops (set lead 0 0) after top (λ u t. let (q, some, _) = only-set top (row n tops u) t in some (q ∙ z)) (ap (λ t. getD (set lead 0 0) t 0) z ∙ getD-set-same lead 0 0 0 (omega arith)))
-    (λ named. by-cases (decLt top 4097) (λ small. whole named (l top named small))
+    (λ named. by-cases (decLt top 4097) (λ small. whole named (l .0 top named small))
     (λ over. empty-run n tops (set lead 0 0) after top (λ u t. let (q, _, less) = only-set top (row n tops u) t in omega arith) (List·getD-eq-default (set lead 0 0) 0 {n = top} (let size = length-set lead 0 0 in omega arith))))
   where
-    whole : top ≢ 0 → Over n tops lead after v top → Run after (getD (set lead 0 0) top 0) (picked (pick Set n (only top) tops) n)
+    whole : top ≢ 0 → Over n tops lead after v top → Leads after (getD (set lead 0 0) top 0) (having n tops top)
     whole named o =
         let front : picked (pick Set n (only top) tops) v ≡ [] = picked-none (pick Set n (only top) tops) v (λ u a b. not-eq-not {b = false} .0 (λ t. only-set top (row n tops u) t .1 (none u a (omega arith)))) in
-        let same : picked (pick Set n (only top) tops) n ≡ o .list = o .all ∙ ap (λ (p : List ℕ). p ++ o .list) front in
-        subst (λ h. Run after h (picked (pick Set n (only top) tops) n)) (sym (getD-set-other lead 0 top 0 0 named)) (subst (Run after (getD lead top 0)) (sym same) (o .run))
+        let same : having n tops top ≡ o .list = o .all ∙ ap (λ (p : List ℕ). p ++ o .list) front in
+        subst₂ (Leads after) (sym (getD-set-other lead 0 top 0 0 named)) (sym same) (o .leads)
 
 -- The flag of the sole top tells of which numbers P holds.
 pub sole-entering : {n : ℕ} {P : ℕ → Type 0} {tops : List ℕ} (top : ℕ) → ((e : ℕ) → Is top e ↔ P e) → Entering n P tops tops (only top)

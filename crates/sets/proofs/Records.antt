@@ -9,6 +9,7 @@ use native.Mathlib.Numerals.{add-one}
 use native.Mathlib.Omega.{arith}
 use lib.ListN.{length, set, length-append}
 use lib.Seq.{sets, set-comm}
+use Rattle.terms.proofs.Common.{sets-append}
 use Rattle.connection.specs.Listed.{Listed}
 use Rattle.connection.proofs.Listed.{listed-one, listed-most}
 use Rattle.sets.specs.Sets.{Record, Records}
@@ -89,11 +90,7 @@ module _ (U : ℕ → Bool) (P : ℕ → ℕ → Type 0) where
       there′ (members, l, front, back, is) =
           (members, l, front, back ++ part, q ∙ ap (λ (b : List ℕ). b ++ part) is ∙ append-assoc front ((x ∷ length members ∷ members) ++ back) part ∙ ap (λ (p : List ℕ). front ++ p) (append-assoc (x ∷ length members ∷ members) back part))
 
--- Stores: a run behind a run, and a store in front of a run.
-pub sets-append : (before : List ℕ) (at : ℕ) (list more : List ℕ) → sets (sets before at list) (at + length list) more ≡ sets before at (list ++ more)
-sets-append before at [] more = let q : at + 0 ≡ at = omega arith in ap (λ i. sets before i more) q
-sets-append before at (a ∷ list) more = let q : at + suc (length list) ≡ suc at + length list = omega arith in ap (λ i. sets (sets (set before at a) (suc at) list) i more) q ∙ sets-append (set before at a) (suc at) list more
-
+-- A store in front of a run of stores.
 set-front : (before : List ℕ) (at i a : ℕ) (list : List ℕ) → i < at → set (sets before at list) i a ≡ sets (set before i a) at list
 set-front before at i a [] l = refl
 set-front before at i a (b ∷ list) l = set-front (set before at b) (suc at) i a list (omega arith) ∙ ap (λ o. sets o (suc at) list) (set-comm before at i b a (λ q. omega arith))
@@ -109,5 +106,5 @@ record-stored before at x members {end} size written stored =
 
 -- Written or only counted, one part more.
 pub put-more : (writing : Bool) (before : List ℕ) {out out′ : List ℕ} (end : ℕ) (list part : List ℕ) → end ≡ length list → out ≡ cond writing (sets before 0 list) before → out′ ≡ cond writing (sets out end part) out → out′ ≡ cond writing (sets before 0 (list ++ part)) before
-put-more true before {out} end list part size here more = more ∙ ap₂ (λ (o : List ℕ) (i : ℕ). sets o i part) here (let q : end ≡ 0 + length list = omega arith in q) ∙ sets-append before 0 list part
+put-more true before {out} end list part size here more = more ∙ ap₂ (λ (o : List ℕ) (i : ℕ). sets o i part) here (let q : end ≡ 0 + length list = omega arith in q) ∙ sym (sets-append before 0 list part)
 put-more false before end list part size here more = more ∙ here

@@ -1,9 +1,9 @@
 -- The runs of tops: the variables of one top, each tied to the next higher of the same, as the call for all sets keeps them.
-use Prim.Native.Nat.{ℕ, zero, suc, _+_, _≤_, _<_}
+use Prim.Native.Nat.{ℕ, zero, suc, _+_, _/_, _%_, _≤_, _<_}
 use mathlib.Core.Path.{_≡_}
 use mathlib.Core.Bool.{Bool, true, false}
 use mathlib.Core.List.{List, [], _∷_}
-use mathlib.Core.Logic.{_≢_}
+use mathlib.Core.Logic.{_≢_, _⊎_}
 use lib.ListN.{length, getD, set, replicate}
 use Rattle.picking.specs.declared.Asked.the-variants.{Set}
 use Rattle.connection.specs.Tables.{lent}
@@ -16,18 +16,35 @@ abbrev pub Run : List ℕ → ℕ → List ℕ → Type 0
 Run after v [] = v ≡ 0
 Run after v (w ∷ rest) = (v ≡ w) × (w ≢ 0) × (w < length after) × Run after (getD after w 0) rest
 
--- a run that is no longer than some room
-abbrev pub Fitting : List ℕ → ℕ → ℕ → ℕ → Type 0
-Fitting after head at room = (list : List ℕ) × Run after head list × (at + length list ≤ room)
-
 -- a table of flags in which only that of a top is set, and none for 0
 unfoldable pub only : ℕ → List Bool
 only zero = replicate 4097 false
 only (suc top) = set (replicate 4097 false) (suc top) true
 
--- the run of every top goes over the variables that have it
+-- the variables that have a top
+abbrev pub having : ℕ → List ℕ → ℕ → List ℕ
+having n tops top = picked (pick Set n (only top) tops) n
+
+-- a row of `lead`: where a run begins, and in the upper half how many numbers it has
+abbrev pub Leads : List ℕ → ℕ → List ℕ → Type 0
+Leads after row list = Run after (row % 65536) list × (row / 65536 ≡ length list)
+
+-- the row of every top leads to the variables that have it
 abbrev pub Led : ℕ → List ℕ → List ℕ → List ℕ → Type 0
-Led n tops lead after = (top : ℕ) → Run after (getD lead top 0) (picked (pick Set n (only top) tops) n)
+Led n tops lead after = (top : ℕ) → Leads after (getD lead top 0) (having n tops top)
+
+-- a list stands in a table from an entry on, before another
+pub record Standing (out : List ℕ) (place : ℕ) (list : List ℕ) (end : ℕ) : Type 0 where
+  pub before : place + length list ≤ end
+  pub each : (i : ℕ) → i < length list → getD out (place + i) 0 ≡ getD list i 0
+
+-- where there is a place for a top, 0 for none, the set of that top stands there
+abbrev pub Placed : ℕ → List ℕ → List ℕ → List ℕ → ℕ → Type 0
+Placed n tops places out end = (top : ℕ) → getD places top 0 ≢ 0 → Standing out (getD places top 0) (having n tops top) end
+
+-- the places are as they were, or that of a top is noted
+abbrev pub Noting : List ℕ → ℕ → ℕ → List ℕ → Type 0
+Noting before top place after = (after ≡ before) ⊎ (after ≡ set before top place)
 
 -- the tops over a floor, and their runs, in tables of their lengths
 pub record Floored (n : ℕ) (es classes parents : List ℕ) (floor from : ℕ) (tops lead after : List ℕ) : Type 0 where

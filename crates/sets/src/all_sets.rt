@@ -2,6 +2,7 @@
 // universal costs its own clauses and its own set, and one pass over the rows if it has more than one entry point.
 
 use crate::one_set::put_set;
+use crate::runs::clear_rows;
 use crate::runs::link_runs;
 use searching::Floor;
 use searching::retop;
@@ -12,7 +13,7 @@ use terms::Level;
 use terms::Scheme;
 use terms::Variable;
 use threads::thread;
-ghost use Prim.Native.Nat.{_≤_};
+ghost use Prim.Native.Nat.{ℕ, _≤_};
 ghost use mathlib.Core.Path.{_≡_};
 ghost use mathlib.Core.Bool.{Bool, true};
 ghost use mathlib.Core.List.{List};
@@ -21,7 +22,7 @@ ghost use Rattle.formula.specs.Meaning.{level};
 ghost use Rattle.formula.specs.Levels.{SoundPrefix, Levelled};
 ghost use Rattle.formula.specs.Lookup.{SoundClauses};
 ghost use Rattle.tables.specs.Counting.{FormedBy};
-ghost use Rattle.sets.specs.Runs.{Floored};
+ghost use Rattle.sets.specs.Runs.{Floored, Placed};
 ghost use Rattle.threads.specs.Threads.{Closed};
 ghost use Rattle.sets.specs.Passed.{SetsUpto, Ready, RoomUpto, TellsRoom, PutAll, Fills};
 
@@ -167,8 +168,9 @@ fn sets_fit(
     true
 }
 
-// Passes over all universals in ascending order and writes their sets, or only counts; gives the count of all entries. The tops and their runs
-// depend on the block of the universal only, and stay while it does; at first they are those over a level that nothing is deeper than.
+// Passes over all universals in ascending order and writes their sets, or only counts; gives the count of all entries. The tops, their runs and
+// where their sets stand depend on the block of the universal only, and stay while it does; at first the tops are those over a level that
+// nothing is deeper than.
 fn pass_sets(
     scheme: Scheme,
     n: u32,
@@ -190,6 +192,7 @@ fn pass_sets(
     let mut tops = [0u32; 4096];
     let mut lead = [0u32; 4097];
     let mut after = [0u32; 4097];
+    let mut places = [0u32; 4097];
     let mut floor = Floor {
         level: Level::new(4294967295),
         from: 0,
@@ -211,6 +214,7 @@ fn pass_sets(
                 &mut tops,
                 &mut lead,
                 &mut after,
+                &mut places,
             );
             end = put_set(
                 scheme,
@@ -223,6 +227,7 @@ fn pass_sets(
                 floor,
                 &lead,
                 &after,
+                &mut places,
                 end,
                 writing,
                 out,
@@ -232,7 +237,8 @@ fn pass_sets(
     end
 }
 
-// Refills the tops and ties their runs anew, if the level of x is another than that which they are over; gives the floor that they are over now.
+// Refills the tops, ties their runs anew and forgets where their sets stand, if the level of x is another than that which they are over; gives
+// the floor that they are over now.
 fn refloor(
     n: u32,
     prefix: &[u32],
@@ -244,11 +250,13 @@ fn refloor(
     tops: &mut [u32],
     lead: &mut [u32],
     after: &mut [u32],
+    places: &mut [u32],
 ) -> Floor
     requires { ⌜ SoundPrefix n (now prefix) × FormedBy n (now prefix) (now classes) (now parents) × (x .0 ≤ 4096) × ((universals : List Bool) × Levelled (now prefix) (now levels) universals) ⌝ }
     requires { ⌜ Floored n (now prefix) (now classes) (now parents) (was .level .0) (was .from) (now tops) (now lead) (now after) ⌝ }
     ensures { λ r. ⌜ Floored n (now (prefix .entry)) (now (classes .entry)) (now (parents .entry)) (r .level .0) (r .from) (now (tops .exit)) (now (lead .exit)) (now (after .exit)) ⌝ }
     ensures { λ r. ⌜ r .level .0 ≡ level (now (prefix .entry)) (x .0) ⌝ }
+    ensures { λ r. ⌜ ((out : List ℕ) (end : ℕ) → Placed n (now (tops .entry)) (now (places .entry)) out end → Placed n (now (tops .exit)) (now (places .exit)) out end) ⌝ }
 {
     let level = level_at(levels, x);
     let old = was.level;
@@ -257,5 +265,6 @@ fn refloor(
     }
     let floor = retop(n, prefix, levels, classes, parents, was, x, tops);
     link_runs(n, tops, floor.from, lead, after);
+    clear_rows(places);
     floor
 }

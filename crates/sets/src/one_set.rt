@@ -1,7 +1,6 @@
 // The record of one universal: its number, the count of its set, and its set, written or only counted.
 
-use crate::runs::count_run;
-use crate::runs::lead_of;
+use crate::runs::row_at;
 use crate::runs::write_run;
 use picking::Asked;
 use picking::count_picked;
@@ -14,14 +13,16 @@ use threads::points::Sole;
 use threads::points::sole_point;
 ghost use Prim.Native.Nat.{ℕ, _+_, _-_, _≤_, _<_};
 ghost use mathlib.Core.Path.{_≡_};
-ghost use mathlib.Core.Bool.{true};
+ghost use mathlib.Core.Bool.{true, false};
 ghost use mathlib.Core.List.{List};
-ghost use lib.ListN.{length, set};
+ghost use mathlib.Core.Logic.{_≢_};
+ghost use lib.ListN.{length, getD, set};
+ghost use lib.Seq.{sets};
 ghost use Rattle.picking.specs.declared.Asked.the-variants.{Set};
 ghost use Rattle.picking.specs.Picked.{pick, picked, NoneUpto};
 ghost use Rattle.searching.specs.Search.{Topless};
 ghost use Rattle.threads.specs.Threads.{Tied};
-ghost use Rattle.sets.specs.Runs.{Run, Fitting, Led};
+ghost use Rattle.sets.specs.Runs.{Leads, Led, Standing, Placed, Noting};
 ghost use Rattle.sets.specs.Passed.{PutList, Put, PutSet, RoomFor};
 
 // Writes the record of the universal x from the entry `at` on, or only counts; gives the entry behind it. Where x has one entry point, its set is
@@ -37,14 +38,16 @@ pub fn put_set(
     floor: Floor,
     lead: &[u32],
     after: &[u32],
+    places: &mut [u32],
     at: usize,
     writing: bool,
     out: &mut [u32],
 ) -> usize
-    requires { ⌜ (n ≤ 4096) × (at < 4294967296) × Tied (now clauses) (now first) (now next) (x .0) ⌝ }
-    requires { ⌜ (floor .from ≤ n) × Topless n (now tops) (floor .from) × Led n (now tops) (now lead) (now after) ⌝ }
+    requires { ⌜ (n ≤ 4096) × (at + 2 < 4294967296) × Tied (now clauses) (now first) (now next) (x .0) ⌝ }
+    requires { ⌜ (floor .from ≤ n) × Topless n (now tops) (floor .from) × Led n (now tops) (now lead) (now after) × Placed n (now tops) (now places) (now out) at ⌝ }
     requires { ⌜ RoomFor scheme n (now tops) (now clauses) (x .0) at writing (now out) ⌝ }
     ensures { λ r. ⌜ PutSet scheme n (now (tops .entry)) (now (clauses .entry)) (x .0) at writing (now (out .entry)) (now (out .exit)) r ⌝ }
+    ensures { λ r. ⌜ Placed n (now (tops .entry)) (now (places .exit)) (now (out .exit)) r ⌝ }
 {
     match sole_point(scheme, n, clauses, first, next, x, tops) {
         Sole::Several => put_flagged(
@@ -60,7 +63,7 @@ pub fn put_set(
             writing,
             out,
         ),
-        Sole::Top(top) => put_run(after, lead_of(lead, top), x, at, writing, out),
+        Sole::Top(top) => put_run(row_at(lead, top), after, places, top, x, at, writing, out),
     }
 }
 
@@ -111,24 +114,72 @@ fn write_record(
     end
 }
 
-// Writes or counts a record of which the set is the run from `head` on.
+// Writes or counts a record of which the set is that of a top, to which a row of `lead` leads.
 fn put_run(
+    row: u32,
     after: &[u32],
-    head: u32,
+    places: &mut [u32],
+    top: Variable,
     x: Variable,
     at: usize,
     writing: bool,
     out: &mut [u32],
 ) -> usize
-    requires { ⌜ (at < 4294967296) × Fitting (now after) head 0 4096 × (writing ≡ true → Fitting (now after) head (at + 2) (length (now out))) ⌝ }
-    ensures { λ r. ⌜ ((list : List ℕ) × Run (now (after .entry)) head list × PutList list (x .0) at writing (now (out .entry)) (now (out .exit)) r) ⌝ }
+    requires { ⌜ (at + 2 < 4294967296) × ((list : List ℕ) × Leads (now after) row list × (getD (now places) (top .0) 0 ≢ 0 → Standing (now out) (getD (now places) (top .0) 0) list at) × (writing ≡ true → at + 2 + length list ≤ length (now out))) ⌝ }
+    ensures { λ r. ⌜ ((list : List ℕ) × Leads (now (after .entry)) row list × PutList list (x .0) at writing (now (out .entry)) (now (out .exit)) r) ⌝ }
+    ensures { λ r. ⌜ (writing ≡ false → now (places .exit) ≡ now (places .entry)) × Noting (now (places .entry)) (top .0) (at + 2) (now (places .exit)) ⌝ }
 {
+    let end = at + 2 + (row / 65536) as usize;
     if !writing {
-        return at + 2 + count_run(after, head);
+        return end;
     }
-    let end = write_run(after, head, at + 2, out);
+    write_top(row, after, places, top, at + 2, out);
     write_front(x, at, end, out);
     end
+}
+
+// Writes the set of a top from the entry `start` on: a copy, where it stands in `out` already, and else its run, and notes where that stands.
+fn write_top(
+    row: u32,
+    after: &[u32],
+    places: &mut [u32],
+    top: Variable,
+    start: usize,
+    out: &mut [u32],
+)
+    requires { ⌜ (start < 4294967296) × ((list : List ℕ) × Leads (now after) row list × (getD (now places) (top .0) 0 ≢ 0 → Standing (now out) (getD (now places) (top .0) 0) list start) × (start + length list ≤ length (now out))) ⌝ }
+    ensures { λ r. ⌜ ((list : List ℕ) × Leads (now (after .entry)) row list × (now (out .exit) ≡ sets (now (out .entry)) start list)) ⌝ }
+    ensures { λ r. ⌜ Noting (now (places .entry)) (top .0) start (now (places .exit)) ⌝ }
+{
+    let place = row_at(places, top);
+    if place != 0 {
+        copy_entries(place as usize, (row / 65536) as usize, start, out);
+        return;
+    }
+    note_place(places, top, start as u32);
+    write_run(after, row % 65536, start, out);
+}
+
+// Stores where the set of a top stands; a top past the end of the table is passed over.
+fn note_place(places: &mut [u32], top: Variable, start: u32)
+    ensures { λ r. ⌜ now (places .exit) ≡ set (now (places .entry)) (top .0) start ⌝ }
+{
+    let at = top.0 as usize;
+    if at < places.len() {
+        places[at] = start;
+    }
+}
+
+// Copies so many entries from one entry on to another, behind them.
+fn copy_entries(from: usize, count: usize, to: usize, out: &mut [u32])
+    requires { ⌜ (from + count ≤ to) × (to + count ≤ length (now out)) ⌝ }
+    ensures { λ r. ⌜ ((list : List ℕ) → length list ≡ count → Standing (now (out .entry)) from list to → now (out .exit) ≡ sets (now (out .entry)) to list) ⌝ }
+{
+    let mut i: usize = 0;
+    while i < count {
+        out[to + i] = out[from + i];
+        i += 1;
+    }
 }
 
 // Writes the front of a record once its set is written, which ends before `end`: the number of x, and the count.

@@ -4,10 +4,10 @@ use mathlib.Core.Path.{_≡_, refl, sym, ap, _∙_, subst}
 use mathlib.Core.Bool.{Bool, true, false, cond}
 use mathlib.Core.List.{List, [], _∷_, _++_, append-assoc, append-nil}
 use native.Mathlib.Omega.{arith}
-use native.Mathlib.Nat.{add-zero, add-suc, suc-add}
+use native.Mathlib.Nat.{add-zero}
 use native.Mathlib.Numerals.{add-one}
 use lib.Dec.{eqb}
-use lib.ListN.{length, set, getD, drop, length-append, drop-of-length-le}
+use lib.ListN.{length, getD, drop, length-append, drop-of-length-le}
 use lib.Seq.{sets, length-sets, drop-cons}
 use borrow.Author.Tests.{eq-eqb, ne-eqb, ltb-true}
 use lib.IntN.{ℤ, pos, negsuc, natAbs}
@@ -15,17 +15,13 @@ use lib.Signed.{ltZ}
 use mir.Syntax.{w32}
 use mir.Val.{toZ, ofZ}
 use mir.Facts.{toZ-ofZ}
+use Rattle.terms.proofs.Common.{sets-append}
 use Rattle.spelling.specs.Texts.{LF, SPACE, MINUS, LETTER-A, LETTER-E}
 use Rattle.spelling.specs.Writing.{decimal, markWord, literalWord, spaced, ended, prefixText, clauseText, clauseCount, problemBytes}
 use Rattle.spelling.specs.Bytes.{Wrote, SmallEntries, entryBytes, literalBytes, nextFirst}
 use Rattle.spelling.proofs.Decimal.{digits-most}
 
--- A run of stores, and then another.
-pub sets-append : {A : Type 0} (table : List A) (i : ℕ) (xs ys : List A) → sets table i (xs ++ ys) ≡ sets (sets table i xs) (i + length xs) ys
-sets-append table i [] ys = ap (λ (k : ℕ). sets table k ys) (sym (add-zero i))
-sets-append table i (x ∷ xs) ys =
-    sets-append (set table i x) (suc i) xs ys ∙ ap (λ (k : ℕ). sets (sets (set table i x) (suc i) xs) k ys) (suc-add i (length xs) ∙ sym (add-suc i (length xs)))
-
+-- Nothing stored, and one run behind another.
 pub wrote-none : (buffer : List ℕ) (at : ℕ) → Wrote [] buffer buffer at at
 wrote-none buffer at = record { end = sym (add-zero at); stored = refl }
 

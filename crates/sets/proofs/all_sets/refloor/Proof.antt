@@ -10,26 +10,29 @@ level-at-requires c κs = search needs
 
 returns : tie.Need-returns
 returns c =
-    let (sound, formed, small, levelled) = c .before .before .before .before .before .before .before .before .before .before .before .before .pre .0 in
-    let own = c .before .before .before .before .level-at .ensures ∙ levelled .1 .level-is (c .before .before .before .before .before .before .before .before .before .before .before .before .args .x .0) small in
-    (c .before .before .before .before .before .before .before .before .before .before .before .before .pre .1, c .if1 .taken ∙ own)
+    let (sound, formed, small, levelled) = c .before .before .before .before .before .before .before .before .before .before .before .before .before .pre .0 in
+    let own = c .before .before .before .before .level-at .ensures ∙ levelled .1 .level-is (c .before .before .before .before .before .before .before .before .before .before .before .before .before .args .x .0) small in
+    (c .before .before .before .before .before .before .before .before .before .before .before .before .before .pre .1, (c .if1 .taken ∙ own, λ out end placed. placed))
 
 retop-requires : tie.Need-retop-requires
 retop-requires c κs =
-    let (sound, formed, small, levelled) = c .before .before .before .before .before .before .before .before .before .before .before .before .before .pre .0 in
-    let floored = c .before .before .before .before .before .before .before .before .before .before .before .before .before .pre .1 in
+    let (sound, formed, small, levelled) = c .before .before .before .before .before .before .before .before .before .before .before .before .before .before .pre .0 in
+    let floored = c .before .before .before .before .before .before .before .before .before .before .before .before .before .before .pre .1 in
     let few = sound .few in
     let rows = floored .rows in
     ((sound, formed, omega arith), ((small, levelled), floored .over))
 
 link-runs-requires : tie.Need-link-runs-requires
 link-runs-requires c κs =
-    let (sound, formed, small, levelled) = c .before .before .before .before .before .before .before .before .before .before .before .before .before .before .before .before .before .before .before .pre .0 in
-    let floored = c .before .before .before .before .before .before .before .before .before .before .before .before .before .before .before .before .before .before .before .pre .1 in
+    let (sound, formed, small, levelled) = c .before .before .before .before .before .before .before .before .before .before .before .before .before .before .before .before .before .before .before .before .pre .0 in
+    let floored = c .before .before .before .before .before .before .before .before .before .before .before .before .before .before .before .before .before .before .before .before .pre .1 in
     let few = sound .few in
     let links = floored .links in
     let over = c .before .before .before .before .before .retop .ensures .0 in
-    (over .most, over .none, floored .heads, omega arith)
+    (few, over .most, over .none, floored .heads, omega arith)
+
+clear-rows-requires : tie.Need-clear-rows-requires
+clear-rows-requires c κs = search needs
 
 same-length : tie.Need-same-length
 same-length c = search needs
@@ -40,12 +43,17 @@ same-length-2 c = search needs
 same-length-3 : tie.Need-same-length-3
 same-length-3 c = search needs
 
+same-length-4 : tie.Need-same-length-4
+same-length-4 c = search needs
+
 returns-2 : tie.Need-returns-2
 returns-2 c =
-    let floored = c .before .before .before .before .before .before .before .before .before .before .before .before .before .before .before .before .before .before .before .before .before .before .before .before .pre .1 in
-    let retop = c .before .before .before .before .before .before .before .before .before .before .retop in
-    let link = c .before .before .before .before .link-runs in
-    (record { over = retop .ensures .0; led = link .ensures; rows = retop .kept .1 .1 .1 .1 .1 .1 .1 .0 ∙ floored .rows; heads = link .kept .1 .1 .1 .0 ∙ floored .heads; links = link .kept .1 .1 .1 .1 .0 ∙ floored .links }, retop .ensures .1)
+    let floored = c .before .before .before .before .before .before .before .before .before .before .before .before .before .before .before .before .before .before .before .before .before .before .before .before .before .before .before .before .before .pre .1 in
+    let retop = c .before .before .before .before .before .before .before .before .before .before .before .before .before .before .retop in
+    let link = c .before .before .before .before .before .before .before .before .link-runs in (
+      record { over = retop .ensures .0; led = link .ensures; rows = retop .kept .1 .1 .1 .1 .1 .1 .1 .0 ∙ floored .rows; heads = link .kept .1 .1 .1 .0 ∙ floored .heads; links = link .kept .1 .1 .1 .1 .0 ∙ floored .links },
+      (retop .ensures .1, λ out end placed top some. absurd (some (c .before .before .clear-rows .ensures top))),
+    )
 
 pub refloor-spec : {M : Type 1} → statement M
 refloor-spec =
@@ -55,7 +63,9 @@ refloor-spec =
     returns
     retop-requires
     link-runs-requires
+    clear-rows-requires
     same-length
     same-length-2
     same-length-3
+    same-length-4
     returns-2)

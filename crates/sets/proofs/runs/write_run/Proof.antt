@@ -53,7 +53,7 @@ same-length : tie.Need-same-length Inv-loop μ-loop
 same-length c = ap length (c .before .loop .inv .0 .2) ∙ length-sets (c .before .before .args .out .now) (c .before .before .args .at) (c .before .loop .inv .0 .0)
 
 returns : tie.Need-returns Inv-loop μ-loop
-returns c = let w = c .before .loop .inv .0 .1 in (c .before .loop .inv .0 .0, walk-end w (c .loop-test .left), w .counted, c .before .loop .inv .0 .2)
+returns c = let w = c .before .loop .inv .0 .1 in (c .before .loop .inv .0 .0, walk-end w (c .loop-test .left), c .before .loop .inv .0 .2)
 
 pub write-run-spec : {M : Type 1} → statement M
 write-run-spec =
