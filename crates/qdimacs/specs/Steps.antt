@@ -1,6 +1,7 @@
 -- What the functions on one line promise, in the grammar's words, for the line that stands at a place of a text.
 use Prim.Native.Nat.{ℕ, _+_, _≤_}
 use mathlib.Core.Path.{_≡_}
+use mathlib.Core.Bool.{cond}
 use mathlib.Core.List.{List, [], _∷_}
 use mathlib.Core.Option.{some}
 use lib.ListN.{length, drop}
@@ -13,15 +14,18 @@ use Rattle.qdimacs.specs.declared.Reading.the-variants.{Read, Refused}
 use Rattle.tokens.specs.declared.Spelt.the-variants.{Missing}
 use Rattle.qdimacs.specs.declared.Opened.{Opened}
 use Rattle.qdimacs.specs.declared.Opened.the-variants.{Misfit, Comment, Problem}
+use Rattle.qdimacs.specs.declared.Signed.{Signed}
+use Rattle.qdimacs.specs.declared.Signed.the-variants.{Unfit, Close, Literal}
 use Rattle.qdimacs.specs.declared.Mark.{Mark}
 use Rattle.qdimacs.specs.declared.Mark.the-variants.{Unmarked, Marked}
+use Rattle.tokens.specs.declared.Item.the-variants.{Plain, Negated}
 use Rattle.tokens.specs.declared.Row.{Row}
 use Rattle.tokens.specs.declared.Row.the-variants.{Broken, Whole}
 use Rattle.qdimacs.specs.declared.Step.{Step}
 use Rattle.qdimacs.specs.declared.Step.the-variants.{Wrong, On}
 use Rattle.tokens.specs.Words.{LF, LETTER-A, LETTER-E, pieces, entriesOf}
 use Rattle.qdimacs.specs.Grammar.{variables, CommentLine, ProblemLine, Line, TextOf, Fault, FaultIn}
-use Rattle.tokens.specs.Places.{lineAt, afterAt, wordsAt, Passed, NoRow}
+use Rattle.tokens.specs.Places.{lineAt, afterAt, wordsAt, Passed, Taken, Unread, Closes, NoRow}
 use Rattle.tokens.specs.Expected.{Goes, SpeltIs}
 
 -- The line at a place is no comment.
@@ -46,6 +50,12 @@ pub data MarkAt (text : List ℕ) (at mark next : ℕ) : Type 0 where
 abbrev pub MarkIs : List ℕ → ℕ → Mark → Type 0
 MarkIs text at Unmarked = SpeltIs (LETTER-E ∷ []) text at Missing × SpeltIs (LETTER-A ∷ []) text at Missing
 MarkIs text at (Marked mark next) = MarkAt text at mark next
+
+-- The next entry of a clause line: a literal, its sign beside its number, or the closing 0.
+abbrev pub SignedIs : List ℕ → ℕ → Signed → Type 0
+SignedIs text at Unfit = Unread text at
+SignedIs text at (Close next) = Closes text at next
+SignedIs text at (Literal value negative next) = Taken (cond negative (Negated value) (Plain value)) text at next
 
 -- The entries of a quantifier line, from the place after its mark on: the mark, the variables and 0.
 pub record WholeBlock (mark : ℕ) (text : List ℕ) (at from : ℕ) (before after : List ℕ) (next count : ℕ) : Type 0 where

@@ -63,6 +63,19 @@ pub fn write(n: u32, prefix: &[u32], clauses: &[i32], out: &mut [u8]) -> Output
     }
 }
 
+// What stands next in a clause line: a literal, its sign beside its number, or the closing 0.
+enum Signed {
+    Unfit,
+    Close {
+        next: usize,
+    },
+    Literal {
+        value: u32,
+        negative: bool,
+        next: usize,
+    },
+}
+
 // Where a line stands: before the problem line, or after it, with the number of clause lines that it announced and of those that have stood.
 pub enum Stage {
     Opening,

@@ -1,14 +1,16 @@
 // The entries of a line in its table: they are stored from a row on, as far as the table has rows.
 
+use crate::Signed;
 use tokens::Entry;
 use tokens::Row;
 use tokens::items::entry_at;
 ghost use mathlib.Core.Path.{_≡_};
+ghost use mathlib.Core.Bool.{cond};
 ghost use Prim.Native.Nat.{_<_, _≤_};
 ghost use lib.ListN.{set};
 ghost use lib.IntN.{pos, negℤ};
 ghost use Rattle.qdimacs.specs.Grammar.{variables, literals};
-ghost use Rattle.qdimacs.specs.Steps.{BlockIs};
+ghost use Rattle.qdimacs.specs.Steps.{BlockIs, SignedIs};
 ghost use Rattle.tokens.specs.Places.{RowIs};
 
 // The entries of a quantifier line, its mark first, stored in the prefix table from a row on. The place is the one after the mark.
@@ -55,26 +57,46 @@ pub fn literals_at(text: &[u8], at: usize, clauses: &mut [i32], from: usize) -> 
     let mut i = at;
     let mut row = from;
     loop {
-        match entry_at(text, i) {
-            Entry::Unfit => return Row::Broken,
-            Entry::Negate { value, next } => {
-                store_literal(clauses, row, negated_literal(value));
-                row += 1;
-                i = next;
-            }
-            Entry::Close { next } => {
+        match signed_at(text, i) {
+            Signed::Unfit => return Row::Broken,
+            Signed::Close { next } => {
                 store_literal(clauses, row, 0);
                 return Row::Whole {
                     next,
                     count: row + 1,
                 };
             }
-            Entry::Take { value, next } => {
-                store_literal(clauses, row, plain_literal(value));
+            Signed::Literal {
+                value,
+                negative,
+                next,
+            } => {
+                store_literal(clauses, row, literal_of(value, negative));
                 row += 1;
                 i = next;
             }
         }
+    }
+}
+
+// What stands next in a clause line. A literal with `-` and one without are one case, so that the loop that stores them has no branch on the sign,
+// which no processor foresees.
+fn signed_at(text: &[u8], at: usize) -> Signed
+    ensures { λ r. ⌜ SignedIs (now (text .entry)) at r ⌝ }
+{
+    match entry_at(text, at) {
+        Entry::Unfit => Signed::Unfit,
+        Entry::Close { next } => Signed::Close { next },
+        Entry::Take { value, next } => Signed::Literal {
+            value,
+            negative: false,
+            next,
+        },
+        Entry::Negate { value, next } => Signed::Literal {
+            value,
+            negative: true,
+            next,
+        },
     }
 }
 
@@ -93,6 +115,18 @@ fn store_literal(table: &mut [i32], row: usize, entry: i32)
 {
     if row < table.len() {
         table[row] = entry;
+    }
+}
+
+// The literal of a number word, with `-` or without.
+fn literal_of(value: u32, negative: bool) -> i32
+    requires { ⌜ value < 100000 ⌝ }
+    ensures { λ r. ⌜ r ≡ cond negative (negℤ (pos value)) (pos value) ⌝ }
+{
+    if negative {
+        negated_literal(value)
+    } else {
+        plain_literal(value)
     }
 }
 

@@ -6,17 +6,24 @@ use mathlib.Core.List.{List, [], _∷_, _++_, append-nil, append-assoc, List·Me
 use mathlib.Core.Logic.{_≢_, _↔_, ⊎-elim, by-cases}
 use native.Mathlib.Decide.{ℕ-discrete, decLt}
 use native.Mathlib.Omega.{arith}
-use lib.ListN.{length, getD, set, replicate, length-set, length-append, List·getD-eq-default}
+use lib.ListN.{length, getD, set, replicate, length-set, length-append, length-replicate}
 use lib.Seq.{sets, getD-set-same, getD-set-other}
 use Rattle.terms.proofs.Common.{clash}
-use Rattle.connection.specs.Tables.{row}
+use Rattle.terms.specs.declared.Scheme.{Scheme}
+use Rattle.connection.specs.Reach.{Variables, Lawful}
+use Rattle.connection.specs.Tables.{Table, row, lent, WellFormed}
+use Rattle.formula.specs.Meaning.{level, isExistential}
+use Rattle.tables.specs.Formula.{variables}
+use Rattle.tables.proofs.Readings.{new-zero}
+use Rattle.connection.proofs.Climb.{above-class}
 use Rattle.picking.specs.declared.Asked.the-variants.{Set}
-use Rattle.searching.specs.Search.{Topless}
-use Rattle.marks.specs.Flags.{Entering}
+use Rattle.searching.specs.Search.{TopRows, Topless, TopsOver}
+use Rattle.marks.specs.Flags.{Takes, Via, Entering}
 use Rattle.picking.specs.Picked.{pick, picked}
 use Rattle.picking.proofs.Picked.{picked-more, picked-same, picked-none, sets-more}
+use Rattle.searching.proofs.Tops.{tops-over}
 use Rattle.marks.proofs.Flags.{fresh}
-use Rattle.sets.specs.Runs.{Run, Leads, only, having, Led}
+use Rattle.sets.specs.Runs.{Run, Leads, only, having, Within, Led, Floored}
 use Rattle.threads.specs.Points.{Is}
 use Rattle.threads.proofs.Chains.{flag-long}
 
@@ -150,7 +157,7 @@ module _ {n : ℕ} {tops lead after : List ℕ} {v top : ℕ} (o : Over n tops l
       }
 
   -- v comes in front of the run of its own
-  over-own : {was : ℕ} → was ≡ getD lead above 0 → top ≡ above → top ≢ 0 → top < 4097 → length lead ≡ 4097 → v < length after → v < 65536 → Over n tops (set lead above ((was / 65536 + 1) * 65536 + v)) (set after v (was % 65536)) (v - 1) top
+  over-own : {was : ℕ} → was ≡ getD lead above 0 → top ≡ above → top ≢ 0 → top < 4097 → above < length lead → v < length after → v < 65536 → Over n tops (set lead above ((was / 65536 + 1) * 65536 + v)) (set after v (was % 65536)) (v - 1) top
   unfolding pick
   over-own {was} read own named small heads within low =
       record {
@@ -164,48 +171,43 @@ module _ {n : ℕ} {tops lead after : List ℕ} {v top : ℕ} (o : Over n tops l
       here = read ∙ ap (λ t. getD lead t 0) (sym own)
 
       stored : getD (set lead above ((was / 65536 + 1) * 65536 + v)) top 0 ≡ (was / 65536 + 1) * 65536 + v
-      stored = ap (λ t. getD (set lead above ((was / 65536 + 1) * 65536 + v)) t 0) own ∙ getD-set-same lead above ((was / 65536 + 1) * 65536 + v) 0 (omega arith)
+      stored = ap (λ t. getD (set lead above ((was / 65536 + 1) * 65536 + v)) t 0) own ∙ getD-set-same lead above ((was / 65536 + 1) * 65536 + v) 0 heads
 
       flag : f ((v - 1) + 1) ≡ true
       flag = ap (λ u. getD (only top) (row n tops u) false) (sym next) ∙ ap (λ t. getD (only top) t false) (sym is ∙ sym own) ∙ only-own top named small
 
--- All runs on the way: those of the tops that there are flags for; and no row counts more than are passed.
+-- All runs on the way, those of 0 not told; and no row counts more than are passed.
 abbrev pub Linking : ℕ → List ℕ → List ℕ → List ℕ → ℕ → Type 0
-Linking n tops lead after v = ((top : ℕ) → top ≢ 0 → top < 4097 → Over n tops lead after v top) × ((top : ℕ) → getD lead top 0 / 65536 + v ≤ n)
+Linking n tops lead after v = ((top : ℕ) → top ≢ 0 → top ≤ n → Over n tops lead after v top) × ((top : ℕ) → top ≤ n → getD lead top 0 / 65536 + v ≤ n)
 
 module _ {n : ℕ} {tops lead after : List ℕ} {v : ℕ} (l : Linking n tops lead after v) (above : ℕ) (is : above ≡ row n tops v) (some : v ≢ 0) where
-  pub link-more : {was : ℕ} → was ≡ getD lead above 0 → length lead ≡ 4097 → v < length after → v < 65536 → above < 4097 → Linking n tops (set lead above ((was / 65536 + 1) * 65536 + v)) (set after v (was % 65536)) (v - 1)
-  link-more {was} read heads within low room = (
+  pub link-more : {was : ℕ} → was ≡ getD lead above 0 → n ≤ 4096 → above < length lead → v < length after → v < 65536 → Linking n tops (set lead above ((was / 65536 + 1) * 65536 + v)) (set after v (was % 65536)) (v - 1)
+  link-more {was} read few heads within low = (
     λ top named small.
         let o = l .0 top named small in
-        by-cases (ℕ-discrete top above) (λ own. over-own o above is some read own named small heads within low)
+        by-cases (ℕ-discrete top above) (λ own. over-own o above is some read own named (omega arith) heads within low)
         (λ other. over-past o above is some (getD-set-other lead above top ((was / 65536 + 1) * 65536 + v) 0 other) (run-set after v (was % 65536) (getD lead top 0 % 65536) (o .list) (o .over) (o .leads .0)) other),
-    λ top. let few = l .1 top in by-cases (ℕ-discrete top above)
-        (λ own. let stored = ap (λ t. getD (set lead above ((was / 65536 + 1) * 65536 + v)) t 0) own ∙ getD-set-same lead above ((was / 65536 + 1) * 65536 + v) 0 (omega arith) in let here = read ∙ ap (λ t. getD lead t 0) (sym own) in omega arith)
+    λ top small. let passed = l .1 top small in by-cases (ℕ-discrete top above)
+        (λ own. let stored = ap (λ t. getD (set lead above ((was / 65536 + 1) * 65536 + v)) t 0) own ∙ getD-set-same lead above ((was / 65536 + 1) * 65536 + v) 0 heads in let here = read ∙ ap (λ t. getD lead t 0) (sym own) in omega arith)
         (λ other. let same = getD-set-other lead above top ((was / 65536 + 1) * 65536 + v) 0 other in omega arith),
   )
 
-  -- a top that there is no flag for has no run
-  pub link-past : 4097 ≤ above → Linking n tops lead after (v - 1)
-  link-past over = (λ top named small. let o = l .0 top named small in over-past o above is some refl (o .leads .0) (λ q. omega arith), λ top. let few = l .1 top in omega arith)
-
--- A top that no variable has, or that there is no flag for, has no run.
+-- A top that no variable has has no run.
 empty-run : (n : ℕ) (tops lead after : List ℕ) (top : ℕ) → ((v : ℕ) → getD (only top) (row n tops v) false ≡ true → ⊥) → getD lead top 0 ≡ 0 → Leads after (getD lead top 0) (having n tops top)
 unfolding pick
 empty-run n tops lead after top never none = subst (Leads after (getD lead top 0)) (sym (picked-none (pick Set n (only top) tops) n (λ v a b. not-eq-not {b = false} .0 (never v)))) (leads-none after none)
 
 -- There are no runs where there are no tops.
 pub led-none : (n : ℕ) (tops lead after : List ℕ) → ((v : ℕ) → row n tops v ≡ 0) → ((top : ℕ) → getD lead top 0 ≡ 0) → Led n tops lead after
-led-none n tops lead after none zeros top = empty-run n tops lead after top (λ v t. only-set top (row n tops v) t .1 (none v)) (zeros top)
+led-none n tops lead after none zeros top _ = empty-run n tops lead after top (λ v t. only-set top (row n tops v) t .1 (none v)) (zeros top)
 
 -- All variables over `from` are passed, and no other has a top.
-pub link-all : {n from v : ℕ} {tops lead after : List ℕ} → Linking n tops lead after v → v ≤ from → Topless n tops from → length lead ≡ 4097 → Led n tops (set lead 0 0) after
+pub link-all : {n from v : ℕ} {tops lead after : List ℕ} → Linking n tops lead after v → v ≤ from → Topless n tops from → 0 < length lead → Led n tops (set lead 0 0) after
 unfolding pick
-link-all {n} {from} {v} {tops} {lead} {after} l low none heads top =
+link-all {n} {from} {v} {tops} {lead} {after} l low none heads top small =
     by-cases (ℕ-discrete top 0)
-    (λ z. empty-run n tops (set lead 0 0) after top (λ u t. let (q, some, _) = only-set top (row n tops u) t in some (q ∙ z)) (ap (λ t. getD (set lead 0 0) t 0) z ∙ getD-set-same lead 0 0 0 (omega arith)))
-    (λ named. by-cases (decLt top 4097) (λ small. whole named (l .0 top named small))
-    (λ over. empty-run n tops (set lead 0 0) after top (λ u t. let (q, _, less) = only-set top (row n tops u) t in omega arith) (List·getD-eq-default (set lead 0 0) 0 {n = top} (let size = length-set lead 0 0 in omega arith))))
+    (λ z. empty-run n tops (set lead 0 0) after top (λ u t. let (q, some, _) = only-set top (row n tops u) t in some (q ∙ z)) (ap (λ t. getD (set lead 0 0) t 0) z ∙ getD-set-same lead 0 0 0 heads))
+    (λ named. whole named (l .0 top named small))
   where
     whole : top ≢ 0 → Over n tops lead after v top → Leads after (getD (set lead 0 0) top 0) (having n tops top)
     whole named o =
@@ -216,3 +218,33 @@ link-all {n} {from} {v} {tops} {lead} {after} l low none heads top =
 -- The flag of the sole top tells of which numbers P holds.
 pub sole-entering : {n : ℕ} {P : ℕ → Type 0} {tops : List ℕ} (top : ℕ) → ((e : ℕ) → Is top e ↔ P e) → Entering n P tops tops (only top)
 sole-entering top sole = record { tells = λ e l. (λ t. let (q, some, _) = only-set top e t in sole e .0 (q, some), λ p. let (q, some) = sole e .1 p in ap (λ t. getD (only t) e false) (sym q) ∙ only-own e some (omega arith)); same = λ y. refl }
+
+-- It is one of the variables, as all tops are.
+pub sole-within : (scheme : Scheme) (n : ℕ) (tops : List ℕ) (P : Bool → ℕ → Type 0) (top : ℕ) → ((e : ℕ) → Is top e ↔ Takes scheme (λ sign. Via n tops (P sign) e)) → Within n tops → top ≤ n
+sole-within scheme n tops P top sole within = by-cases (ℕ-discrete top 0) (λ z. omega arith) (λ some. let t = one scheme (sole top .0 (refl, some)) in subst (λ e. e ≤ n) (t .1) (within (t .0)))
+  where
+    one : (scheme : Scheme) → Takes scheme (λ sign. Via n tops (P sign) top) → (v : ℕ) × (row n tops v ≡ top)
+    one Scheme.Standard = ⊎-elim (λ t. (t .for, t .is)) (λ t. (t .for, t .is))
+    one Scheme.Strict = λ t. (t .0 .for, t .0 .is)
+
+-- A top is a class name, and so one of the variables.
+pub tops-within : {X : Variables} {W : Table} {floor : ℕ} (tops : List ℕ) → Lawful X → WellFormed X W → TopRows X W floor tops → Within (X .count) tops
+tops-within {X} {W} {floor} tops law formed rows v = by-cases (decLt floor (X .lev v)) (λ deep. go (X .ex v) refl deep) (λ shallow. let z = rows v .none (λ u. shallow (u .1)) in omega arith)
+  where
+    go : (b : Bool) → X .ex v ≡ b → floor < X .lev v → row (X .count) tops v ≤ X .count
+    go true ex deep = let (_, found) = rows v .found (ex, deep) in law .within (row (X .count) tops v) (above-class formed (formed .right v .class ex .name) (found .above) .existential) .1
+    go false un deep = let z = rows v .none (λ u. clash (u .0) un) in omega arith
+
+-- New tables: over a level that nothing is deeper than there are no tops, and so no runs.
+pub floored-new : (n : ℕ) (es classes parents : List ℕ) (floor k : ℕ) → ((v : ℕ) → isExistential n es v ≡ true → level es v ≤ floor) → n < k → Floored n es classes parents floor 0 (replicate {A = ℕ} k 0) (replicate {A = ℕ} k 0) (replicate {A = ℕ} k 0)
+floored-new n es classes parents floor k low room =
+    record { over = over; within = λ v. let z = none v in omega arith; led = led-none n (replicate {A = ℕ} k 0) (replicate {A = ℕ} k 0) (replicate {A = ℕ} k 0) none (new-zero k); rows = let l = long in omega arith; heads = let l = long in omega arith; links = let l = long in omega arith }
+  where
+    long : length (replicate {A = ℕ} k 0) ≡ k
+    long = length-replicate {A = ℕ} k 0
+
+    over : TopsOver (variables n es) (lent (variables n es) classes parents) floor 0 (replicate {A = ℕ} k 0)
+    over = tops-over floor k low
+
+    none : (v : ℕ) → row n (replicate {A = ℕ} k 0) v ≡ 0
+    none v = over .rows v .none (λ u. let l = low v (u .0) in let d = u .1 in omega arith)

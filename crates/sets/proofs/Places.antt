@@ -46,8 +46,8 @@ stand-stored {out} {place} {at = at} part s = record { before = s .before; each 
 module _ (n : ℕ) (tops places out : List ℕ) (at x : ℕ) (p : Placed n tops places out at) {out′ : List ℕ} {end : ℕ} where
   -- A record more, of any set.
   pub placed-on : (writing : Bool) (list : List ℕ) → PutList list x at writing out out′ end → Placed n tops places out′ end
-  placed-on true list (q, stored) top some = let size = q in stand-on (omega arith) (subst (λ (o : List ℕ). Standing o (getD places top 0) (having n tops top) at) (sym stored) (stand-stored (x ∷ length list ∷ list) (p top some)))
-  placed-on false list (q, same) top some = let size = q in stand-on (omega arith) (subst (λ (o : List ℕ). Standing o (getD places top 0) (having n tops top) at) (sym same) (p top some))
+  placed-on true list (q, stored) top low some = let size = q in stand-on (omega arith) (subst (λ (o : List ℕ). Standing o (getD places top 0) (having n tops top) at) (sym stored) (stand-stored (x ∷ length list ∷ list) (p top low some)))
+  placed-on false list (q, same) top low some = let size = q in stand-on (omega arith) (subst (λ (o : List ℕ). Standing o (getD places top 0) (having n tops top) at) (sym same) (p top low some))
 
   -- One of the set of a top, which stands there now.
   module _ (top : ℕ) where
@@ -61,13 +61,13 @@ module _ (n : ℕ) (tops places out : List ℕ) (at x : ℕ) (p : Placed n tops 
         }
 
     noted : PutList (having n tops top) x at true out out′ end → at + 2 + length (having n tops top) ≤ length out → Placed n tops (set places top (at + 2)) out′ end
-    noted put room other some =
+    noted put room other low some =
         by-cases (ℕ-discrete other top)
         (λ q. by-cases (decLt top (length places)) (λ l. here q l) (λ l. kept (ap (λ (rows : List ℕ). getD rows other 0) (set-out places top (at + 2) (omega arith)))))
         (λ differs. kept (getD-set-other places top other (at + 2) 0 differs))
       where
         kept : getD (set places top (at + 2)) other 0 ≡ getD places other 0 → Standing out′ (getD (set places top (at + 2)) other 0) (having n tops other) end
-        kept same = subst (λ i. Standing out′ i (having n tops other) end) (sym same) (placed-on true (having n tops top) put other (λ z. some (same ∙ z)))
+        kept same = subst (λ i. Standing out′ i (having n tops other) end) (sym same) (placed-on true (having n tops top) put other low (λ z. some (same ∙ z)))
 
         here : other ≡ top → top < length places → Standing out′ (getD (set places top (at + 2)) other 0) (having n tops other) end
         here q l = subst₂ (λ (i t : ℕ). Standing out′ i (having n tops t) end) (sym (ap (λ t. getD (set places top (at + 2)) t 0) q ∙ getD-set-same places top (at + 2) 0 l)) (sym q) (stands put room)

@@ -6,7 +6,7 @@ use mathlib.Core.List.{List, [], _∷_}
 use mathlib.Core.Logic.{_≢_, _⊎_}
 use lib.ListN.{length, getD, set, replicate}
 use Rattle.picking.specs.declared.Asked.the-variants.{Set}
-use Rattle.connection.specs.Tables.{lent}
+use Rattle.connection.specs.Tables.{row, lent}
 use Rattle.tables.specs.Formula.{variables}
 use Rattle.picking.specs.Picked.{pick, picked}
 use Rattle.searching.specs.Search.{TopsOver}
@@ -27,11 +27,15 @@ having n tops top = picked (pick Set n (only top) tops) n
 
 -- a row of `lead`: where a run begins, and in the upper half how many numbers it has
 abbrev pub Leads : List ℕ → ℕ → List ℕ → Type 0
-Leads after row list = Run after (row % 65536) list × (row / 65536 ≡ length list)
+Leads after lead list = Run after (lead % 65536) list × (lead / 65536 ≡ length list)
+
+-- every top is one of the variables
+abbrev pub Within : ℕ → List ℕ → Type 0
+Within n tops = (v : ℕ) → row n tops v ≤ n
 
 -- the row of every top leads to the variables that have it
 abbrev pub Led : ℕ → List ℕ → List ℕ → List ℕ → Type 0
-Led n tops lead after = (top : ℕ) → Leads after (getD lead top 0) (having n tops top)
+Led n tops lead after = (top : ℕ) → top ≤ n → Leads after (getD lead top 0) (having n tops top)
 
 -- a list stands in a table from an entry on, before another
 pub record Standing (out : List ℕ) (place : ℕ) (list : List ℕ) (end : ℕ) : Type 0 where
@@ -40,16 +44,17 @@ pub record Standing (out : List ℕ) (place : ℕ) (list : List ℕ) (end : ℕ)
 
 -- where there is a place for a top, 0 for none, the set of that top stands there
 abbrev pub Placed : ℕ → List ℕ → List ℕ → List ℕ → ℕ → Type 0
-Placed n tops places out end = (top : ℕ) → getD places top 0 ≢ 0 → Standing out (getD places top 0) (having n tops top) end
+Placed n tops places out end = (top : ℕ) → top ≤ n → getD places top 0 ≢ 0 → Standing out (getD places top 0) (having n tops top) end
 
 -- the places are as they were, or that of a top is noted
 abbrev pub Noting : List ℕ → ℕ → ℕ → List ℕ → Type 0
 Noting before top place after = (after ≡ before) ⊎ (after ≡ set before top place)
 
--- the tops over a floor, and their runs, in tables of their lengths
+-- the tops over a floor, and their runs, in tables with a row for each variable
 pub record Floored (n : ℕ) (es classes parents : List ℕ) (floor from : ℕ) (tops lead after : List ℕ) : Type 0 where
   pub over : TopsOver (variables n es) (lent (variables n es) classes parents) floor from tops
+  pub within : Within n tops
   pub led : Led n tops lead after
-  pub rows : length tops ≡ 4096
-  pub heads : length lead ≡ 4097
-  pub links : length after ≡ 4097
+  pub rows : n ≤ length tops
+  pub heads : n < length lead
+  pub links : n < length after

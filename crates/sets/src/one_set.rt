@@ -1,4 +1,5 @@
-// The record of one universal: its number, the count of its set, and its set, written or only counted.
+// The record of one universal: its number, the count of its set, and its set, written or only counted. A row of `places` has where in `out` the
+// set of a top stands already, 0 for nowhere: a copy takes less than a walk along the run.
 
 use crate::runs::row_at;
 use crate::runs::write_run;
@@ -22,7 +23,7 @@ ghost use Rattle.picking.specs.declared.Asked.the-variants.{Set};
 ghost use Rattle.picking.specs.Picked.{pick, picked, NoneUpto};
 ghost use Rattle.searching.specs.Search.{Topless};
 ghost use Rattle.threads.specs.Threads.{Tied};
-ghost use Rattle.sets.specs.Runs.{Leads, Led, Standing, Placed, Noting};
+ghost use Rattle.sets.specs.Runs.{Within, Leads, Led, Standing, Placed, Noting};
 ghost use Rattle.sets.specs.Passed.{PutList, Put, PutSet, RoomFor};
 
 // Writes the record of the universal x from the entry `at` on, or only counts; gives the entry behind it. Where x has one entry point, its set is
@@ -44,7 +45,7 @@ pub fn put_set(
     out: &mut [u32],
 ) -> usize
     requires { ⌜ (n ≤ 4096) × (at + 2 < 4294967296) × Tied (now clauses) (now first) (now next) (x .0) ⌝ }
-    requires { ⌜ (floor .from ≤ n) × Topless n (now tops) (floor .from) × Led n (now tops) (now lead) (now after) × Placed n (now tops) (now places) (now out) at ⌝ }
+    requires { ⌜ (floor .from ≤ n) × Topless n (now tops) (floor .from) × Within n (now tops) × Led n (now tops) (now lead) (now after) × Placed n (now tops) (now places) (now out) at ⌝ }
     requires { ⌜ RoomFor scheme n (now tops) (now clauses) (x .0) at writing (now out) ⌝ }
     ensures { λ r. ⌜ PutSet scheme n (now (tops .entry)) (now (clauses .entry)) (x .0) at writing (now (out .entry)) (now (out .exit)) r ⌝ }
     ensures { λ r. ⌜ Placed n (now (tops .entry)) (now (places .exit)) (now (out .exit)) r ⌝ }

@@ -10,37 +10,35 @@ ghost use mathlib.Core.List.{List};
 ghost use lib.ListN.{length, getD};
 ghost use lib.Seq.{sets};
 ghost use Rattle.searching.specs.Search.{Topless};
-ghost use Rattle.sets.specs.Runs.{Run, Led};
+ghost use Rattle.sets.specs.Runs.{Run, Within, Led};
 
 // Ties the variables of each top together, where none up to `from` has one. They are passed downwards, so that each comes in front of its run;
 // those without a top are tied too, with no test, and let go at the end.
 pub fn link_runs(n: u32, tops: &[u32], from: u32, lead: &mut [u32], after: &mut [u32])
-    requires { ⌜ (n ≤ 4096) × (from ≤ n) × Topless n (now tops) from × (length (now lead) ≡ 4097) × (n < length (now after)) ⌝ }
+    requires { ⌜ (n ≤ 4096) × (from ≤ n) × Topless n (now tops) from × Within n (now tops) × (n < length (now lead)) × (n < length (now after)) ⌝ }
     ensures { λ r. ⌜ Led n (now (tops .entry)) (now (lead .exit)) (now (after .exit)) ⌝ }
 {
-    clear_rows(lead);
+    clear_rows(n, lead);
     let mut v = n;
     while from < v {
         let top = row_of(n, tops, Variable::new(v));
         let at = top.0 as usize;
-        if at < lead.len() {
-            let row = lead[at];
-            after[v as usize] = row % 65536;
-            lead[at] = (row / 65536 + 1) * 65536 + v;
-            v -= 1;
-        } else {
-            v -= 1;
-        }
+        let row = lead[at];
+        after[v as usize] = row % 65536;
+        lead[at] = (row / 65536 + 1) * 65536 + v;
+        v -= 1;
     }
     lead[0] = 0;
 }
 
-// Makes every row 0.
-pub fn clear_rows(rows: &mut [u32])
-    ensures { λ r. ⌜ ((i : ℕ) → getD (now (rows .exit)) i 0 ≡ 0) ⌝ }
+// Makes the rows of 0 to n 0: no other is read.
+pub fn clear_rows(n: u32, rows: &mut [u32])
+    requires { ⌜ n < length (now rows) ⌝ }
+    ensures { λ r. ⌜ ((i : ℕ) → i ≤ n → getD (now (rows .exit)) i 0 ≡ 0) ⌝ }
 {
+    let most = n as usize;
     let mut i = 0;
-    while i < rows.len() {
+    while i <= most {
         rows[i] = 0;
         i += 1;
     }

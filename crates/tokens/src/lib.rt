@@ -25,7 +25,7 @@ pub enum Row {
 }
 
 // What stands next in a line of entries: a number and where the line goes on, or the closing 0 and where the next line stands. Take and Negate are
-// not neighbours: the compiler makes one sum of the tags of neighbours, and then branches on the sign, where it takes either value otherwise.
+// not neighbours: the compiler would make one sum of their tags, and then no caller could be compiled without a branch on the sign.
 pub enum Entry {
     Unfit,
     Take { value: u32, next: usize },
@@ -52,7 +52,7 @@ pub enum Ended {
 }
 
 // What stands next in a line: a word, from its first byte up to its end, or the line's end, an LF or the text's end. With a word comes whether it
-// carries `-`, and the number that the rest of it is: apart, so that a reader of entries need not branch on a sign, which no processor foresees.
+// carries `-`, and the number that the rest of it is: apart, so that what is made of them need not branch on the sign, which no processor foresees.
 pub enum Word {
     Found {
         start: usize,

@@ -1,6 +1,8 @@
 -- `sets::all_sets::refloor` meets its contract.
 use mathlib.Core.Path.{_∙_}
 use native.Mathlib.Omega.{arith}
+use Rattle.tables.proofs.Agreeing.{lawful}
+use Rattle.sets.proofs.Linked.{tops-within}
 use borrow.Author.Needs.{needs}
 use Rattle.sets.proofs.all_sets.refloor.Statement.{statement}
 use Rattle.sets.proofs.all_sets.refloor.Tie as tie
@@ -12,12 +14,12 @@ returns : tie.Need-returns
 returns c =
     let (sound, formed, small, levelled) = c .before .before .before .before .before .before .before .before .before .before .before .before .before .pre .0 in
     let own = c .before .before .before .before .level-at .ensures ∙ levelled .1 .level-is (c .before .before .before .before .before .before .before .before .before .before .before .before .before .args .x .0) small in
-    (c .before .before .before .before .before .before .before .before .before .before .before .before .before .pre .1, (c .if1 .taken ∙ own, λ out end placed. placed))
+    (c .before .before .before .before .before .before .before .before .before .before .before .before .before .pre .1 .0, (c .if1 .taken ∙ own, λ out end placed. placed))
 
 retop-requires : tie.Need-retop-requires
 retop-requires c κs =
     let (sound, formed, small, levelled) = c .before .before .before .before .before .before .before .before .before .before .before .before .before .before .pre .0 in
-    let floored = c .before .before .before .before .before .before .before .before .before .before .before .before .before .before .pre .1 in
+    let floored = c .before .before .before .before .before .before .before .before .before .before .before .before .before .before .pre .1 .0 in
     let few = sound .few in
     let rows = floored .rows in
     ((sound, formed, omega arith), ((small, levelled), floored .over))
@@ -25,14 +27,15 @@ retop-requires c κs =
 link-runs-requires : tie.Need-link-runs-requires
 link-runs-requires c κs =
     let (sound, formed, small, levelled) = c .before .before .before .before .before .before .before .before .before .before .before .before .before .before .before .before .before .before .before .before .pre .0 in
-    let floored = c .before .before .before .before .before .before .before .before .before .before .before .before .before .before .before .before .before .before .before .before .pre .1 in
+    let floored = c .before .before .before .before .before .before .before .before .before .before .before .before .before .before .before .before .before .before .before .before .pre .1 .0 in
     let few = sound .few in
     let links = floored .links in
+    let heads = floored .heads in
     let over = c .before .before .before .before .before .retop .ensures .0 in
-    (few, over .most, over .none, floored .heads, omega arith)
+    (few, over .most, over .none, tops-within (c .before .before .before .before .before .retop .last .1 .1 .1 .1 .1 .1 .1 .0) (lawful (c .before .before .before .before .before .before .before .before .before .before .before .before .before .before .before .before .before .before .before .before .args .n) (c .before .before .before .before .before .before .before .before .before .before .before .before .before .before .before .before .before .before .before .before .args .prefix .now)) formed (over .rows), omega arith, omega arith)
 
 clear-rows-requires : tie.Need-clear-rows-requires
-clear-rows-requires c κs = search needs
+clear-rows-requires c κs = c .before .before .before .before .before .before .before .before .before .before .before .before .before .before .before .before .before .before .before .before .before .before .before .before .before .before .pre .1 .1
 
 same-length : tie.Need-same-length
 same-length c = search needs
@@ -48,11 +51,13 @@ same-length-4 c = search needs
 
 returns-2 : tie.Need-returns-2
 returns-2 c =
-    let floored = c .before .before .before .before .before .before .before .before .before .before .before .before .before .before .before .before .before .before .before .before .before .before .before .before .before .before .before .before .before .pre .1 in
+    let floored = c .before .before .before .before .before .before .before .before .before .before .before .before .before .before .before .before .before .before .before .before .before .before .before .before .before .before .before .before .before .pre .1 .0 in
+    let (sound, formed, small, levelled) = c .before .before .before .before .before .before .before .before .before .before .before .before .before .before .before .before .before .before .before .before .before .before .before .before .before .before .before .before .before .pre .0 in
+    let a = c .before .before .before .before .before .before .before .before .before .before .before .before .before .before .before .before .before .before .before .before .before .before .before .before .before .before .before .before .before .args in
     let retop = c .before .before .before .before .before .before .before .before .before .before .before .before .before .before .retop in
     let link = c .before .before .before .before .before .before .before .before .link-runs in (
-      record { over = retop .ensures .0; led = link .ensures; rows = retop .kept .1 .1 .1 .1 .1 .1 .1 .0 ∙ floored .rows; heads = link .kept .1 .1 .1 .0 ∙ floored .heads; links = link .kept .1 .1 .1 .1 .0 ∙ floored .links },
-      (retop .ensures .1, λ out end placed top some. absurd (some (c .before .before .clear-rows .ensures top))),
+      record { over = retop .ensures .0; within = tops-within (retop .last .1 .1 .1 .1 .1 .1 .1 .0) (lawful (a .n) (a .prefix .now)) formed (retop .ensures .0 .rows); led = link .ensures; rows = let was = floored .rows in let size = retop .kept .1 .1 .1 .1 .1 .1 .1 .0 in omega arith; heads = let was = floored .heads in let size = link .kept .1 .1 .1 .0 in omega arith; links = let was = floored .links in let size = link .kept .1 .1 .1 .1 .0 in omega arith },
+      (retop .ensures .1, λ out end placed top low some. absurd (some (c .before .before .clear-rows .ensures top low))),
     )
 
 pub refloor-spec : {M : Type 1} → statement M

@@ -11,7 +11,7 @@ use Rattle.threads.specs.Threads.{Together, EnteredBy}
 use Rattle.threads.specs.Points.{SoleOf}
 use Rattle.sets.specs.Runs.{Leads, only, having}
 use Rattle.sets.specs.Passed.{PutList}
-use Rattle.sets.proofs.Linked.{run-one, sole-entering}
+use Rattle.sets.proofs.Linked.{run-one, sole-entering, sole-within}
 use Rattle.sets.proofs.Places.{placed-on, placed-top}
 use borrow.Author.Needs.{needs}
 use Rattle.sets.proofs.one_set.put_set.Statement.{statement}
@@ -41,9 +41,11 @@ put-run-requires c κs =
     let pre = c .before .before .before .before .before .before .before .before .before .before .before .before .before .before .pre in
     let top = c .before .before .before .before .top .given .0 .0 .0 in
     let members = having (a .n) (a .tops .now) top in
-    let leads = subst (λ row. Leads (a .after .now) row members) (sym (c .before .before .row-at .ensures)) (pre .1 .0 .2 top) in
-    let entered : EnteredBy (a .scheme) (a .n) (a .tops .now) (a .clauses .now) (a .x .0) (only top) = sole-entering top (subst (λ s. SoleOf s (λ e. Takes (a .scheme) (λ (sign : Bool). Via (a .n) (a .tops .now) (Together (a .clauses .now) sign (a .x .0)) e))) (c .before .before .before .before .top .given .1) (c .before .before .before .before .before .before .sole-point .ensures)) in
-    (pre .0 .1, (members, leads, pre .1 .0 .3 top, λ on. pre .1 .1 on (only top) entered))
+    let sole = subst (λ s. SoleOf s (λ e. Takes (a .scheme) (λ (sign : Bool). Via (a .n) (a .tops .now) (Together (a .clauses .now) sign (a .x .0)) e))) (c .before .before .before .before .top .given .1) (c .before .before .before .before .before .before .sole-point .ensures) in
+    let entered : EnteredBy (a .scheme) (a .n) (a .tops .now) (a .clauses .now) (a .x .0) (only top) = sole-entering top sole in
+    let low = sole-within (a .scheme) (a .n) (a .tops .now) (λ (sign : Bool). Together (a .clauses .now) sign (a .x .0)) top sole (pre .1 .0 .2) in
+    let leads = subst (λ row. Leads (a .after .now) row members) (sym (c .before .before .row-at .ensures)) (pre .1 .0 .3 top low) in
+    (pre .0 .1, (members, leads, pre .1 .0 .4 top low, λ on. pre .1 .1 on (only top) entered))
 
 same-length : tie.Need-same-length
 same-length c = search needs
@@ -52,7 +54,7 @@ returns : tie.Need-returns
 returns c =
     let a = c .before .before .before .before .before .before .before .before .before .before .before .before .before .before .args in
     let set = c .before .before .put-flagged .ensures in
-    (set, placed-on (a .n) (a .tops .now) (a .places .now) (a .out .now) (a .at) (a .x .0) (c .before .before .before .before .before .before .before .before .before .before .before .before .before .before .pre .1 .0 .3) (a .writing) (picked (pick Set (a .n) (set .flags) (a .tops .now)) (a .n)) (set .put))
+    (set, placed-on (a .n) (a .tops .now) (a .places .now) (a .out .now) (a .at) (a .x .0) (c .before .before .before .before .before .before .before .before .before .before .before .before .before .before .pre .1 .0 .4) (a .writing) (picked (pick Set (a .n) (set .flags) (a .tops .now)) (a .n)) (set .put))
 
 same-length-2 : tie.Need-same-length-2
 same-length-2 c = search needs
@@ -66,12 +68,14 @@ returns-2 c =
     let pre = c .before .before .before .before .before .before .before .before .before .before .before .before .before .before .before .before .before .before .before .pre in
     let top = c .before .before .before .before .before .before .before .before .before .top .given .0 .0 .0 in
     let members = having (a .n) (a .tops .now) top in
-    let leads = subst (λ row. Leads (a .after .now) row members) (sym (c .before .before .before .before .before .before .before .row-at .ensures)) (pre .1 .0 .2 top) in
+    let sole = subst (λ s. SoleOf s (λ e. Takes (a .scheme) (λ (sign : Bool). Via (a .n) (a .tops .now) (Together (a .clauses .now) sign (a .x .0)) e))) (c .before .before .before .before .before .before .before .before .before .top .given .1) (c .before .before .before .before .before .before .before .before .before .before .before .sole-point .ensures) in
+    let entered : EnteredBy (a .scheme) (a .n) (a .tops .now) (a .clauses .now) (a .x .0) (only top) = sole-entering top sole in
+    let low = sole-within (a .scheme) (a .n) (a .tops .now) (λ (sign : Bool). Together (a .clauses .now) sign (a .x .0)) top sole (pre .1 .0 .2) in
+    let leads = subst (λ row. Leads (a .after .now) row members) (sym (c .before .before .before .before .before .before .before .row-at .ensures)) (pre .1 .0 .3 top low) in
     let (list, found, other) = c .before .before .before .before .put-run .ensures .0 in
     let same = run-one (a .after .now) (c .before .before .before .before .before .before .before .row-at .result % 65536) list members (found .0) (leads .0) in
     let put : PutList members (a .x .0) (a .at) (a .writing) (a .out .now) (c .before .before .before .before .put-run .last .1 .1 .1 .1 .1 .1 .1 .0) (c .before .before .before .before .put-run .result) = subst (λ (l : List ℕ). PutList l (a .x .0) (a .at) (a .writing) (a .out .now) (c .before .before .before .before .put-run .last .1 .1 .1 .1 .1 .1 .1 .0) (c .before .before .before .before .put-run .result)) same other in
-    let entered : EnteredBy (a .scheme) (a .n) (a .tops .now) (a .clauses .now) (a .x .0) (only top) = sole-entering top (subst (λ s. SoleOf s (λ e. Takes (a .scheme) (λ (sign : Bool). Via (a .n) (a .tops .now) (Together (a .clauses .now) sign (a .x .0)) e))) (c .before .before .before .before .before .before .before .before .before .top .given .1) (c .before .before .before .before .before .before .before .before .before .before .before .sole-point .ensures)) in
-    (record { flags = only top; flagged = entered; put = put }, placed-top (a .n) (a .tops .now) (a .places .now) (a .out .now) (a .at) (a .x .0) (pre .1 .0 .3) top (a .writing) put (λ on. pre .1 .1 on (only top) entered) (c .before .before .before .before .put-run .ensures .1 .0) (c .before .before .before .before .put-run .ensures .1 .1))
+    (record { flags = only top; flagged = entered; put = put }, placed-top (a .n) (a .tops .now) (a .places .now) (a .out .now) (a .at) (a .x .0) (pre .1 .0 .4) top (a .writing) put (λ on. pre .1 .1 on (only top) entered) (c .before .before .before .before .put-run .ensures .1 .0) (c .before .before .before .before .put-run .ensures .1 .1))
 
 pub put-set-spec : {M : Type 1} → statement M
 put-set-spec =
