@@ -99,7 +99,7 @@ pub fn fill_tops(
 }
 
 // Makes the first n rows 0: no other is read.
-fn clear_rows(n: u32, rows: &mut [u32])
+pub fn clear_rows(n: u32, rows: &mut [u32])
     requires { ⌜ n ≤ length (now rows) ⌝ }
     ensures { λ r. ⌜ ((v : ℕ) → v < n → getD (now (rows .exit)) v 0 ≡ 0) ⌝ }
 {

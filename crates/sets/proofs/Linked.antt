@@ -6,24 +6,20 @@ use mathlib.Core.List.{List, [], _∷_, _++_, append-nil, append-assoc, List·Me
 use mathlib.Core.Logic.{_≢_, _↔_, ⊎-elim, by-cases}
 use native.Mathlib.Decide.{ℕ-discrete, decLt}
 use native.Mathlib.Omega.{arith}
-use lib.ListN.{length, getD, set, replicate, length-set, length-append, length-replicate}
+use lib.ListN.{length, getD, set, replicate, length-set, length-append}
 use lib.Seq.{sets, getD-set-same, getD-set-other}
 use Rattle.terms.proofs.Common.{clash}
 use Rattle.terms.specs.declared.Scheme.{Scheme}
 use Rattle.connection.specs.Reach.{Variables, Lawful}
-use Rattle.connection.specs.Tables.{Table, row, lent, WellFormed}
-use Rattle.formula.specs.Meaning.{level, isExistential}
-use Rattle.tables.specs.Formula.{variables}
-use Rattle.tables.proofs.Readings.{new-zero}
+use Rattle.connection.specs.Tables.{Table, row, WellFormed}
 use Rattle.connection.proofs.Climb.{above-class}
 use Rattle.picking.specs.declared.Asked.the-variants.{Set}
-use Rattle.searching.specs.Search.{TopRows, Topless, TopsOver}
+use Rattle.searching.specs.Search.{TopRows, Topless}
 use Rattle.marks.specs.Flags.{Takes, Via, Entering}
 use Rattle.picking.specs.Picked.{pick, picked}
 use Rattle.picking.proofs.Picked.{picked-more, picked-same, picked-none, sets-more}
-use Rattle.searching.proofs.Tops.{tops-over}
 use Rattle.marks.proofs.Flags.{fresh}
-use Rattle.sets.specs.Runs.{Run, Leads, only, having, Within, Led, Floored}
+use Rattle.sets.specs.Runs.{Run, Leads, only, having, Within, Led}
 use Rattle.threads.specs.Points.{Is}
 use Rattle.threads.proofs.Chains.{flag-long}
 
@@ -234,17 +230,3 @@ tops-within {X} {W} {floor} tops law formed rows v = by-cases (decLt floor (X .l
     go : (b : Bool) → X .ex v ≡ b → floor < X .lev v → row (X .count) tops v ≤ X .count
     go true ex deep = let (_, found) = rows v .found (ex, deep) in law .within (row (X .count) tops v) (above-class formed (formed .right v .class ex .name) (found .above) .existential) .1
     go false un deep = let z = rows v .none (λ u. clash (u .0) un) in omega arith
-
--- New tables: over a level that nothing is deeper than there are no tops, and so no runs.
-pub floored-new : (n : ℕ) (es classes parents : List ℕ) (floor k : ℕ) → ((v : ℕ) → isExistential n es v ≡ true → level es v ≤ floor) → n < k → Floored n es classes parents floor 0 (replicate {A = ℕ} k 0) (replicate {A = ℕ} k 0) (replicate {A = ℕ} k 0)
-floored-new n es classes parents floor k low room =
-    record { over = over; within = λ v. let z = none v in omega arith; led = led-none n (replicate {A = ℕ} k 0) (replicate {A = ℕ} k 0) (replicate {A = ℕ} k 0) none (new-zero k); rows = let l = long in omega arith; heads = let l = long in omega arith; links = let l = long in omega arith }
-  where
-    long : length (replicate {A = ℕ} k 0) ≡ k
-    long = length-replicate {A = ℕ} k 0
-
-    over : TopsOver (variables n es) (lent (variables n es) classes parents) floor 0 (replicate {A = ℕ} k 0)
-    over = tops-over floor k low
-
-    none : (v : ℕ) → row n (replicate {A = ℕ} k 0) v ≡ 0
-    none v = over .rows v .none (λ u. let l = low v (u .0) in let d = u .1 in omega arith)

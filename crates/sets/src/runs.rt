@@ -33,15 +33,10 @@ pub fn link_runs(n: u32, tops: &[u32], from: u32, lead: &mut [u32], after: &mut 
 
 // Makes the rows of 0 to n 0: no other is read.
 pub fn clear_rows(n: u32, rows: &mut [u32])
-    requires { ⌜ n < length (now rows) ⌝ }
+    requires { ⌜ (n ≤ 4096) × (n < length (now rows)) ⌝ }
     ensures { λ r. ⌜ ((i : ℕ) → i ≤ n → getD (now (rows .exit)) i 0 ≡ 0) ⌝ }
 {
-    let most = n as usize;
-    let mut i = 0;
-    while i <= most {
-        rows[i] = 0;
-        i += 1;
-    }
+    searching::clear_rows(n + 1, rows);
 }
 
 // The row of a top, 0 past the end of the table.

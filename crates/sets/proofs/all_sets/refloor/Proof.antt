@@ -35,7 +35,7 @@ link-runs-requires c κs =
     (few, over .most, over .none, tops-within (c .before .before .before .before .before .retop .last .1 .1 .1 .1 .1 .1 .1 .0) (lawful (c .before .before .before .before .before .before .before .before .before .before .before .before .before .before .before .before .before .before .before .before .args .n) (c .before .before .before .before .before .before .before .before .before .before .before .before .before .before .before .before .before .before .before .before .args .prefix .now)) formed (over .rows), omega arith, omega arith)
 
 clear-rows-requires : tie.Need-clear-rows-requires
-clear-rows-requires c κs = c .before .before .before .before .before .before .before .before .before .before .before .before .before .before .before .before .before .before .before .before .before .before .before .before .before .before .pre .1 .1
+clear-rows-requires c κs = let few = c .before .before .before .before .before .before .before .before .before .before .before .before .before .before .before .before .before .before .before .before .before .before .before .before .before .before .pre .0 .0 .few in let size = c .before .before .before .before .before .before .before .before .before .before .before .before .before .before .before .before .before .before .before .before .before .before .before .before .before .before .pre .1 .1 in (few, omega arith)
 
 same-length : tie.Need-same-length
 same-length c = search needs
@@ -56,7 +56,7 @@ returns-2 c =
     let a = c .before .before .before .before .before .before .before .before .before .before .before .before .before .before .before .before .before .before .before .before .before .before .before .before .before .before .before .before .before .args in
     let retop = c .before .before .before .before .before .before .before .before .before .before .before .before .before .before .retop in
     let link = c .before .before .before .before .before .before .before .before .link-runs in (
-      record { over = retop .ensures .0; within = tops-within (retop .last .1 .1 .1 .1 .1 .1 .1 .0) (lawful (a .n) (a .prefix .now)) formed (retop .ensures .0 .rows); led = link .ensures; rows = let was = floored .rows in let size = retop .kept .1 .1 .1 .1 .1 .1 .1 .0 in omega arith; heads = let was = floored .heads in let size = link .kept .1 .1 .1 .0 in omega arith; links = let was = floored .links in let size = link .kept .1 .1 .1 .1 .0 in omega arith },
+      record { over = retop .ensures .0; within = tops-within (retop .last .1 .1 .1 .1 .1 .1 .1 .0) (lawful (a .n) (a .prefix .now)) formed (retop .ensures .0 .rows); led = link .ensures; rows = retop .kept .1 .1 .1 .1 .1 .1 .1 .0 ∙ floored .rows; heads = link .kept .1 .1 .1 .0 ∙ floored .heads; links = link .kept .1 .1 .1 .1 .0 ∙ floored .links },
       (retop .ensures .1, λ out end placed top low some. absurd (some (c .before .before .clear-rows .ensures top low))),
     )
 

@@ -16,7 +16,7 @@ abbrev μ-loop : tie.MeasureT-loop
 μ-loop n tops from lead₀ after₀ v₀ lead after v = v
 
 clear-rows-requires : tie.Need-clear-rows-requires Inv-loop μ-loop
-clear-rows-requires c κs = c .before .before .before .before .pre .4
+clear-rows-requires c κs = (c .before .before .before .before .pre .0, c .before .before .before .before .pre .4)
 
 loop-holds : tie.Need-loop-holds Inv-loop μ-loop
 loop-holds c =
