@@ -6,3 +6,6 @@ pub mod Laying
 pub mod Encoded
 pub mod Recorded
 pub mod Rewritten
+-- The numbers of a file in tables.
+pub mod Stores
+pub mod Held

@@ -1,5 +1,6 @@
-// The records of a file one after the other: lengths, kinds, their order, the sum of its words, and where each begins.
+// The records of a file one after the other: lengths, kinds, their order, the sum of its words, where each begins, and the numbers that they hold.
 
+pub mod decoding;
 pub mod places;
 
 use places::next_at;

@@ -1,7 +1,7 @@
 // The lent tables, once everything is judged: whether they have room for what the file has, and their rows.
 
-use decoding::fill_formula;
-use decoding::fill_numbers;
+use layout::decoding::fill_formula;
+use layout::decoding::fill_numbers;
 use layout::places::clause_entries;
 use layout::places::has_sets;
 use layout::places::prefix_entries;

@@ -1,6 +1,5 @@
 // Cases of build and add: rows and a tally are lent, and `to-classes:`, `to-parents:`, `to-counts:` and `to-tally:` say what is left.
 
-use crate::judging::read_right;
 use crate::lines::is_refusal;
 use crate::lines::number_in;
 use crate::lines::tally_told;
@@ -12,6 +11,7 @@ use growth::Tallied;
 use growth::Tally;
 use samples::parts::copy_rows;
 use samples::parts::literals;
+use score::judging::read_right;
 use score::library;
 use score::rows::UNTOUCHED;
 use score::rows::same;

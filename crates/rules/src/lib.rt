@@ -1,7 +1,6 @@
 // The two-sided rules of the calls, case by case, as a text says them: limits, places, orders, and tables that stay where a call refuses.
 
 mod forests;
-pub mod judging;
 mod lines;
 pub mod running;
 mod tables;

@@ -1,5 +1,6 @@
 // Cases counted: how many ran, how many came out as they should, and what is printed of them.
 
+pub mod judging;
 pub mod library;
 pub mod rows;
 pub mod tallies;

@@ -1,8 +1,8 @@
 // What the records of a file hold: the formula is checked under a reading rule, its forest is built, and rows and sets are held against it.
 
-use decoding::fill_formula;
-use decoding::same_numbers;
 use growth::Tally;
+use layout::decoding::fill_formula;
+use layout::decoding::same_numbers;
 use layout::places::clause_entries;
 use layout::places::fourth_at;
 use layout::places::has_sets;

@@ -1,13 +1,13 @@
--- `decoding::fill_numbers` meets its contract: with the numbers that are left the table would be full.
+-- `layout::decoding::fill_numbers` meets its contract: with the numbers that are left the table would be full.
 use Prim.Native.Nat.{ℕ, _-_}
 use mathlib.Core.Path.{ap, _∙_}
 use native.Mathlib.Omega.{arith}
 use lib.Seq.{sets}
 use Rattle.records.specs.Numbers.{numbersAt}
-use Rattle.decoding.proofs.Stores.{Going, going-none, going-more, going-small, Storing, storing-none, storing-more, storing-all, map-same}
+use Rattle.layout.proofs.Stores.{Going, going-none, going-more, going-small, Storing, storing-none, storing-more, storing-all, map-same}
 use borrow.Author.Needs.{needs}
-use Rattle.decoding.proofs.fill_numbers.Statement.{statement}
-use Rattle.decoding.proofs.fill_numbers.Tie as tie
+use Rattle.layout.proofs.decoding.fill_numbers.Statement.{statement}
+use Rattle.layout.proofs.decoding.fill_numbers.Tie as tie
 
 abbrev Inv-loop : tie.InvT-loop
 Inv-loop file width from many table₀ i₀ at₀ table i at = Going width from many i at × Storing (λ (x : ℕ). x) width file from many table₀ table i at

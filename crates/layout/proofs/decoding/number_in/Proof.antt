@@ -1,11 +1,11 @@
--- `decoding::number_in` meets its contract, by its width.
+-- `layout::decoding::number_in` meets its contract, by its width.
 use Prim.Native.Nat.{ℕ}
 use mathlib.Core.Path.{sym, ap, _∙_}
 use mathlib.Core.Logic.{⊎-elim}
 use Rattle.records.specs.Numbers.{numberAt}
 use borrow.Author.Needs.{needs}
-use Rattle.decoding.proofs.number_in.Statement.{statement}
-use Rattle.decoding.proofs.number_in.Tie as tie
+use Rattle.layout.proofs.decoding.number_in.Statement.{statement}
+use Rattle.layout.proofs.decoding.number_in.Tie as tie
 
 two-at-requires : tie.Need-two-at-requires
 two-at-requires c κs = search needs

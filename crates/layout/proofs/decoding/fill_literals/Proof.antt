@@ -1,4 +1,4 @@
--- `decoding::fill_literals` meets its contract: with the literals that are left the table would be full.
+-- `layout::decoding::fill_literals` meets its contract: with the literals that are left the table would be full.
 use Prim.Native.Nat.{_-_}
 use mathlib.Core.Path.{ap, _∙_}
 use native.Mathlib.Omega.{arith}
@@ -6,10 +6,10 @@ use mir.Syntax.{w32}
 use mir.Val.{toZ, ofZ}
 use mir.Facts.{toZ-ofZ}
 use Rattle.records.specs.Numbers.{literalOf}
-use Rattle.decoding.proofs.Stores.{Going, going-none, going-more, going-small, Storing, storing-none, storing-more, storing-all}
+use Rattle.layout.proofs.Stores.{Going, going-none, going-more, going-small, Storing, storing-none, storing-more, storing-all}
 use borrow.Author.Needs.{needs}
-use Rattle.decoding.proofs.fill_literals.Statement.{statement}
-use Rattle.decoding.proofs.fill_literals.Tie as tie
+use Rattle.layout.proofs.decoding.fill_literals.Statement.{statement}
+use Rattle.layout.proofs.decoding.fill_literals.Tie as tie
 
 abbrev Inv-loop : tie.InvT-loop
 Inv-loop file from many table₀ i₀ at₀ table i at = Going 4 from many i at × Storing literalOf 4 file from many table₀ table i at

@@ -1,8 +1,8 @@
 // Numbers of a file in tables: stored there, or held against them.
 
-use layout::places::clause_entries;
-use layout::places::prefix_entries;
-use layout::places::second_at;
+use crate::places::clause_entries;
+use crate::places::prefix_entries;
+use crate::places::second_at;
 use records::numbers::four_at;
 use records::numbers::literal_of;
 use records::numbers::two_at;
@@ -14,8 +14,8 @@ ghost use lib.Seq.{sets};
 ghost use Rattle.tables.specs.Rows.{Tells};
 ghost use Rattle.records.specs.Numbers.{numberAt, numbersAt, literalOf};
 ghost use Rattle.records.specs.Places.{prefixIn, clausesIn};
 ghost use Rattle.layout.specs.Laid.{Laid};
-ghost use Rattle.decoding.specs.Widths.{Width};
+ghost use Rattle.layout.specs.Widths.{Width};
 
 // The number of two or four bytes at a place.
 fn number_in(file: &[u8], width: usize, at: usize) -> u32

@@ -1,4 +1,4 @@
--- `decoding::fill_formula` meets its contract.
+-- `layout::decoding::fill_formula` meets its contract.
 use Prim.Native.Nat.{ℕ, _+_}
 use mathlib.Core.Path.{refl, ap, ap₂, _∙_}
 use mathlib.Core.List.{map}
@@ -6,11 +6,11 @@ use mathlib.Core.Logic.{inl}
 use native.Mathlib.Omega.{arith}
 use lib.Seq.{sets}
 use Rattle.records.specs.Numbers.{numbersAt, literalOf}
-use Rattle.decoding.proofs.Held.{prefix-is, clauses-are}
+use Rattle.layout.proofs.Held.{prefix-is, clauses-are}
 use Rattle.layout.proofs.Spans.{laid-ends, prefix-length, clauses-length}
 use borrow.Author.Needs.{needs}
-use Rattle.decoding.proofs.fill_formula.Statement.{statement}
-use Rattle.decoding.proofs.fill_formula.Tie as tie
+use Rattle.layout.proofs.decoding.fill_formula.Statement.{statement}
+use Rattle.layout.proofs.decoding.fill_formula.Tie as tie
 
 prefix-entries-requires : tie.Need-prefix-entries-requires
 prefix-entries-requires c κs = search needs

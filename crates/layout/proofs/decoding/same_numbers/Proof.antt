@@ -1,12 +1,12 @@
--- `decoding::same_numbers` meets its contract: the table has them all exactly if it has those that are left.
+-- `layout::decoding::same_numbers` meets its contract: the table has them all exactly if it has those that are left.
 use Prim.Native.Nat.{_-_}
 use mathlib.Core.Path.{sym, _∙_}
 use native.Mathlib.Omega.{arith}
 use lib.ListN.{length}
-use Rattle.decoding.proofs.Stores.{Going, going-none, going-more, going-small, Left, left-none, left-more, left-other, left-all}
+use Rattle.layout.proofs.Stores.{Going, going-none, going-more, going-small, Left, left-none, left-more, left-other, left-all}
 use borrow.Author.Needs.{needs}
-use Rattle.decoding.proofs.same_numbers.Statement.{statement}
-use Rattle.decoding.proofs.same_numbers.Tie as tie
+use Rattle.layout.proofs.decoding.same_numbers.Statement.{statement}
+use Rattle.layout.proofs.decoding.same_numbers.Tie as tie
 
 abbrev Inv-loop : tie.InvT-loop
 Inv-loop file width from table i₀ at₀ i at = Going width from (length table) i at × Left width file from table i at

@@ -1,19 +1,19 @@
 // What each call that takes a forest says of rows as lent: 12 at the first wrong one, or that none is wrong.
 
+use crate::library;
+use crate::library::Call;
+use crate::library::ask;
+use crate::rows::UNTOUCHED;
+use crate::rows::entry_says;
+use crate::rows::fills;
+use crate::rows::refuses;
+use crate::rows::same;
+use crate::rows::untouched;
+use crate::tallies::leaves_tally;
+use crate::tallies::tally_of;
 use growth::Tallied;
 use growth::Tally;
 use samples::parts::copy_rows;
-use score::library;
-use score::library::Call;
-use score::library::ask;
-use score::rows::UNTOUCHED;
-use score::rows::entry_says;
-use score::rows::fills;
-use score::rows::refuses;
-use score::rows::same;
-use score::rows::untouched;
-use score::tallies::leaves_tally;
-use score::tallies::tally_of;
 use std::num::wrapping_add_u32;
 
 // The refusal of 0 by a call that reads a forest: 12 where a row is wrong, and else 13.
