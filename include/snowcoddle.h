@@ -12,8 +12,8 @@
  *
  * Link target/staticlib/libcapi.a, which `rt staticlib capi` writes. It is
  * for x86-64 Linux, and calls nothing but memset and memcpy. A call keeps its
- * own tables on the stack, some 210 KiB at most (snow_sets), but
- * snow_resolution_set some 350 KiB, and snow_store and snow_load some 820 KiB.
+ * own tables on the stack, some 255 KiB at most (snow_sets), but
+ * snow_resolution_set some 350 KiB, and snow_load some 920 KiB.
  *
  *
  * THE FORMULA
