@@ -1,9 +1,9 @@
 // The set of x, its size and the entry points of x, by either scheme or with none named, held against the search.
 
 use crate::ask_searched;
-use oracle::tables::is_universal;
-use oracle::tables::pair_at;
-use oracle::totals::count_pairs;
+use facts::tables::is_universal;
+use facts::tables::pair_at;
+use facts::totals::count_pairs;
 use score::Score;
 use score::library::Call;
 use score::rows::UNTOUCHED;

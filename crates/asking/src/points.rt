@@ -1,10 +1,10 @@
 // The entry point of x for y, held against the search.
 
+use facts::tables::is_deeper;
+use facts::tables::is_universal;
 use forest::EntryAnswer;
 use oracle::classes::lend;
 use oracle::sets::entry_of;
-use oracle::tables::is_deeper;
-use oracle::tables::is_universal;
 use score::Score;
 use score::library;
 use score::rows::UNTOUCHED;

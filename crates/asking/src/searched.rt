@@ -1,7 +1,7 @@
 // The cases of the calls about x on a generated formula: what each should list, by the search.
 
 use crate::lists::listing_cases;
-use oracle::joins::fill_joins;
+use facts::joins::fill_joins;
 use oracle::sets::fill_entries;
 use oracle::sets::fill_members;
 use oracle::sets::fill_sets;

@@ -3,8 +3,8 @@
 use crate::ask_searched;
 use crate::lists::ROOM;
 use crate::lists::asked_case;
-use oracle::tables::is_universal;
-use oracle::truth::has_both_signs;
+use facts::tables::is_universal;
+use facts::truth::has_both_signs;
 use score::Score;
 use score::library::Call;
 use score::rows::UNTOUCHED;

@@ -8,9 +8,9 @@ use lib.IntN.{ℤ}
 use lib.ListN.{length, take, length-append}
 use lib.Seq.{length-take-le}
 use Rattle.terms.specs.Refusals.{NoneOf}
-use Rattle.qdimacs.specs.declared.Stage.{Stage}
+use Rattle.grammar.specs.declared.Stage.{Stage}
 use Rattle.tokens.specs.Words.{words}
-use Rattle.qdimacs.specs.Grammar.{placeAfter}
+use Rattle.grammar.specs.Grammar.{placeAfter}
 use Rattle.spelling.specs.Texts.{Overlong, overlong}
 use Rattle.dqdimacs.specs.declared.Reading.{Reading}
 use Rattle.dqdimacs.specs.Grammar.{ListLine, d-line, ListedLine, a-line, a-list, ListedLines, no-line, one-more, ListedText, ListedFault, outside, unended, no-problem, many, few, ListedFaultIn}

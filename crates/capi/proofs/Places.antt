@@ -17,7 +17,8 @@ use Rattle.terms.specs.declared.Scheme.{Scheme}
 use Rattle.forest.specs.Causes.{NotUniversal, NotDeeper}
 use Rattle.forest.specs.Listed.{TooLong}
 use Rattle.sets.specs.Sets.{SetsTooLongBy}
-use Rattle.growth.specs.Grown.{Standing, classNames, existentials, AddedCause, TooShort, WrongTally}
+use Rattle.admission.specs.Admitted.{AddedCause, WrongTally}
+use Rattle.growth.specs.Grown.{Standing, classNames, existentials, TooShort}
 use Rattle.joining.specs.Rules.{readAs, JoinedCause, causesIf, PrefixCauseBy, NoRule, ruledPrefix, checkOrderUnder}
 use Rattle.ruled.specs.Calls.{entryOrderUnder, readOrderUnder, listOrderUnder, setsOrderUnder, buildOrderUnder, addOrderUnder}
 

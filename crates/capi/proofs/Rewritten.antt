@@ -9,7 +9,7 @@ use Rattle.terms.specs.Answers.{verdictOf}
 use Rattle.terms.specs.Refusals.{Causes, Judged}
 use Rattle.connection.specs.Reach.{Variables}
 use Rattle.tables.specs.Formula.{variables, Shares}
-use Rattle.growth.specs.declared.Tally.{Tally}
+use Rattle.terms.specs.declared.Tally.{Tally}
 use Rattle.growth.specs.Grown.{Standing, standing, tableOf, many, Extended, Grown, TallyOf, Took, Leaves}
 use Rattle.joining.specs.Rules.{readAs}
 use Rattle.ruled.specs.Calls.{buildOrderUnder, addOrderUnder, BuildsUnder, AddsUnder}

@@ -11,11 +11,11 @@ use lib.ListN.{length, length-append}
 use lib.Seq.{length-take-le}
 use Rattle.terms.specs.Refusals.{NoneOf}
 use Rattle.qdimacs.specs.declared.Reading.{Reading}
-use Rattle.qdimacs.specs.declared.Stage.{Stage}
+use Rattle.grammar.specs.declared.Stage.{Stage}
 use Rattle.tokens.specs.declared.Item.{Item}
 use Rattle.tokens.specs.declared.Item.the-variants.{Closing, Plain, Negated, Other}
 use Rattle.tokens.specs.Words.{LF, SPACE, pieces, onto, filled, words, itemOf, Kind, prepend, closed, entry, entriesOf}
-use Rattle.qdimacs.specs.Grammar.{QuantifierLine, e-line, a-line, ClauseLine, literals-line, Line, a-comment, the-problem, a-block, a-clause, Lines, no-line, one-more, TextOf, Fault, outside, unended, no-problem, many, few, placeAfter, FaultIn}
+use Rattle.grammar.specs.Grammar.{QuantifierLine, e-line, a-line, ClauseLine, literals-line, Line, a-comment, the-problem, a-block, a-clause, Lines, no-line, one-more, TextOf, Fault, outside, unended, no-problem, many, few, placeAfter, FaultIn}
 use Rattle.qdimacs.specs.Reading.{Overlong, overlong, NoRoom, no-room-prefix, no-room-clauses, readOrder, ReadInto, ReadIs}
 use Rattle.cells.specs.Cells.{Fits, Laid}
 use Rattle.cells.specs.Formulas.{TwoInCells, readingSaid}

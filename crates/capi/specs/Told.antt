@@ -9,7 +9,7 @@ use Rattle.terms.specs.Refusals.{Causes, FirstOf, NoneOf}
 use Rattle.formula.specs.Meaning.{clauses}
 use Rattle.formula.specs.Lookup.{beginOf}
 use Rattle.connection.specs.Listed.{Listed}
-use Rattle.growth.specs.declared.Tally.{Tally}
+use Rattle.terms.specs.declared.Tally.{Tally}
 use Rattle.growth.specs.Grown.{Standing, standing}
 use Rattle.cells.specs.Codes.{cellsOf}
 

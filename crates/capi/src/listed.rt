@@ -7,7 +7,7 @@ ghost use Rattle.spelling.specs.Stored.{Stored, writeOrder};
 ghost use mathlib.Core.List.{_++_};
 ghost use Rattle.lists.specs.Causes.{checkListsOrder};
 ghost use Rattle.dqdimacs.specs.Reading.{readOrder, ReadInto};
-ghost use Rattle.dqdimacs.specs.Writing.{listedTextOf};
+ghost use Rattle.dqspelling.specs.Writing.{listedTextOf};
 ghost use Rattle.capi.specs.Told.{Told};
 
 // Read a text with lists: n, and the three tables with the counts of their entries.

@@ -46,7 +46,8 @@ use Rattle.forest.specs.Answers.{MembersBy, EntryAnswered, SetListedBy}
 use Rattle.tables.proofs.Agreeing.{lawful}
 use Rattle.forest.proofs.Demands.{universal-alone, own-forest-fine, listing-settled, entry-settled}
 use Rattle.tables.proofs.Readings.{flag-within}
-use Rattle.growth.specs.Grown.{Standing, tableOf, classNames, existentials, many, AddedCause, outside, WrongTally, clauseFirst, Extended, Grown, TallyOf, Took, Builds, Adds, withLast}
+use Rattle.admission.specs.Admitted.{AddedCause, outside, WrongTally, clauseFirst}
+use Rattle.growth.specs.Grown.{Standing, tableOf, classNames, existentials, many, Extended, Grown, TallyOf, Took, Builds, Adds, withLast}
 use Rattle.loose.specs.Past.{Past}
 use Rattle.loose.proofs.Passes.{many-most}
 use Rattle.growth.proofs.Appended.{many-last, joined-last}

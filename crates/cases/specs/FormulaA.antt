@@ -3,7 +3,7 @@ use Prim.Native.Nat.{ℕ}
 use mathlib.Core.List.{List, [], _∷_}
 use lib.IntN.{ℤ, pos, negsuc}
 use lib.ListN.{set}
-use Rattle.growth.specs.declared.Tally.{Tally}
+use Rattle.terms.specs.declared.Tally.{Tally}
 use Rattle.growth.specs.Grown.{Standing, standing}
 
 abbrev pub prefixA : List ℕ

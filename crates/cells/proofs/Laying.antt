@@ -2,7 +2,7 @@
 use Prim.Native.Nat.{ℕ}
 use mathlib.Core.Path.{_≡_, sym, ap, subst, _∙_}
 use mathlib.Core.List.{List}
-use Rattle.growth.specs.declared.Tally.{Tally}
+use Rattle.terms.specs.declared.Tally.{Tally}
 use Rattle.cells.specs.Cells.{Said, gives, refuses, Laid, given, placed, TallyLaid, builtSaid, addedSaid}
 
 -- four cells, of which the last was told by a function

@@ -6,7 +6,7 @@ use lib.Seq.{sets}
 use Rattle.terms.specs.declared.Filled.{Filled}
 use Rattle.terms.specs.declared.Verdict.{Verdict}
 use Rattle.forest.specs.declared.EntryAnswer.{EntryAnswer}
-use Rattle.growth.specs.declared.Tally.{Tally}
+use Rattle.terms.specs.declared.Tally.{Tally}
 use Rattle.spelling.specs.declared.Output.{Output}
 use Rattle.cells.specs.Codes.{cellsOf}
 

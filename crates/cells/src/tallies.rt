@@ -2,8 +2,8 @@
 
 use crate::lay;
 use growth::Tallied;
-use growth::Tally;
 use terms::Filled;
+use terms::Tally;
 ghost use mathlib.Core.Path.{_≡_};
 ghost use Rattle.cells.specs.Codes.{tallyIn};
 ghost use Rattle.cells.specs.Cells.{Fits, Any, Laid, TallyLaid, filledSaid, builtSaid, addedSaid};

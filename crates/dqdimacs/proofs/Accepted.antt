@@ -26,7 +26,7 @@ use Rattle.ruled.proofs.Texts.{small, held}
 use Rattle.lists.specs.Causes.{ListCause, checkListsOrder}
 use Rattle.dqdimacs.specs.declared.Reading.{Reading}
 use Rattle.dqdimacs.specs.Reading.{Tables, ReadIs}
-use Rattle.dqdimacs.specs.Writing.{listedTextOf}
+use Rattle.dqspelling.specs.Writing.{listedTextOf}
 use Rattle.dqdimacs.specs.Stored.{WritesListed}
 use Rattle.dqdimacs.proofs.Holdable.{Lists, no-list, list, list-end, member}
 use Rattle.dqdimacs.proofs.RoundTrip.{ReadsBack, text-reads-back}

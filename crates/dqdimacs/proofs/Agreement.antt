@@ -6,9 +6,9 @@ use mathlib.Core.List.{List, [], _∷_, _++_}
 use mathlib.Core.Logic.{_↔_}
 use native.Mathlib.Omega.{arith}
 use lib.IntN.{ℤ}
-use Rattle.qdimacs.specs.declared.Stage.{Stage}
+use Rattle.grammar.specs.declared.Stage.{Stage}
 use Rattle.tokens.specs.Words.{LF, pieces}
-use Rattle.qdimacs.specs.Grammar.{Lines, TextOf, Fault, FaultIn}
+use Rattle.grammar.specs.Grammar.{Lines, TextOf, Fault, FaultIn}
 use Rattle.tokens.specs.Places.{front}
 use Rattle.dqdimacs.specs.Grammar.{ListLine, d-line, ListedLine, a-line, a-list, ListedLines, ListedText, ListedFault, ListedFaultIn}
 use Rattle.dqdimacs.proofs.Faults.{fault-plain, empty-line}

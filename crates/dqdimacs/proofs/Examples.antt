@@ -6,10 +6,10 @@ use mathlib.Core.List.{List, [], _∷_, _++_}
 use mathlib.Core.Option.{Option, some}
 use native.Mathlib.Omega.{arith}
 use lib.IntN.{ℤ, pos, negℤ}
-use Rattle.qdimacs.specs.declared.Stage.{Stage}
-use Rattle.qdimacs.specs.declared.Stage.the-variants.{Opening, Body}
+use Rattle.grammar.specs.declared.Stage.{Stage}
+use Rattle.grammar.specs.declared.Stage.the-variants.{Opening, Body}
 use Rattle.tokens.specs.Words.{onto, pieces, filled, words, allDigits, spelt, isNumber, numberOf, plainItem, negatedItem, itemOf, prepend, closed, entry, entriesOf}
-use Rattle.qdimacs.specs.Grammar.{variables, Line, p-cnf, QuantifierLine, literals-line, the-problem, a-block, a-clause}
+use Rattle.grammar.specs.Grammar.{variables, Line, p-cnf, QuantifierLine, literals-line, the-problem, a-block, a-clause}
 use Rattle.qdimacs.proofs.Unique.{many-stuck}
 use Rattle.dqdimacs.specs.Grammar.{ListLine, d-line, ListedLine, a-line, a-list, ListedLines, no-line, one-more, ListedText, ListedFault, outside, ListedFaultIn}
 use Rattle.dqdimacs.proofs.Letters.{list-none, d-many}

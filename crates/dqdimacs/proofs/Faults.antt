@@ -8,18 +8,19 @@ use native.Mathlib.Omega.{arith}
 use native.Mathlib.Nat.{add-zero}
 use lib.ListN.{length, drop}
 use lib.IntN.{ℤ}
-use Rattle.qdimacs.specs.declared.Stage.{Stage}
-use Rattle.qdimacs.specs.declared.Stage.the-variants.{Body}
+use Rattle.grammar.specs.declared.Stage.{Stage}
+use Rattle.grammar.specs.declared.Stage.the-variants.{Body}
 use Rattle.tokens.specs.declared.Spelt.{Spelt}
 use Rattle.tokens.specs.declared.Spelt.the-variants.{Missing, Spelled}
 use Rattle.tokens.specs.Words.{LF, pieces, filled, words, entriesOf}
-use Rattle.qdimacs.specs.Grammar.{variables, Line, TooMany, Fault}
+use Rattle.grammar.specs.Grammar.{variables, Line, TooMany, Fault}
 use Rattle.tokens.specs.Places.{front, lineAt, afterAt, wordsAt, WholeRow, unread, endless-row}
 use Rattle.tokens.specs.Expected.{SpeltIs}
-use Rattle.qdimacs.specs.Steps as plain
-use Rattle.qdimacs.proofs.Bodies.{last-line, line-then, line-passed}
+use Rattle.grammar.specs.Steps as plain
+use Rattle.grammar.proofs.Bodies.{last-line, line-then, line-passed}
 use Rattle.qdimacs.proofs.Unique.{line-same, many-stuck}
-use Rattle.dqdimacs.specs.Grammar.{LETTER-D, ListLine, d-line, ListedLine, a-line, a-list, ListedFault, outside, unended, no-problem, many, few}
+use Rattle.dqspelling.specs.Writing.{LETTER-D}
+use Rattle.dqdimacs.specs.Grammar.{ListLine, d-line, ListedLine, a-line, a-list, ListedFault, outside, unended, no-problem, many, few}
 use Rattle.dqdimacs.specs.Steps.{WholeList, NoList, no-row, alone, Unlisted, ListMark, ListMarkIs, Late, LateIs, Adds, Few, Went}
 use Rattle.dqdimacs.proofs.Letters.{d-none, d-many}
 

@@ -5,11 +5,12 @@ use mathlib.Core.List.{List, [], _∷_}
 use mathlib.Core.Option.{some}
 use native.Mathlib.Omega.{arith}
 use lib.IntN.{ℤ}
-use Rattle.qdimacs.specs.declared.Stage.{Stage}
-use Rattle.qdimacs.specs.declared.Stage.the-variants.{Body}
+use Rattle.grammar.specs.declared.Stage.{Stage}
+use Rattle.grammar.specs.declared.Stage.the-variants.{Body}
 use Rattle.tokens.specs.Words.{LETTER-A, LETTER-E, words, allDigits, isNumber, numberOf, plainItem, itemOf, entry, entriesOf}
-use Rattle.qdimacs.specs.Grammar.{variables, literals, QuantifierLine, e-line, a-line, ClauseLine, literals-line, Line, a-block, a-clause, TooMany, too-many}
-use Rattle.dqdimacs.specs.Grammar.{LETTER-D, ListLine, d-line}
+use Rattle.grammar.specs.Grammar.{variables, literals, QuantifierLine, e-line, a-line, ClauseLine, literals-line, Line, a-block, a-clause, TooMany, too-many}
+use Rattle.dqspelling.specs.Writing.{LETTER-D}
+use Rattle.dqdimacs.specs.Grammar.{ListLine, d-line}
 
 no-literals : (more : List (List ℕ)) (es : List ℤ) → entriesOf literals ((LETTER-D ∷ []) ∷ more) ≡ some es → ⊥
 unfolding entriesOf entry itemOf plainItem numberOf isNumber allDigits

@@ -10,7 +10,6 @@ pub mod Readings
 pub mod Settled
 pub mod Agreement
 -- The text that is written, and that it reads back (text-reads-back, written-reads-back).
-pub mod Bytes
 pub mod Holdable
 pub mod Written
 pub mod RoundTrip

@@ -13,7 +13,7 @@ use Rattle.qdimacs.proofs.Holdable.{Holdable}
 use Rattle.dqdimacs.specs.declared.Reading.{Reading}
 use Rattle.dqdimacs.specs.declared.Reading.the-variants.{Read, Refused}
 use Rattle.dqdimacs.specs.Reading.{Tables, readOrder, Filled, ReadIs}
-use Rattle.dqdimacs.specs.Writing.{listedTextOf}
+use Rattle.dqspelling.specs.Writing.{listedTextOf}
 use Rattle.dqdimacs.proofs.Unique.{text-same}
 use Rattle.dqdimacs.proofs.Readings.{nothing-wrong}
 use Rattle.dqdimacs.proofs.Holdable.{Lists}

@@ -8,14 +8,14 @@ use native.Mathlib.Nat.{zero-add}
 use lib.ListN.{length, drop, length-append, drop-of-length-le}
 use lib.Seq.{length-sets}
 use lib.IntN.{ℤ}
-use Rattle.qdimacs.specs.declared.Stage.{Stage}
-use Rattle.qdimacs.specs.declared.Stage.the-variants.{Opening}
+use Rattle.grammar.specs.declared.Stage.{Stage}
+use Rattle.grammar.specs.declared.Stage.the-variants.{Opening}
 use Rattle.tokens.specs.Words.{LF, pieces}
-use Rattle.qdimacs.specs.Grammar.{placeAfter}
+use Rattle.grammar.specs.Grammar.{placeAfter}
 use Rattle.tokens.specs.Places.{lineAt}
-use Rattle.qdimacs.specs.Steps.{Sound, announcedAt}
+use Rattle.grammar.specs.Steps.{Sound, announcedAt}
 use Rattle.tokens.proofs.Lines.{line-length}
-use Rattle.qdimacs.proofs.Bodies.{line-then}
+use Rattle.grammar.proofs.Bodies.{line-then}
 use Rattle.qdimacs.proofs.Scans.{line-sound, place-more, stored-more}
 use Rattle.dqdimacs.specs.declared.Reading.{Reading}
 use Rattle.dqdimacs.specs.declared.Reading.the-variants.{Read, Refused}

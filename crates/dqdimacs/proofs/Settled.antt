@@ -13,7 +13,7 @@ use Rattle.qdimacs.proofs.Settled as writing
 use Rattle.lists.specs.Causes.{checkListsOrder}
 use Rattle.dqdimacs.specs.declared.Reading.{Reading}
 use Rattle.dqdimacs.specs.Reading.{Tables, readOrder, Filled, ReadInto, ReadIs}
-use Rattle.dqdimacs.specs.Writing.{listedTextOf}
+use Rattle.dqspelling.specs.Writing.{listedTextOf}
 use Rattle.dqdimacs.specs.Stored.{WritesListed}
 use Rattle.dqdimacs.proofs.Unique.{text-same}
 

@@ -5,9 +5,9 @@ use mathlib.Core.Bool.{Bool}
 use mathlib.Core.List.{List, [], _∷_, _++_}
 use native.Mathlib.Omega.{arith}
 use lib.IntN.{ℤ}
-use Rattle.qdimacs.specs.declared.Stage.{Stage}
-use Rattle.qdimacs.specs.declared.Stage.the-variants.{Body}
-use Rattle.qdimacs.specs.Grammar.{TooMany, placeAfter}
+use Rattle.grammar.specs.declared.Stage.{Stage}
+use Rattle.grammar.specs.declared.Stage.the-variants.{Body}
+use Rattle.grammar.specs.Grammar.{TooMany, placeAfter}
 use Rattle.qdimacs.proofs.Paths.{Path, here, step, Stops, stops-last, one-path}
 use Rattle.qdimacs.proofs.Unique.{line-same, many-stuck}
 use Rattle.dqdimacs.specs.Grammar.{ListedLine, a-line, a-list, ListedLines, no-line, one-more, ListedText, ListedFault, outside, unended, no-problem, many, few, ListedFaultIn}

@@ -7,16 +7,16 @@ use mathlib.Core.Option.{some}
 use native.Mathlib.Omega.{arith}
 use borrow.Author.Tests.{ne-eqb}
 use lib.IntN.{ℤ}
-use Rattle.qdimacs.specs.declared.Stage.{Stage}
-use Rattle.qdimacs.specs.declared.Stage.the-variants.{Opening, Body}
+use Rattle.grammar.specs.declared.Stage.{Stage}
+use Rattle.grammar.specs.declared.Stage.the-variants.{Opening, Body}
 use Rattle.tokens.specs.Words.{LF, SPACE, ZERO, onto, pieces, words, entriesOf}
-use Rattle.qdimacs.specs.Grammar.{variables, p-cnf, the-problem}
+use Rattle.grammar.specs.Grammar.{variables, p-cnf, the-problem}
 use Rattle.spelling.specs.Writing.{decimal, digitsOf, spaced, ended, prefixText, clauseText, clauseCount}
 use Rattle.qdimacs.proofs.Decimal.{decimal-number}
 use Rattle.qdimacs.proofs.Holdable.{Holdable}
 use Rattle.qdimacs.proofs.Written.{pieces-front, pieces-spaced, decimal-without, zero-row, variable-taken, letter-words, BlockLines, blocks, ClauseLines, clauses, problem-bytes, problem-cut, problem-words}
-use Rattle.dqdimacs.specs.Grammar.{LETTER-D, d-line, ListedLine, a-line, a-list, ListedLines, no-line, one-more, ListedText}
-use Rattle.dqdimacs.specs.Writing.{lettered, listText, listedTextOf}
+use Rattle.dqdimacs.specs.Grammar.{d-line, ListedLine, a-line, a-list, ListedLines, no-line, one-more, ListedText}
+use Rattle.dqspelling.specs.Writing.{LETTER-D, lettered, listText, listedTextOf}
 use Rattle.dqdimacs.proofs.Agreement.{with-flag}
 use Rattle.dqdimacs.proofs.Holdable.{Lists, no-list, list, list-end, member}
 

@@ -6,14 +6,11 @@ use mathlib.Core.Bool.{Bool, true, false}
 use mathlib.Core.List.{List, [], _∷_, _++_}
 use mathlib.Core.Option.{some}
 use lib.IntN.{ℤ}
-use Rattle.qdimacs.specs.declared.Stage.{Stage}
-use Rattle.qdimacs.specs.declared.Stage.the-variants.{Opening, Body}
+use Rattle.grammar.specs.declared.Stage.{Stage}
+use Rattle.grammar.specs.declared.Stage.the-variants.{Opening, Body}
 use Rattle.tokens.specs.Words.{LF, pieces, words, entriesOf}
-use Rattle.qdimacs.specs.Grammar.{variables, Line, TooMany, placeAfter}
-
--- The letter that list lines begin with.
-abbrev pub LETTER-D : ℕ
-LETTER-D = 100
+use Rattle.grammar.specs.Grammar.{variables, Line, TooMany, placeAfter}
+use Rattle.dqspelling.specs.Writing.{LETTER-D}
 
 -- A list line `d y x1 .. 0`, and its entries in the table of lists: y, its universals or none, 0. The last number, and no other, is 0: so y is
 -- a number before the closing one, and `d 0` is no list line.

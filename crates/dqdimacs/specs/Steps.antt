@@ -7,22 +7,23 @@ use mathlib.Core.Option.{some}
 use lib.ListN.{length, drop}
 use lib.Seq.{sets}
 use lib.IntN.{ℤ}
-use Rattle.qdimacs.specs.declared.Stage.{Stage}
-use Rattle.qdimacs.specs.declared.Stage.the-variants.{Body}
+use Rattle.grammar.specs.declared.Stage.{Stage}
+use Rattle.grammar.specs.declared.Stage.the-variants.{Body}
 use Rattle.tokens.specs.declared.Spelt.{Spelt}
 use Rattle.tokens.specs.declared.Spelt.the-variants.{Missing, Spelled}
 use Rattle.tokens.specs.declared.Row.{Row}
 use Rattle.tokens.specs.declared.Row.the-variants.{Broken, Whole}
 use Rattle.tokens.specs.Words.{LF, pieces, entriesOf}
-use Rattle.qdimacs.specs.Grammar.{variables}
+use Rattle.grammar.specs.Grammar.{variables}
 use Rattle.tokens.specs.Places.{lineAt, wordsAt, Passed, WholeRow, NoRow}
 use Rattle.tokens.specs.Expected.{Goes}
-use Rattle.qdimacs.specs.Steps.{announcedAt}
+use Rattle.grammar.specs.Steps.{announcedAt}
 use Rattle.dqdimacs.specs.declared.Reading.{Reading}
 use Rattle.dqdimacs.specs.declared.Reading.the-variants.{Read, Refused}
 use Rattle.dqdimacs.specs.declared.Onward.{Onward}
 use Rattle.dqdimacs.specs.declared.Onward.the-variants.{Wrong, On}
-use Rattle.dqdimacs.specs.Grammar.{LETTER-D, ListLine, ListedLine, ListedText, ListedFault, ListedFaultIn}
+use Rattle.dqspelling.specs.Writing.{LETTER-D}
+use Rattle.dqdimacs.specs.Grammar.{ListLine, ListedLine, ListedText, ListedFault, ListedFaultIn}
 use Rattle.dqdimacs.specs.Reading.{Tables}
 
 -- The numbers of a list line, from the place after its letter on: y, its universals and 0, stored in the table of lists from a row on.

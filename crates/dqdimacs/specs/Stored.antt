@@ -6,7 +6,7 @@ use lib.IntN.{ℤ}
 use Rattle.spelling.specs.declared.Output.{Output}
 use Rattle.spelling.specs.Stored.{WritesAfter}
 use Rattle.lists.specs.Causes.{checkListsOrder}
-use Rattle.dqdimacs.specs.Writing.{listedTextOf}
+use Rattle.dqspelling.specs.Writing.{listedTextOf}
 
 -- The prefix is written as it is lent, so that the text reads back as that table.
 abbrev pub WritesListed : ℕ → ℕ → List ℕ → List ℤ → List ℕ → List ℕ → List ℕ → Output → Type 0

@@ -2,14 +2,13 @@
 
 mod lines;
 mod scanning;
-mod writing;
 
-use qdimacs::Stage;
+use dqspelling::write_accepted;
+use grammar::Stage;
 use scanning::scan;
 use spelling::Output;
 use spelling::TEXT_MOST;
 use terms::Verdict;
-use writing::write_accepted;
 ghost use Rattle.dqdimacs.specs.Reading.{ReadIs};
 ghost use Rattle.dqdimacs.specs.Stored.{WritesListed};
 
@@ -94,9 +93,6 @@ pub fn write(
         Verdict::Accepted => write_accepted(n, prefix, clauses, lists, out),
     }
 }
-
-// The letter that list lines begin with.
-const LETTER_D: u8 = 100;
 
 // What a line makes of a stage: the number of the refusal if it may not stand there, or the stage that it leads to, whether a list line has stood
 // by then, and the counts of entries.

@@ -1,16 +1,16 @@
 // The lines of a text, one by one: list lines, and those of QDIMACS.
 
-use crate::LETTER_D;
 use crate::Onward;
-use qdimacs::Stage;
-use qdimacs::Step;
-use qdimacs::tables::variables_at;
+use dqspelling::LETTER_D;
+use grammar::Stage;
+use grammar::Step;
+use grammar::tables::variables_at;
 use tokens::Row;
 use tokens::Spelt;
 use tokens::expected::letter_at;
 ghost use Prim.Native.Nat.{_<_};
 ghost use lib.ListN.{length};
-ghost use Rattle.qdimacs.specs.Steps.{Sound};
+ghost use Rattle.grammar.specs.Steps.{Sound};
 ghost use Rattle.dqdimacs.specs.Steps.{ListMarkIs, ListIs, Unlisted, LateIs, Few, PlainIs, OnwardIs};
 
 // The line at a place, at a stage: list lines stand only after the problem line and before the clause lines.

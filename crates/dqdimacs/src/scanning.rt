@@ -3,8 +3,8 @@
 use crate::Onward;
 use crate::Reading;
 use crate::lines::line_at;
-use qdimacs::Stage;
-ghost use Rattle.qdimacs.specs.Steps.{Sound};
+use grammar::Stage;
+ghost use Rattle.grammar.specs.Steps.{Sound};
 ghost use Rattle.dqdimacs.specs.Steps.{FinishIs, ScanIs};
 
 // Scans a whole text line by line, and stores what its lines add as far as the tables have rows: a short table only learns the counts.

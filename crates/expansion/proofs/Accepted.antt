@@ -31,7 +31,7 @@ use Rattle.joining.proofs.Short.{joined-short}
 use Rattle.joining.proofs.Accepted.{good-mark, both-true, joined-accepted}
 use Rattle.joining.proofs.Orders.{accepted-two}
 use Rattle.joining.proofs.Agreement.{also-accepted, both-accept}
-use Rattle.expansion.specs.Expansion.{copyFrom, copyOf, withCopy, expandedPrefix, without, renamed, named, hasCopy, copies, expandedList, clauseTable, expandedClauses}
+use Rattle.copying.specs.Expansion.{copyFrom, copyOf, withCopy, expandedPrefix, without, renamed, named, hasCopy, copies, expandedList, clauseTable, expandedClauses}
 use Rattle.expansion.specs.declared.Expanded.the-variants.{Formula}
 use Rattle.expansion.specs.Promise.{prefixBy, clausesBy, Expands}
 use Rattle.expansion.specs.Writing.{beginning}

@@ -8,9 +8,10 @@ use native.Mathlib.Omega.{arith}
 use borrow.Author.Tests.{eq-eqb, ne-eqb}
 use lib.ListN.{length, set}
 use Rattle.joining.specs.Writing.{closing}
-use Rattle.expansion.specs.Expansion.{withCopy}
-use Rattle.expansion.specs.Writing.{Stored, tabled, beginning}
-use Rattle.expansion.proofs.Storing.{stored-none, stored-one, stored-as, stored-more}
+use Rattle.copying.specs.Expansion.{withCopy}
+use Rattle.copying.specs.Copied.{Stored, tabled}
+use Rattle.expansion.specs.Writing.{beginning}
+use Rattle.copying.proofs.Storing.{stored-none, stored-one, stored-as, stored-more}
 
 -- closing a block: nothing where there is none, and else a 0
 pub closed-none : (out : List ℕ) (at last : ℕ) → last ≡ 0 → Stored (closing last) out out at at

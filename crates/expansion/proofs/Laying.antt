@@ -20,9 +20,10 @@ use Rattle.joining.proofs.Scanned.{mark-some}
 use Rattle.joining.proofs.Passing.{Passes, no-more, begin, go-on, close-block, name, passes, by-test}
 use Rattle.joining.proofs.Rest.{laid, laid-new, laid-same, blocks-cons}
 use Rattle.joining.proofs.Agreement.{also-accepted}
-use Rattle.expansion.specs.Expansion.{withCopy, placed, expandedBlock, expandedPrefix}
-use Rattle.expansion.specs.Writing.{Stored, beginning}
-use Rattle.expansion.proofs.Storing.{stored-as, Onward, onward-none, onward-as, onward-all, onward-more}
+use Rattle.copying.specs.Expansion.{withCopy, placed, expandedBlock, expandedPrefix}
+use Rattle.copying.specs.Copied.{Stored}
+use Rattle.expansion.specs.Writing.{beginning}
+use Rattle.copying.proofs.Storing.{stored-as, Onward, onward-none, onward-as, onward-all, onward-more}
 use Rattle.expansion.proofs.Blocking.{closing-most, begin-none, begin-new}
 
 module _ (x : ℕ) (copy : ℕ → ℕ) where

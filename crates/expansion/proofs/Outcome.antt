@@ -21,9 +21,10 @@ use Rattle.connection.proofs.Listed.{listed-one, listed-most}
 use Rattle.tables.proofs.Agreeing.{lawful}
 use Rattle.expansion.specs.declared.Expanded.{Expanded}
 use Rattle.expansion.specs.declared.Expanded.the-variants.{Formula}
-use Rattle.expansion.specs.Expansion.{copyFrom, copyOf}
+use Rattle.copying.specs.Expansion.{copyFrom, copyOf}
 use Rattle.expansion.specs.Promise.{SetOf, WithSet, askedOrder, prefixBy, clausesBy, ManyVariables, Long, Short}
-use Rattle.expansion.specs.Writing.{Finds, WithinLimits, HasRoom, tabled, Copies, Fits, ExpandsPlain}
+use Rattle.copying.specs.Copied.{tabled, Copies}
+use Rattle.expansion.specs.Writing.{Finds, WithinLimits, HasRoom, Fits, ExpandsPlain}
 
 -- what is looked at once the set is found
 abbrev later : ℕ → List ℕ → List ℤ → ℕ → List ℕ → List ℤ → List Causes

@@ -13,9 +13,9 @@ use Rattle.connection.proofs.Search.{cons-all, set-of-depends}
 use Rattle.tables.specs.Formula.{variables, joined, Shares}
 use Rattle.tables.proofs.Agreeing.{lawful}
 use Rattle.joining.specs.Joined.{inFront, joinedBlocks, tableOf}
-use Rattle.expansion.specs.Expansion.{copyFrom, copyOf, withCopy, placed, expandedBlock, expandedPrefix, madeTrue, satisfied, hasX, hasMember, without, renamed, named, hasCopy, copies, expandedList, clauseTable, expandedClauses}
+use Rattle.copying.specs.Expansion.{copyFrom, copyOf, withCopy, placed, expandedBlock, expandedPrefix, madeTrue, satisfied, hasX, hasMember, without, renamed, named, hasCopy, copies, expandedList, clauseTable, expandedClauses}
 use Rattle.expansion.specs.Promise.{SetOf, prefixBy, clausesBy}
-use Rattle.expansion.specs.Total.{xLiterals, counts, totalOf, literalTotal}
+use Rattle.copying.specs.Total.{xLiterals, counts, totalOf, literalTotal}
 
 -- blocks e 1 2, a 3, e 4 5, a 6, e 7 8 9; clauses {3 4 7} {-4 8} {6 9} {5 9} {1 5} (negsuc k is -(k + 1))
 abbrev prefixA : List ℕ

@@ -1,5 +1,3 @@
--- The definitions of expansion: the expanded formula, its literal total, what the call promises, and last what its inner functions do, which only proofs rest on.
-pub mod Expansion
-pub mod Total
+-- What expanding promises, of the formula that `copying` defines; then what its inner functions do, which only proofs rest on.
 pub mod Promise
 pub mod Writing

@@ -17,7 +17,7 @@ use Rattle.forest.specs.Causes.{NotUniversal}
 use Rattle.joining.specs.Rules.{readAs, underRule}
 use Rattle.expansion.specs.declared.Expanded.{Expanded}
 use Rattle.expansion.specs.declared.Expanded.the-variants.{Formula, Refused}
-use Rattle.expansion.specs.Expansion.{copyOf, expandedPrefix, expandedClauses}
+use Rattle.copying.specs.Expansion.{copyOf, expandedPrefix, expandedClauses}
 
 -- The standard set of x, found from the clauses, as an ascending list.
 abbrev pub SetOf : ℕ → List ℕ → List ℤ → ℕ → List ℕ → Type 0

@@ -1,13 +1,12 @@
--- What the inner functions promise that find the set, number the copies and write both tables. What a reader must believe is in Expansion, Total and Promise.
-use Prim.Native.Nat.{ℕ, _+_, _≤_}
+-- What the inner functions promise that find the set and write both tables. What a reader must believe is in Promise, and in Expansion and Total of `copying`.
+use Prim.Native.Nat.{ℕ, _≤_}
 use mathlib.Core.Path.{_≡_}
 use mathlib.Core.Bool.{cond}
 use mathlib.Core.List.{List, [], _∷_, _++_}
 use mathlib.Core.Logic.{_⊎_}
 use lib.Dec.{eqb}
 use lib.IntN.{ℤ}
-use lib.ListN.{length, getD, take}
-use lib.Seq.{sets}
+use lib.ListN.{length, take}
 use Rattle.terms.specs.Limits.{prefixEntries, clauseEntries}
 use Rattle.terms.specs.Refusals.{FirstOf, NoneOf}
 use Rattle.terms.specs.declared.Filled.{Filled}
@@ -15,27 +14,14 @@ use Rattle.terms.specs.declared.Filled.the-variants.{Count, Refused}
 use Rattle.joining.specs.Writing.{closing}
 use Rattle.expansion.specs.declared.Expanded.{Expanded}
 use Rattle.expansion.specs.declared.Expanded.the-variants.{Formula}
-use Rattle.expansion.specs.Expansion.{expandedPrefix, expandedClauses}
+use Rattle.copying.specs.Expansion.{expandedPrefix, expandedClauses}
+use Rattle.copying.specs.Copied.{Stored}
 use Rattle.expansion.specs.Promise.{SetOf, askedOrder, expandOrder, ExpandsBy}
-
--- Some entries are stored from the row `at` on, as far as the table has rows, and `end` is the row behind them.
-pub record Stored {A : Type 0} (entries before after : List A) (at end : ℕ) : Type 0 where
-  pub count : end ≡ at + length entries
-  pub store : after ≡ sets before at entries
 
 -- The set of x stands in front of a table; or the call is refused.
 abbrev pub Finds : ℕ → List ℕ → List ℤ → ℕ → List ℕ → Filled → Type 0
 Finds n es ls x table (Count size) = NoneOf (askedOrder n es ls x) × (size ≤ length table) × SetOf n es ls x (take size table)
 Finds n es ls x table (Refused number place) = FirstOf (askedOrder n es ls x) number place
-
--- the copies that a table has, row v for the variable v
-abbrev pub tabled : List ℕ → ℕ → ℕ
-tabled table v = getD table v 0
-
--- copies within what a formula of two times the most variables can have
-pub record Copies (table : List ℕ) : Type 0 where
-  pub size : length table ≡ 4097
-  pub most : (v : ℕ) → tabled table v ≤ 8192
 
 -- what is written in front of a variable: where its block has not begun, the 0 that closes the block before, and its mark
 unfoldable pub beginning : ℕ → ℕ → List ℕ

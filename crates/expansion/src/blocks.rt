@@ -1,15 +1,16 @@
 // The prefix of the result: x leaves its block, each copy follows its original, empty blocks go, and equal neighbours join.
 
-use crate::stores::copy_at;
-use crate::stores::store_entry;
+use copying::stores::copy_at;
+use copying::stores::store_entry;
 use terms::Variable;
 ghost use Prim.Native.Nat.{ℕ, _≤_};
 ghost use mathlib.Core.Path.{_≡_};
 ghost use mathlib.Core.List.{[]};
 ghost use Rattle.formula.specs.Levels.{SoundPrefix};
 ghost use Rattle.joining.specs.Writing.{closing};
-ghost use Rattle.expansion.specs.Expansion.{withCopy, expandedPrefix};
-ghost use Rattle.expansion.specs.Writing.{Stored, tabled, beginning};
+ghost use Rattle.copying.specs.Expansion.{withCopy, expandedPrefix};
+ghost use Rattle.copying.specs.Copied.{Stored, tabled};
+ghost use Rattle.expansion.specs.Writing.{beginning};
 
 // Writes the prefix into a table as far as that has rows, and gives the count of all entries. A block begins with its first variable that stays.
 pub fn lay(prefix: &[u32], x: Variable, copies: &[u32], out: &mut [u32]) -> usize

@@ -1,15 +1,13 @@
 // Expansion: the formula with one universal removed, in which the existentials that depend on it have a copy each.
 
 mod blocks;
-mod literals;
 mod members;
-mod stores;
 
 use blocks::lay;
+use copying::literals::copy_clauses;
+use copying::numbers::number;
 use joining::join;
-use literals::copy_clauses;
 use members::find;
-use members::number;
 use terms::Filled;
 use terms::Level;
 use terms::Literal;
@@ -21,9 +19,10 @@ ghost use lib.ListN.{length};
 ghost use Rattle.terms.specs.Refusals.{NoneOf};
 ghost use Rattle.formula.specs.Levels.{SoundPrefix};
 ghost use Rattle.formula.specs.Lookup.{SoundClauses};
-ghost use Rattle.expansion.specs.Expansion.{expandedPrefix, expandedClauses};
+ghost use Rattle.copying.specs.Expansion.{expandedPrefix, expandedClauses};
+ghost use Rattle.copying.specs.Copied.{tabled, Copies};
 ghost use Rattle.expansion.specs.Promise.{SetOf, askedOrder, Expands};
-ghost use Rattle.expansion.specs.Writing.{tabled, Copies, Fits, ExpandsPlain};
+ghost use Rattle.expansion.specs.Writing.{Fits, ExpandsPlain};
 
 // What expanding says: the variable count of the result and how many entries its prefix and its clause table have, or the refusal.
 pub enum Expanded {

@@ -2,15 +2,14 @@
 
 use crate::compared::has_facts;
 use crate::compared::has_forest;
+use facts::tables::COUNT;
+use facts::totals::count_classes;
+use facts::totals::count_clauses;
+use facts::totals::count_existentials;
+use facts::totals::count_gone;
 use growth::Tallied;
-use growth::Tally;
 use oracle::classes::lend;
 use oracle::fill_search;
-use oracle::tables::COUNT;
-use oracle::totals::count_classes;
-use oracle::totals::count_clauses;
-use oracle::totals::count_existentials;
-use oracle::totals::count_gone;
 use samples::parts::between;
 use samples::parts::literals;
 use score::Score;
@@ -21,6 +20,7 @@ use score::tallies::leaves_tally;
 use score::tallies::tally_of;
 use std::num::wrapping_add_u32;
 use std::num::wrapping_sub_u32;
+use terms::Tally;
 
 // A list as far as its clauses are added: the cases so far, where the next clause begins, and the tally.
 struct Adding {

@@ -2,16 +2,16 @@
 
 use crate::compared::has_facts;
 use crate::compared::has_forest;
-use growth::Tally;
-use oracle::tables::COUNT;
-use oracle::totals::count_classes;
-use oracle::totals::count_clauses;
-use oracle::totals::count_existentials;
+use facts::tables::COUNT;
+use facts::totals::count_classes;
+use facts::totals::count_clauses;
+use facts::totals::count_existentials;
 use score::Score;
 use score::library;
 use score::rows::UNTOUCHED;
 use score::rows::gives;
 use score::tallies::tally_of;
+use terms::Tally;
 
 // Whether the merges and the classes of a tally sum to so many existentials.
 pub fn sums_to(tally: Tally, existentials: u32) -> bool {

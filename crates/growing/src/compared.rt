@@ -1,9 +1,9 @@
 // Lent rows that build or add left, held against the search.
 
-use oracle::tables::CLASS;
-use oracle::tables::PARENT;
-use oracle::tables::fact_at;
-use oracle::tables::number_at;
+use facts::tables::CLASS;
+use facts::tables::PARENT;
+use facts::tables::fact_at;
+use facts::tables::number_at;
 use score::rows::untouched;
 
 // Whether the rows of 1 to n are one of the facts that the search has of each variable, and those past n as they were.

@@ -1,11 +1,10 @@
 // Refusal 12: forests of the search with rows changed, held against the rules for rows, one row after the other, and then for counts.
 
-use growth::Tally;
+use facts::tables::is_existential;
+use facts::tables::level_of;
+use facts::tables::number_at;
+use facts::tables::put_number;
 use oracle::classes::lend;
-use oracle::tables::is_existential;
-use oracle::tables::level_of;
-use oracle::tables::number_at;
-use oracle::tables::put_number;
 use samples::generate::drawn;
 use score::Score;
 use score::judging::added_right;
@@ -13,6 +12,7 @@ use score::judging::read_right;
 use score::rows::UNTOUCHED;
 use score::tallies::tally_of;
 use std::num::wrapping_add_u32;
+use terms::Tally;
 
 // Whether c is a class name: existential, and its own class.
 fn names_class(facts: &[u32], classes: &[u32], c: u32) -> bool {

@@ -1,11 +1,10 @@
 // Refusal 18 on generated formulas: tallies around the right one, beside the forest of the search.
 
 use crate::building::sums_to;
+use facts::totals::count_classes;
+use facts::totals::count_existentials;
 use growth::Tallied;
-use growth::Tally;
 use oracle::classes::lend;
-use oracle::totals::count_classes;
-use oracle::totals::count_existentials;
 use score::Score;
 use score::library;
 use score::rows::UNTOUCHED;
@@ -15,6 +14,7 @@ use score::tallies::same_tally;
 use score::tallies::tally_of;
 use std::num::wrapping_add_u32;
 use std::num::wrapping_sub_u32;
+use terms::Tally;
 
 // A number, one more or one less.
 fn near(number: u32, turn: u32) -> u32 {

@@ -19,7 +19,8 @@ use Rattle.formula.specs.Levels.{SoundPrefix}
 use Rattle.formula.specs.Tables.{literalAt}
 use Rattle.formula.proofs.Sound.{sound-prefix}
 use Rattle.tables.specs.Causes.{ForestCause}
-use Rattle.growth.specs.Grown.{Standing, TooShort, buildOrder, AddedCause, outside, clauseFirst}
+use Rattle.admission.specs.Admitted.{AddedCause, outside, clauseFirst}
+use Rattle.growth.specs.Grown.{Standing, TooShort, buildOrder}
 use Rattle.growth.specs.Rows.{Room}
 use Rattle.formula.specs.Lookup.{InRows}
 
@@ -40,32 +41,6 @@ module _ (n : ℕ) (es : List ℕ) (ls : List ℤ) (s : Standing) {v : Verdict} 
   build-accepted q (cs, ps, ks) =
       accepted-then (checkOrder n es ls) (At0 14 (TooShort n s) ∷ []) Accepted q judged
       (at0-none 14 (λ short. ⊎-elim (λ l. omega arith) (λ rest. ⊎-elim (λ l. omega arith) (λ l. omega arith) rest) short), tt)
-
--- The entries before i of an added clause have variables from 1 to n.
-pub record Named (n : ℕ) (ls : List ℤ) (i : ℕ) : Type 0 where
-  pub within : i ≤ length ls
-  pub clean : (e : ℕ) → e < i → (variableOf (literalAt ls e) ≢ 0) × (variableOf (literalAt ls e) ≤ n)
-
-pub named-none : (n : ℕ) (ls : List ℤ) → Named n ls 0
-named-none n ls = record { within = omega arith; clean = λ e l. absurd (omega arith) }
-
-module _ {n : ℕ} {ls : List ℤ} {i : ℕ} (s : Named n ls i) where
-  pub named-more : (v : ℕ) → i < length ls → v ≡ variableOf (literalAt ls i) → v ≢ 0 → v ≤ n → Named n ls (i + 1)
-  named-more v more is some low =
-      rw (add-one i)
-      record { within = more; clean = below-suc (λ e. (variableOf (literalAt ls e) ≢ 0) × (variableOf (literalAt ls e) ≤ n)) i (s .clean) (λ z. some (is ∙ z), rw (← is) low) }
-
-  no-cause : (e : ℕ) → e < i → (k : ℕ) → AddedCause n ls k e → ⊥
-  no-cause e l k (outside q h bad) = let (some, low) = s .clean e l in ⊎-elim some (λ over. omega arith) bad
-
-  pub named-fault : (v : ℕ) → i < length ls → v ≡ variableOf (literalAt ls i) → (v ≡ 0) ⊎ (n < v) → First (AddedCause n ls) 10 i
-  named-fault v more is bad = first-at no-cause (outside refl more (⊎-elim (λ z. inl (sym is ∙ z)) (λ over. inr (rw (← is) over)) bad)) low
-    where
-      low : (k : ℕ) → AddedCause n ls k i → 10 ≤ k
-      low k (outside q h _) = omega arith
-
-  pub named-all : length ls ≤ i → None (AddedCause n ls)
-  named-all done k e (outside q h bad) = no-cause e (omega (arith, s .within)) k (outside q h bad)
 
 -- An accepted clause that is to be added likewise.
 module _ {n : ℕ} {es : List ℕ} {ls : List ℤ} (accepted : NoneOf (clauseFirst n es ls)) where

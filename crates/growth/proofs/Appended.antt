@@ -18,7 +18,8 @@ use Rattle.formula.specs.Causes.{ClauseCause, checkOrder}
 use Rattle.formula.specs.Meaning.{clauses, isZero, connected}
 use Rattle.formula.specs.Tables.{literalAt, cut, push, EndsInside}
 use Rattle.tables.specs.Formula.{joined}
-use Rattle.growth.specs.Grown.{many, AddedCause, clauseFirst, withLast}
+use Rattle.admission.specs.Admitted.{AddedCause, clauseFirst}
+use Rattle.growth.specs.Grown.{many, withLast}
 
 nought : ℤ → Bool
 nought literal = isZero (variableOf literal)

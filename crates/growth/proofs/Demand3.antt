@@ -36,7 +36,8 @@ use Rattle.connection.proofs.Growth.{forest-is, forest-grows, forest-fused}
 use Rattle.connection.proofs.Fewer.{fewer-added, none-names}
 use Rattle.connection.proofs.Sets.{set-members}
 use Rattle.connection.proofs.Alone.{set-stays, entries-stay}
-use Rattle.growth.specs.Grown.{Standing, standing, tableOf, classNames, existentials, many, buildOrder, WrongTally, clauseFirst, addOrder, Grown, TallyOf, Builds, Adds, withLast}
+use Rattle.admission.specs.Admitted.{WrongTally, clauseFirst}
+use Rattle.growth.specs.Grown.{Standing, standing, tableOf, classNames, existentials, many, buildOrder, addOrder, Grown, TallyOf, Builds, Adds, withLast}
 use Rattle.loose.specs.Past.{Past}
 use Rattle.loose.proofs.Passes.{many-most}
 use Rattle.growth.proofs.Tallies.{agrees-classes, agrees-sum}

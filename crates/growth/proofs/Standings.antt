@@ -13,7 +13,7 @@ use Rattle.connection.proofs.Growth.{forest-is}
 use Rattle.tables.specs.Counting.{FormedBy}
 use Rattle.tables.specs.Formula.{variables}
 use Rattle.tables.proofs.Agreeing.{lawful}
-use Rattle.growth.specs.declared.Tally.{Tally}
+use Rattle.terms.specs.declared.Tally.{Tally}
 use Rattle.growth.specs.Grown.{Standing, standing, Grown, TallyOf, Leaves}
 use Rattle.settling.specs.Rows.{Rowed, Recounted, CensusOf}
 

@@ -9,8 +9,9 @@ use Rattle.terms.specs.Refusals.{Judged}
 use Rattle.terms.specs.declared.Verdict.the-variants.{Accepted, Refused}
 use Rattle.terms.proofs.Verdicts.{at0-first, at0-none}
 use Rattle.connection.specs.Reach.{Variables}
-use Rattle.growth.specs.declared.Tally.{Tally}
-use Rattle.growth.specs.Grown.{Standing, classNames, existentials, tallyClauses, WrongTally, TallyCause, Took}
+use Rattle.terms.specs.declared.Tally.{Tally}
+use Rattle.admission.specs.Admitted.{tallyClauses, WrongTally}
+use Rattle.growth.specs.Grown.{Standing, classNames, existentials, TallyCause, Took}
 
 -- A tally that is not wrong has few clauses, the class names, and the right sum.
 module _ (t : Tally) {named exs : ℕ} (agrees : WrongTally t named exs → ⊥) where

@@ -21,7 +21,7 @@ use Rattle.connection.proofs.Growth.{forest-is}
 use Rattle.connection.proofs.Counts.{counts-one}
 use Rattle.tables.specs.Formula.{variables, joined}
 use Rattle.tables.proofs.Agreeing.{lawful}
-use Rattle.growth.specs.declared.Tally.{Tally}
+use Rattle.terms.specs.declared.Tally.{Tally}
 use Rattle.growth.specs.Grown.{Standing, standing, tableOf, classNames, many, buildOrder, addOrder, Grown, TallyOf, Took, Leaves, Builds, Adds}
 
 -- Tallies with the same numbers are one.

@@ -20,7 +20,8 @@ use Rattle.connection.specs.Tables.{Table, row, lent, joins}
 use Rattle.connection.specs.Forest.{Forest}
 use Rattle.connection.specs.Counts.{Counted, how-many, names}
 use Rattle.loose.specs.Past.{Past}
-use Rattle.growth.specs.declared.Tally.{Tally}
+use Rattle.admission.specs.Admitted.{WrongTally, clauseFirst}
+use Rattle.terms.specs.declared.Tally.{Tally}
 
 -- What is lent to be rewritten: the forest tables, which are class names, parents and counts, and the tally beside them.
 pub record Standing : Type 0 where
@@ -55,25 +56,10 @@ TooShort n s = (length (s .classes) < n) ⊎ ((length (s .parents) < n) ⊎ (len
 abbrev pub buildOrder : ℕ → List ℕ → List ℤ → Standing → List Causes
 buildOrder n es ls s = checkOrder n es ls ++ (At0 14 (TooShort n s) ∷ [])
 
--- 10, for an added clause: a literal's variable outside 1 to n, or 0
-pub data AddedCause (n : ℕ) (ls : List ℤ) (number e : ℕ) : Type 0 where
-  outside : number ≡ 10 → e < length ls → (variableOf (literalAt ls e) ≡ 0) ⊎ (n < variableOf (literalAt ls e)) → AddedCause n ls number e
-
--- the clauses that a tally must have fewer of, for one more to be added
-abbrev pub tallyClauses : ℕ
-tallyClauses = 65535
-
--- 18: tally at 65,535 clauses or more, or its classes left aren't the tables' number of class names, or its merges and classes left don't sum to the existentials
-abbrev pub WrongTally : Tally → ℕ → ℕ → Type 0
-WrongTally t class-names exs = (tallyClauses ≤ t .clauses) ⊎ ((t .classes ≢ class-names) ⊎ (t .merges + t .classes ≢ exs))
-
--- the order of add: 1, 2, prefix from the left, the clause's literals from the left, 12, 18
-abbrev pub clauseFirst : ℕ → List ℕ → List ℤ → List Causes
-clauseFirst n es ls = prefixOrder n es (length ls) ++ (AddedCause n ls ∷ [])
-
 abbrev pub TallyCause : Variables → Standing → Causes
 TallyCause X s = At0 18 (WrongTally (s .tally) (classNames X s) (existentials X))
 
+-- the order of add: that of the clause, 12, 18
 abbrev pub addOrder : ℕ → List ℕ → Standing → List ℤ → List Causes
 addOrder n es s ls = clauseFirst n es ls ++ (ForestCause n es (s .classes) (s .parents) (s .counts) ∷ TallyCause (variables n es) s ∷ [])
 

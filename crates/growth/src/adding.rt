@@ -1,16 +1,16 @@
 // A clause added to lent tables: they and the tally are judged before the first write, the clause is put in, and the counts and the tally follow.
 
 use crate::Tallied;
-use crate::Tally;
 use crate::counted;
 use crate::refused;
-use crate::tallying::disagrees;
-use crate::tallying::take;
+use admission::tallying::disagrees;
+use admission::tallying::take;
 use levelling::fill_levels;
 use settling::counts::recount;
 use settling::counts::take_census;
 use settling::put_in;
 use tables::checking::check_forest;
+use terms::Tally;
 use terms::Verdict;
 ghost use mathlib.Core.Path.{_≡_};
 ghost use mathlib.Core.List.{[], _∷_};
@@ -79,7 +79,7 @@ fn add_formed(
     ensures leaves { λ r. ⌜ AddLeaves (variables n (now (prefix .entry))) (standing (now (classes .entry)) (now (parents .entry)) (now (counts .entry)) tally) (now (clause .entry)) (standing (now (classes .exit)) (now (parents .exit)) (now (counts .exit)) (r .tally)) (r .answer) ⌝ }
 {
     let seen = take_census(n, classes);
-    if disagrees(tally, seen) {
+    if disagrees(tally, seen.names, seen.existentials) {
         return refused(18, 0, tally);
     }
     let left = extend(n, prefix, classes, parents, counts, clause);

@@ -1,9 +1,9 @@
 // The forest of an accepted formula: its rows, their counts, and the tally.
 
-use crate::Tally;
 use settling::counts::recount;
 use settling::counts::take_census;
 use settling::grow;
+use terms::Tally;
 ghost use Rattle.formula.specs.Levels.{SoundPrefix};
 ghost use Rattle.formula.specs.Lookup.{SoundClauses};
 ghost use Rattle.tables.specs.Formula.{variables, Shares};

@@ -1,31 +1,18 @@
 // Build and add: the forest of a formula, and of tables with a clause added, each with its counts and the tally beside it, which is passed by value.
 
-mod added;
 mod adding;
 mod building;
-mod tallying;
 
-use added::added_verdict;
 use adding::add_sound;
+use admission::clause::added_verdict;
 use building::build_sound;
 use building::has_room;
 use terms::Filled;
+use terms::Tally;
 use terms::Verdict;
 ghost use mathlib.Core.Path.{_≡_};
 ghost use Rattle.terms.specs.declared.Filled.the-variants.{Refused};
 ghost use Rattle.growth.specs.Grown.{standing, Builds, Adds};
-
-// A running tally beside a forest: the clauses taken, the merges made and the classes left.
-pub struct Tally {
-    pub clauses: u32,
-    pub merges: u32,
-    pub classes: u32,
-}
-
-impl Tally {
-    // A tally with so many clauses takes no more.
-    pub const CLAUSES: u32 = 65535;
-}
 
 // What a call that keeps a tally comes to: its answer, and the tally afterwards.
 pub struct Tallied {

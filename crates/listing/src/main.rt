@@ -1,30 +1,36 @@
 // Lists the strict dependency sets of a QDIMACS text on standard input: a line for the formula, and one for each universal.
 
 use formula::clauses::variable_at;
-use growth::Tally;
 use levelling::fill_levels;
 use libc::STDIN_FILENO;
 use libc::STDOUT_FILENO;
 use picking::Asked;
 use picking::list_picked;
 use qdimacs::Reading;
+use runs::refloor;
+use runs::row_at;
+use runs::write_run;
 use searching::Floor;
-use searching::retop;
+use soles::Sole;
+use soles::sole_point;
 use tables::rows::universal_at;
 use terms::Filled;
 use terms::Level;
 use terms::Scheme;
+use terms::Tally;
 use terms::Variable;
 use threads::flag_points;
 use threads::thread;
-ghost use Prim.Native.Nat.{_≤_, _<_};
+ghost use Prim.Native.Nat.{ℕ, _≤_, _<_};
 ghost use mathlib.Core.Path.{_≡_};
+ghost use mathlib.Core.List.{List};
 ghost use lib.ListN.{length};
 ghost use Rattle.formula.specs.Levels.{SoundPrefix, Levelled};
 ghost use Rattle.formula.specs.Lookup.{SoundClauses};
 ghost use Rattle.formula.specs.Meaning.{blocks, clauses as Meaning·clauses};
 ghost use Rattle.tables.specs.Counting.{FormedBy};
 ghost use Rattle.threads.specs.Threads.{Closed, Tied};
+ghost use Rattle.runs.specs.Runs.{Within, Leads, Led};
 ghost use Rattle.sets.specs.Passed.{Ready};
 ghost use Rattle.lines.specs.Lines.{Small};
 
@@ -169,8 +175,8 @@ fn list_universals(
     );
 }
 
-// The lines. The tops depend on the block of a universal only, and stay while it does; at first they are those over a level that nothing is
-// deeper than.
+// The lines. The tops and their runs depend on the block of a universal only, and stay while it does; at first the tops are those over a level
+// that nothing is deeper than. All lines are made in one buffer.
 fn list_tied(
     n: u32,
     prefix: &[u32],
@@ -185,6 +191,9 @@ fn list_tied(
     requires { ⌜ Ready n (now prefix) (now levels) (now universals) (now clauses) (now classes) (now parents) (now first) (now next) ⌝ }
 {
     let mut tops = [0u32; 4096];
+    let mut lead = [0u32; 4097];
+    let mut after = [0u32; 4097];
+    let mut line = [0u8; 65536];
     let mut floor = Floor {
         level: Level::new(4294967295),
         from: 0,
@@ -194,13 +203,35 @@ fn list_tied(
         passed += 1;
         let x = Variable::new(passed);
         if universal_at(n, universals, x) {
-            floor = retop(n, prefix, levels, classes, parents, floor, x, &mut tops);
-            list_universal(n, clauses, first, next, x, floor.level, &tops);
+            floor = refloor(
+                n,
+                prefix,
+                levels,
+                classes,
+                parents,
+                floor,
+                x,
+                &mut tops,
+                &mut lead,
+                &mut after,
+            );
+            list_universal(
+                n,
+                clauses,
+                first,
+                next,
+                x,
+                floor.level,
+                &tops,
+                &lead,
+                &after,
+                &mut line,
+            );
         }
     }
 }
 
-// The line of one universal: its strict entry points are flagged once, along its chain, and they and its set are listed.
+// The line of one universal. Where it has one strict entry point, its set is the run of that.
 fn list_universal(
     n: u32,
     clauses: &[i32],
@@ -209,8 +240,44 @@ fn list_universal(
     x: Variable,
     level: Level,
     tops: &[u32],
+    lead: &[u32],
+    after: &[u32],
+    line: &mut [u8],
 )
-    requires { ⌜ (n ≤ 4096) × Tied (now clauses) (now first) (now next) (x .0) ⌝ }
+    requires { ⌜ (n ≤ 4096) × Tied (now clauses) (now first) (now next) (x .0) × Within n (now tops) × Led n (now tops) (now lead) (now after) × (65536 ≤ length (now line)) ⌝ }
+{
+    match sole_point(Scheme::Strict, n, clauses, first, next, x, tops) {
+        Sole::Several => list_flagged(n, clauses, first, next, x, level, tops, line),
+        Sole::Top(top) => list_run(row_at(lead, top), after, top, x, level, line),
+    }
+}
+
+// The line of a universal with one entry point at most, to the run of which a row leads.
+fn list_run(row: u32, after: &[u32], top: Variable, x: Variable, level: Level, line: &mut [u8])
+    requires { ⌜ ((list : List ℕ) × Leads (now after) row list × Small list) × (top .0 ≤ 4096) × (65536 ≤ length (now line)) ⌝ }
+{
+    let mut set = [0u32; 4096];
+    write_run(after, row % 65536, 0, &mut set);
+    let size = (row / 65536) as usize;
+    if top.0 == 0 {
+        print_lists(x, level, &[], &set[..size], line);
+    } else {
+        print_lists(x, level, &[top.0], &set[..size], line);
+    }
+}
+
+// The line of a universal with any number of entry points: they are flagged, along its chain, and they and the set are listed by the flags.
+fn list_flagged(
+    n: u32,
+    clauses: &[i32],
+    first: &[u32],
+    next: &[u32],
+    x: Variable,
+    level: Level,
+    tops: &[u32],
+    line: &mut [u8],
+)
+    requires { ⌜ (n ≤ 4096) × Tied (now clauses) (now first) (now next) (x .0) × (65536 ≤ length (now line)) ⌝ }
 {
     let mut entered = [false; 4097];
     flag_points(
@@ -223,12 +290,12 @@ fn list_universal(
         tops,
         &mut entered,
     );
-    print_universal(n, x, level, &entered, tops);
+    print_picked(n, x, level, &entered, tops, line);
 }
 
 // Lists the entry points and the set, ascending, and prints them.
-fn print_universal(n: u32, x: Variable, level: Level, entered: &[bool], tops: &[u32])
-    requires { ⌜ n ≤ 4096 ⌝ }
+fn print_picked(n: u32, x: Variable, level: Level, entered: &[bool], tops: &[u32], line: &mut [u8])
+    requires { ⌜ (n ≤ 4096) × (65536 ≤ length (now line)) ⌝ }
 {
     let mut entries = [0u32; 4096];
     let mut set = [0u32; 4096];
@@ -241,19 +308,19 @@ fn print_universal(n: u32, x: Variable, level: Level, entered: &[bool], tops: &[
                 level,
                 &entries[..found as usize],
                 &set[..size as usize],
+                line,
             ),
         },
     }
 }
 
-// Prints the line of a universal.
-fn print_lists(x: Variable, level: Level, entries: &[u32], set: &[u32])
-    requires { ⌜ Small (now entries) × Small (now set) ⌝ }
+// Prints the line of a universal, made in a buffer.
+fn print_lists(x: Variable, level: Level, entries: &[u32], set: &[u32], line: &mut [u8])
+    requires { ⌜ Small (now entries) × Small (now set) × (65536 ≤ length (now line)) ⌝ }
 {
-    let mut line = [0u8; 65536];
     if x.0 < 100000 {
         if level.0 < 100000 {
-            let end = lines::universal_line(&mut line, x.0, level.0, entries, set);
+            let end = lines::universal_line(line, x.0, level.0, entries, set);
             io::write_all(STDOUT_FILENO, &line[..end]);
         }
     }

@@ -1,3 +1,2 @@
 -- The laws of loose rows, in reading order.
-pub mod Stars
 pub mod Passes

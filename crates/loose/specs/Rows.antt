@@ -1,16 +1,12 @@
 -- The tables that loose rows are worked in, from the depths of the variables to the rows that are written: what each pass makes of them.
-use Prim.Native.Nat.{ℕ, _+_, _≤_, _<_}
+use Prim.Native.Nat.{ℕ, _+_, _<_}
 use mathlib.Core.Path.{_≡_}
 use mathlib.Core.Bool.{Bool, false, cond, not, _&&_}
 use mathlib.Core.List.{List}
-use mathlib.Core.Logic.{_≢_}
 use lib.Dec.{leb}
-use lib.IntN.{ℤ}
 use lib.ListN.{length, getD}
-use Rattle.terms.specs.Literals.{variableOf}
 use Rattle.connection.specs.Reach.{Variables, Joined}
 use Rattle.connection.proofs.Represent.{Linked}
-use Rattle.formula.specs.Tables.{literalAt}
 use Rattle.formula.specs.Meaning.{level, isExistential}
 use Rattle.chains.specs.Loose.{Equal, Loose, Kept, table, ranked, Growing}
 use Rattle.loose.specs.Past.{Past}
@@ -23,11 +19,6 @@ depthOf n v level universal = cond (leb 1 v && leb v n && not universal) (level 
 pub record Depths (n : ℕ) (es : List ℕ) (depths : List ℕ) : Type 0 where
   pub size : length depths ≡ 4097
   pub depth-is : (v : ℕ) → getD depths v 0 ≡ cond (isExistential n es v) (level es v + 1) 0
-
--- r is the deepest existential of a clause; of depth 0 if it has none.
-pub record Deepest (depths : List ℕ) (ls : List ℤ) (r : ℕ) : Type 0 where
-  pub most : (e : ℕ) → e < length ls → getD depths (variableOf (literalAt ls e)) 0 ≤ getD depths r 0
-  pub listed : getD depths r 0 ≢ 0 → (e : ℕ) × (e < length ls) × (variableOf (literalAt ls e) ≡ r)
 
 -- The rows stand for the clauses.
 pub record Holds (depths classes parents : List ℕ) (clauses : List (List ℕ)) : Type 0 where

@@ -1,7 +1,7 @@
 // Passes over the rows: the rows of no clause, exact class rows of loose ones, and the rows written out.
 
-use crate::clause::put;
 use formula::clauses::next_zero;
+use stars::put;
 use tables::rows::row_of;
 use terms::Variable;
 ghost use Prim.Native.Nat.{ℕ, _≤_, _<_};

@@ -10,6 +10,7 @@ use lib.IntN.{ℤ, pos}
 use lib.ListN.{length, getD, set, take, drop, replicate, length-set, length-drop, length-replicate, getD-replicate, List·getD-eq-default}
 use lib.Seq.{getD-set-same, getD-set-other, getD-take, getD-drop, length-take-le}
 use Rattle.terms.specs.Literals.{variableOf}
+use Rattle.terms.proofs.Common.{clash}
 use Rattle.formula.specs.Tables.{literalAt}
 use Rattle.formula.specs.Meaning.{clauses, alwaysTrue, connected}
 use Rattle.formula.specs.Lookup.{NextZero}
@@ -21,6 +22,10 @@ use Rattle.marks.specs.declared.Signs.{Signs}
 use Rattle.tables.specs.Formula.{signed, SharesBy}
 use Rattle.marks.specs.Flags.{Has, HasLiteral, By, Connects, Flagged, Via, Blank}
 use Rattle.marks.proofs.Sides.{signed-variable, mem-at, one-sign}
+
+-- A flag that is set is within its table.
+pub flag-long : (flags : List Bool) (v : ℕ) → getD flags v false ≡ true → v < length flags
+flag-long flags v t = by-cases (decLt v (length flags)) (λ l. l) (λ l. absurd (clash t (List·getD-eq-default flags false {n = v} (omega arith))))
 
 -- One flag.
 pub flag-set : (old : List Bool) (v : ℕ) → v < length old → Flagged (λ w. w ≡ v) old (set old v true)

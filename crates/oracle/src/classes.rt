@@ -1,15 +1,15 @@
 // The class and the parent of each variable, by what reaches what.
 
-use crate::tables::CLASS;
-use crate::tables::PARENT;
-use crate::tables::class_of;
-use crate::tables::count_of;
-use crate::tables::is_existential;
-use crate::tables::level_of;
-use crate::tables::parent_of;
-use crate::tables::put_fact;
-use crate::tables::put_number;
-use crate::tables::reaches;
+use facts::tables::CLASS;
+use facts::tables::PARENT;
+use facts::tables::class_of;
+use facts::tables::count_of;
+use facts::tables::is_existential;
+use facts::tables::level_of;
+use facts::tables::parent_of;
+use facts::tables::put_fact;
+use facts::tables::put_number;
+use facts::tables::reaches;
 
 // Whether y is of the class of v: existentials of one block, of which v reaches y at that block's level.
 fn is_of_class(facts: &[u32], links: &[bool], v: u32, y: u32) -> bool {

@@ -1,9 +1,9 @@
 // The count of each class: the variables in it and in all classes below.
 
 use crate::classes::is_above;
-use crate::tables::COUNT;
-use crate::tables::class_of;
-use crate::tables::put_fact;
+use facts::tables::COUNT;
+use facts::tables::class_of;
+use facts::tables::put_fact;
 use std::num::wrapping_add_u32;
 
 // Whether y is in the class c or in a class below it; a universal is in none.

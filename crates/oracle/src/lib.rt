@@ -2,21 +2,15 @@
 
 pub mod classes;
 pub mod counts;
-pub mod joins;
-pub mod levels;
-pub mod reach;
 pub mod sets;
 pub mod strict;
-pub mod tables;
-pub mod totals;
-pub mod truth;
 
 use classes::fill_classes;
 use classes::fill_parents;
 use counts::fill_counts;
-use joins::fill_joins;
-use levels::fill_levels;
-use reach::fill_reach;
+use facts::joins::fill_joins;
+use facts::levels::fill_levels;
+use facts::reach::fill_reach;
 
 // The whole search of a formula, in tables that hold nothing.
 pub fn fill_search(n: u32, prefix: &[u32], clauses: &[i32], facts: &mut [u32], links: &mut [bool]) {

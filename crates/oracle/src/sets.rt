@@ -1,17 +1,17 @@
 // Sets and entry points, for all variables at once.
 
 use crate::classes::is_above;
-use crate::tables::PAIRS;
-use crate::tables::class_of;
-use crate::tables::first_at;
-use crate::tables::is_deeper;
-use crate::tables::is_existential;
-use crate::tables::is_variable;
-use crate::tables::level_of;
-use crate::tables::pair_at;
-use crate::tables::reaches;
-use crate::tables::second_at;
-use crate::tables::set_pair;
+use facts::tables::PAIRS;
+use facts::tables::class_of;
+use facts::tables::first_at;
+use facts::tables::is_deeper;
+use facts::tables::is_existential;
+use facts::tables::is_variable;
+use facts::tables::level_of;
+use facts::tables::pair_at;
+use facts::tables::reaches;
+use facts::tables::second_at;
+use facts::tables::set_pair;
 use std::num::wrapping_add_u32;
 
 // Flags the pair at a place if y is in the set of x: an existential that x reaches at the level of its block.

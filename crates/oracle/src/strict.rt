@@ -1,16 +1,16 @@
 // Strict sets and entry points: what x has both by the clauses with x and by the clauses with its negation.
 
-use crate::joins::Sign;
-use crate::joins::fill_joins_by;
-use crate::reach::fill_reach;
 use crate::sets::fill_entries;
 use crate::sets::fill_sets;
-use crate::tables::PAIRS;
-use crate::tables::first_at;
-use crate::tables::is_existential;
-use crate::tables::pair_at;
-use crate::tables::second_at;
-use crate::tables::set_pair;
+use facts::joins::Sign;
+use facts::joins::fill_joins_by;
+use facts::reach::fill_reach;
+use facts::tables::PAIRS;
+use facts::tables::first_at;
+use facts::tables::is_existential;
+use facts::tables::pair_at;
+use facts::tables::second_at;
+use facts::tables::set_pair;
 
 // Whether a step goes from v to y, where a universal steps only along `firsts`.
 fn is_way(facts: &[u32], joins: &[bool], firsts: &[bool], v: u32, y: u32) -> bool {

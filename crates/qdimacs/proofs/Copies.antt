@@ -9,7 +9,7 @@ use lib.ListN.{length, take, drop, getD, set}
 use lib.Seq.{sets, sets-eq, length-sets, take-suc, take-at, length-take-le}
 use lib.IntN.{ℤ}
 use Rattle.terms.proofs.Common.{sets-append}
-use Rattle.qdimacs.specs.Steps.{Scanned, Held}
+use Rattle.qdimacs.specs.Scans.{Scanned, Held}
 
 module _ {A : Type 0} where
   -- one row more

@@ -1,10 +1,6 @@
 -- The laws of QDIMACS text, in reading order.
--- Padded numbers, the entries of lines, and lines.
-pub mod Padded
-pub mod Rows
+-- The scan of all lines, and the copy of what it stored.
 pub mod Copies
-pub mod Openings
-pub mod Bodies
 pub mod Scans
 -- A text is read in one way, and so has one answer.
 pub mod Paths

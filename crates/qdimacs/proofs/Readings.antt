@@ -12,8 +12,8 @@ use Rattle.terms.specs.Refusals.{FirstOf, None, NoneOf}
 pub use Rattle.spelling.proofs.Outputs.{first-overlong, not-overlong}
 use Rattle.qdimacs.specs.declared.Reading.{Reading}
 use Rattle.qdimacs.specs.declared.Reading.the-variants.{Read, Refused}
-use Rattle.qdimacs.specs.Grammar.{TextOf, FaultIn}
-use Rattle.qdimacs.specs.Steps.{ScanIs}
+use Rattle.grammar.specs.Grammar.{TextOf, FaultIn}
+use Rattle.qdimacs.specs.Scans.{ScanIs}
 use Rattle.qdimacs.specs.Reading.{TEXT-MOST, NoRoom, no-room-prefix, no-room-clauses, readOrder, ReadIs}
 use Rattle.qdimacs.proofs.Unique.{fault-same, text-fault, text-same}
 

@@ -7,14 +7,15 @@ use native.Mathlib.Nat.{zero-add}
 use lib.ListN.{length, drop, length-append, drop-of-length-le}
 use lib.Seq.{sets, length-sets}
 use lib.IntN.{ℤ}
-use Rattle.qdimacs.specs.declared.Stage.{Stage}
-use Rattle.qdimacs.specs.declared.Stage.the-variants.{Opening}
+use Rattle.grammar.specs.declared.Stage.{Stage}
+use Rattle.grammar.specs.declared.Stage.the-variants.{Opening}
 use Rattle.qdimacs.specs.declared.Reading.{Reading}
 use Rattle.qdimacs.specs.declared.Reading.the-variants.{Read, Refused}
 use Rattle.tokens.specs.Words.{LF, pieces}
-use Rattle.qdimacs.specs.Grammar.{Line, a-comment, the-problem, a-block, a-clause, Lines, no-line, one-more, Fault, placeAfter, FaultIn}
+use Rattle.grammar.specs.Grammar.{Line, a-comment, the-problem, a-block, a-clause, Lines, no-line, one-more, Fault, placeAfter, FaultIn}
 use Rattle.tokens.specs.Places.{lineAt}
-use Rattle.qdimacs.specs.Steps.{Went, Sound, announcedAt, FinishIs, ScanIs}
+use Rattle.grammar.specs.Steps.{Went, Sound, announcedAt}
+use Rattle.qdimacs.specs.Scans.{FinishIs, ScanIs}
 use Rattle.tokens.proofs.Lines.{front-later, line-length}
 use Rattle.terms.proofs.Common.{sets-append}
 

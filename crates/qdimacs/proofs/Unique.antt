@@ -6,13 +6,13 @@ use mathlib.Core.Option.{some}
 use native.Mathlib.Omega.{arith}
 use lib.IntN.{ℤ}
 use Rattle.tokens.specs.declared.Number.the-variants.{Is}
-use Rattle.qdimacs.specs.declared.Stage.{Stage}
-use Rattle.qdimacs.specs.declared.Stage.the-variants.{Body}
+use Rattle.grammar.specs.declared.Stage.{Stage}
+use Rattle.grammar.specs.declared.Stage.the-variants.{Body}
 use Rattle.tokens.specs.Words.{SPACE, LETTER-A, LETTER-C, LETTER-E, LETTER-P, onto, pieces, filled, words, numberOf, entriesOf}
-use Rattle.qdimacs.specs.Grammar.{variables, CommentLine, comment, ProblemLine, p-cnf, QuantifierLine, e-line, a-line, ClauseLine, literals-line, Line, a-comment, the-problem, a-block, a-clause, Lines, no-line, one-more, TextOf, TooMany, too-many, Fault, outside, unended, no-problem, many, few, placeAfter, FaultIn}
+use Rattle.grammar.specs.Grammar.{variables, CommentLine, comment, ProblemLine, p-cnf, QuantifierLine, e-line, a-line, ClauseLine, literals-line, Line, a-comment, the-problem, a-block, a-clause, Lines, no-line, one-more, TextOf, TooMany, too-many, Fault, outside, unended, no-problem, many, few, placeAfter, FaultIn}
 use Rattle.tokens.specs.Places.{front, later}
 use Rattle.tokens.proofs.Lines.{front-later}
-use Rattle.qdimacs.proofs.Bodies.{exclusive}
+use Rattle.grammar.proofs.Bodies.{exclusive}
 use Rattle.qdimacs.proofs.Paths.{Path, here, step, Stops, stops-last, one-path}
 
 -- A line that begins with c is no problem line: its first word does.

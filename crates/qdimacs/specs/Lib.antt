@@ -1,5 +1,4 @@
--- QDIMACS text: first the format and what read and write promise, then what their inner functions do, which only proofs rest on.
-pub mod Grammar
+-- QDIMACS text: first what read and write promise, of the format that `grammar` has, then what their inner functions do, which only proofs rest on.
 pub mod Reading
 pub mod Stored
-pub mod Steps
+pub mod Scans

@@ -8,7 +8,7 @@ use lib.IntN.{ℤ}
 use Rattle.terms.specs.Refusals.{Causes, FirstOf, NoneOf}
 use Rattle.qdimacs.specs.declared.Reading.{Reading}
 use Rattle.qdimacs.specs.declared.Reading.the-variants.{Read, Refused}
-use Rattle.qdimacs.specs.Grammar.{TextOf, FaultIn}
+use Rattle.grammar.specs.Grammar.{TextOf, FaultIn}
 pub use Rattle.spelling.specs.Texts.{TEXT-MOST, Overlong, overlong}
 
 -- 14: the text is that of tables of which one does not fit where it is to be stored.

@@ -8,7 +8,7 @@ ghost use Prim.Native.Nat.{_≤_};
 ghost use lib.ListN.{length, take};
 ghost use lib.Seq.{sets};
 ghost use Rattle.qdimacs.specs.Reading.{TEXT-MOST, ReadIs};
-ghost use Rattle.qdimacs.specs.Steps.{ScanIs, Held};
+ghost use Rattle.qdimacs.specs.Scans.{ScanIs, Held};
 
 // Reads a text by way of two tables that no one else sees, of any length: the text is scanned into them, and what they hold is then copied.
 pub fn read_by_way(

@@ -1,14 +1,15 @@
 // The scan of a whole text, line by line, from stage to stage.
 
-use crate::Opened;
 use crate::Reading;
-use crate::Stage;
-use crate::Step;
-use crate::body::body_at;
-use crate::opening::opening_at;
+use grammar::Opened;
+use grammar::Stage;
+use grammar::Step;
+use grammar::body::body_at;
+use grammar::opening::opening_at;
 ghost use Prim.Native.Nat.{_<_, _≤_};
 ghost use lib.ListN.{length};
-ghost use Rattle.qdimacs.specs.Steps.{StepIs, Sound, FinishIs, ScanIs};
+ghost use Rattle.grammar.specs.Steps.{StepIs, Sound};
+ghost use Rattle.qdimacs.specs.Scans.{FinishIs, ScanIs};
 
 // Scans a whole text line by line, and stores what its lines add as far as the tables have rows: a short table only learns the counts.
 pub fn scan(text: &[u8], prefix: &mut [u32], clauses: &mut [i32]) -> Reading

@@ -19,7 +19,8 @@ use Rattle.connection.specs.Reach.{Variables}
 use Rattle.connection.proofs.Choice.{choice}
 use Rattle.tables.specs.Formula.{variables}
 use Rattle.marks.proofs.Sides.{mem-at}
-use Rattle.growth.specs.Grown.{AddedCause, clauseFirst, withLast}
+use Rattle.admission.specs.Admitted.{AddedCause, clauseFirst}
+use Rattle.growth.specs.Grown.{withLast}
 use Rattle.growth.proofs.Appended.{clauses-last, last-accepted}
 use Rattle.reduced.specs.Reduced.{reducible, without, reducedClause, Reduces, Reduction}
 use Rattle.reduced.proofs.Clauses.{without-had, reordered-member}

@@ -15,7 +15,8 @@ use Rattle.connection.proofs.Reach.{joined-added}
 use Rattle.tables.specs.Formula.{variables}
 use Rattle.tables.specs.Causes.{ForestCause}
 use Rattle.tables.proofs.Agreeing.{lawful}
-use Rattle.growth.specs.Grown.{Standing, tableOf, clauseFirst, TallyCause, AddLeaves, Adds}
+use Rattle.admission.specs.Admitted.{clauseFirst}
+use Rattle.growth.specs.Grown.{Standing, tableOf, TallyCause, AddLeaves, Adds}
 use Rattle.growth.proofs.Tight.{add-tight}
 use Rattle.reduced.specs.Reduced.{reducedClause}
 use Rattle.reduced.proofs.Carried.{Step, Carries, forest-carried}

@@ -1,6 +1,4 @@
-pub mod Places
-pub mod Marks
-pub mod Steps
+pub mod Crossings
 pub mod Reaching
 pub mod Listing
 pub mod Within

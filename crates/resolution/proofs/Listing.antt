@@ -24,7 +24,7 @@ use Rattle.marks.proofs.Flags.{literal-past}
 use Rattle.picking.proofs.Picked.{picked-listed}
 use Rattle.sets.proofs.AllSets.{sound-closed}
 use Rattle.resolution.specs.Paths.{DependsByPaths}
-use Rattle.resolution.specs.Walk.{ReadClauses}
+use Rattle.resolution.specs.Ends.{ReadClauses}
 use Rattle.resolution.proofs.Reaching.{depends-same}
 
 -- A table of zeros.

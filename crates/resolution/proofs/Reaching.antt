@@ -20,8 +20,10 @@ use Rattle.tables.proofs.Agreeing.{Same}
 use Rattle.marks.proofs.Sides.{signed-variable}
 use Rattle.threads.specs.Threads.{Threaded}
 use Rattle.resolution.specs.Paths.{Deeper, Crosses, Path, enters, goes-on, DependsByPaths}
-use Rattle.resolution.specs.Walk.{marked, Passes, Walk, starts, steps, Walked, Chained, Rowed, Barred, ReadClauses, Ends, Pairs}
-use Rattle.resolution.proofs.Places.{inside-less, passes-crosses}
+use Rattle.walking.specs.Walk.{marked, Passes, Walk, starts, steps, Walked, Chained, Rowed}
+use Rattle.resolution.specs.Ends.{Barred, ReadClauses, Ends, Pairs}
+use Rattle.walking.proofs.Places.{inside-less}
+use Rattle.resolution.proofs.Crossings.{passes-crosses}
 
 -- The rows of the two literals of a variable.
 row-either : (l : ℤ) → (rowOf l ≡ variableOf l + variableOf l) ⊎ (rowOf l ≡ variableOf l + variableOf l + 1)

@@ -14,7 +14,7 @@ use Rattle.terms.specs.declared.Scheme.the-variants.{Strict}
 use Rattle.forest.specs.Answers.{DependsBy}
 use Rattle.marks.proofs.Sides.{signed-variable}
 use Rattle.resolution.specs.Paths.{Deeper, Crosses, Path, enters, goes-on, DependsByPaths}
-use Rattle.resolution.proofs.Marks.{complement-variable}
+use Rattle.walking.proofs.Marks.{complement-variable}
 
 -- What a path may pass the strict scheme may step on.
 deeper-from : {X : Variables} {x v : ℕ} → Deeper X x v → From X (X .lev x) v

@@ -1,2 +1,2 @@
 pub mod Paths
-pub mod Walk
+pub mod Ends

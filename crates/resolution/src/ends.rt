@@ -1,11 +1,11 @@
 // The ends of all resolution paths from x and from its negation, and what depends on x by them.
 
-use crate::walking::literal_step;
 use tables::rows::existential_at;
 use tables::rows::level_at;
 use terms::Literal;
 use terms::Variable;
 use threads::thread;
+use walking::literal_step;
 ghost use Prim.Native.Nat.{ℕ, _≤_, _<_};
 ghost use mathlib.Core.Path.{_≡_};
 ghost use mathlib.Core.Bool.{true, false, _&&_, _||_};
@@ -16,7 +16,8 @@ ghost use Rattle.terms.specs.Literals.{variableOf};
 ghost use Rattle.tables.specs.Formula.{tabled, signed};
 ghost use Rattle.tables.specs.Rows.{Tells};
 ghost use Rattle.resolution.specs.Paths.{Deeper, DependsByPaths};
-ghost use Rattle.resolution.specs.Walk.{Chained, Barred, ReadClauses, Ends, Pairs};
+ghost use Rattle.walking.specs.Walk.{Chained};
+ghost use Rattle.resolution.specs.Ends.{Barred, ReadClauses, Ends, Pairs};
 
 // Flags each variable from 1 to n that depends on x. Every variable is tied to its clauses first.
 pub fn flag_dependent(

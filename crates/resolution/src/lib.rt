@@ -1,7 +1,6 @@
 // Resolution-path sets: the existentials that resolution paths tie to a universal, from x and from its negation to opposite literals.
 
 mod ends;
-mod walking;
 
 use ends::flag_dependent;
 use joining::join;
@@ -19,7 +18,7 @@ ghost use Rattle.formula.specs.Levels.{SoundPrefix, Levelled};
 ghost use Rattle.tables.specs.Formula.{variables};
 ghost use Rattle.forest.specs.Listed.{Listing};
 ghost use Rattle.resolution.specs.Paths.{DependsByPaths, resolutionOrder, ResolutionListed};
-ghost use Rattle.resolution.specs.Walk.{ReadClauses, SoundListed};
+ghost use Rattle.resolution.specs.Ends.{ReadClauses, SoundListed};
 
 // The most variables that a formula may have for this scheme.
 pub const VARIABLES_MOST: u32 = 512;

@@ -1,9 +1,9 @@
 // Build and add under a reading rule: under rule 1 the calls of `growth` themselves, and under rule 2 the same on the joined prefix.
 
 use growth::Tallied;
-use growth::Tally;
 use joining::join;
 use terms::Filled;
+use terms::Tally;
 ghost use mathlib.Core.Path.{_≡_};
 ghost use Rattle.terms.specs.declared.Filled.the-variants.{Refused};
 ghost use Rattle.growth.specs.Grown.{standing};

@@ -1,14 +1,7 @@
 // Cases of build and add: rows and a tally are lent, and `to-classes:`, `to-parents:`, `to-counts:` and `to-tally:` say what is left.
 
-use crate::lines::is_refusal;
-use crate::lines::number_in;
-use crate::lines::tally_told;
-use crate::lines::told;
 use crate::tables::fills_as;
-use crate::words::fill_literals;
-use crate::words::fill_numbers;
 use growth::Tallied;
-use growth::Tally;
 use samples::parts::copy_rows;
 use samples::parts::literals;
 use score::judging::read_right;
@@ -16,7 +9,21 @@ use score::library;
 use score::rows::UNTOUCHED;
 use score::rows::same;
 use score::tallies::leaves_tally;
+use score::tallies::tally_of;
 use terms::Filled;
+use terms::Tally;
+use wording::lines::is_refusal;
+use wording::lines::number_in;
+use wording::lines::told;
+use wording::words::fill_literals;
+use wording::words::fill_numbers;
+use wording::words::number_at;
+
+// The tally that the last line says that begins with a name.
+fn tally_told(text: &[u8], name: &[u8]) -> Tally {
+    let line = told(text, name);
+    tally_of(number_at(line, 0), number_at(line, 1), number_at(line, 2))
+}
 
 // Adds a clause, or builds from a clause table.
 fn grow(

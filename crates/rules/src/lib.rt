@@ -1,8 +1,6 @@
 // The two-sided rules of the calls, case by case, as a text says them: limits, places, orders, and tables that stay where a call refuses.
 
 mod forests;
-mod lines;
 pub mod running;
 mod tables;
 pub mod texts;
-pub mod words;

@@ -3,29 +3,29 @@
 use crate::forests::add_holds;
 use crate::forests::forest_holds;
 use crate::forests::grow_holds;
-use crate::lines::before_last;
-use crate::lines::last_line;
-use crate::lines::number_told;
-use crate::lines::told;
 use crate::tables::ask_holds;
 use crate::tables::check_holds;
 use crate::tables::clause_holds;
 use crate::tables::point_holds;
 use crate::texts::read_holds;
 use crate::texts::write_holds;
-use crate::words::count_words;
-use crate::words::fill_literals;
-use crate::words::fill_numbers;
-use crate::words::has;
-use crate::words::index_of;
-use crate::words::same_bytes;
-use crate::words::word;
 use samples::parts::bytes;
 use samples::parts::literals;
 use samples::parts::numbers;
 use score::Score;
 use score::library::Call;
 use score::print_score;
+use wording::lines::before_last;
+use wording::lines::last_line;
+use wording::lines::number_told;
+use wording::lines::told;
+use wording::words::count_words;
+use wording::words::fill_literals;
+use wording::words::fill_numbers;
+use wording::words::has;
+use wording::words::index_of;
+use wording::words::same_bytes;
+use wording::words::word;
 
 // Runs the cases of a text, and prints a line for each family.
 pub fn run(text: &[u8]) {

@@ -1,13 +1,5 @@
 // Cases of the calls on lent tables that change none of them but an output: check, the clause call, entry point, entry points, set and size.
 
-use crate::lines::is_refusal;
-use crate::lines::is_refused;
-use crate::lines::last_line;
-use crate::lines::number_in;
-use crate::lines::number_told;
-use crate::words::fill_literals;
-use crate::words::fill_numbers;
-use crate::words::has_word;
 use forest::EntryAnswer;
 use samples::parts::literals;
 use score::library;
@@ -18,6 +10,14 @@ use score::rows::same;
 use score::rows::same_literals;
 use terms::Filled;
 use terms::Verdict;
+use wording::lines::is_refusal;
+use wording::lines::is_refused;
+use wording::lines::last_line;
+use wording::lines::number_in;
+use wording::lines::number_told;
+use wording::words::fill_literals;
+use wording::words::fill_numbers;
+use wording::words::has_word;
 
 // Whether a verdict is the one of a case: `accepted`, or a refusal.
 fn is_verdict(text: &[u8], verdict: Verdict) -> bool {

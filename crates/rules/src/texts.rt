@@ -1,13 +1,6 @@
 // Cases of read and write. The text is the one that `text:` says, with `/` for LF, `^` for TAB, `~` for CR and `_` for a space, followed by the word of `fill:` and a
 // space as often as it says, and by what `tail:` says.
 
-use crate::lines::is_refusal;
-use crate::lines::is_refused;
-use crate::lines::number_told;
-use crate::lines::told;
-use crate::words::number_at;
-use crate::words::same_bytes;
-use crate::words::word;
 use qdimacs::Reading;
 use samples::parts::bytes;
 use samples::parts::literals;
@@ -20,6 +13,13 @@ use score::rows::same;
 use score::rows::same_literals;
 use score::rows::untouched;
 use spelling::Output;
+use wording::lines::is_refusal;
+use wording::lines::is_refused;
+use wording::lines::number_told;
+use wording::lines::told;
+use wording::words::number_at;
+use wording::words::same_bytes;
+use wording::words::word;
 
 // What stands in every row of a clause table before a text is read.
 const UNREAD: i32 = 777777;

@@ -1,6 +1,6 @@
 // A literal of a variable, and the variable of a literal.
 
-use oracle::joins::is_of;
+use facts::joins::is_of;
 
 // The literal of a variable, of one sign; 0 where no 32-bit number is it.
 pub fn literal_of(v: u32, negative: bool) -> i32 {

@@ -1,7 +1,7 @@
 // The text of a formula, spelt out the plain way: what the library should write.
 
 use crate::literals::variable_of;
-use oracle::totals::count_clauses;
+use facts::totals::count_clauses;
 use std::num::wrapping_add_usize;
 
 // Stores a byte and answers the place after it; where the text has no such place, nothing is stored and the place stays.

@@ -12,9 +12,9 @@ use crate::rows::untouched;
 use crate::tallies::leaves_tally;
 use crate::tallies::tally_of;
 use growth::Tallied;
-use growth::Tally;
 use samples::parts::copy_rows;
 use std::num::wrapping_add_u32;
+use terms::Tally;
 
 // The refusal of 0 by a call that reads a forest: 12 where a row is wrong, and else 13.
 fn refusal_for(wrong: u32) -> u32 {

@@ -2,11 +2,11 @@
 
 use forest::EntryAnswer;
 use growth::Tallied;
-use growth::Tally;
 use qdimacs::Reading;
 use spelling::Output;
 use terms::Filled;
 use terms::Scheme;
+use terms::Tally;
 use terms::Variable;
 use terms::Verdict;
 

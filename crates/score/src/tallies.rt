@@ -1,7 +1,7 @@
 // Tallies that a call left, held against what they should be.
 
 use growth::Tallied;
-use growth::Tally;
+use terms::Tally;
 
 // The tally of so many clauses taken, merges made and classes left.
 pub fn tally_of(clauses: u32, merges: u32, classes: u32) -> Tally {

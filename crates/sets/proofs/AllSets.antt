@@ -30,7 +30,8 @@ use Rattle.marks.specs.Flags.{Takes, Via, Entering}
 use Rattle.picking.specs.Picked.{pick, picked, NoneUpto}
 use Rattle.sets.specs.Sets.{AllSetsBy, SetsTooLongBy}
 use Rattle.threads.specs.Threads.{Closed, Together, EnteredBy}
-use Rattle.sets.specs.Passed.{SetsUpto, PutSet, RoomFor, RoomUpto, PutAll, Fills}
+use Rattle.oneset.specs.Put.{PutSet, RoomFor}
+use Rattle.sets.specs.Passed.{SetsUpto, RoomUpto, PutAll, Fills}
 use Rattle.marks.proofs.Flags.{via-as}
 use Rattle.forest.proofs.Schemes.{over-enters}
 use Rattle.threads.proofs.Followed.{together-shares}
@@ -42,15 +43,6 @@ use Rattle.sets.proofs.Records.{records-one, records-most, records-set,
 pub put-length : (writing : Bool) (before list : List ℕ) → length (cond writing (sets before 0 list) before) ≡ length before
 put-length true before list = length-sets before 0 list
 put-length false before list = refl
-
--- where no variable has a top, none is picked by it
-pub topless-none : (scheme : Scheme) (n : ℕ) (tops : List ℕ) (ls : List ℤ) (x : ℕ) (flags : List Bool) (from : ℕ) → EnteredBy scheme n tops ls x flags → Topless n tops from → NoneUpto (pick Set n flags tops) from
-unfolding pick
-topless-none scheme n tops ls x flags from f none v low high = ap (λ e. getD flags e false) (none v low high) ∙ not-eq-not {b = false} .0 (λ t. no-top scheme (f .tells 0 (omega arith) .0 t))
-  where
-    no-top : (scheme : Scheme) → Takes scheme (λ sign. Via n tops (Together ls sign x) 0) → ⊥
-    no-top Scheme.Standard = ⊎-elim (λ t. t .some refl) (λ t. t .some refl)
-    no-top Scheme.Strict = λ t. t .0 .some refl
 
 -- what a scheme takes of the variables in a clause with x is what it takes of those that share one with it
 takes-as : (scheme : Scheme) {P Q : Bool → Type 0} → ((sign : Bool) → P sign → Q sign) → Takes scheme P → Takes scheme Q

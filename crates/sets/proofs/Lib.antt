@@ -1,5 +1,3 @@
 pub mod Records
 pub mod AllSets
 pub mod Settled
-pub mod Linked
-pub mod Places

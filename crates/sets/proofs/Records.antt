@@ -90,20 +90,6 @@ module _ (U : ℕ → Bool) (P : ℕ → ℕ → Type 0) where
       there′ (members, l, front, back, is) =
           (members, l, front, back ++ part, q ∙ ap (λ (b : List ℕ). b ++ part) is ∙ append-assoc front ((x ∷ length members ∷ members) ++ back) part ∙ ap (λ (p : List ℕ). front ++ p) (append-assoc (x ∷ length members ∷ members) back part))
 
--- A store in front of a run of stores.
-set-front : (before : List ℕ) (at i a : ℕ) (list : List ℕ) → i < at → set (sets before at list) i a ≡ sets (set before i a) at list
-set-front before at i a [] l = refl
-set-front before at i a (b ∷ list) l = set-front (set before at b) (suc at) i a list (omega arith) ∙ ap (λ o. sets o (suc at) list) (set-comm before at i b a (λ q. omega arith))
-
--- The record of x, its set written first.
-pub record-stored : (before : List ℕ) (at x : ℕ) (members : List ℕ) {end : ℕ} {mid out : List ℕ} → end ≡ at + 2 + length members → mid ≡ sets before (at + 2) members → out ≡ set (set mid at x) (at + 1) (end - (at + 2)) → out ≡ sets before at (x ∷ length members ∷ members)
-record-stored before at x members {end} size written stored =
-    let k : end - (at + 2) ≡ length members = omega arith in
-    stored ∙ ap₂ (λ (o : List ℕ) (j : ℕ). set (set o at x) (at + 1) j) written k
-    ∙ ap (λ o. set o (at + 1) (length members)) (set-front before (at + 2) at x members (omega arith))
-    ∙ set-front (set before at x) (at + 2) (at + 1) (length members) members (omega arith)
-    ∙ ap₂ (λ i j. sets (set (set before at x) i (length members)) j members) (add-one at) (let q : at + 2 ≡ suc (suc at) = omega arith in q)
-
 -- Written or only counted, one part more.
 pub put-more : (writing : Bool) (before : List ℕ) {out out′ : List ℕ} (end : ℕ) (list part : List ℕ) → end ≡ length list → out ≡ cond writing (sets before 0 list) before → out′ ≡ cond writing (sets out end part) out → out′ ≡ cond writing (sets before 0 (list ++ part)) before
 put-more true before {out} end list part size here more = more ∙ ap₂ (λ (o : List ℕ) (i : ℕ). sets o i part) here (let q : end ≡ 0 + length list = omega arith in q) ∙ sym (sets-append before 0 list part)

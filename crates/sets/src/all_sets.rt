@@ -1,12 +1,9 @@
 // The sets of all universals by a scheme, one after the other, each with its number and its count in front. The tables are judged once, and a
 // universal costs its own clauses and its own set, and one pass over the rows if it has more than one entry point.
 
-use crate::one_set::put_set;
-use crate::runs::clear_rows;
-use crate::runs::link_runs;
+use oneset::put_set;
+use runs::clear_rows;
 use searching::Floor;
-use searching::retop;
-use tables::rows::level_at;
 use tables::rows::universal_at;
 use terms::Filled;
 use terms::Level;
@@ -22,7 +19,8 @@ ghost use Rattle.formula.specs.Meaning.{level};
 ghost use Rattle.formula.specs.Levels.{SoundPrefix, Levelled};
 ghost use Rattle.formula.specs.Lookup.{SoundClauses};
 ghost use Rattle.tables.specs.Counting.{FormedBy};
-ghost use Rattle.sets.specs.Runs.{Floored, Placed};
+ghost use Rattle.runs.specs.Runs.{Floored};
+ghost use Rattle.oneset.specs.Places.{Placed};
 ghost use Rattle.threads.specs.Threads.{Closed};
 ghost use Rattle.sets.specs.Passed.{SetsUpto, Ready, RoomUpto, TellsRoom, PutAll, Fills};
 
@@ -258,13 +256,22 @@ fn refloor(
     ensures { λ r. ⌜ r .level .0 ≡ level (now (prefix .entry)) (x .0) ⌝ }
     ensures { λ r. ⌜ ((out : List ℕ) (end : ℕ) → Placed n (now (tops .entry)) (now (places .entry)) out end → Placed n (now (tops .exit)) (now (places .exit)) out end) ⌝ }
 {
-    let level = level_at(levels, x);
     let old = was.level;
-    if old.0 == level.0 {
-        return was;
+    let floor = runs::refloor(
+        n,
+        prefix,
+        levels,
+        classes,
+        parents,
+        was,
+        x,
+        tops,
+        lead,
+        after,
+    );
+    let level = floor.level;
+    if old.0 != level.0 {
+        clear_rows(n, places);
     }
-    let floor = retop(n, prefix, levels, classes, parents, was, x, tops);
-    link_runs(n, tops, floor.from, lead, after);
-    clear_rows(n, places);
     floor
 }

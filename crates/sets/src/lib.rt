@@ -1,8 +1,6 @@
 // The sets of all universals in one call.
 
 mod all_sets;
-mod one_set;
-mod runs;
 
 use all_sets::list_sets;
 use levelling::fill_levels;

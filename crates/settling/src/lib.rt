@@ -3,13 +3,13 @@
 
 pub mod counts;
 
-use loose::clause::put_one;
 use loose::depths::fill_depths;
 use loose::rows::load;
 use loose::rows::put_all;
 use loose::rows::settle;
 use loose::rows::singles;
 use loose::rows::write_out;
+use stars::put_one;
 ghost use Prim.Native.Nat.{_≤_};
 ghost use mathlib.Core.Path.{_≡_};
 ghost use mathlib.Core.List.{[], _∷_, _++_};

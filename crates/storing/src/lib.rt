@@ -2,8 +2,8 @@
 
 mod whole;
 
-use growth::Tally;
 use terms::Filled;
+use terms::Tally;
 use terms::Verdict;
 use whole::store_file;
 ghost use mathlib.Core.Path.{_≡_};

@@ -1,9 +1,9 @@
 // Build and add with the running tally lent by `&mut`, as a caller keeps it beside the forest. Each passes its value on, and stores what comes back.
 
-use growth::Tally;
 use growth::add_tallied;
 use growth::build_tallied;
 use terms::Filled;
+use terms::Tally;
 ghost use Rattle.growth.specs.Grown.{standing, Builds, Adds};
 
 // Fills the lent rows of 1 to n with the forest of a formula and its counts and the lent tally with that of its list, and gives n as the count.

@@ -110,3 +110,15 @@ pub enum Scheme {
     Standard,
     Strict,
 }
+
+// A running tally beside a forest: the clauses taken, the merges made and the classes left.
+pub struct Tally {
+    pub clauses: u32,
+    pub merges: u32,
+    pub classes: u32,
+}
+
+impl Tally {
+    // A tally with so many clauses takes no more.
+    pub const CLAUSES: u32 = 65535;
+}

@@ -69,10 +69,6 @@ on-unset {next} {p} {k} {j} {i} a e all (later {q = q} o) =
     let less = all q (on-here q (sym e)) in
     on-later q (sym e) (on-unset a (ap (λ row. row % 65536) (getD-set-other next i q a 0 (λ e. omega arith))) (λ r o′. all r (on-later q (sym e) o′)) o)
 
--- a flag that is set is within its table
-pub flag-long : (flags : List Bool) (v : ℕ) → getD flags v false ≡ true → v < length flags
-flag-long flags v t = by-cases (decLt v (length flags)) (λ l. l) (λ l. absurd (clash t (List·getD-eq-default flags false {n = v} (omega arith))))
-
 -- The tables at first, past entries of no universal, and past one of a universal: in a clause that is always true, in one that it is tied to, and in one that it is tied to now.
 pub threaded-none : (ls : List ℤ) (universals : List Bool) (heads next : List ℕ) → ((x : ℕ) → getD heads x 0 ≡ 0) → Threaded ls universals heads next 0
 threaded-none ls universals heads next none = record { sound = λ x p o. absurd (on-some o (none x)); complete = λ x s p u l. absurd (omega arith) }

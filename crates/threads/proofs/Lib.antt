@@ -2,4 +2,3 @@ pub mod Chains
 pub mod Gathering
 pub mod Followed
 pub mod Kept
-pub mod Soles

@@ -2,8 +2,6 @@
 // clauses. A chain holds one entry of each clause that has the universal, the last clause first; k + 1 stands for entry k, and 0 ends it. The row of
 // an entry holds what comes after it on the chain, and in its upper half the entry that its clause begins with.
 
-pub mod points;
-
 use formula::clauses::literal_at;
 use formula::clauses::next_zero;
 use formula::clauses::variable_at;

@@ -6,10 +6,10 @@ mod trips;
 
 use generated::family_at;
 use libc::STDIN_FILENO;
-use rules::words::part;
 use score::print_score;
 use shapes::print_having;
 use shapes::shape_at;
+use wording::words::part;
 
 // How many formulas are generated.
 const FORMULAS: u32 = 400;

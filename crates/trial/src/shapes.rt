@@ -1,8 +1,8 @@
 // How many of the generated formulas have each shape, printed.
 
 use libc::STDOUT_FILENO;
-use samples::shapes::Trait;
-use samples::shapes::count_having;
+use traits::Trait;
+use traits::count_having;
 
 // The shape that is counted at a place.
 pub fn shape_at(place: usize) -> Trait {

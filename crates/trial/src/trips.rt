@@ -2,12 +2,12 @@
 
 use rules::texts::UNWRITTEN;
 use rules::texts::reads_as;
-use rules::words::same_bytes;
 use samples::parts::bytes;
 use samples::spelling::spell;
 use score::Score;
 use score::library;
 use spelling::Output;
+use wording::words::same_bytes;
 
 // How many bytes a call answers; 0, which no text has, where it refuses.
 fn written(answer: Output) -> usize {

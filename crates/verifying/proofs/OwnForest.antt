@@ -16,7 +16,7 @@ use Rattle.terms.proofs.Verdicts.{at0-none, accepted-then, first-or-none}
 use Rattle.tables.specs.Formula.{variables, Shares}
 use Rattle.tables.specs.Causes.{ForestCause}
 use Rattle.terms.specs.declared.Scheme.the-variants.{Standard}
-use Rattle.growth.specs.declared.Tally.{Tally}
+use Rattle.terms.specs.declared.Tally.{Tally}
 use Rattle.growth.specs.Grown.{Standing, standing, TooShort, Grown}
 use Rattle.sets.specs.Sets.{SetsTooLongBy}
 use Rattle.joining.specs.Rules.{readAs, checkOrderUnder}

@@ -1,6 +1,5 @@
 // What the records of a file hold: the formula is checked under a reading rule, its forest is built, and rows and sets are held against it.
 
-use growth::Tally;
 use layout::decoding::fill_formula;
 use layout::decoding::same_numbers;
 use layout::places::clause_entries;
@@ -15,6 +14,7 @@ use terms::Filled;
 use terms::Level;
 use terms::Literal;
 use terms::Scheme;
+use terms::Tally;
 use terms::Variable;
 use terms::Verdict;
 ghost use Prim.Native.Nat.{_≤_};

@@ -6,7 +6,7 @@ use Rattle.spelling.specs.Stored.{writeOrder}
 use Rattle.spelling.proofs.Outputs.{writes-accepted}
 use Rattle.lists.specs.Causes.{checkListsOrder}
 use Rattle.lists.specs.Answers.{ListsChecked}
-use Rattle.dqdimacs.specs.Writing.{listedTextOf}
+use Rattle.dqspelling.specs.Writing.{listedTextOf}
 use Rattle.dqdimacs.proofs.Accepted.{fit}
 use Rattle.dqdimacs.proofs.write.Statement.{statement}
 use Rattle.dqdimacs.proofs.write.Tie as tie

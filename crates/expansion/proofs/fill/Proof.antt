@@ -2,7 +2,7 @@
 use mathlib.Core.Path.{refl}
 use mathlib.Core.Logic.{inl, inr}
 use native.Mathlib.Omega.{arith}
-use Rattle.expansion.proofs.Storing.{stored-at}
+use Rattle.copying.proofs.Storing.{stored-at}
 use borrow.Author.Needs.{needs}
 use Rattle.expansion.proofs.fill.Statement.{statement}
 use Rattle.expansion.proofs.fill.Tie as tie

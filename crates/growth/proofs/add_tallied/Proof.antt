@@ -6,7 +6,8 @@ use Rattle.terms.specs.Refusals.{Judged}
 use Rattle.terms.proofs.Verdicts.{refused-first, accepted-then}
 use Rattle.tables.specs.Causes.{ForestCause}
 use Rattle.tables.specs.Formula.{variables}
-use Rattle.growth.specs.Grown.{standing, tableOf, clauseFirst, TallyCause, addOrder, Extended, Took}
+use Rattle.admission.specs.Admitted.{clauseFirst}
+use Rattle.growth.specs.Grown.{standing, tableOf, TallyCause, addOrder, Extended, Took}
 use Rattle.growth.proofs.Accepted.{added-sound, added-rows}
 use Rattle.growth.proofs.Standings.{refusal}
 use borrow.Author.Needs.{needs}

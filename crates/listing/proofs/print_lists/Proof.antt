@@ -5,20 +5,20 @@ use borrow.Author.Needs.{needs}
 use Rattle.listing.proofs.print_lists.Statement.{statement}
 use Rattle.listing.proofs.print_lists.Tie as tie
 
-slice-aggregate-universal-line : tie.Need-slice-aggregate-universal-line
-slice-aggregate-universal-line c = search needs
-
 universal-line-requires : tie.Need-universal-line-requires
 universal-line-requires c κs = search needs
 
-array-share-prefix-line : tie.Need-array-share-prefix-line
-array-share-prefix-line c = search needs
+slice-reshare-prefix-write-all : tie.Need-slice-reshare-prefix-write-all
+slice-reshare-prefix-write-all c = search needs
 
 slice-aggregate-write-all : tie.Need-slice-aggregate-write-all
-slice-aggregate-write-all c = sym (length-take-le (c .before .before .universal-line .result) (c .before .before .universal-line .last .0) (array-share-prefix-line (c .before)))
+slice-aggregate-write-all c = sym (length-take-le (c .before .before .before .universal-line .result) (c .before .before .before .universal-line .last .0) (slice-reshare-prefix-write-all (c .before)))
 
 write-all-requires : tie.Need-write-all-requires
 write-all-requires c κs = search needs
+
+same-length : tie.Need-same-length
+same-length c = search needs
 
 returns : tie.Need-returns
 returns c = search needs
@@ -33,11 +33,11 @@ pub print-lists-spec : {M : Type 1} → statement M
 print-lists-spec =
     tie.close
     (tie.spec
-    slice-aggregate-universal-line
     universal-line-requires
-    array-share-prefix-line
+    slice-reshare-prefix-write-all
     slice-aggregate-write-all
     write-all-requires
+    same-length
     returns
     returns-2
     returns-3)

@@ -46,11 +46,11 @@ use denote.Exit.{yes}
 use Rattle.terms.proofs.Filled as F
 use Rattle.terms.proofs.Filled.Laws as F′
 use Rattle.growth.specs.declared.Tallied.{Tallied}
-use Rattle.growth.specs.declared.Tally.{Tally}
+use Rattle.terms.specs.declared.Tally.{Tally}
 use Rattle.growth.specs.Grown.{standing, Adds}
 use Rattle.tally.proofs.Thin.{tally-val, tally-is, answer-val, answer-is}
-use Rattle.growth.proofs.Tally as T
-use Rattle.growth.proofs.Tally.Laws as T′
+use Rattle.terms.proofs.Tally as T
+use Rattle.terms.proofs.Tally.Laws as T′
 use Rattle.growth.proofs.Tallied as S
 use Rattle.growth.proofs.Tallied.Laws as S′
 use Rattle.growth.proofs.add_tallied as inner

@@ -11,7 +11,8 @@ use Rattle.terms.specs.Literals.{variableOf}
 use Rattle.formula.specs.Tables.{literalAt}
 use Rattle.formula.proofs.Signs.{stamps-none}
 use Rattle.threads.specs.Threads.{Gathered}
-use Rattle.threads.proofs.Chains.{flag-long, threaded-skip}
+use Rattle.marks.proofs.Flags.{flag-long}
+use Rattle.threads.proofs.Chains.{threaded-skip}
 use Rattle.threads.proofs.Gathering.{marked-flag, Tying, tying-none, tying-here, tying-end, tying-more, Judging, judging-size, judging-known, judging-more}
 use Rattle.threads.proofs.tie_places.Statement.{statement}
 use Rattle.threads.proofs.tie_places.Tie as tie

@@ -1,7 +1,7 @@
 -- `capi::listed::snow_write_lists` meets its contract.
 use borrow.Author.Needs.{needs}
 use Rattle.lists.specs.Causes.{checkListsOrder}
-use Rattle.dqdimacs.specs.Writing.{listedTextOf}
+use Rattle.dqspelling.specs.Writing.{listedTextOf}
 use Rattle.capi.proofs.Listing.{small-lists}
 use Rattle.capi.proofs.Writes.{fits-write, tell-write}
 use Rattle.capi.proofs.listed.snow_write_lists.Statement.{statement}

@@ -1,7 +1,7 @@
 -- `dqdimacs::lines::list_at` meets its contract.
 use mathlib.Core.Path.{subst}
 use Rattle.tokens.specs.declared.Row.{Row}
-use Rattle.qdimacs.specs.Grammar.{variables}
+use Rattle.grammar.specs.Grammar.{variables}
 use Rattle.tokens.specs.Places.{RowIs}
 use Rattle.dqdimacs.specs.Steps.{no-row}
 use Rattle.dqdimacs.proofs.Faults.{row-alone, row-list}

@@ -2,7 +2,7 @@
 use Prim.Native.Nat.{ℕ}
 use mathlib.Core.Path.{_≡_, sym, ap, _∙_}
 use native.Mathlib.Omega.{arith}
-use Rattle.qdimacs.specs.declared.Stage.the-variants.{Opening, Body}
+use Rattle.grammar.specs.declared.Stage.the-variants.{Opening, Body}
 use Rattle.dqdimacs.proofs.Faults.{list-mark}
 use borrow.Author.Needs.{needs}
 use Rattle.dqdimacs.proofs.lines.list_mark.Statement.{statement}

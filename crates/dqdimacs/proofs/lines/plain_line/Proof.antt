@@ -1,8 +1,8 @@
 -- `dqdimacs::lines::plain_line` meets its contract.
 use mathlib.Core.Path.{subst}
 use mathlib.Core.Bool.{Bool}
-use Rattle.qdimacs.specs.declared.Step.{Step}
-use Rattle.qdimacs.specs.Steps.{StepIs}
+use Rattle.grammar.specs.declared.Step.{Step}
+use Rattle.grammar.specs.Steps.{StepIs}
 use Rattle.dqdimacs.specs.Steps.{LateIs}
 use Rattle.dqdimacs.proofs.Faults.{fault-plain, fault-late, went-plain}
 use borrow.Author.Needs.{needs}

@@ -1,7 +1,7 @@
 -- `dqdimacs::scanning::finish` meets its contract.
 use mathlib.Core.Path.{refl, subst}
 use Rattle.qdimacs.specs.declared.Reading.{Reading}
-use Rattle.qdimacs.specs.Steps.{FinishIs}
+use Rattle.qdimacs.specs.Scans.{FinishIs}
 use Rattle.dqdimacs.proofs.Faults.{end-fault}
 use borrow.Author.Needs.{needs}
 use Rattle.dqdimacs.proofs.scanning.finish.Statement.{statement}

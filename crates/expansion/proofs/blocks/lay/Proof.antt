@@ -3,8 +3,8 @@ use Prim.Native.Nat.{_-_}
 use mathlib.Core.Path.{_∙_}
 use native.Mathlib.Omega.{arith}
 use lib.ListN.{length}
-use Rattle.expansion.specs.Writing.{tabled}
-use Rattle.expansion.proofs.Storing.{onward-length}
+use Rattle.copying.specs.Copied.{tabled}
+use Rattle.copying.proofs.Storing.{onward-length}
 use Rattle.expansion.proofs.Laying.{Laid, laid-none, laid-mark, laid-close, laid-x, begun-few, laid-variable-on, laid-all}
 use borrow.Author.Needs.{needs}
 use Rattle.expansion.proofs.blocks.lay.Statement.{statement}

@@ -1,5 +1,5 @@
 -- `expansion::blocks::place` meets its contract.
-use Rattle.expansion.proofs.Storing.{stored-one}
+use Rattle.copying.proofs.Storing.{stored-one}
 use Prim.Native.Nat.{_+_}
 use Rattle.expansion.proofs.Blocking.{placed-alone, placed-both}
 use borrow.Author.Needs.{needs}

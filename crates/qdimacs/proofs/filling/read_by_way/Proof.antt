@@ -2,7 +2,7 @@
 use mathlib.Core.Path.{refl, subst}
 use native.Mathlib.Omega.{arith}
 use Rattle.qdimacs.specs.declared.Reading.{Reading}
-use Rattle.qdimacs.specs.Steps.{Scanned, ScanIs}
+use Rattle.qdimacs.specs.Scans.{Scanned, ScanIs}
 use Rattle.qdimacs.specs.Reading.{no-room-prefix, no-room-clauses}
 use Rattle.qdimacs.proofs.Readings.{first-fault, first-room, read-all}
 use borrow.Author.Needs.{needs}

@@ -2,11 +2,12 @@
 use Prim.Native.Nat.{_≤_}
 use mathlib.Core.Path.{_≡_, refl, sym, ap, subst}
 use native.Mathlib.Omega.{arith}
-use Rattle.qdimacs.specs.declared.Stage.{Stage}
-use Rattle.qdimacs.specs.declared.Stage.the-variants.{Body}
+use Rattle.grammar.specs.declared.Stage.{Stage}
+use Rattle.grammar.specs.declared.Stage.the-variants.{Body}
 use Rattle.qdimacs.specs.declared.Reading.the-variants.{Read, Refused}
-use Rattle.qdimacs.specs.Grammar.{no-problem, few}
-use Rattle.qdimacs.specs.Steps.{Sound, FinishIs}
+use Rattle.grammar.specs.Grammar.{no-problem, few}
+use Rattle.grammar.specs.Steps.{Sound}
+use Rattle.qdimacs.specs.Scans.{FinishIs}
 use borrow.Author.Needs.{needs}
 use Rattle.qdimacs.proofs.scanning.finish.Statement.{statement}
 use Rattle.qdimacs.proofs.scanning.finish.Tie as tie

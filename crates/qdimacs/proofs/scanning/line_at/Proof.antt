@@ -1,13 +1,13 @@
 -- `qdimacs::scanning::line_at` meets its contract.
 use mathlib.Core.Path.{sym, subst}
 use lib.ListN.{drop}
-use Rattle.qdimacs.specs.declared.Opened.{Opened}
-use Rattle.qdimacs.specs.declared.Stage.{Stage}
-use Rattle.qdimacs.specs.declared.Stage.the-variants.{Opening, Body}
+use Rattle.grammar.specs.declared.Opened.{Opened}
+use Rattle.grammar.specs.declared.Stage.{Stage}
+use Rattle.grammar.specs.declared.Stage.the-variants.{Opening, Body}
 use Rattle.tokens.specs.Words.{LF, pieces}
-use Rattle.qdimacs.specs.Grammar.{Fault}
-use Rattle.qdimacs.specs.Steps.{OpenedIs, Went, StepIs, Sound}
-use Rattle.qdimacs.proofs.Bodies.{fault-opening, went-comment, went-problem}
+use Rattle.grammar.specs.Grammar.{Fault}
+use Rattle.grammar.specs.Steps.{OpenedIs, Went, StepIs, Sound}
+use Rattle.grammar.proofs.Bodies.{fault-opening, went-comment, went-problem}
 use borrow.Author.Needs.{needs}
 use Rattle.qdimacs.proofs.scanning.line_at.Statement.{statement}
 use Rattle.qdimacs.proofs.scanning.line_at.Tie as tie

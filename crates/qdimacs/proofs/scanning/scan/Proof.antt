@@ -4,8 +4,8 @@ use Prim.Native.Nat.{_-_}
 use mathlib.Core.Path.{_∙_, subst}
 use native.Mathlib.Omega.{arith}
 use lib.ListN.{length}
-use Rattle.qdimacs.specs.declared.Step.{Step}
-use Rattle.qdimacs.specs.Steps.{Went, StepIs}
+use Rattle.grammar.specs.declared.Step.{Step}
+use Rattle.grammar.specs.Steps.{Went, StepIs}
 use Rattle.qdimacs.proofs.Scans.{Reached, reached-none, reached-sound, reached-prefix, reached-clauses, reached-more, went-less, reached-fault, reached-end}
 use Rattle.qdimacs.proofs.scanning.scan.Statement.{statement}
 use Rattle.qdimacs.proofs.scanning.scan.Tie as tie

@@ -6,7 +6,7 @@ use borrow.Author.Tests.{not-true, not-false}
 use Rattle.tables.specs.Formula.{tabled}
 use Rattle.tables.specs.Rows.{Tells}
 use Rattle.resolution.specs.Paths.{Deeper}
-use Rattle.resolution.specs.Walk.{Pairs}
+use Rattle.resolution.specs.Ends.{Pairs}
 use Rattle.resolution.proofs.Reaching.{deeper-some, pairs-told, told-both}
 use Rattle.resolution.proofs.ends.depends.Statement.{statement}
 use Rattle.resolution.proofs.ends.depends.Tie as tie

@@ -8,7 +8,7 @@ use lib.ListN.{length-replicate}
 use Rattle.terms.specs.Literals.{variableOf}
 use Rattle.tables.specs.Formula.{tabled}
 use Rattle.marks.proofs.Sides.{signed-variable}
-use Rattle.resolution.specs.Walk.{Ends}
+use Rattle.resolution.specs.Ends.{Ends}
 use Rattle.resolution.proofs.Reaching.{depends-are}
 use Rattle.resolution.proofs.Listing.{complement-plain, complement-negation}
 use Rattle.resolution.proofs.ends.flag_tied.Statement.{statement}

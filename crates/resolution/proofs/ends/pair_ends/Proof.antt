@@ -9,7 +9,7 @@ use lib.ListN.{length, getD, length-set}
 use Rattle.tables.specs.Formula.{tabled}
 use Rattle.tables.specs.Rows.{Tells}
 use Rattle.resolution.specs.Paths.{Deeper}
-use Rattle.resolution.specs.Walk.{Pairs}
+use Rattle.resolution.specs.Ends.{Pairs}
 use Rattle.resolution.proofs.Reaching.{flag-more}
 use Rattle.resolution.proofs.ends.pair_ends.Statement.{statement}
 use Rattle.resolution.proofs.ends.pair_ends.Tie as tie

@@ -3,17 +3,16 @@ use Prim.Native.Nat.{ℕ, _≤_, _-_}
 use mathlib.Core.Path.{_≡_, sym, ap, _∙_, subst}
 use mathlib.Core.Bool.{true, false}
 use native.Mathlib.Omega.{arith}
-use lib.ListN.{length, getD, replicate, length-replicate}
+use lib.ListN.{length, getD, length-replicate}
 use Rattle.connection.specs.Reach.{Variables}
-use Rattle.connection.specs.Tables.{row, lent}
 use Rattle.tables.specs.Formula.{variables, universalIn}
-use Rattle.sets.specs.Runs.{Floored, Placed}
+use Rattle.runs.specs.Runs.{Floored}
+use Rattle.oneset.specs.Places.{Placed}
 use Rattle.sets.specs.Passed.{SetsUpto, PutAll}
 use Rattle.tables.proofs.Readings.{flag-within, new-zero}
 use Rattle.tables.proofs.Agreeing.{lawful, level-agrees, universal-agrees}
-use Rattle.searching.proofs.Tops.{tops-over}
 use Rattle.sets.proofs.AllSets.{put-length, sets-small, put-room, put-next, put-other, put-none}
-use Rattle.sets.proofs.Linked.{led-none}
+use Rattle.runs.proofs.Linked.{floored-none}
 use borrow.Author.Needs.{needs}
 use Rattle.sets.proofs.all_sets.pass_sets.Statement.{statement}
 use Rattle.sets.proofs.all_sets.pass_sets.Tie as tie
@@ -34,11 +33,8 @@ loop-holds c =
     let ready = c .before .before .before .before .before .before .before .before .before .pre .0 in
     let X : Variables = variables (a .n) (a .prefix .now) in
     let low : (v : ℕ) → X .ex v ≡ true → X .lev v ≤ c .new .result .0 = λ v ex. let is = c .new .ensures in let own = level-agrees (ready .sound) (ready .table) v (lawful (a .n) (a .prefix .now) .within v ex .1) in omega (arith, c .before .before .before .before .before .before .before .shared-slice-known2 .given v) in
-    let over = tops-over {X = X} {W = lent X (a .classes .now) (a .parents .now)} (c .new .result .0) 4096 low in
-    let none : (v : ℕ) → row (a .n) (replicate {A = ℕ} 4096 0) v ≡ 0 = λ v. over .rows v .none (λ u. let l = low v (u .0) in let d = u .1 in omega arith) in
-    let led = led-none (a .n) (replicate {A = ℕ} 4096 0) (replicate {A = ℕ} 4097 0) (replicate {A = ℕ} 4097 0) none (new-zero 4097) in
     let long = length-replicate {A = ℕ} 4097 0 in
-    (omega arith, record { over = over; within = λ v. let z = none v in omega arith; led = led; rows = length-replicate {A = ℕ} 4096 0; heads = long; links = long }, (long, λ top _ some. absurd (some (new-zero 4097 top))), put-none (a .scheme) (a .n) (a .prefix .now) (a .clauses .now) (a .classes .now) (a .parents .now) (a .writing) (a .out .now))
+    (omega arith, floored-none (a .n) (a .prefix .now) (a .classes .now) (a .parents .now) (c .new .result .0) low, (long, λ top _ some. absurd (some (new-zero 4097 top))), put-none (a .scheme) (a .n) (a .prefix .now) (a .clauses .now) (a .classes .now) (a .parents .now) (a .writing) (a .out .now))
 
 add-passed : tie.Need-add-passed Inv-loop μ-loop
 add-passed c = omega arith

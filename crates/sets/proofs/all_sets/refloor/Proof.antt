@@ -1,41 +1,16 @@
 -- `sets::all_sets::refloor` meets its contract.
-use mathlib.Core.Path.{_∙_}
+use mathlib.Core.Path.{sym, subst}
 use native.Mathlib.Omega.{arith}
-use Rattle.tables.proofs.Agreeing.{lawful}
-use Rattle.sets.proofs.Linked.{tops-within}
+use Rattle.oneset.specs.Places.{Placed}
 use borrow.Author.Needs.{needs}
 use Rattle.sets.proofs.all_sets.refloor.Statement.{statement}
 use Rattle.sets.proofs.all_sets.refloor.Tie as tie
 
-level-at-requires : tie.Need-level-at-requires
-level-at-requires c κs = search needs
-
-returns : tie.Need-returns
-returns c =
-    let (sound, formed, small, levelled) = c .before .before .before .before .before .before .before .before .before .before .before .before .before .pre .0 in
-    let own = c .before .before .before .before .level-at .ensures ∙ levelled .1 .level-is (c .before .before .before .before .before .before .before .before .before .before .before .before .before .args .x .0) small in
-    (c .before .before .before .before .before .before .before .before .before .before .before .before .before .pre .1 .0, (c .if1 .taken ∙ own, λ out end placed. placed))
-
-retop-requires : tie.Need-retop-requires
-retop-requires c κs =
-    let (sound, formed, small, levelled) = c .before .before .before .before .before .before .before .before .before .before .before .before .before .before .pre .0 in
-    let floored = c .before .before .before .before .before .before .before .before .before .before .before .before .before .before .pre .1 .0 in
-    let few = sound .few in
-    let rows = floored .rows in
-    ((sound, formed, omega arith), ((small, levelled), floored .over))
-
-link-runs-requires : tie.Need-link-runs-requires
-link-runs-requires c κs =
-    let (sound, formed, small, levelled) = c .before .before .before .before .before .before .before .before .before .before .before .before .before .before .before .before .before .before .before .before .pre .0 in
-    let floored = c .before .before .before .before .before .before .before .before .before .before .before .before .before .before .before .before .before .before .before .before .pre .1 .0 in
-    let few = sound .few in
-    let links = floored .links in
-    let heads = floored .heads in
-    let over = c .before .before .before .before .before .retop .ensures .0 in
-    (few, over .most, over .none, tops-within (c .before .before .before .before .before .retop .last .1 .1 .1 .1 .1 .1 .1 .0) (lawful (c .before .before .before .before .before .before .before .before .before .before .before .before .before .before .before .before .before .before .before .before .args .n) (c .before .before .before .before .before .before .before .before .before .before .before .before .before .before .before .before .before .before .before .before .args .prefix .now)) formed (over .rows), omega arith, omega arith)
+refloor-requires : tie.Need-refloor-requires
+refloor-requires c κs = search needs
 
 clear-rows-requires : tie.Need-clear-rows-requires
-clear-rows-requires c κs = let few = c .before .before .before .before .before .before .before .before .before .before .before .before .before .before .before .before .before .before .before .before .before .before .before .before .before .before .pre .0 .0 .few in let size = c .before .before .before .before .before .before .before .before .before .before .before .before .before .before .before .before .before .before .before .before .before .before .before .before .before .before .pre .1 .1 in (few, omega arith)
+clear-rows-requires c κs = let few = c .before .before .before .before .before .before .before .before .before .before .before .before .before .before .before .before .before .before .before .before .before .before .before .before .pre .0 .0 .few in let size = c .before .before .before .before .before .before .before .before .before .before .before .before .before .before .before .before .before .before .before .before .before .before .before .before .pre .1 .1 in (few, omega arith)
 
 same-length : tie.Need-same-length
 same-length c = search needs
@@ -49,28 +24,36 @@ same-length-3 c = search needs
 same-length-4 : tie.Need-same-length-4
 same-length-4 c = search needs
 
+returns : tie.Need-returns
+returns c = let o = c .before .before .before .before .before .before .before .before .before .before .before .before .before .before .refloor in (o .ensures .0, (o .ensures .1 .0, λ out end placed top low some. absurd (some (c .before .before .clear-rows .ensures top low))))
+
+same-length-5 : tie.Need-same-length-5
+same-length-5 c = search needs
+
+same-length-6 : tie.Need-same-length-6
+same-length-6 c = search needs
+
+same-length-7 : tie.Need-same-length-7
+same-length-7 c = search needs
+
 returns-2 : tie.Need-returns-2
 returns-2 c =
-    let floored = c .before .before .before .before .before .before .before .before .before .before .before .before .before .before .before .before .before .before .before .before .before .before .before .before .before .before .before .before .before .pre .1 .0 in
-    let (sound, formed, small, levelled) = c .before .before .before .before .before .before .before .before .before .before .before .before .before .before .before .before .before .before .before .before .before .before .before .before .before .before .before .before .before .pre .0 in
-    let a = c .before .before .before .before .before .before .before .before .before .before .before .before .before .before .before .before .before .before .before .before .before .before .before .before .before .before .before .before .before .args in
-    let retop = c .before .before .before .before .before .before .before .before .before .before .before .before .before .before .retop in
-    let link = c .before .before .before .before .before .before .before .before .link-runs in (
-      record { over = retop .ensures .0; within = tops-within (retop .last .1 .1 .1 .1 .1 .1 .1 .0) (lawful (a .n) (a .prefix .now)) formed (retop .ensures .0 .rows); led = link .ensures; rows = retop .kept .1 .1 .1 .1 .1 .1 .1 .0 ∙ floored .rows; heads = link .kept .1 .1 .1 .0 ∙ floored .heads; links = link .kept .1 .1 .1 .1 .0 ∙ floored .links },
-      (retop .ensures .1, λ out end placed top low some. absurd (some (c .before .before .clear-rows .ensures top low))),
-    )
+    let a = c .before .before .before .before .before .before .before .before .before .before .before .before .before .before .before .before .before .before .before .before .before .before .before .args in
+    let o = c .before .before .before .before .before .before .before .before .before .before .refloor in
+    (o .ensures .0, (o .ensures .1 .0, λ out end placed. subst (λ tops. Placed (a .n) tops (a .places .now) out end) (sym (o .ensures .1 .1 (c .if1 .left))) placed))
 
 pub refloor-spec : {M : Type 1} → statement M
 refloor-spec =
     tie.close
     (tie.spec
-    level-at-requires
-    returns
-    retop-requires
-    link-runs-requires
+    refloor-requires
     clear-rows-requires
     same-length
     same-length-2
     same-length-3
     same-length-4
+    returns
+    same-length-5
+    same-length-6
+    same-length-7
     returns-2)

@@ -1,0 +1,27 @@
+-- `copying::literals::makes_true` meets its contract.
+use mathlib.Core.Path.{sym, _∙_}
+use mir.Syntax.{w32}
+use mir.Facts.{toZ-ofZ}
+use Rattle.copying.proofs.Naming.{made-other, made-negative, made-positive}
+use borrow.Author.Needs.{needs}
+use Rattle.copying.proofs.literals.makes_true.Statement.{statement}
+use Rattle.copying.proofs.literals.makes_true.Tie as tie
+
+variable-requires : tie.Need-variable-requires
+variable-requires c κs = search needs
+
+returns : tie.Need-returns
+returns c = let a = c .before .before .before .before .args in made-other (a .value) (a .x .0) (a .literal .0) (λ q. c .if1 .taken (c .before .before .before .variable .ensures ∙ q))
+
+returns-2 : tie.Need-returns-2
+returns-2 c =
+    let a = c .before .before .before .before .before .before .before .args in
+    made-negative (toZ-ofZ {w = w32} {z = a .literal .0} (record { sfits = c .before .struct-told .given .0 .1 })) (a .value) (a .x .0) (c .if2 .taken) (sym (c .before .before .before .before .before .before .variable .ensures) ∙ c .before .before .before .if1 .left)
+
+returns-3 : tie.Need-returns-3
+returns-3 c =
+    let a = c .before .before .before .before .before .before .before .args in
+    made-positive (toZ-ofZ {w = w32} {z = a .literal .0} (record { sfits = c .before .struct-told .given .0 .1 })) (a .value) (a .x .0) (c .if2 .left) (sym (c .before .before .before .before .before .before .variable .ensures) ∙ c .before .before .before .if1 .left)
+
+pub makes-true-spec : {M : Type 1} → statement M
+makes-true-spec = tie.close (tie.spec variable-requires returns returns-2 returns-3)

@@ -1,0 +1,25 @@
+-- `copying::literals::negation` meets its contract.
+use mathlib.Core.Path.{sym, ap, _∙_, subst}
+use lib.IntN.{ℤ}
+use mir.Syntax.{w32}
+use mir.Val.{SFits, toZ, ofZ}
+use mir.Facts.{toZ-ofZ}
+use Rattle.copying.proofs.Naming.{negated, negated-fits}
+use borrow.Author.Needs.{needs}
+use Rattle.copying.proofs.literals.negation.Statement.{statement}
+use Rattle.copying.proofs.literals.negation.Tie as tie
+
+cast-literal : tie.Need-cast-literal
+cast-literal c = search needs
+
+sub-new : tie.Need-sub-new
+sub-new c = let v = c .before .args .v .0 in subst (λ (z : ℤ). SFits w32 z) (sym (negated v (c .before .pre))) (negated-fits v (c .before .pre))
+
+new-requires : tie.Need-new-requires
+new-requires c κs = search needs
+
+returns : tie.Need-returns
+returns c = let v = c .before .before .args .v .0 in c .new .ensures ∙ ap (λ (z : ℤ). toZ w32 (ofZ w32 z)) (negated v (c .before .before .pre)) ∙ toZ-ofZ (negated-fits v (c .before .before .pre))
+
+pub negation-spec : {M : Type 1} → statement M
+negation-spec = tie.close (tie.spec cast-literal sub-new new-requires returns)

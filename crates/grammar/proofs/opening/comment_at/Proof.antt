@@ -1,0 +1,31 @@
+-- `grammar::opening::comment_at` meets its contract.
+use Prim.Native.Nat.{ℕ, _+_}
+use mathlib.Core.Path.{sym, subst}
+use native.Mathlib.Omega.{arith}
+use Rattle.tokens.specs.Places.{Passed}
+use Rattle.grammar.specs.Steps.{endless-line}
+use Rattle.grammar.proofs.Openings.{passed-line, unpassed-line}
+use borrow.Author.Needs.{needs}
+use Rattle.grammar.proofs.opening.comment_at.Statement.{statement}
+use Rattle.grammar.proofs.opening.comment_at.Tie as tie
+
+line-end-requires : tie.Need-line-end-requires
+line-end-requires c κs = search needs
+
+add-t7 : tie.Need-add-t7
+add-t7 c = search needs
+
+returns : tie.Need-returns
+returns c =
+    let a = c .before .before .before .args in
+    let e = c .before .line-end .ensures in
+    (c .before .before .before .pre, subst (λ (stop : ℕ). Passed (a .text .now) (a .at) (stop + 1)) (sym e) (passed-line (a .text .now) (a .at) (omega arith)))
+
+returns-2 : tie.Need-returns-2
+returns-2 c =
+    let a = c .before .before .before .args in
+    let e = c .before .line-end .ensures in
+    endless-line (unpassed-line (a .text .now) (a .at) (omega arith))
+
+pub comment-at-spec : {M : Type 1} → statement M
+comment-at-spec = tie.close (tie.spec line-end-requires add-t7 returns returns-2)

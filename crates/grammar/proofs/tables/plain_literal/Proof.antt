@@ -1,0 +1,16 @@
+-- `grammar::tables::plain_literal` meets its contract.
+use native.Mathlib.Omega.{arith}
+use mir.Syntax.{w32}
+use mir.Facts.{toZ-pos}
+use borrow.Author.Needs.{needs}
+use Rattle.grammar.proofs.tables.plain_literal.Statement.{statement}
+use Rattle.grammar.proofs.tables.plain_literal.Tie as tie
+
+cast-result : tie.Need-cast-result
+cast-result c = search needs
+
+returns : tie.Need-returns
+returns c = toZ-pos w32 (omega arith)
+
+pub plain-literal-spec : {M : Type 1} → statement M
+plain-literal-spec = tie.close (tie.spec cast-result returns)

@@ -1,0 +1,3 @@
+-- QDIMACS text: first the format, then what the functions on one line promise, which only proofs rest on.
+pub mod Grammar
+pub mod Steps

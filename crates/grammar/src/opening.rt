@@ -1,0 +1,89 @@
+// The lines before the body: comments and the problem line.
+
+use crate::Opened;
+use spelling::LETTER_C;
+use spelling::LETTER_P;
+use spelling::LF;
+use tokens::Counted;
+use tokens::Ended;
+use tokens::Spelt;
+use tokens::expected::cnf_at;
+use tokens::expected::letter_at;
+use tokens::expected::line_ended;
+use tokens::expected::number_at;
+ghost use mathlib.Core.Path.{_≡_};
+ghost use Prim.Native.Nat.{_<_};
+ghost use lib.ListN.{length};
+ghost use Rattle.grammar.specs.Grammar.{CommentLine};
+ghost use Rattle.grammar.specs.Steps.{NoComment, OpenedIs};
+ghost use Rattle.tokens.specs.Places.{past, inLine, lineAt};
+
+// A line before or at the problem line.
+pub fn opening_at(text: &[u8], at: usize) -> Opened
+    requires { ⌜ at < length (now text) ⌝ }
+    ensures { λ r. ⌜ OpenedIs (now (text .entry)) at r ⌝ }
+{
+    if text[at] == LETTER_C {
+        comment_at(text, at)
+    } else {
+        problem_at(text, at)
+    }
+}
+
+// A comment, which needs its LF.
+fn comment_at(text: &[u8], at: usize) -> Opened
+    requires { ⌜ CommentLine (lineAt (now text) at) ⌝ }
+    ensures { λ r. ⌜ OpenedIs (now (text .entry)) at r ⌝ }
+{
+    let stop = line_end(text, at);
+    if stop < text.len() {
+        Opened::Comment { next: stop + 1 }
+    } else {
+        Opened::Misfit
+    }
+}
+
+// The place of the LF of the line at a place, or the text's end.
+fn line_end(text: &[u8], at: usize) -> usize
+    ensures { λ r. ⌜ r ≡ past inLine (now (text .entry)) at ⌝ }
+{
+    let mut i = at;
+    while i < text.len() {
+        if text[i] == LF {
+            return i;
+        }
+        i += 1;
+    }
+    i
+}
+
+// The problem line `p cnf n m`.
+fn problem_at(text: &[u8], at: usize) -> Opened
+    requires { ⌜ NoComment (now text) at ⌝ }
+    ensures { λ r. ⌜ OpenedIs (now (text .entry)) at r ⌝ }
+{
+    let Spelt::Spelled(p) = letter_at(text, at, LETTER_P) else {
+        return Opened::Misfit;
+    };
+    let Spelt::Spelled(cnf) = cnf_at(text, p) else {
+        return Opened::Misfit;
+    };
+    let Counted::Count {
+        value: n,
+        next: after,
+    } = number_at(text, cnf)
+    else {
+        return Opened::Misfit;
+    };
+    let Counted::Count {
+        value: announced,
+        next: last,
+    } = number_at(text, after)
+    else {
+        return Opened::Misfit;
+    };
+    let Ended::Next(next) = line_ended(text, last) else {
+        return Opened::Misfit;
+    };
+    Opened::Problem { n, announced, next }
+}

@@ -1,0 +1,2 @@
+pub mod Soles
+pub mod Places

@@ -1,0 +1,52 @@
+-- `walking::clause_start` meets its contract.
+use Prim.Native.Nat.{ℕ, _≤_, _<_, _-_}
+use mathlib.Core.Path.{_≡_, sym, ap, _∙_}
+use mathlib.Core.Logic.{_≢_, inl, inr, by-cases}
+use native.Mathlib.Decide.{ℕ-discrete}
+use native.Mathlib.Omega.{arith}
+use Rattle.terms.specs.Literals.{variableOf}
+use Rattle.formula.specs.Tables.{literalAt}
+use borrow.Author.Needs.{needs}
+use Rattle.walking.proofs.clause_start.Statement.{statement}
+use Rattle.walking.proofs.clause_start.Tie as tie
+
+abbrev Inv-loop : tie.InvT-loop
+Inv-loop clauses entry i₀ i = (i ≤ entry) × ((e : ℕ) → i ≤ e → e < entry → variableOf (literalAt clauses e) ≢ 0)
+
+abbrev μ-loop : tie.MeasureT-loop
+μ-loop clauses entry i₀ i = i
+
+loop-holds : tie.Need-loop-holds Inv-loop μ-loop
+loop-holds c = (omega arith, λ e l s. absurd (omega arith))
+
+sub-variable-at : tie.Need-sub-variable-at Inv-loop μ-loop
+sub-variable-at c = omega arith
+
+variable-at-requires : tie.Need-variable-at-requires Inv-loop μ-loop
+variable-at-requires c κs = search needs
+
+returns : tie.Need-returns Inv-loop μ-loop
+returns c =
+    let inv = c .before .before .before .before .loop .inv in
+    record { most = inv .0; literals = inv .1; opens = inr (sym (c .before .before .variable-at .ensures) ∙ c .if1 .taken) }
+
+sub-i : tie.Need-sub-i Inv-loop μ-loop
+sub-i c = omega arith
+
+loop-less : tie.Need-loop-less Inv-loop μ-loop
+loop-less c = omega arith
+
+loop-again : tie.Need-loop-again Inv-loop μ-loop
+loop-again c =
+    let a = c .before .before .before .before .before .args in
+    let i = c .before .before .before .before .loop .i in
+    let inv = c .before .before .before .before .loop .inv in
+    let high = inv .0 in
+    let literal : (e : ℕ) → e ≡ i - 1 → variableOf (literalAt (a .clauses .now) e) ≢ 0 = λ e s q. c .if1 .left (c .before .before .variable-at .ensures ∙ ap (λ j. variableOf (literalAt (a .clauses .now) j)) (sym s) ∙ q) in
+    (omega arith, λ e l g. by-cases (ℕ-discrete e (i - 1)) (literal e) (λ other. inv .1 e (omega arith) g))
+
+returns-2 : tie.Need-returns-2 Inv-loop μ-loop
+returns-2 c = let inv = c .before .loop .inv in record { most = inv .0; literals = inv .1; opens = inl (omega arith) }
+
+pub clause-start-spec : {M : Type 1} → statement M
+clause-start-spec = tie.close (tie.spec Inv-loop μ-loop loop-holds sub-variable-at variable-at-requires returns sub-i loop-less loop-again returns-2)
