@@ -1,6 +1,6 @@
 -- A clause put in as pairs around its deepest existential.
 use Prim.Native.Nat.{ℕ, zero, suc, _+_, _≤_, _<_, suc-le-suc}
-use mathlib.Core.Path.{_≡_, refl, sym, ap, subst}
+use mathlib.Core.Path.{_≡_, refl, sym, ap, _∙_, subst}
 use mathlib.Core.Bool.{true}
 use mathlib.Core.List.{List, [], _∷_, map, List·Memᴰ, List·Memᴰ·head, List·Memᴰ·tail, List·Memᴰ·cases-cons, List·Memᴰ·not-nil}
 use mathlib.Core.Logic.{⊎-elim, _≢_}
@@ -12,7 +12,7 @@ use lib.ListN.{length, getD}
 use Rattle.terms.specs.Literals.{variableOf}
 use Rattle.terms.proofs.Common.{below-suc}
 use Rattle.formula.specs.Tables.{literalAt}
-use Rattle.connection.specs.Reach.{Variables, From, Reach}
+use Rattle.connection.specs.Reach.{Variables, From, Reach, here}
 use Rattle.connection.specs.Growth.{Added, added}
 use Rattle.connection.proofs.Reach.{reach-one, reach-trans, reach-sym, reach-mono, from-less}
 use Rattle.connection.proofs.Represent.{Linked, linked-sym}
@@ -105,6 +105,19 @@ module _ {depths C₀ P₀ : List ℕ} {ls : List ℤ} {d : ℕ} {C P : List ℕ
         complete = j .complete;
         star = below-suc (λ e. X .ex (variableOf (literalAt ls e)) ≡ true → Reach (Linked X (table C P)) (From X (getD depths (variableOf (literalAt ls e)) 0)) d (variableOf (literalAt ls e))) i (j .star)
             (λ ex. absurd (omega (arith, deep-some depths (variableOf (literalAt ls i)) ex, ap (λ (w : ℕ). getD depths w 0) is)));
+      }
+
+  -- The deepest itself is passed over.
+  pub join-own : (v : ℕ) → i < length ls → v ≡ variableOf (literalAt ls i) → v ≡ d → Joining depths C₀ P₀ ls d C P (i + 1)
+  join-own v more is own =
+      rw (add-one i)
+      record {
+        within = more;
+        growing = j .growing;
+        sound = j .sound;
+        complete = j .complete;
+        star = below-suc (λ e. X .ex (variableOf (literalAt ls e)) ≡ true → Reach (Linked X (table C P)) (From X (getD depths (variableOf (literalAt ls e)) 0)) d (variableOf (literalAt ls e))) i (j .star)
+            (λ ex. subst (λ (w : ℕ). Reach (Linked X (table C P)) (From X (getD depths w 0)) d w) (sym own ∙ is) here);
       }
 
   pub join-one : {C′ P′ : List ℕ} (v : ℕ) → i < length ls → v ≡ variableOf (literalAt ls i) → getD depths v 0 ≢ 0 → Grew depths C P (d ∷ v ∷ []) C′ P′ → Joining depths C₀ P₀ ls d C′ P′ (i + 1)

@@ -38,7 +38,7 @@ fn deepest(depths: &[u32], clause: &[i32]) -> Variable
     Variable(found)
 }
 
-// Joins the chain of each existential of the clause to that of the deepest.
+// Joins the chain of each existential of the clause to that of the deepest, which is passed over: it is there already.
 fn join_all(
     depths: &[u32],
     classes: &mut [u32],
@@ -54,6 +54,8 @@ fn join_all(
         let variable = variable_at(clause, i);
         let here = depths[variable.0 as usize];
         if here == 0 {
+            i += 1;
+        } else if variable.0 == deep.0 {
             i += 1;
         } else {
             merge(depths, classes, parents, deep, variable);

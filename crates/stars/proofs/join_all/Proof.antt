@@ -4,7 +4,7 @@ use mathlib.Core.Path.{sym, _∙_}
 use native.Mathlib.Omega.{arith}
 use borrow.Author.Needs.{needs}
 use lib.ListN.{length}
-use Rattle.stars.proofs.Stars.{Joining, join-none, join-pending, join-skip, join-one, joined-all}
+use Rattle.stars.proofs.Stars.{Joining, join-none, join-pending, join-skip, join-own, join-one, joined-all}
 use Rattle.stars.proofs.join_all.Statement.{statement}
 use Rattle.stars.proofs.join_all.Tie as tie
 
@@ -38,9 +38,6 @@ loop-less c = omega arith
 loop-again : tie.Need-loop-again Inv-loop μ-loop
 loop-again c = join-skip (c .before .before .before .before .before .before .before .before .before .pre .2) (c .before .before .before .before .before .loop .inv) (c .before .before .before .variable-at .result .0) (c .before .before .before .before .loop-test .taken) (c .before .before .before .variable-at .ensures) (c .if1 .taken)
 
-merge-requires : tie.Need-merge-requires Inv-loop μ-loop
-merge-requires c κs = (c .before .before .before .before .before .before .before .loop .inv .growing, join-pending (c .before .before .before .before .before .before .before .before .before .before .before .pre .2) (c .before .before .before .before .before .before .before .loop .inv) (c .before .before .before .before .before .variable-at .result .0) (c .before .before .before .before .before .before .loop-test .taken) (c .before .before .before .before .before .variable-at .ensures) (c .before .before .if1 .left))
-
 add-i-2 : tie.Need-add-i-2 Inv-loop μ-loop
 add-i-2 c = omega arith
 
@@ -48,7 +45,19 @@ loop-less-2 : tie.Need-loop-less-2 Inv-loop μ-loop
 loop-less-2 c = omega arith
 
 loop-again-2 : tie.Need-loop-again-2 Inv-loop μ-loop
-loop-again-2 c = join-one (c .before .before .before .before .before .before .before .before .before .before .before .before .before .before .before .before .pre .2) (c .before .before .before .before .before .before .before .before .before .before .before .before .loop .inv) (c .before .before .before .before .before .before .before .before .before .before .variable-at .result .0) (c .before .before .before .before .before .before .before .before .before .before .before .loop-test .taken) (c .before .before .before .before .before .before .before .before .before .before .variable-at .ensures) (c .before .before .before .before .before .before .before .if1 .left) (c .before .before .before .before .merge .ensures)
+loop-again-2 c = join-own (c .before .before .before .before .before .before .before .before .before .before .before .before .pre .2) (c .before .before .before .before .before .before .before .before .loop .inv) (c .before .before .before .before .before .before .variable-at .result .0) (c .before .before .before .before .before .before .before .loop-test .taken) (c .before .before .before .before .before .before .variable-at .ensures) (c .if2 .taken)
+
+merge-requires : tie.Need-merge-requires Inv-loop μ-loop
+merge-requires c κs = (c .before .before .before .before .before .before .before .before .before .before .loop .inv .growing, join-pending (c .before .before .before .before .before .before .before .before .before .before .before .before .before .before .pre .2) (c .before .before .before .before .before .before .before .before .before .before .loop .inv) (c .before .before .before .before .before .before .before .before .variable-at .result .0) (c .before .before .before .before .before .before .before .before .before .loop-test .taken) (c .before .before .before .before .before .before .before .before .variable-at .ensures) (c .before .before .before .before .before .if1 .left))
+
+add-i-3 : tie.Need-add-i-3 Inv-loop μ-loop
+add-i-3 c = omega arith
+
+loop-less-3 : tie.Need-loop-less-3 Inv-loop μ-loop
+loop-less-3 c = omega arith
+
+loop-again-3 : tie.Need-loop-again-3 Inv-loop μ-loop
+loop-again-3 c = join-one (c .before .before .before .before .before .before .before .before .before .before .before .before .before .before .before .before .before .before .before .pre .2) (c .before .before .before .before .before .before .before .before .before .before .before .before .before .before .before .loop .inv) (c .before .before .before .before .before .before .before .before .before .before .before .before .before .variable-at .result .0) (c .before .before .before .before .before .before .before .before .before .before .before .before .before .before .loop-test .taken) (c .before .before .before .before .before .before .before .before .before .before .before .before .before .variable-at .ensures) (c .before .before .before .before .before .before .before .before .before .before .if1 .left) (c .before .before .before .before .merge .ensures)
 
 same-length : tie.Need-same-length Inv-loop μ-loop
 same-length c = c .before .loop .inv .growing .sizes .1 ∙ sym (c .before .before .before .before .before .pre .0 .sizes .1)
@@ -73,10 +82,13 @@ join-all-spec =
     add-i
     loop-less
     loop-again
-    merge-requires
     add-i-2
     loop-less-2
     loop-again-2
+    merge-requires
+    add-i-3
+    loop-less-3
+    loop-again-3
     same-length
     same-length-2
     returns)
