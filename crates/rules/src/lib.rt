@@ -3,4 +3,3 @@
 mod forests;
 pub mod running;
 mod tables;
-pub mod texts;

@@ -1,12 +1,12 @@
 // The round trip of a generated formula's text.
 
-use rules::texts::UNWRITTEN;
-use rules::texts::reads_as;
 use samples::parts::bytes;
 use samples::spelling::spell;
 use score::Score;
 use score::library;
 use spelling::Output;
+use texts::UNWRITTEN;
+use texts::reads_as;
 use wording::words::same_bytes;
 
 // How many bytes a call answers; 0, which no text has, where it refuses.

@@ -1,25 +1,22 @@
--- `rules::texts::put_meant` is safe and ends.
+-- `texts::put_filler` is safe and ends.
 use Prim.Native.Nat.{_-_}
 use mathlib.Core.Path.{_≡_}
 use lib.ListN.{length}
 use borrow.Author.Needs.{needs}
-use Rattle.rules.proofs.texts.put_meant.Statement.{statement}
-use Rattle.rules.proofs.texts.put_meant.Tie as tie
+use Rattle.texts.proofs.put_filler.Statement.{statement}
+use Rattle.texts.proofs.put_filler.Tie as tie
 
 abbrev Inv-loop : tie.InvT-loop
-Inv-loop out₀ from line at₀ i₀ out at i = length out ≡ length out₀
+Inv-loop out₀ from word times at₀ i₀ out at i = length out ≡ length out₀
 
 abbrev μ-loop : tie.MeasureT-loop
-μ-loop out₀ from line at₀ i₀ out at i = length line - i
+μ-loop out₀ from word times at₀ i₀ out at i = times - i
 
 loop-holds : tie.Need-loop-holds Inv-loop μ-loop
 loop-holds c = search needs
 
-shared-slice-read-meant : tie.Need-shared-slice-read-meant Inv-loop μ-loop
-shared-slice-read-meant c = search needs
-
-meant-requires : tie.Need-meant-requires Inv-loop μ-loop
-meant-requires c κs = search needs
+put-text-requires : tie.Need-put-text-requires Inv-loop μ-loop
+put-text-requires c κs = search needs
 
 put-byte-requires : tie.Need-put-byte-requires Inv-loop μ-loop
 put-byte-requires c κs = search needs
@@ -39,15 +36,14 @@ same-length c = search needs
 returns : tie.Need-returns Inv-loop μ-loop
 returns c = search needs
 
-pub put-meant-spec : {M : Type 1} → statement M
-put-meant-spec =
+pub put-filler-spec : {M : Type 1} → statement M
+put-filler-spec =
     tie.close
     (tie.spec
     Inv-loop
     μ-loop
     loop-holds
-    shared-slice-read-meant
-    meant-requires
+    put-text-requires
     put-byte-requires
     add-i
     loop-less

@@ -1,24 +1,21 @@
--- `rules::texts::unread` is safe and ends.
+-- `texts::unwritten` is safe and ends.
 use Prim.Native.Nat.{_-_}
 use lib.ListN.{length}
 use borrow.Author.Needs.{needs}
-use Rattle.rules.proofs.texts.unread.Statement.{statement}
-use Rattle.rules.proofs.texts.unread.Tie as tie
+use Rattle.texts.proofs.unwritten.Statement.{statement}
+use Rattle.texts.proofs.unwritten.Tie as tie
 
 abbrev Inv-loop : tie.InvT-loop
-Inv-loop table from i₀ i = Unit {0}
+Inv-loop text from i₀ i = Unit {0}
 
 abbrev μ-loop : tie.MeasureT-loop
-μ-loop table from i₀ i = length table - i
+μ-loop text from i₀ i = length text - i
 
 loop-holds : tie.Need-loop-holds Inv-loop μ-loop
 loop-holds c = search needs
 
-mul-if1 : tie.Need-mul-if1 Inv-loop μ-loop
-mul-if1 c = search needs
-
-shared-slice-copy-out-if1 : tie.Need-shared-slice-copy-out-if1 Inv-loop μ-loop
-shared-slice-copy-out-if1 c = search needs
+shared-slice-read-if1 : tie.Need-shared-slice-read-if1 Inv-loop μ-loop
+shared-slice-read-if1 c = search needs
 
 returns : tie.Need-returns Inv-loop μ-loop
 returns c = search needs
@@ -35,15 +32,14 @@ loop-again c = search needs
 returns-2 : tie.Need-returns-2 Inv-loop μ-loop
 returns-2 c = search needs
 
-pub unread-spec : {M : Type 1} → statement M
-unread-spec =
+pub unwritten-spec : {M : Type 1} → statement M
+unwritten-spec =
     tie.close
     (tie.spec
     Inv-loop
     μ-loop
     loop-holds
-    mul-if1
-    shared-slice-copy-out-if1
+    shared-slice-read-if1
     returns
     add-i
     loop-less
