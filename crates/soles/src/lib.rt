@@ -41,7 +41,7 @@ pub fn sole_point(
     }
 }
 
-// The sole top that both signs of x have. Where one has none there is none, whatever the other has.
+// The sole top that both signs of x have. Where the negation has none there is none, and the clauses that have x itself are not looked at.
 fn sole_both(
     n: u32,
     clauses: &[i32],
@@ -53,29 +53,28 @@ fn sole_both(
     requires { ⌜ Tied (now clauses) (now first) (now next) (x .0) ⌝ }
     ensures { λ r. ⌜ SoleOf r (λ e. Takes Strict (λ sign. Via n (now (tops .entry)) (Together (now (clauses .entry)) sign (x .0)) e)) ⌝ }
 {
-    let positive = sole_along(Signs::Positive, n, clauses, first, next, x, tops);
-    let negative = sole_along(Signs::Negative, n, clauses, first, next, x, tops);
-    match positive {
-        Sole::Several => match negative {
+    match sole_along(Signs::Negative, n, clauses, first, next, x, tops) {
+        Sole::Several => match sole_along(Signs::Positive, n, clauses, first, next, x, tops) {
             Sole::Several => Sole::Several,
-            Sole::Top(other) => if other.0 == 0 {
-                Sole::Top(other)
-            } else {
-                Sole::Several
-            },
-        },
-        Sole::Top(one) => match negative {
-            Sole::Several => if one.0 == 0 {
+            Sole::Top(one) => if one.0 == 0 {
                 Sole::Top(one)
             } else {
                 Sole::Several
             },
-            Sole::Top(other) => if one.0 == other.0 {
-                Sole::Top(one)
-            } else {
-                Sole::Top(Variable::new(0))
-            },
         },
+        Sole::Top(other) => {
+            if other.0 == 0 {
+                return Sole::Top(other);
+            }
+            match sole_along(Signs::Positive, n, clauses, first, next, x, tops) {
+                Sole::Several => Sole::Several,
+                Sole::Top(one) => if one.0 == other.0 {
+                    Sole::Top(one)
+                } else {
+                    Sole::Top(Variable::new(0))
+                },
+            }
+        }
     }
 }
 
