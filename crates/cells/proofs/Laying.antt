@@ -1,9 +1,9 @@
 -- How an answer stands in cells whose parts are laid out one by one.
 use Prim.Native.Nat.{ℕ}
-use mathlib.Core.Path.{_≡_, sym, ap, subst, _∙_}
+use mathlib.Core.Path.{_≡_, ap, subst, _∙_}
 use mathlib.Core.List.{List}
 use Rattle.terms.specs.declared.Tally.{Tally}
-use Rattle.cells.specs.Cells.{Said, gives, refuses, Laid, given, placed, TallyLaid, builtSaid, addedSaid}
+use Rattle.cells.specs.Cells.{Said, Laid, given, placed, TallyLaid, builtSaid, addedSaid}
 
 -- four cells, of which the last was told by a function
 abbrev four : ℕ → ℕ → ℕ → ℕ → ℕ × ℕ × ℕ × ℕ

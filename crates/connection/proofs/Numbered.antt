@@ -8,7 +8,7 @@ use native.Mathlib.Decide.{ℕ-discrete}
 use native.Mathlib.Numerals.{add-one}
 use native.Mathlib.Omega.{arith}
 use lib.ListN.{length}
-use Rattle.connection.specs.Listed.{Ascending, Listed}
+use Rattle.connection.specs.Listed.{Ascending}
 use Rattle.connection.specs.Counts.{Numbered, how-many}
 use Rattle.connection.proofs.Listed.{listed-one, listed-most, insert}
 

@@ -7,7 +7,7 @@ use formula::clauses::next_zero;
 use formula::truth::always_true;
 use terms::Literal;
 use terms::Variable;
-ghost use Prim.Native.Nat.{ℕ, _+_, _≤_};
+ghost use Prim.Native.Nat.{_+_, _≤_};
 ghost use mathlib.Core.Path.{_≡_};
 ghost use mathlib.Core.Bool.{_||_};
 ghost use mathlib.Core.List.{[], _∷_, _++_, map};

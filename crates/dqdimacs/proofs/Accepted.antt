@@ -1,7 +1,7 @@
 -- Tables that the check of lists accepts can be written, and read back as they are lent, under either rule.
 use Prim.Native.Nat.{ℕ, zero, suc, _+_, _≤_, _<_}
 use mathlib.Core.Path.{_≡_, refl, sym, subst}
-use mathlib.Core.Bool.{Bool, true, false}
+use mathlib.Core.Bool.{true, false}
 use mathlib.Core.List.{List, _∷_}
 use mathlib.Core.Logic.{_≢_, inl, inr, ⊎-elim}
 use native.Mathlib.Decide.{ℕ-discrete}
@@ -16,7 +16,7 @@ use Rattle.formula.specs.Tables.{at, opens}
 use Rattle.formula.proofs.Scanned.{open-end}
 use Rattle.tables.specs.Formula.{universal}
 use Rattle.tables.proofs.Agreeing.{universal-within}
-use Rattle.joining.specs.Rules.{readAs, checkOrderUnder}
+use Rattle.joining.specs.Rules.{checkOrderUnder}
 use Rattle.joining.proofs.Orders.{limits}
 use Rattle.joining.proofs.Passing.{by-test}
 use Rattle.spelling.specs.declared.Output.the-variants.{Written}

@@ -1,6 +1,6 @@
 -- A text of QDIMACS is one of DQDIMACS without lists, and the other way round; and a text without list lines has the same faults by both.
 use Prim.Native.Nat.{ℕ}
-use mathlib.Core.Path.{_≡_, refl, sym, ap, _∙_, subst}
+use mathlib.Core.Path.{_≡_, refl, sym, _∙_, subst}
 use mathlib.Core.Bool.{Bool, true, false, true≢false}
 use mathlib.Core.List.{List, [], _∷_, _++_}
 use mathlib.Core.Logic.{_↔_}
@@ -10,7 +10,7 @@ use Rattle.grammar.specs.declared.Stage.{Stage}
 use Rattle.tokens.specs.Words.{LF, pieces}
 use Rattle.grammar.specs.Grammar.{Lines, TextOf, Fault, FaultIn}
 use Rattle.tokens.specs.Places.{front}
-use Rattle.dqdimacs.specs.Grammar.{ListLine, d-line, ListedLine, a-line, a-list, ListedLines, ListedText, ListedFault, ListedFaultIn}
+use Rattle.dqdimacs.specs.Grammar.{ListLine, d-line, a-line, a-list, ListedLines, ListedText, ListedFault, ListedFaultIn}
 use Rattle.dqdimacs.proofs.Faults.{fault-plain, empty-line}
 
 -- nothing in front and nothing behind

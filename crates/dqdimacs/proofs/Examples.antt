@@ -1,17 +1,16 @@
 -- Small texts by hand: one with a list, `d 0`, which is 16, and a quantifier line after a list line, which is 16.
 use Prim.Native.Nat.{ℕ}
 use mathlib.Core.Path.{_≡_, refl, sym}
-use mathlib.Core.Bool.{Bool, true, false, true≢false}
+use mathlib.Core.Bool.{true, false, true≢false}
 use mathlib.Core.List.{List, [], _∷_, _++_}
 use mathlib.Core.Option.{Option, some}
 use native.Mathlib.Omega.{arith}
-use lib.IntN.{ℤ, pos, negℤ}
-use Rattle.grammar.specs.declared.Stage.{Stage}
+use lib.IntN.{pos, negℤ}
 use Rattle.grammar.specs.declared.Stage.the-variants.{Opening, Body}
 use Rattle.tokens.specs.Words.{onto, pieces, filled, words, allDigits, spelt, isNumber, numberOf, plainItem, negatedItem, itemOf, prepend, closed, entry, entriesOf}
-use Rattle.grammar.specs.Grammar.{variables, Line, p-cnf, QuantifierLine, literals-line, the-problem, a-block, a-clause}
+use Rattle.grammar.specs.Grammar.{Line, p-cnf, QuantifierLine, literals-line, the-problem, a-block, a-clause}
 use Rattle.qdimacs.proofs.Unique.{many-stuck}
-use Rattle.dqdimacs.specs.Grammar.{ListLine, d-line, ListedLine, a-line, a-list, ListedLines, no-line, one-more, ListedText, ListedFault, outside, ListedFaultIn}
+use Rattle.dqdimacs.specs.Grammar.{ListLine, d-line, a-line, a-list, no-line, one-more, ListedText, outside, ListedFaultIn}
 use Rattle.dqdimacs.proofs.Letters.{list-none, d-many}
 use Rattle.dqdimacs.proofs.Faults.{no-listed, late-none}
 

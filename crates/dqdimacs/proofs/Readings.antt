@@ -1,5 +1,5 @@
 -- The laws of read's answers: what a scan finds is the first cause in read's order, or that there is none.
-use Prim.Native.Nat.{ℕ, _+_, _<_, _≤_}
+use Prim.Native.Nat.{ℕ, _+_, _≤_}
 use mathlib.Core.Path.{_≡_, sym, ap, _∙_, subst}
 use mathlib.Core.List.{List, _++_}
 use mathlib.Core.Logic.{inl, inr}
@@ -8,7 +8,7 @@ use native.Mathlib.Nat.{zero-add}
 use lib.ListN.{length, take, drop}
 use lib.Seq.{sets-eq, take-at, drop-at}
 use lib.IntN.{ℤ}
-use Rattle.terms.specs.Refusals.{First, FirstOf, None, NoneOf}
+use Rattle.terms.specs.Refusals.{FirstOf, None, NoneOf}
 use Rattle.spelling.specs.Texts.{TEXT-MOST}
 use Rattle.spelling.proofs.Outputs.{not-overlong}
 use Rattle.dqdimacs.specs.declared.Reading.{Reading}

@@ -1,5 +1,5 @@
 -- The records of a file, put together from the runs of bytes that are stored for each.
-use Prim.Native.Nat.{ℕ, _+_, _*_, _-_, _<_, _≤_, _%_}
+use Prim.Native.Nat.{ℕ, _+_, _*_, _<_, _≤_, _%_}
 use mathlib.Core.Path.{_≡_, sym, ap, _∙_, subst}
 use mathlib.Core.List.{List, _∷_, _++_, append-assoc, map}
 use native.Mathlib.Omega.{arith}

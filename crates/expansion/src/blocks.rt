@@ -4,8 +4,6 @@ use copying::stores::copy_at;
 use copying::stores::store_entry;
 use terms::Variable;
 ghost use Prim.Native.Nat.{ℕ, _≤_};
-ghost use mathlib.Core.Path.{_≡_};
-ghost use mathlib.Core.List.{[]};
 ghost use Rattle.formula.specs.Levels.{SoundPrefix};
 ghost use Rattle.joining.specs.Writing.{closing};
 ghost use Rattle.copying.specs.Expansion.{withCopy, expandedPrefix};

@@ -1,7 +1,7 @@
 -- The entry points and the set of x, by the entries of all variables; and that nothing is lost from the level table to the prefix.
 use Prim.Native.Nat.{ℕ, _≤_, _<_}
 use mathlib.Core.Path.{_≡_, refl, sym, ap, _∙_, subst}
-use mathlib.Core.Bool.{Bool, true, false, not}
+use mathlib.Core.Bool.{Bool, true, false}
 use mathlib.Core.List.{List}
 use mathlib.Core.Logic.{_≢_, inl, inr, ⊎-elim, _↔_}
 use native.Mathlib.Decide.{decLt}

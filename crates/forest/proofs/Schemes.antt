@@ -1,27 +1,21 @@
 -- What a scheme takes of the two signs of x: of their flags, and so of the entry points.
-use Prim.Native.Nat.{ℕ, _+_, _-_, _≤_, _<_}
-use mathlib.Core.Path.{_≡_, refl, sym, ap, _∙_, subst}
-use mathlib.Core.Bool.{Bool, true, false, cond, not-eq-not}
+use Prim.Native.Nat.{ℕ}
+use mathlib.Core.Path.{_≡_}
+use mathlib.Core.Bool.{Bool, true, false}
 use mathlib.Core.List.{List}
-use mathlib.Core.Logic.{_≢_, inl, inr, ⊎-elim, _↔_, by-cases}
-use native.Mathlib.Decide.{decLe}
-use native.Mathlib.Omega.{arith}
+use mathlib.Core.Logic.{⊎-elim, _↔_}
 use lib.IntN.{ℤ}
-use lib.ListN.{length, getD, set, length-set, List·getD-eq-default}
 use Rattle.terms.specs.declared.Verdict.the-variants.{Accepted}
-use Rattle.terms.proofs.Common.{clash}
 use Rattle.formula.specs.Meaning.{level}
-use Rattle.connection.specs.Tables.{row, lent, WellFormed, EntryPointOf}
+use Rattle.connection.specs.Tables.{lent, WellFormed, EntryPointOf}
 use Rattle.connection.proofs.Strict.{strict-entry-within}
-use Rattle.marks.specs.declared.Signs.{Signs}
 use Rattle.terms.specs.declared.Scheme.{Scheme}
 use Rattle.tables.specs.Formula.{variables, Shares, SharesBy}
 use Rattle.forest.specs.Answers.{EntriesBy}
 use Rattle.tables.specs.Counting.{FormedBy}
 use Rattle.searching.specs.Search.{EntryRows, TopRows}
-use Rattle.marks.specs.Flags.{By, Flagged, Takes, Via, Blank, ifFlagged, Entering}
+use Rattle.marks.specs.Flags.{Takes, Via, Entering}
 use Rattle.forest.specs.Wanted.{Enters}
-use Rattle.tables.proofs.Readings.{row-none, row-over, row-stored, row-kept}
 use Rattle.searching.proofs.Climbing.{tops-entries}
 use Rattle.marks.proofs.Flags.{via-as, via-or}
 use Rattle.tables.proofs.Agreeing.{lawful}

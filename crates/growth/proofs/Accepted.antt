@@ -1,19 +1,17 @@
 -- What acceptance gives the inner functions, and how the orders of build and add are judged.
-use Prim.Native.Nat.{ℕ, _+_, _≤_, _<_}
-use mathlib.Core.Path.{_≡_, refl, sym, _∙_}
+use Prim.Native.Nat.{ℕ}
+use mathlib.Core.Path.{_≡_, refl}
 use mathlib.Core.List.{List, [], _∷_}
-use mathlib.Core.Logic.{_⊎_, inl, inr, ⊎-elim, _≢_, by-cases}
+use mathlib.Core.Logic.{_⊎_, inl, inr, ⊎-elim, by-cases}
 use native.Mathlib.Decide.{decLt}
-use native.Mathlib.Numerals.{add-one}
 use native.Mathlib.Omega.{arith}
 use lib.IntN.{ℤ}
 use lib.ListN.{length}
 use Rattle.terms.specs.Literals.{variableOf}
-use Rattle.terms.specs.Refusals.{None, First, NoneOf, Judged, At0}
+use Rattle.terms.specs.Refusals.{None, NoneOf, Judged, At0}
 use Rattle.terms.specs.declared.Verdict.{Verdict}
 use Rattle.terms.specs.declared.Verdict.the-variants.{Accepted, Refused}
-use Rattle.terms.proofs.Common.{below-suc}
-use Rattle.terms.proofs.Verdicts.{first-at, at0-first, at0-none, refused-first, accepted-then}
+use Rattle.terms.proofs.Verdicts.{at0-first, at0-none, refused-first, accepted-then}
 use Rattle.formula.specs.Causes.{checkOrder}
 use Rattle.formula.specs.Levels.{SoundPrefix}
 use Rattle.formula.specs.Tables.{literalAt}

@@ -1,18 +1,16 @@
 -- What build and add promise: the order in which each looks for refusals, and what it leaves in the lent rows and in the tally.
-use Prim.Native.Nat.{ℕ, _+_, _-_, _≤_, _<_}
+use Prim.Native.Nat.{ℕ, _+_, _-_, _<_}
 use mathlib.Core.Path.{_≡_}
 use mathlib.Core.List.{List, [], _∷_, _++_}
-use mathlib.Core.Logic.{_⊎_, _≢_}
+use mathlib.Core.Logic.{_⊎_}
 use lib.IntN.{ℤ, pos}
 use lib.ListN.{length}
 use Rattle.terms.specs.Answers.{verdictOf}
-use Rattle.terms.specs.Literals.{variableOf}
 use Rattle.terms.specs.Refusals.{Causes, At0, Judged}
 use Rattle.terms.specs.declared.Filled.{Filled}
 use Rattle.terms.specs.declared.Filled.the-variants.{Count, Refused}
-use Rattle.formula.specs.Causes.{prefixOrder, checkOrder}
+use Rattle.formula.specs.Causes.{checkOrder}
 use Rattle.formula.specs.Meaning.{clauses, connected}
-use Rattle.formula.specs.Tables.{literalAt}
 use Rattle.tables.specs.Causes.{ForestCause}
 use Rattle.tables.specs.Formula.{variables, Shares}
 use Rattle.connection.specs.Reach.{Variables, Joined}

@@ -1,6 +1,6 @@
 -- The resolution-path set lies within the strict set: a path from a literal of x leads, clause by clause, along steps that the strict scheme takes.
 use Prim.Native.Nat.{ℕ}
-use mathlib.Core.Path.{_≡_, sym, subst}
+use mathlib.Core.Path.{sym, subst}
 use mathlib.Core.Bool.{Bool, true, false, not}
 use mathlib.Core.List.{List, List·Memᴰ, Memᴰ·map}
 use native.Mathlib.Omega.{arith}

@@ -1,7 +1,6 @@
 -- What each call that takes a rule number promises (document 02, request 7): refusals 23, 1, 2 and those of the prefix by the rule, and then all
 -- that the call promises of the prefix as the rule reads it.
 use Prim.Native.Nat.{ℕ}
-use mathlib.Core.Path.{_≡_}
 use mathlib.Core.List.{List, _++_}
 use lib.IntN.{ℤ}
 use lib.ListN.{length}

@@ -1,13 +1,13 @@
 -- The pass over all universals: what is written or counted for one joins what was before, and there is room for it.
 use Prim.Native.Nat.{ℕ, _+_, _*_, _≤_, _<_}
 use mathlib.Core.Path.{_≡_, refl, sym, ap, _∙_, subst₂}
-use mathlib.Core.Bool.{Bool, true, false, cond, not-eq-not}
+use mathlib.Core.Bool.{Bool, true, false, cond}
 use mathlib.Core.List.{List, [], _∷_, _++_}
 use mathlib.Core.Logic.{inl, inr, ⊎-elim}
 use native.Mathlib.Nat.{mul-le-mul-right}
 use native.Mathlib.Omega.{arith}
 use lib.IntN.{ℤ}
-use lib.ListN.{length, getD, length-append}
+use lib.ListN.{length, length-append}
 use lib.Seq.{sets, length-sets}
 use Rattle.terms.specs.Refusals.{Causes, At0, FirstOf, None, NoneOf, Judged}
 use Rattle.terms.specs.declared.Verdict.{Verdict}
@@ -25,9 +25,9 @@ use Rattle.tables.specs.Formula.{variables, universal, SharesBy}
 use Rattle.tables.specs.Causes.{ForestCause}
 use Rattle.forest.specs.Answers.{MembersBy}
 use Rattle.forest.specs.Listed.{Filling}
-use Rattle.searching.specs.Search.{TopRows, Topless}
+use Rattle.searching.specs.Search.{TopRows}
 use Rattle.marks.specs.Flags.{Takes, Via, Entering}
-use Rattle.picking.specs.Picked.{pick, picked, NoneUpto}
+use Rattle.picking.specs.Picked.{pick, picked}
 use Rattle.sets.specs.Sets.{AllSetsBy, SetsTooLongBy}
 use Rattle.threads.specs.Threads.{Closed, Together, EnteredBy}
 use Rattle.oneset.specs.Put.{PutSet, RoomFor}

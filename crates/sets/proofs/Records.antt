@@ -1,5 +1,5 @@
 -- Laws of the list of all sets: there is one, its parts are no longer than it, it is never longer than n records of n members each, and it is stored record by record.
-use Prim.Native.Nat.{ℕ, zero, suc, _+_, _-_, _*_, _≤_, _<_}
+use Prim.Native.Nat.{ℕ, zero, suc, _+_, _*_, _≤_}
 use mathlib.Core.Path.{_≡_, refl, sym, ap, ap₂, _∙_, subst}
 use mathlib.Core.Bool.{Bool, true, false, cond}
 use mathlib.Core.List.{List, [], _∷_, _++_, append-nil, append-assoc}
@@ -7,8 +7,8 @@ use mathlib.Core.Logic.{_↔_, by-cases}
 use native.Mathlib.Decide.{ℕ-discrete}
 use native.Mathlib.Numerals.{add-one}
 use native.Mathlib.Omega.{arith}
-use lib.ListN.{length, set, length-append}
-use lib.Seq.{sets, set-comm}
+use lib.ListN.{length, length-append}
+use lib.Seq.{sets}
 use Rattle.terms.proofs.Common.{sets-append}
 use Rattle.connection.specs.Listed.{Listed}
 use Rattle.connection.proofs.Listed.{listed-one, listed-most}

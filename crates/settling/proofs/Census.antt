@@ -8,7 +8,7 @@ use native.Mathlib.Omega.{arith}
 use borrow.Author.Tests.{eq-eqb, ne-eqb}
 use lib.ListN.{getD}
 use Rattle.connection.specs.Reach.{Variables, Lawful}
-use Rattle.connection.specs.Tables.{Table, row, lent, WellFormed}
+use Rattle.connection.specs.Tables.{Table, lent, WellFormed}
 use Rattle.connection.specs.Counts.{how-many, names}
 use Rattle.connection.proofs.Numbered.{how-many-next}
 use Rattle.connection.proofs.Rows.{row-at}

@@ -10,7 +10,7 @@ use lib.ListN.{length, getD, set, length-set}
 use lib.Seq.{getD-set-same, getD-set-other}
 use Rattle.terms.proofs.Common.{below-suc}
 use Rattle.connection.specs.Reach.{Variables}
-use Rattle.connection.specs.Tables.{Table, row, lent}
+use Rattle.connection.specs.Tables.{Table, row}
 use Rattle.connection.specs.Counts.{Numbered, Within, Counted}
 use Rattle.connection.proofs.Rows.{row-at, row-out}
 use Rattle.tables.specs.Counting.{CountsOf}

@@ -8,7 +8,7 @@ use native.Mathlib.Decide.{ℕ-discrete, decLe}
 use native.Mathlib.Omega.{arith}
 use lib.Dec.{leb}
 use lib.ListN.{getD}
-use Rattle.terms.specs.Refusals.{Causes, None}
+use Rattle.terms.specs.Refusals.{None}
 use Rattle.terms.proofs.Common.{clash}
 use Rattle.formula.specs.Meaning.{level, isUniversal, isExistential}
 use Rattle.formula.specs.Levels.{SoundPrefix, Levelled}

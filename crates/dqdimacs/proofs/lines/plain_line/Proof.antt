@@ -1,6 +1,5 @@
 -- `dqdimacs::lines::plain_line` meets its contract.
 use mathlib.Core.Path.{subst}
-use mathlib.Core.Bool.{Bool}
 use Rattle.grammar.specs.declared.Step.{Step}
 use Rattle.grammar.specs.Steps.{StepIs}
 use Rattle.dqdimacs.specs.Steps.{LateIs}

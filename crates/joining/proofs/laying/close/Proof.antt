@@ -1,5 +1,4 @@
 -- `joining::laying::close` meets its contract.
-use native.Mathlib.Omega.{arith}
 use borrow.Author.Needs.{needs}
 use Rattle.joining.proofs.Written.{put-nothing, put-zero}
 use Rattle.joining.proofs.laying.close.Statement.{statement}
