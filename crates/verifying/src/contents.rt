@@ -157,7 +157,7 @@ fn rows_hold(file: &[u8], classes: &[u32], parents: &[u32], counts: &[u32]) -> b
     same_numbers(file, 4, behind + 4 * parents.len(), counts)
 }
 
-// Whether the record of kind 4 has just the sets of the formula. A list longer than the table is longer than any file.
+// Whether the record of kind 4 has just the sets of the formula.
 fn sets_hold(
     rule: u32,
     file: &[u8],
@@ -173,6 +173,35 @@ fn sets_hold(
     ensures { λ r. ⌜ Tells r (RightSets rule (now (file .entry))) ⌝ }
 {
     let mut list = [0u32; 131072];
+    listed_hold(
+        rule,
+        file,
+        n,
+        prefix,
+        clauses,
+        classes,
+        parents,
+        counts,
+        &mut list,
+    )
+}
+
+// The same, with a table for the sets: a list that is longer than the table is longer than any file.
+fn listed_hold(
+    rule: u32,
+    file: &[u8],
+    n: u32,
+    prefix: &[u32],
+    clauses: &[i32],
+    classes: &[u32],
+    parents: &[u32],
+    counts: &[u32],
+    list: &mut [u32],
+) -> bool
+    requires { ⌜ Laid (now file) × HeldIn (now file) n (now prefix) (now clauses) × NoneOf (checkOrderUnder rule n (now prefix) (now clauses)) ⌝ }
+    requires { ⌜ ForestRows n (readAs rule (now prefix)) (now clauses) (now classes) (now parents) (now counts) × (length (now list) ≡ 131072) ⌝ }
+    ensures { λ r. ⌜ Tells r (RightSets rule (now (file .entry))) ⌝ }
+{
     match ruled::asking::sets_by(
         rule,
         Scheme::Standard,
@@ -182,7 +211,7 @@ fn sets_hold(
         classes,
         parents,
         counts,
-        &mut list,
+        list,
     ) {
         Filled::Refused(_, _) => false,
         Filled::Count(count) => {

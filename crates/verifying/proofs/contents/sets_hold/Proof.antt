@@ -1,102 +1,18 @@
 -- `verifying::contents::sets_hold` meets its contract.
 use Prim.Native.Nat.{ℕ}
-use mathlib.Core.Path.{sym, ap, _∙_, subst}
-use mathlib.Core.List.{List}
-use native.Mathlib.Omega.{arith}
-use lib.IntN.{ℤ}
-use lib.ListN.{length, take, replicate, length-replicate}
-use lib.Seq.{length-take-le, length-sets}
-use Rattle.joining.specs.Rules.{readAs}
-use Rattle.ruled.specs.Calls.{SetsUnder}
-use Rattle.terms.specs.declared.Scheme.the-variants.{Standard}
-use Rattle.records.specs.Layout.{StandardSets}
-use Rattle.records.specs.Places.{fourthAt, Holds}
-use Rattle.tables.specs.Rows.{Tells}
-use Rattle.records.proofs.Short.{take-stored}
-use Rattle.verifying.proofs.Agreement.{tells-iff}
-use Rattle.verifying.proofs.OwnForest.{sets-written, sets-unwritten}
-use Rattle.verifying.proofs.Disagree.{held-to, right-sets, long-sets}
+use lib.ListN.{length-replicate}
 use borrow.Author.Needs.{needs}
 use Rattle.verifying.proofs.contents.sets_hold.Statement.{statement}
 use Rattle.verifying.proofs.contents.sets_hold.Tie as tie
 
-slice-aggregate-sets-by : tie.Need-slice-aggregate-sets-by
-slice-aggregate-sets-by c = search needs
+slice-aggregate-listed-hold : tie.Need-slice-aggregate-listed-hold
+slice-aggregate-listed-hold c = search needs
 
-sets-by-requires : tie.Need-sets-by-requires
-sets-by-requires c κs = search needs
-
-enum-told : tie.Need-enum-told
-enum-told c = search needs
-
-enum-known-count : tie.Need-enum-known-count
-enum-known-count c = search needs
-
-cast-many : tie.Need-cast-many
-cast-many c = search needs
-
-array-share-prefix-list : tie.Need-array-share-prefix-list
-array-share-prefix-list c =
-    let a = c .before .before .before .before .before .before .before .before .before .before .before .args in
-    let after = c .before .before .before .before .sets-by .last .1 .1 .1 .1 .1 .1 .1 .1 .0 in
-    let told′ = subst (SetsUnder (a .rule) Standard (a .n) (a .prefix .now) (a .clauses .now) (a .classes .now) (a .parents .now) (a .counts .now) (replicate 131072 0) after) (c .before .count .given .1) (c .before .before .before .before .sets-by .ensures) in
-    let (list, standard, is, stored, fits) = sets-written (a .rule) (a .n) (a .prefix .now) (a .clauses .now) (c .before .before .before .before .before .before .before .before .before .before .before .pre .0 .2) (c .before .before .before .before .before .before .before .before .before .before .before .pre .1) (replicate 131072 0) after _ told′ in
-    let full = length-replicate {A = ℕ} 131072 0 in
-    let size = ap length stored ∙ length-sets (replicate 131072 0) 0 list in
-    omega arith
-
-slice-aggregate-list-holds : tie.Need-slice-aggregate-list-holds
-slice-aggregate-list-holds c =
-    let a = c .before .before .before .before .before .before .before .before .before .before .before .before .args in
-    let after = c .before .before .before .before .before .sets-by .last .1 .1 .1 .1 .1 .1 .1 .1 .0 in
-    let told′ = subst (SetsUnder (a .rule) Standard (a .n) (a .prefix .now) (a .clauses .now) (a .classes .now) (a .parents .now) (a .counts .now) (replicate 131072 0) after) (c .before .before .count .given .1) (c .before .before .before .before .before .sets-by .ensures) in
-    let (list, standard, is, stored, fits) = sets-written (a .rule) (a .n) (a .prefix .now) (a .clauses .now) (c .before .before .before .before .before .before .before .before .before .before .before .before .pre .0 .2) (c .before .before .before .before .before .before .before .before .before .before .before .before .pre .1) (replicate 131072 0) after _ told′ in
-    let full = length-replicate {A = ℕ} 131072 0 in
-    let size = ap length stored ∙ length-sets (replicate 131072 0) 0 list in
-    sym (length-take-le _ after (omega arith))
-
-list-holds-requires : tie.Need-list-holds-requires
-list-holds-requires c κs =
-    let a = c .before .before .before .before .before .before .before .before .before .before .before .before .args in
-    let after = c .before .before .before .before .before .sets-by .last .1 .1 .1 .1 .1 .1 .1 .1 .0 in
-    let told′ = subst (SetsUnder (a .rule) Standard (a .n) (a .prefix .now) (a .clauses .now) (a .classes .now) (a .parents .now) (a .counts .now) (replicate 131072 0) after) (c .before .before .count .given .1) (c .before .before .before .before .before .sets-by .ensures) in
-    let (list, standard, is, stored, fits) = sets-written (a .rule) (a .n) (a .prefix .now) (a .clauses .now) (c .before .before .before .before .before .before .before .before .before .before .before .before .pre .0 .2) (c .before .before .before .before .before .before .before .before .before .before .before .before .pre .1) (replicate 131072 0) after _ told′ in
-    let full = length-replicate {A = ℕ} 131072 0 in
-    let size = ap length stored ∙ length-sets (replicate 131072 0) 0 list in
-    let short = length-take-le (c .before .before .count .given .0 .0) after (omega arith) in
-    (c .before .before .before .before .before .before .before .before .before .before .before .before .pre .0 .0, omega arith)
+listed-hold-requires : tie.Need-listed-hold-requires
+listed-hold-requires c κs = let pre = c .before .before .before .before .before .before .pre in (pre .0, (pre .1, length-replicate {A = ℕ} 131072 0))
 
 returns : tie.Need-returns
-returns c =
-    let a = c .before .before .before .before .before .before .before .before .before .before .args in
-    let after = c .before .before .before .sets-by .last .1 .1 .1 .1 .1 .1 .1 .1 .0 in
-    let told′ = subst (SetsUnder (a .rule) Standard (a .n) (a .prefix .now) (a .clauses .now) (a .classes .now) (a .parents .now) (a .counts .now) (replicate 131072 0) after) (c .enum-told .given .1) (c .before .before .before .sets-by .ensures) in
-    let (list, standard, long) = sets-unwritten (a .rule) (a .n) (a .prefix .now) (a .clauses .now) (c .before .before .before .before .before .before .before .before .before .before .pre .0 .2) (c .before .before .before .before .before .before .before .before .before .before .pre .1) (replicate 131072 0) after _ _ told′ in
-    let full = length-replicate {A = ℕ} 131072 0 in
-    long-sets (a .rule) (a .file .now) list (c .before .before .before .before .before .before .before .before .before .before .pre .0 .0) (held-to (c .before .before .before .before .before .before .before .before .before .before .pre .0 .1) (λ (m : ℕ) (e : List ℕ) (l : List ℤ). StandardSets m (readAs (a .rule) e) l list) standard) (omega arith)
-
-returns-2 : tie.Need-returns-2
-returns-2 c =
-    let a = c .before .before .before .before .before .before .before .before .before .before .before .before .before .args in
-    let after = c .before .before .before .before .before .before .sets-by .last .1 .1 .1 .1 .1 .1 .1 .1 .0 in
-    let told′ = subst (SetsUnder (a .rule) Standard (a .n) (a .prefix .now) (a .clauses .now) (a .classes .now) (a .parents .now) (a .counts .now) (replicate 131072 0) after) (c .before .before .before .count .given .1) (c .before .before .before .before .before .before .sets-by .ensures) in
-    let (list, standard, is, stored, fits) = sets-written (a .rule) (a .n) (a .prefix .now) (a .clauses .now) (c .before .before .before .before .before .before .before .before .before .before .before .before .before .pre .0 .2) (c .before .before .before .before .before .before .before .before .before .before .before .before .before .pre .1) (replicate 131072 0) after _ told′ in
-    let full = length-replicate {A = ℕ} 131072 0 in
-    let same = ap (take (c .before .before .before .count .given .0 .0)) stored ∙ take-stored (replicate 131072 0) list (c .before .before .before .count .given .0 .0) is fits in
-    tells-iff (c .list-holds .result) (right-sets (a .rule) (a .file .now) list (held-to (c .before .before .before .before .before .before .before .before .before .before .before .before .before .pre .0 .1) (λ (m : ℕ) (e : List ℕ) (l : List ℤ). StandardSets m (readAs (a .rule) e) l list) standard))
-    (subst (λ (xs : List ℕ). Tells (c .list-holds .result) (Holds 2 (a .file .now) (fourthAt (a .file .now)) xs)) same (c .list-holds .ensures))
+returns c = c .before .listed-hold .ensures
 
 pub sets-hold-spec : {M : Type 1} → statement M
-sets-hold-spec =
-    tie.close
-    (tie.spec
-    slice-aggregate-sets-by
-    sets-by-requires
-    enum-told
-    enum-known-count
-    cast-many
-    array-share-prefix-list
-    slice-aggregate-list-holds
-    list-holds-requires
-    returns
-    returns-2)
+sets-hold-spec = tie.close (tie.spec slice-aggregate-listed-hold listed-hold-requires returns)
