@@ -23,8 +23,8 @@ pub fn class_rows(n: u32, clauses: &[i32], rows: &mut [u32])
     let mut classes = [0u32; 4097];
     let mut parents = [0u32; 4097];
     load(n, rows, &mut depths);
-    singles(&depths, &mut classes, &mut parents);
+    singles(n, &depths, &mut classes, &mut parents);
     put_all(&depths, &mut classes, &mut parents, clauses);
-    settle(&mut classes);
+    settle(n, &mut classes);
     write_out(n, &classes, &parents, rows, &mut depths);
 }

@@ -10,7 +10,7 @@ use native.Mathlib.Omega.{arith}
 use borrow.Author.Tests.{le-ltb, lt-ltb, lt-leb, le-leb}
 use lib.Dec.{ltb, leb, eqb}
 use lib.IntN.{ℤ}
-use lib.ListN.{length, getD, take, drop, set, length-set, length-append, drop-of-length-le, List·getD-eq-default}
+use lib.ListN.{length, getD, take, drop, set, replicate, length-replicate, length-set, length-append, drop-of-length-le, List·getD-eq-default}
 use lib.Seq.{getD-set-same, getD-set-other, set-getD}
 use Rattle.terms.proofs.Common.{below-suc}
 use Rattle.formula.specs.Levels.{SoundPrefix, Levelled}
@@ -19,14 +19,15 @@ use Rattle.formula.specs.Meaning.{blocks, clauses, isZero, names, saidOf, freeL
 use Rattle.formula.specs.Tables.{cut, push}
 use Rattle.formula.proofs.Lookups.{clauses-closed, clauses-unclosed}
 use Rattle.tables.specs.Formula.{joined}
+use Rattle.tables.proofs.Readings.{new-zero, flag-over}
 use Rattle.connection.specs.Reach.{Variables, From, Joined, Reach, here}
 use Rattle.connection.specs.Tables.{row}
 use Rattle.connection.proofs.Reach.{joined-sym}
 use Rattle.connection.proofs.Rows.{row-out}
 use Rattle.connection.proofs.Represent.{Link, to-class, to-parent}
-use Rattle.chains.specs.Loose.{Loose, Kept, table, ranked, Grew}
+use Rattle.chains.specs.Loose.{Loose, Kept, table, ranked, Growing, Grew}
 use Rattle.loose.specs.Past.{Past}
-use Rattle.loose.specs.Rows.{depthOf, Depths, Holds, Settled, Written}
+use Rattle.loose.specs.Rows.{EndsAt, depthOf, Depths, Holds, Settled, Written}
 use Rattle.chains.proofs.Inside.{inside-links, equal-trans, equal-snoc, equal-added}
 use Rattle.chains.proofs.Ways.{kept-none, kept-trans, halved-row}
 
@@ -66,25 +67,43 @@ level-most es v =
     go true = omega arith
     go false = omega arith
 
--- The rows before v have their depths.
-pub record Ranking (n : ℕ) (levels : List ℕ) (universals : List Bool) (depths : List ℕ) (v : ℕ) : Type 0 where
-  pub size : length depths ≡ 4097
-  pub few : v ≤ 4097
-  pub rows : (u : ℕ) → u < v → getD depths u 0 ≡ depthOf n u (getD levels u 0) (getD universals u false)
+-- A store up to n leaves the rows past n.
+ends-set : {n : ℕ} {T : List ℕ} → EndsAt n T → (v x : ℕ) → v ≤ n → EndsAt n (set T v x)
+ends-set {T = T} e v x l = record { few = e .few; size = length-set T v x ∙ e .size; past = λ u h. getD-set-other T v u x 0 (λ q. omega arith) ∙ e .past u h }
 
-pub rank-none : {n : ℕ} {levels : List ℕ} {universals : List Bool} {depths : List ℕ} → length depths ≡ 4097 → Ranking n levels universals depths 0
-rank-none size = record { size = size; few = omega arith; rows = λ u l. absurd (omega arith) }
+-- A new table ends anywhere; one that lent rows are read into ends at n; and class rows end where the depths do.
+pub ends-new : {n : ℕ} → n ≤ 4096 → EndsAt n (replicate {A = ℕ} 4097 0)
+ends-new few = record { few = few; size = length-replicate {A = ℕ} 4097 0; past = λ v h. new-zero 4097 v }
 
-pub rank-one : {n : ℕ} {levels : List ℕ} {universals : List Bool} {depths : List ℕ} {v : ℕ} (d : ℕ) → Ranking n levels universals depths v → v < 4097
-    → d ≡ depthOf n v (getD levels v 0) (getD universals v false) → Ranking n levels universals (set depths v d) (v + 1)
-rank-one {n} {levels} {universals} {depths} {v} d r more is =
+pub ends-read : {n : ℕ} (rows : List ℕ) {T : List ℕ} → n ≤ 4096 → length T ≡ 4097 → ((v : ℕ) → getD T v 0 ≡ row n rows v) → EndsAt n T
+ends-read {n} rows few size read = record { few = few; size = size; past = λ v h. read v ∙ row-out n v rows (λ _. h) }
+
+pub ends-classes : {n : ℕ} {depths C P : List ℕ} → EndsAt n depths → Growing depths C P → EndsAt n C
+ends-classes {depths = depths} e g = record { few = e .few; size = g .sizes .1; past = λ v h. g .loose .universal v (le-ltb 0 (getD depths v 0) (omega (arith, e .past v h))) .0 }
+
+-- The rows before v have what f says.
+pub record Filling (n : ℕ) (f : ℕ → ℕ) (T : List ℕ) (v : ℕ) : Type 0 where
+  pub ends : EndsAt n T
+  pub rows : (u : ℕ) → u < v → getD T u 0 ≡ f u
+
+pub fill-none : {n : ℕ} {f : ℕ → ℕ} {T : List ℕ} → EndsAt n T → Filling n f T 0
+fill-none e = record { ends = e; rows = λ u l. absurd (omega arith) }
+
+pub fill-one : {n : ℕ} {f : ℕ → ℕ} {T : List ℕ} {v : ℕ} (x : ℕ) → Filling n f T v → v ≤ n → x ≡ f v → Filling n f (set T v x) (v + 1)
+fill-one {n} {f} {T} {v} x s more is =
     rw (add-one v)
     record {
-      size = length-set depths v d ∙ r .size;
-      few = more;
-      rows = below-suc (λ u. getD (set depths v d) u 0 ≡ depthOf n u (getD levels u 0) (getD universals u false)) v (λ u l. getD-set-other depths v u d 0 (λ e. omega arith) ∙ r .rows u l)
-          (getD-set-same depths v d 0 (omega (arith, r .size)) ∙ is);
+      ends = ends-set (s .ends) v x more;
+      rows = below-suc (λ u. getD (set T v x) u 0 ≡ f u) v (λ u l. getD-set-other T v u x 0 (λ e. omega arith) ∙ s .rows u l) (getD-set-same T v x 0 (omega arith) ∙ is);
     }
+
+-- All rows have it, where f says 0 past n.
+pub fill-all : {n : ℕ} {f : ℕ → ℕ} {T : List ℕ} {v : ℕ} → ((u : ℕ) → n < u → f u ≡ 0) → Filling n f T v → n < v → (u : ℕ) → getD T u 0 ≡ f u
+fill-all {n} zero s all u = by-cases (decLt n u) (λ h. s .ends .past u h ∙ sym (zero u h)) (λ h. s .rows u (omega arith))
+
+-- A depth past n is 0.
+pub depth-past : (n : ℕ) (levels : List ℕ) (universals : List Bool) (v : ℕ) → n < v → depthOf n v (getD levels v 0) (getD universals v false) ≡ 0
+depth-past n levels universals v h = ap (λ (b : Bool). cond b (getD levels v 0 + 1) 0) (flag-over n v (not (getD universals v false)) h)
 
 -- Depths from levels and quantifiers.
 pub levels-most : {n : ℕ} {es levels : List ℕ} {universals : List Bool} → SoundPrefix n es → Levelled es levels universals → (v : ℕ) → getD levels v 0 ≤ 8193
@@ -105,43 +124,29 @@ depths-are {n} {es} {levels} {depths} {universals} sound l size is = record { si
         ∙ sym (rw (le-leb 1 v (omega arith), lt-leb v n (omega (arith, sound .few))))
 
 -- The rows before v are those of no clause.
-pub record Single (depths C P : List ℕ) (v : ℕ) : Type 0 where
-  pub sizes : (length C ≡ 4097) × (length P ≡ 4097)
-  pub few : v ≤ 4097
-  pub class : (u : ℕ) → u < v → getD C u 0 ≡ cond (ltb 0 (getD depths u 0)) u 0
-  pub parent : (u : ℕ) → u < v → getD P u 0 ≡ 0
+pub record Single (n : ℕ) (depths C P : List ℕ) (v : ℕ) : Type 0 where
+  pub class : Filling n (λ u. cond (ltb 0 (getD depths u 0)) u 0) C v
+  pub parent : Filling n (λ u. 0) P v
 
-module _ {depths C P : List ℕ} {v : ℕ} (s : Single depths C P v) (more : v < 4097) where
-  single-row : (w : ℕ) → w ≡ cond (ltb 0 (getD depths v 0)) v 0 → Single depths (set C v w) (set P v 0) (v + 1)
-  single-row w is =
-      rw (add-one v)
-      record {
-        sizes = (length-set C v w ∙ s .sizes .0, length-set P v 0 ∙ s .sizes .1);
-        few = more;
-        class = below-suc (λ u. getD (set C v w) u 0 ≡ cond (ltb 0 (getD depths u 0)) u 0) v (λ u l. getD-set-other C v u w 0 (λ e. omega arith) ∙ s .class u l)
-            (getD-set-same C v w 0 (omega (arith, s .sizes .0)) ∙ is);
-        parent = below-suc (λ u. getD (set P v 0) u 0 ≡ 0) v (λ u l. getD-set-other P v u 0 0 (λ e. omega arith) ∙ s .parent u l) (getD-set-same P v 0 0 (omega (arith, s .sizes .1)));
-      }
+module _ {n : ℕ} {depths C P : List ℕ} {v : ℕ} (s : Single n depths C P v) (more : v ≤ n) where
+  pub single-universal : getD depths v 0 ≡ 0 → Single n depths (set C v 0) (set P v 0) (v + 1)
+  single-universal e = record { class = fill-one 0 (s .class) more (rw (le-ltb 0 (getD depths v 0) (omega arith))); parent = fill-one 0 (s .parent) more refl }
 
-  pub single-universal : getD depths v 0 ≡ 0 → Single depths (set C v 0) (set P v 0) (v + 1)
-  single-universal e = single-row 0 (rw (le-ltb 0 (getD depths v 0) (omega arith)))
+  pub single-existential : getD depths v 0 ≢ 0 → Single n depths (set C v v) (set P v 0) (v + 1)
+  single-existential n = record { class = fill-one v (s .class) more (rw (lt-ltb 0 (getD depths v 0) (omega arith))); parent = fill-one 0 (s .parent) more refl }
 
-  pub single-existential : getD depths v 0 ≢ 0 → Single depths (set C v v) (set P v 0) (v + 1)
-  single-existential n = single-row v (rw (lt-ltb 0 (getD depths v 0) (omega arith)))
+pub single-none : {n : ℕ} {depths C P : List ℕ} → EndsAt n C → EndsAt n P → Single n depths C P 0
+single-none c p = record { class = fill-none c; parent = fill-none p }
 
-pub single-none : {depths C P : List ℕ} → length C ≡ 4097 → length P ≡ 4097 → Single depths C P 0
-single-none c p = record { sizes = (c, p); few = omega arith; class = λ u l. absurd (omega arith); parent = λ u l. absurd (omega arith) }
-
-module _ {depths C P : List ℕ} {v : ℕ} (size : length depths ≡ 4097) (none : getD depths 0 0 ≡ 0) (s : Single depths C P v) (all : 4097 ≤ v) where
+module _ {n : ℕ} {depths C P : List ℕ} {v : ℕ} (ends : EndsAt n depths) (none : getD depths 0 0 ≡ 0) (s : Single n depths C P v) (all : n < v) where
   abbrev X : Variables
   X = ranked depths
 
   row-class : (u : ℕ) → getD C u 0 ≡ cond (ltb 0 (getD depths u 0)) u 0
-  row-class u = by-cases (decLt u 4097) (λ l. s .class u (omega arith))
-      (λ l. List·getD-eq-default C 0 {n = u} (omega (arith, s .sizes .0)) ∙ sym (rw (le-ltb 0 (getD depths u 0) (omega (arith, List·getD-eq-default depths 0 {n = u} (omega arith))))))
+  row-class = fill-all (λ u h. rw (le-ltb 0 (getD depths u 0) (omega (arith, ends .past u h)))) (s .class) all
 
   row-parent : (u : ℕ) → getD P u 0 ≡ 0
-  row-parent u = by-cases (decLt u 4097) (λ l. s .parent u (omega arith)) (λ l. List·getD-eq-default P 0 {n = u} (omega (arith, s .sizes .1)))
+  row-parent = fill-all (λ u h. refl) (s .parent) all
 
   own : (u : ℕ) → X .ex u ≡ true → getD C u 0 ≡ u
   own u ex = row-class u ∙ ap (λ (b : Bool). cond b u 0) ex
@@ -150,7 +155,7 @@ module _ {depths C P : List ℕ} {v : ℕ} (size : length depths ≡ 4097) (none
   pub single-holds : Holds depths C P []
   single-holds = record {
     growing = record {
-      sizes = (size, s .sizes .0, s .sizes .1);
+      sizes = (ends .size, s .class .ends .size, s .parent .ends .size);
       none = none;
       loose = record {
         universal = λ u e. (row-class u ∙ ap (λ (b : Bool). cond b u 0) e, row-parent u);
@@ -167,28 +172,6 @@ module _ {depths C P : List ℕ} {v : ℕ} (size : length depths ≡ 4097) (none
       links : (i u z : ℕ) → From X i u → From X i z → Link X (table C P) u z → Reach (Joined []) (From X i) u z
       links i u z fu fz (to-class ex e) = subst (λ (w : ℕ). Reach (Joined []) (From X i) u w) (sym (own u ex) ∙ e) here
       links i u z fu fz (to-parent n e) = absurd (n (row-parent u))
-
--- The rows before v are read.
-pub record Loading (n : ℕ) (rows T : List ℕ) (v : ℕ) : Type 0 where
-  pub size : length T ≡ 4097
-  pub few : v ≤ 4097
-  pub read : (u : ℕ) → u < v → getD T u 0 ≡ row n rows u
-
-pub load-none : {n : ℕ} {rows T : List ℕ} → length T ≡ 4097 → Loading n rows T 0
-load-none size = record { size = size; few = omega arith; read = λ u l. absurd (omega arith) }
-
-pub load-one : {n : ℕ} {rows T : List ℕ} {v : ℕ} (w : ℕ) → Loading n rows T v → v < 4097 → w ≡ row n rows v → Loading n rows (set T v w) (v + 1)
-load-one {n} {rows} {T} {v} w s more is =
-    rw (add-one v)
-    record {
-      size = length-set T v w ∙ s .size;
-      few = more;
-      read = below-suc (λ u. getD (set T v w) u 0 ≡ row n rows u) v (λ u l. getD-set-other T v u w 0 (λ e. omega arith) ∙ s .read u l) (getD-set-same T v w 0 (omega (arith, s .size)) ∙ is);
-    }
-
-pub load-all : {n : ℕ} {rows T : List ℕ} {v : ℕ} → n ≤ 4096 → Loading n rows T v → 4097 ≤ v → (u : ℕ) → getD T u 0 ≡ row n rows u
-load-all {n} {rows} {T} few s all u = by-cases (decLt u 4097) (λ l. s .read u (omega arith))
-    (λ l. List·getD-eq-default T 0 {n = u} (omega (arith, s .size)) ∙ sym (row-out n u rows (λ h. omega arith)))
 
 -- The clauses before entry `start` are put in.
 pub record PutSome (depths : List ℕ) (ls : List ℤ) (C P : List ℕ) (start taken : ℕ) : Type 0 where
@@ -234,21 +217,20 @@ module _ {depths : List ℕ} {ls : List ℤ} {C P : List ℕ} {start taken : ℕ
   put-open z next l = put-end (clauses-unclosed ls start z next l)
 
 -- The class rows before v name their classes.
-pub record Settling (C₀ C : List ℕ) (v : ℕ) : Type 0 where
-  pub size : length C ≡ 4097
-  pub few : v ≤ 4097
+pub record Settling (n : ℕ) (C₀ C : List ℕ) (v : ℕ) : Type 0 where
+  pub ends : EndsAt n C
   pub falls : (u : ℕ) → getD C u 0 ≤ u
   pub names : (u : ℕ) → u < v → getD C (getD C u 0) 0 ≡ getD C u 0
   pub kept : (X : Variables) (P : List ℕ) → X .ex 0 ≡ false → Loose X (table C₀ P) → Kept X (table C₀ P) (table C P)
 
-pub settle-none : {C : List ℕ} → length C ≡ 4097 → ((u : ℕ) → getD C u 0 ≤ u) → Settling C C 0
-settle-none size falls = record { size = size; few = omega arith; falls = falls; names = λ u l. absurd (omega arith); kept = λ X P none loose. kept-none loose }
+pub settle-none : {n : ℕ} {C : List ℕ} → EndsAt n C → ((u : ℕ) → getD C u 0 ≤ u) → Settling n C C 0
+settle-none ends falls = record { ends = ends; falls = falls; names = λ u l. absurd (omega arith); kept = λ X P none loose. kept-none loose }
 
-module _ {C₀ C : List ℕ} {v : ℕ} (s : Settling C₀ C v) where
-  pub settle-one : v < 4097 → Settling C₀ (set C v (getD C (getD C v 0) 0)) (v + 1)
+module _ {n : ℕ} {C₀ C : List ℕ} {v : ℕ} (s : Settling n C₀ C v) where
+  pub settle-one : v ≤ n → Settling n C₀ (set C v (getD C (getD C v 0) 0)) (v + 1)
   settle-one more =
       rw (add-one v)
-      record { size = length-set C v x ∙ s .size; few = more; falls = falls; names = below-suc (λ u. getD D (getD D u 0) 0 ≡ getD D u 0) v before at-v; kept = kept }
+      record { ends = ends-set (s .ends) v x more; falls = falls; names = below-suc (λ u. getD D (getD D u 0) 0 ≡ getD D u 0) v before at-v; kept = kept }
     where
       x : ℕ
       x = getD C (getD C v 0) 0
@@ -256,8 +238,11 @@ module _ {C₀ C : List ℕ} {v : ℕ} (s : Settling C₀ C v) where
       D : List ℕ
       D = set C v x
 
+      inside : v < length C
+      inside = omega arith
+
       new : getD D v 0 ≡ x
-      new = getD-set-same C v x 0 (omega (arith, s .size))
+      new = getD-set-same C v x 0 inside
 
       old : (u : ℕ) → u ≢ v → getD D u 0 ≡ getD C u 0
       old u d = getD-set-other C v u x 0 d
@@ -289,15 +274,15 @@ module _ {C₀ C : List ℕ} {v : ℕ} (s : Settling C₀ C v) where
           stays e = subst (λ (E : List ℕ). Kept X (table C P) (table E P)) (sym (ap (set C v) e ∙ set-getD C v 0)) (kept-none (k .loose))
 
           go : (b : Bool) → X .ex v ≡ b → x ≢ getD C v 0 → Kept X (table C P) (table D P)
-          go true ex d = halved-row X C P v (k .loose) ex (λ e. d (ap (λ (w : ℕ). getD C w 0) e)) (omega (arith, s .size))
+          go true ex d = halved-row X C P v (k .loose) ex (λ e. d (ap (λ (w : ℕ). getD C w 0) e)) inside
           go false ex d = absurd (d (ap (λ (w : ℕ). getD C w 0) (k .loose .universal v ex .0) ∙ k .loose .universal 0 none .0 ∙ sym (k .loose .universal v ex .0)))
 
-  pub settled : 4097 ≤ v → Settled C₀ C
-  settled all = record { names = λ u. by-cases (decLt u 4097) (λ l. s .names u (omega arith)) beyond; kept = s .kept }
+  pub settled : n < v → Settled C₀ C
+  settled all = record { names = λ u. by-cases (decLt n u) past (λ l. s .names u (omega arith)); kept = s .kept }
     where
-      beyond : {u : ℕ} → ¬ (u < 4097) → getD C (getD C u 0) 0 ≡ getD C u 0
-      beyond {u} l =
-          let e : getD C u 0 ≡ 0 = List·getD-eq-default C 0 {n = u} (omega (arith, s .size)) in
+      past : {u : ℕ} → n < u → getD C (getD C u 0) 0 ≡ getD C u 0
+      past {u} l =
+          let e = s .ends .past u l in
           let z : getD C 0 0 ≡ 0 = omega (arith, s .falls 0) in
           ap (λ (w : ℕ). getD C w 0) e ∙ z ∙ sym e
 

@@ -1,5 +1,5 @@
 -- The tables that loose rows are worked in, from the depths of the variables to the rows that are written: what each pass makes of them.
-use Prim.Native.Nat.{ℕ, _+_, _<_}
+use Prim.Native.Nat.{ℕ, _+_, _≤_, _<_}
 use mathlib.Core.Path.{_≡_}
 use mathlib.Core.Bool.{Bool, false, cond, not, _&&_}
 use mathlib.Core.List.{List}
@@ -10,6 +10,12 @@ use Rattle.connection.proofs.Represent.{Linked}
 use Rattle.formula.specs.Meaning.{level, isExistential}
 use Rattle.chains.specs.Loose.{Equal, Loose, Kept, table, ranked, Growing}
 use Rattle.loose.specs.Past.{Past}
+
+-- A table with a row for each number up to the limit, of which those past n hold 0.
+pub record EndsAt (n : ℕ) (table : List ℕ) : Type 0 where
+  pub few : n ≤ 4096
+  pub size : length table ≡ 4097
+  pub past : (v : ℕ) → n < v → getD table v 0 ≡ 0
 
 -- The depth of v: its level plus one, if it is an existential of 1 to n, and else 0.
 abbrev pub depthOf : ℕ → ℕ → ℕ → Bool → ℕ

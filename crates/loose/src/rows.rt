@@ -12,15 +12,15 @@ ghost use Rattle.connection.specs.Tables.{row};
 ghost use Rattle.tables.specs.Formula.{joined};
 ghost use Rattle.formula.specs.Lookup.{SoundClauses};
 ghost use Rattle.formula.specs.Meaning.{clauses as Meaning·clauses};
-ghost use Rattle.loose.specs.Rows.{Holds, Settled, Written};
+ghost use Rattle.loose.specs.Rows.{EndsAt, Holds, Settled, Written};
 
-// Each existential in a class of its own, with no parents.
-pub fn singles(depths: &[u32], classes: &mut [u32], parents: &mut [u32])
-    requires { ⌜ (length (now depths) ≡ 4097) × (length (now classes) ≡ 4097) × (length (now parents) ≡ 4097) × (getD (now depths) 0 0 ≡ 0) ⌝ }
+// Each existential in a class of its own, with no parents. The rows past n, where there is none, hold 0 already.
+pub fn singles(n: u32, depths: &[u32], classes: &mut [u32], parents: &mut [u32])
+    requires { ⌜ EndsAt n (now depths) × EndsAt n (now classes) × EndsAt n (now parents) × (getD (now depths) 0 0 ≡ 0) ⌝ }
     ensures { λ r. ⌜ Holds (now (depths .entry)) (now (classes .exit)) (now (parents .exit)) [] ⌝ }
 {
     let mut v: u32 = 0;
-    while v < 4097 {
+    while v <= n {
         let at = v as usize;
         parents[at] = 0;
         let here = depths[at];
@@ -34,13 +34,13 @@ pub fn singles(depths: &[u32], classes: &mut [u32], parents: &mut [u32])
     }
 }
 
-// Reads lent rows into a table with row v for the variable v.
+// Reads lent rows into a table with row v for the variable v. The rows past n hold 0 already.
 pub fn load(n: u32, rows: &[u32], table: &mut [u32])
-    requires { ⌜ (n ≤ 4096) × (length (now table) ≡ 4097) ⌝ }
+    requires { ⌜ EndsAt n (now table) ⌝ }
     ensures { λ r. ⌜ ((v : ℕ) → getD (now (table .exit)) v 0 ≡ row n (now (rows .entry)) v) ⌝ }
 {
     let mut v: u32 = 0;
-    while v < 4097 {
+    while v <= n {
         let at = v as usize;
         let read = row_of(n, rows, Variable::new(v));
         table[at] = read.0;
@@ -77,13 +77,13 @@ pub fn put_all(depths: &[u32], classes: &mut [u32], parents: &mut [u32], clauses
     taken
 }
 
-// Makes every class row name its class: it points to a lower row, which is exact already, or to itself.
-pub fn settle(classes: &mut [u32])
-    requires { ⌜ (length (now classes) ≡ 4097) × ((u : ℕ) → getD (now classes) u 0 ≤ u) ⌝ }
+// Makes every class row name its class: it points to a lower row, which is exact already, or to itself. Those past n, which hold 0, do so already.
+pub fn settle(n: u32, classes: &mut [u32])
+    requires { ⌜ EndsAt n (now classes) × ((u : ℕ) → getD (now classes) u 0 ≤ u) ⌝ }
     ensures { λ r. ⌜ Settled (now (classes .entry)) (now (classes .exit)) ⌝ }
 {
     let mut v = 0;
-    while v < 4097 {
+    while v <= n as usize {
         let up = classes[v];
         classes[v] = classes[up as usize];
         v += 1;

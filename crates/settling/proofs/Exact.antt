@@ -21,7 +21,7 @@ use Rattle.connection.proofs.Represent.{Link, to-class, to-parent, Linked, up, 
 use Rattle.connection.proofs.Rows.{row-at, row-out}
 use Rattle.connection.proofs.Forest.{represents-rows, represents-forest}
 use Rattle.chains.specs.Loose.{Inside, Equal, Loose, table, ranked, Growing}
-use Rattle.loose.specs.Rows.{Depths, Settled, Written}
+use Rattle.loose.specs.Rows.{EndsAt, Depths, Settled, Written}
 use Rattle.settling.specs.Rows.{Rowed}
 use Rattle.chains.proofs.Inside.{inside-reach, inside-links, equal-trans}
 use Rattle.chains.proofs.Steps.{no-zero}
@@ -136,6 +136,20 @@ module _ {n : ℕ} {es depths : List ℕ} (d : Depths n es depths) where
     };
   }
 
+  -- Outside 1 to n there is no depth.
+  depth-out : (v : ℕ) → (1 ≤ v → n < v) → getD depths v 0 ≡ 0
+  depth-out v h = d .depth-is v ∙ ap (λ (b : Bool). cond b (level es v + 1) 0) (go (isExistential n es v) refl)
+    where
+      go : (b : Bool) → isExistential n es v ≡ b → isExistential n es v ≡ false
+      go true e = absurd (let k = lawful n es .within v e in omega (arith, h (k .0), k .1))
+      go false e = e
+
+  pub depth-none : getD depths 0 0 ≡ 0
+  depth-none = depth-out 0 (λ l. absurd (omega arith))
+
+  pub depth-ends : n ≤ 4096 → EndsAt n depths
+  depth-ends few = record { few = few; size = d .size; past = λ v h. depth-out v (λ _. h) }
+
   -- The lent rows that are written out are the settled rows.
   module _ {C P rows rows′ ups ups′ : List ℕ} (loose : Loose D (table C P)) (none : D .ex 0 ≡ false) (w : Written n C P rows rows′ ups ups′) where
     rows-exact : (v : ℕ) → (getD C v 0 ≡ row n rows′ v) × (getD C (getD P v 0) 0 ≡ row n ups′ v)
@@ -150,12 +164,8 @@ module _ {n : ℕ} {es depths : List ℕ} (d : Depths n es depths) where
 
         outside : (1 ≤ v → n < v) → (getD C v 0 ≡ row n rows′ v) × (getD C (getD P v 0) 0 ≡ row n ups′ v)
         outside h =
-            let e = loose .universal v (no-ex (D .ex v) refl) in
+            let e = loose .universal v (le-ltb 0 (getD depths v 0) (omega (arith, depth-out v h))) in
             (e .0 ∙ sym (row-out n v rows′ h), ap (λ (u : ℕ). getD C u 0) (e .1) ∙ loose .universal 0 none .0 ∙ sym (row-out n v ups′ h))
-          where
-            no-ex : (b : Bool) → D .ex v ≡ b → D .ex v ≡ false
-            no-ex true e = absurd (let k = lawful n es .within v (sym (ex-same v) ∙ e) in omega (arith, h (k .0), k .1))
-            no-ex false e = e
 
   -- Loose rows that stand for joins, settled and written out, are their forest.
   pub grown : {J : ℕ → ℕ → Type 0} {C₀ C P rows rows′ ups ups′ : List ℕ} → Growing depths C₀ P → Equal X J (Linked D (table C₀ P)) → Settled C₀ C → Written n C P rows rows′ ups ups′
@@ -168,10 +178,3 @@ module _ {n : ℕ} {es depths : List ℕ} (d : Depths n es depths) where
       let same = equal-formula (equal-trans (k .equal) (exact-equal (k .loose) none (s .names))) in
       let rep = represents-links (formed-formula formed) (equal-trans equal (equal-trans same equal-linked)) in
       record { past = w .past; forest = represents-forest (represents-rows (rows-exact (k .loose) none w) rep) }
-
-  pub depth-none : getD depths 0 0 ≡ 0
-  depth-none = d .depth-is 0 ∙ ap (λ (b : Bool). cond b (level es 0 + 1) 0) (go (isExistential n es 0) refl)
-    where
-      go : (b : Bool) → isExistential n es 0 ≡ b → isExistential n es 0 ≡ false
-      go true e = absurd (let k = lawful n es .within 0 e in omega (arith, k .0))
-      go false e = e

@@ -40,9 +40,9 @@ pub fn grow(
     let mut loose = [0u32; 4097];
     let mut ups = [0u32; 4097];
     fill_depths(n, prefix, &mut depths);
-    singles(&depths, &mut loose, &mut ups);
+    singles(n, &depths, &mut loose, &mut ups);
     let taken = put_all(&depths, &mut loose, &mut ups, clauses);
-    settle(&mut loose);
+    settle(n, &mut loose);
     write_out(n, &loose, &ups, classes, parents);
     taken
 }
@@ -60,6 +60,6 @@ pub fn put_in(n: u32, prefix: &[u32], classes: &mut [u32], parents: &mut [u32], 
     load(n, classes, &mut loose);
     load(n, parents, &mut ups);
     put_one(&depths, &mut loose, &mut ups, clause);
-    settle(&mut loose);
+    settle(n, &mut loose);
     write_out(n, &loose, &ups, classes, parents);
 }

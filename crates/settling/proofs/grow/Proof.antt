@@ -1,9 +1,8 @@
 -- `settling::grow` meets its contract.
-use Prim.Native.Nat.{ℕ}
 use mathlib.Core.Path.{_∙_}
-use lib.ListN.{length-replicate}
 use Rattle.chains.proofs.Steps.{class-falls, parent-inside}
-use Rattle.settling.proofs.Exact.{equal-formula, grown, depth-none}
+use Rattle.loose.proofs.Passes.{ends-new, ends-classes}
+use Rattle.settling.proofs.Exact.{equal-formula, depth-none, depth-ends, grown}
 use borrow.Author.Needs.{needs}
 use Rattle.settling.proofs.grow.Statement.{statement}
 use Rattle.settling.proofs.grow.Tie as tie
@@ -12,7 +11,7 @@ slice-aggregate-fill-depths : tie.Need-slice-aggregate-fill-depths
 slice-aggregate-fill-depths c = search needs
 
 fill-depths-requires : tie.Need-fill-depths-requires
-fill-depths-requires c κs = search needs
+fill-depths-requires c κs = let pre = c .before .before .before .before .pre in (pre .0, ends-new (pre .0 .few))
 
 slice-aggregate-singles : tie.Need-slice-aggregate-singles
 slice-aggregate-singles c = search needs
@@ -24,7 +23,10 @@ slice-aggregate-singles-3 : tie.Need-slice-aggregate-singles-3
 slice-aggregate-singles-3 c = search needs
 
 singles-requires : tie.Need-singles-requires
-singles-requires c κs = (c .before .before .before .before .fill-depths .ensures .size, length-replicate {A = ℕ} 4097 0, length-replicate {A = ℕ} 4097 0, depth-none (c .before .before .before .before .fill-depths .ensures))
+singles-requires c κs =
+    let few = c .before .before .before .before .before .before .before .before .before .pre .0 .few in
+    let d = c .before .before .before .before .fill-depths .ensures in
+    (depth-ends d few, ends-new few, ends-new few, depth-none d)
 
 slice-aggregate-put-all : tie.Need-slice-aggregate-put-all
 slice-aggregate-put-all c = search needs
@@ -42,7 +44,9 @@ slice-aggregate-settle : tie.Need-slice-aggregate-settle
 slice-aggregate-settle c = search needs
 
 settle-requires : tie.Need-settle-requires
-settle-requires c κs = let g = c .before .before .before .put-all .ensures .0 .growing in (g .sizes .1, class-falls g)
+settle-requires c κs =
+    let g = c .before .before .before .put-all .ensures .0 .growing in
+    (ends-classes (depth-ends (c .before .before .before .before .before .before .before .before .before .before .before .before .before .before .fill-depths .ensures) (c .before .before .before .before .before .before .before .before .before .before .before .before .before .before .before .before .before .before .before .pre .0 .few)) g, class-falls g)
 
 slice-aggregate-write-out : tie.Need-slice-aggregate-write-out
 slice-aggregate-write-out c = search needs
@@ -51,7 +55,7 @@ slice-aggregate-write-out-2 : tie.Need-slice-aggregate-write-out-2
 slice-aggregate-write-out-2 c = search needs
 
 write-out-requires : tie.Need-write-out-requires
-write-out-requires c κs = let g = c .before .before .before .before .before .before .before .before .before .put-all .ensures .0 .growing in let pre = c .before .before .before .before .before .before .before .before .before .before .before .before .before .before .before .before .before .before .before .before .before .before .before .before .before .pre in ((c .before .before .before .before .before .settle .kept .0 ∙ g .sizes .1, g .sizes .2, parent-inside g), (pre .0 .few, pre .2, pre .3))
+write-out-requires c κs = let g = c .before .before .before .before .before .before .before .before .before .put-all .ensures .0 .growing in let pre = c .before .before .before .before .before .before .before .before .before .before .before .before .before .before .before .before .before .before .before .before .before .before .before .before .before .pre in ((c .before .before .before .before .before .settle .kept .1 .0 ∙ g .sizes .1, g .sizes .2, parent-inside g), (pre .0 .few, pre .2, pre .3))
 
 same-length : tie.Need-same-length
 same-length c = search needs

@@ -3,7 +3,8 @@ use Prim.Native.Nat.{ℕ}
 use mathlib.Core.Path.{_∙_}
 use lib.ListN.{length-replicate}
 use Rattle.chains.proofs.Steps.{class-falls, parent-inside}
-use Rattle.settling.proofs.Exact.{grown}
+use Rattle.loose.proofs.Passes.{ends-new, ends-classes}
+use Rattle.settling.proofs.Exact.{depth-ends, grown}
 use Rattle.settling.proofs.Extending.{loaded, extended}
 use borrow.Author.Needs.{needs}
 use Rattle.settling.proofs.put_in.Statement.{statement}
@@ -13,19 +14,19 @@ slice-aggregate-fill-depths : tie.Need-slice-aggregate-fill-depths
 slice-aggregate-fill-depths c = search needs
 
 fill-depths-requires : tie.Need-fill-depths-requires
-fill-depths-requires c κs = search needs
+fill-depths-requires c κs = let pre = c .before .before .before .before .pre .0 in (pre .0, ends-new (pre .0 .few))
 
 slice-aggregate-load : tie.Need-slice-aggregate-load
 slice-aggregate-load c = search needs
 
 load-requires : tie.Need-load-requires
-load-requires c κs = search needs
+load-requires c κs = ends-new (c .before .before .before .before .before .before .before .before .pre .0 .0 .few)
 
 slice-aggregate-load-2 : tie.Need-slice-aggregate-load-2
 slice-aggregate-load-2 c = search needs
 
 load-requires-2 : tie.Need-load-requires-2
-load-requires-2 c κs = search needs
+load-requires-2 c κs = ends-new (c .before .before .before .before .before .before .before .before .before .before .before .before .pre .0 .0 .few)
 
 slice-aggregate-put-one : tie.Need-slice-aggregate-put-one
 slice-aggregate-put-one c = search needs
@@ -43,7 +44,9 @@ slice-aggregate-settle : tie.Need-slice-aggregate-settle
 slice-aggregate-settle c = search needs
 
 settle-requires : tie.Need-settle-requires
-settle-requires c κs = let g = c .before .before .before .put-one .ensures .growing in (g .sizes .1, class-falls g)
+settle-requires c κs =
+    let g = c .before .before .before .put-one .ensures .growing in
+    (ends-classes (depth-ends (c .before .before .before .before .before .before .before .before .before .before .before .before .before .before .before .before .fill-depths .ensures) (c .before .before .before .before .before .before .before .before .before .before .before .before .before .before .before .before .before .before .before .before .before .pre .0 .0 .few)) g, class-falls g)
 
 slice-aggregate-write-out : tie.Need-slice-aggregate-write-out
 slice-aggregate-write-out c = search needs
@@ -52,7 +55,7 @@ slice-aggregate-write-out-2 : tie.Need-slice-aggregate-write-out-2
 slice-aggregate-write-out-2 c = search needs
 
 write-out-requires : tie.Need-write-out-requires
-write-out-requires c κs = let g = c .before .before .before .before .before .before .before .before .before .put-one .ensures .growing in let pre = c .before .before .before .before .before .before .before .before .before .before .before .before .before .before .before .before .before .before .before .before .before .before .before .before .before .before .before .pre .0 in ((c .before .before .before .before .before .settle .kept .0 ∙ g .sizes .1, g .sizes .2, parent-inside g), (pre .0 .few, pre .2, pre .3))
+write-out-requires c κs = let g = c .before .before .before .before .before .before .before .before .before .put-one .ensures .growing in let pre = c .before .before .before .before .before .before .before .before .before .before .before .before .before .before .before .before .before .before .before .before .before .before .before .before .before .before .before .pre .0 in ((c .before .before .before .before .before .settle .kept .1 .0 ∙ g .sizes .1, g .sizes .2, parent-inside g), (pre .0 .few, pre .2, pre .3))
 
 same-length : tie.Need-same-length
 same-length c = search needs

@@ -6,6 +6,7 @@ use borrow.Author.Needs.{needs}
 use lib.ListN.{length-replicate}
 use Rattle.tables.proofs.Readings.{row-none}
 use Rattle.chains.proofs.Steps.{class-falls, parent-inside}
+use Rattle.loose.proofs.Passes.{ends-new, ends-read, ends-classes}
 use Rattle.dependents.proofs.Classed.{classed}
 use Rattle.dependents.proofs.classing.class_rows.Statement.{statement}
 use Rattle.dependents.proofs.classing.class_rows.Tie as tie
@@ -14,7 +15,7 @@ slice-aggregate-load : tie.Need-slice-aggregate-load
 slice-aggregate-load c = search needs
 
 load-requires : tie.Need-load-requires
-load-requires c κs = search needs
+load-requires c κs = ends-new (c .before .before .before .pre .1)
 
 slice-aggregate-singles : tie.Need-slice-aggregate-singles
 slice-aggregate-singles c = search needs
@@ -29,7 +30,8 @@ singles-requires : tie.Need-singles-requires
 singles-requires c κs =
     let a = c .before .before .before .before .before .before .before .before .args in
     let read = c .before .before .before .before .load in
-    (read .kept .1 .1 .0 ∙ length-replicate {A = ℕ} 4097 0, length-replicate {A = ℕ} 4097 0, length-replicate {A = ℕ} 4097 0, read .ensures 0 ∙ row-none (a .n) (a .rows .now) 0 refl)
+    let few = c .before .before .before .before .before .before .before .before .pre .1 in
+    (ends-read (a .rows .now) few (read .kept .1 .1 .0 ∙ length-replicate {A = ℕ} 4097 0) (read .ensures), ends-new few, ends-new few, read .ensures 0 ∙ row-none (a .n) (a .rows .now) 0 refl)
 
 slice-aggregate-put-all : tie.Need-slice-aggregate-put-all
 slice-aggregate-put-all c = search needs
@@ -47,7 +49,10 @@ slice-aggregate-settle : tie.Need-slice-aggregate-settle
 slice-aggregate-settle c = search needs
 
 settle-requires : tie.Need-settle-requires
-settle-requires c κs = let g = c .before .before .before .put-all .ensures .0 .growing in (g .sizes .1, class-falls g)
+settle-requires c κs =
+    let g = c .before .before .before .put-all .ensures .0 .growing in
+    let start = c .before .before .before .before .before .before .before .before .before .before .before .before .before .before .before .before .before .before in
+    (ends-classes (ends-read (start .args .rows .now) (start .pre .1) (g .sizes .0) (c .before .before .before .before .before .before .before .before .before .before .before .before .before .before .load .ensures)) g, class-falls g)
 
 slice-aggregate-write-out : tie.Need-slice-aggregate-write-out
 slice-aggregate-write-out c = search needs
@@ -62,7 +67,7 @@ write-out-requires : tie.Need-write-out-requires
 write-out-requires c κs =
     let g = c .before .before .before .before .before .before .before .before .before .put-all .ensures .0 .growing in
     let pre = c .before .before .before .before .before .before .before .before .before .before .before .before .before .before .before .before .before .before .before .before .before .before .before .before .pre in
-    ((c .before .before .before .before .before .settle .kept .0 ∙ g .sizes .1, g .sizes .2, parent-inside g), (pre .1, pre .2, omega (arith, pre .1, c .before .before .before .before .before .before .before .before .before .before .before .before .before .before .before .before .before .before .before .before .load .kept .1 .1 .0, length-replicate {A = ℕ} 4097 0)))
+    ((c .before .before .before .before .before .settle .kept .1 .0 ∙ g .sizes .1, g .sizes .2, parent-inside g), (pre .1, pre .2, omega (arith, pre .1, c .before .before .before .before .before .before .before .before .before .before .before .before .before .before .before .before .before .before .before .before .load .kept .1 .1 .0, length-replicate {A = ℕ} 4097 0)))
 
 same-length : tie.Need-same-length
 same-length c = search needs

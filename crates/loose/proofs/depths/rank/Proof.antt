@@ -1,19 +1,22 @@
 -- `loose::depths::rank` meets its contract.
-use Prim.Native.Nat.{_-_}
+use Prim.Native.Nat.{_+_, _-_}
 use mathlib.Core.Path.{sym, _∙_}
+use mathlib.Core.Bool.{false}
 use native.Mathlib.Omega.{arith}
-use Rattle.loose.proofs.Passes.{Ranking, rank-none, rank-one}
+use lib.ListN.{getD}
+use Rattle.loose.specs.Rows.{depthOf}
+use Rattle.loose.proofs.Passes.{Filling, fill-none, fill-one, fill-all, depth-past}
 use Rattle.loose.proofs.depths.rank.Statement.{statement}
 use Rattle.loose.proofs.depths.rank.Tie as tie
 
 abbrev Inv-loop : tie.InvT-loop
-Inv-loop n levels universals depths₀ v₀ depths v = Ranking n levels universals depths v
+Inv-loop n levels universals depths₀ v₀ depths v = Filling n (λ u. depthOf n u (getD levels u 0) (getD universals u false)) depths v
 
 abbrev μ-loop : tie.MeasureT-loop
-μ-loop n levels universals depths₀ v₀ depths v = 4097 - v
+μ-loop n levels universals depths₀ v₀ depths v = (n + 1) - v
 
 loop-holds : tie.Need-loop-holds Inv-loop μ-loop
-loop-holds c = rank-none (c .before .before .before .pre .2)
+loop-holds c = fill-none (c .before .before .before .pre .2)
 
 cast-at : tie.Need-cast-at Inv-loop μ-loop
 cast-at c = omega arith
@@ -34,7 +37,7 @@ mul-depths : tie.Need-mul-depths Inv-loop μ-loop
 mul-depths c = omega arith
 
 slice-write-depths : tie.Need-slice-write-depths Inv-loop μ-loop
-slice-write-depths c = omega (arith, c .before .before .before .before .loop .inv .size)
+slice-write-depths c = omega (arith, c .before .before .before .before .loop .inv .ends .size)
 
 add-v : tie.Need-add-v Inv-loop μ-loop
 add-v c = omega arith
@@ -43,13 +46,13 @@ loop-less : tie.Need-loop-less Inv-loop μ-loop
 loop-less c = omega arith
 
 loop-again : tie.Need-loop-again Inv-loop μ-loop
-loop-again c = rank-one (c .depth .result) (c .before .before .before .before .loop .inv) (c .before .before .before .loop-test .taken) (c .depth .ensures)
+loop-again c = fill-one (c .depth .result) (c .before .before .before .before .loop .inv) (c .before .before .before .loop-test .taken) (c .depth .ensures)
 
 same-length : tie.Need-same-length Inv-loop μ-loop
-same-length c = c .before .loop .inv .size ∙ sym (c .before .before .before .before .before .pre .2)
+same-length c = c .before .loop .inv .ends .size ∙ sym (c .before .before .before .before .before .pre .2 .size)
 
 returns : tie.Need-returns Inv-loop μ-loop
-returns c = λ v l. c .before .loop .inv .rows v (let h = c .loop-test .left in omega arith)
+returns c = let a = c .before .before .before .before .before .args in λ v l. fill-all (depth-past (a .n) (a .levels .now) (a .universals .now)) (c .before .loop .inv) (c .loop-test .left) v
 
 pub rank-spec : {M : Type 1} → statement M
 rank-spec =

@@ -1,5 +1,5 @@
 -- `loose::rows::settle` meets its contract.
-use Prim.Native.Nat.{_-_}
+use Prim.Native.Nat.{_+_, _-_}
 use mathlib.Core.Path.{sym, _∙_}
 use native.Mathlib.Omega.{arith}
 use Rattle.loose.proofs.Passes.{Settling, settle-none, settle-one, settled}
@@ -7,10 +7,10 @@ use Rattle.loose.proofs.rows.settle.Statement.{statement}
 use Rattle.loose.proofs.rows.settle.Tie as tie
 
 abbrev Inv-loop : tie.InvT-loop
-Inv-loop classes₀ v₀ classes v = Settling classes₀ classes v
+Inv-loop n classes₀ v₀ classes v = Settling n classes₀ classes v
 
 abbrev μ-loop : tie.MeasureT-loop
-μ-loop classes₀ v₀ classes v = 4097 - v
+μ-loop n classes₀ v₀ classes v = (n + 1) - v
 
 loop-holds : tie.Need-loop-holds Inv-loop μ-loop
 loop-holds c = settle-none (c .pre .0) (c .pre .1)
@@ -19,7 +19,7 @@ mul-up : tie.Need-mul-up Inv-loop μ-loop
 mul-up c = omega arith
 
 slice-read-up : tie.Need-slice-read-up Inv-loop μ-loop
-slice-read-up c = omega (arith, c .before .before .loop .inv .size)
+slice-read-up c = omega (arith, c .before .before .loop .inv .ends .size)
 
 cast-classes : tie.Need-cast-classes Inv-loop μ-loop
 cast-classes c = omega (arith, c .before .before .loop .inv .falls (c .before .before .loop .v))
@@ -28,13 +28,13 @@ mul-classes : tie.Need-mul-classes Inv-loop μ-loop
 mul-classes c = omega (arith, c .before .before .loop .inv .falls (c .before .before .loop .v))
 
 slice-read-classes : tie.Need-slice-read-classes Inv-loop μ-loop
-slice-read-classes c = omega (arith, c .before .before .before .loop .inv .falls (c .before .before .before .loop .v), c .before .before .before .loop .inv .size)
+slice-read-classes c = omega (arith, c .before .before .before .loop .inv .falls (c .before .before .before .loop .v), c .before .before .before .loop .inv .ends .size)
 
 mul-classes-2 : tie.Need-mul-classes-2 Inv-loop μ-loop
 mul-classes-2 c = omega arith
 
 slice-write-classes : tie.Need-slice-write-classes Inv-loop μ-loop
-slice-write-classes c = omega (arith, c .before .before .before .loop .inv .size)
+slice-write-classes c = omega (arith, c .before .before .before .loop .inv .ends .size)
 
 add-v : tie.Need-add-v Inv-loop μ-loop
 add-v c = omega arith
@@ -46,7 +46,7 @@ loop-again : tie.Need-loop-again Inv-loop μ-loop
 loop-again c = settle-one (c .before .before .before .loop .inv) (c .before .before .loop-test .taken)
 
 same-length : tie.Need-same-length Inv-loop μ-loop
-same-length c = c .before .loop .inv .size ∙ sym (c .before .before .pre .0)
+same-length c = c .before .loop .inv .ends .size ∙ sym (c .before .before .pre .0 .size)
 
 returns : tie.Need-returns Inv-loop μ-loop
 returns c = settled (c .before .loop .inv) (c .loop-test .left)

@@ -1,5 +1,5 @@
 -- `loose::rows::singles` meets its contract.
-use Prim.Native.Nat.{_-_}
+use Prim.Native.Nat.{_+_, _-_}
 use mathlib.Core.Path.{sym, _∙_}
 use native.Mathlib.Omega.{arith}
 use Rattle.loose.proofs.Passes.{Single, single-none, single-universal, single-existential, single-holds}
@@ -7,10 +7,10 @@ use Rattle.loose.proofs.rows.singles.Statement.{statement}
 use Rattle.loose.proofs.rows.singles.Tie as tie
 
 abbrev Inv-loop : tie.InvT-loop
-Inv-loop depths classes₀ parents₀ v₀ classes parents v = Single depths classes parents v
+Inv-loop n depths classes₀ parents₀ v₀ classes parents v = Single n depths classes parents v
 
 abbrev μ-loop : tie.MeasureT-loop
-μ-loop depths classes₀ parents₀ v₀ classes parents v = 4097 - v
+μ-loop n depths classes₀ parents₀ v₀ classes parents v = (n + 1) - v
 
 loop-holds : tie.Need-loop-holds Inv-loop μ-loop
 loop-holds c = single-none (c .pre .1) (c .pre .2)
@@ -22,19 +22,19 @@ mul-parents : tie.Need-mul-parents Inv-loop μ-loop
 mul-parents c = omega arith
 
 slice-write-parents : tie.Need-slice-write-parents Inv-loop μ-loop
-slice-write-parents c = omega (arith, c .before .loop .inv .sizes .1)
+slice-write-parents c = omega (arith, c .before .loop .inv .parent .ends .size)
 
 mul-here : tie.Need-mul-here Inv-loop μ-loop
 mul-here c = omega arith
 
 shared-slice-read-here : tie.Need-shared-slice-read-here Inv-loop μ-loop
-shared-slice-read-here c = omega (arith, c .before .before .before .pre .0)
+shared-slice-read-here c = omega (arith, c .before .before .before .pre .0 .size)
 
 mul-classes : tie.Need-mul-classes Inv-loop μ-loop
 mul-classes c = omega arith
 
 slice-write-classes : tie.Need-slice-write-classes Inv-loop μ-loop
-slice-write-classes c = omega (arith, c .before .before .before .loop .inv .sizes .0)
+slice-write-classes c = omega (arith, c .before .before .before .loop .inv .class .ends .size)
 
 add-v : tie.Need-add-v Inv-loop μ-loop
 add-v c = omega arith
@@ -49,7 +49,7 @@ mul-classes-2 : tie.Need-mul-classes-2 Inv-loop μ-loop
 mul-classes-2 c = omega arith
 
 slice-write-classes-2 : tie.Need-slice-write-classes-2 Inv-loop μ-loop
-slice-write-classes-2 c = omega (arith, c .before .before .before .loop .inv .sizes .0)
+slice-write-classes-2 c = omega (arith, c .before .before .before .loop .inv .class .ends .size)
 
 add-v-2 : tie.Need-add-v-2 Inv-loop μ-loop
 add-v-2 c = omega arith
@@ -61,10 +61,10 @@ loop-again-2 : tie.Need-loop-again-2 Inv-loop μ-loop
 loop-again-2 c = single-existential (c .before .before .before .loop .inv) (c .before .before .loop-test .taken) (c .if1 .left)
 
 same-length : tie.Need-same-length Inv-loop μ-loop
-same-length c = c .before .loop .inv .sizes .0 ∙ sym (c .before .before .pre .1)
+same-length c = c .before .loop .inv .class .ends .size ∙ sym (c .before .before .pre .1 .size)
 
 same-length-2 : tie.Need-same-length-2 Inv-loop μ-loop
-same-length-2 c = c .before .loop .inv .sizes .1 ∙ sym (c .before .before .pre .2)
+same-length-2 c = c .before .loop .inv .parent .ends .size ∙ sym (c .before .before .pre .2 .size)
 
 returns : tie.Need-returns Inv-loop μ-loop
 returns c = single-holds (c .before .before .pre .0) (c .before .before .pre .3) (c .before .loop .inv) (c .loop-test .left)
