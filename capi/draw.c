@@ -241,6 +241,17 @@ struct forest draw_forest(const struct formula *f, struct tables *t)
     return rows;
 }
 
+struct forest copy_forest(const struct formula *f, const struct forest *from, struct tables *t)
+{
+    struct forest rows = rows_for(f->n, t);
+
+    memcpy(t->classes, from->classes, f->n * sizeof *t->classes);
+    memcpy(t->parents, from->parents, f->n * sizeof *t->parents);
+    memcpy(t->counts, from->counts, f->n * sizeof *t->counts);
+    rows.tally = from->tally;
+    return rows;
+}
+
 void damage_tally(const struct formula *f, struct snow_tally *tally)
 {
     uint32_t by = odd_value(f->n);
@@ -274,12 +285,13 @@ void damage_forest(const struct formula *f, struct forest *rows)
         fill_counts(f, rows);
 }
 
-int is_digit(uint8_t byte)
+static int is_digit(uint8_t byte)
 {
     return byte >= '0' && byte <= '9';
 }
 
-int begins_number(const uint8_t *text, size_t at)
+/* Whether a byte is the first digit of its number. */
+static int begins_number(const uint8_t *text, size_t at)
 {
     return is_digit(text[at]) && (at == 0 || !is_digit(text[at - 1]));
 }

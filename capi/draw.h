@@ -46,6 +46,9 @@ struct forest rows_for(uint32_t n, struct tables *t);
 /* A random well-formed forest, not of any clauses in particular, with a tally that fits it. */
 struct forest draw_forest(const struct formula *f, struct tables *t);
 
+/* A copy of a forest's first n rows and of its tally, in other tables. */
+struct forest copy_forest(const struct formula *f, const struct forest *from, struct tables *t);
+
 /* A tally that fits well-formed tables, of some number of clauses. */
 void draw_tally(const struct formula *f, struct forest *rows);
 
@@ -57,9 +60,5 @@ void damage_tally(const struct formula *f, struct snow_tally *tally);
 
 /* Damages a text: a byte changed, removed or put in, a number padded, or a tail cut off; gives the length. */
 size_t damage_text(uint8_t *text, size_t length, size_t room);
-
-/* Digits, and whether one is the first of its number. */
-int is_digit(uint8_t byte);
-int begins_number(const uint8_t *text, size_t at);
 
 #endif

@@ -3,18 +3,22 @@
  * then, every other time, damaged; what every call must say of it comes from
  * the judge and the slow search.
  */
+#include <stdio.h>
 #include <string.h>
 
 #include "agree.h"
 #include "draw.h"
 #include "expect.h"
+#include "growing.h"
 #include "judge.h"
 #include "search.h"
+#include "sights.h"
 #include "tests.h"
 
 enum {
     ROUNDS = 600,      /* random formulas */
     LADDERS = 6,       /* of 64 blocks */
+    DAMAGES = 4,       /* forests that are damaged, of each formula */
     TEXTS = 1500       /* damaged texts */
 };
 
@@ -31,7 +35,7 @@ static struct verdict first(struct verdict a, struct verdict b)
     return a.number != 0 ? a : b;
 }
 
-static struct world world, grown;
+static struct world world;
 static struct tables own_tables, other_tables;
 
 /* Clause: its place by counting zeros. */
@@ -53,21 +57,29 @@ static void compare_clauses(const struct formula *f)
     }
 }
 
-/* Whether no number of a text has a 0 in front of another digit. */
-static int unpadded(const uint8_t *text, size_t length)
+/* The text of an accepted formula, as the C library spells numbers; gives its length. */
+static size_t spell(const struct formula *f, char *text, size_t room)
 {
-    size_t i;
+    size_t at, e;
 
-    for (i = 0; i + 1 < length; i++)
-        if (begins_number(text, i) && text[i] == '0' && is_digit(text[i + 1]))
-            return 0;
-    return 1;
+    at = (size_t)snprintf(text, room, "p cnf %lu %lu\n", (unsigned long)f->n, (unsigned long)judge_clause_count(f));
+    for (e = 0; e < f->prefix_len; e++) {
+        if (e == 0 || f->prefix[e - 1] == 0)
+            at += (size_t)snprintf(text + at, room - at, "%c", f->prefix[e] == 1 ? 'e' : 'a');
+        else
+            at += (size_t)snprintf(text + at, room - at, " %lu%s", (unsigned long)f->prefix[e], f->prefix[e] == 0 ? "\n" : "");
+    }
+    for (e = 0; e < f->clauses_len; e++)
+        at += (size_t)snprintf(text + at, room - at, "%s%ld%s", e == 0 || f->clauses[e - 1] == 0 ? "" : " ", (long)f->clauses[e],
+                               f->clauses[e] == 0 ? "\n" : "");
+    return at;
 }
 
 /* Write, and read back. */
 static void compare_text(const struct formula *f)
 {
     static uint8_t text[16384];
+    static char spelt[sizeof text];
     static uint32_t prefix[ROOM];
     static int32_t clauses[ROOM];
     static struct reading r;
@@ -80,42 +92,13 @@ static void compare_text(const struct formula *f)
     agree(judge_text(text, count, &r).number == 0 && r.n == f->n && r.prefix_count == f->prefix_len
           && r.clauses_count == f->clauses_len && memcmp(r.prefix, f->prefix, f->prefix_len * sizeof *prefix) == 0
           && memcmp(r.clauses, f->clauses, f->clauses_len * sizeof *clauses) == 0, "the text says the formula");
-    agree(unpadded(text, count), "no number is padded");
+    agree(spell(f, spelt, sizeof spelt) == count && memcmp(text, spelt, count) == 0, "the text byte by byte");
     expect_accepted(call_read(text, count, &n, prefix, ROOM, &prefix_count, clauses, ROOM, &clauses_count), "read");
     agree(n == f->n && prefix_count == f->prefix_len && clauses_count == f->clauses_len
           && memcmp(prefix, f->prefix, f->prefix_len * sizeof *prefix) == 0
           && memcmp(clauses, f->clauses, f->clauses_len * sizeof *clauses) == 0, "read gives the formula back");
     if (count > 0)
         expect_refused(call_write(f, text, count - 1, &count), 14, 0, "write to one byte less");
-}
-
-/* The rows are those of the searched forest, and the tally that of so many clauses. */
-static void compare_forest(const struct world *w, const struct forest *rows, uint32_t taken, const char *what)
-{
-    uint32_t v, wrong = 0, classes = search_classes(w), existentials = search_existentials(w);
-
-    for (v = 1; v <= w->n; v++)
-        wrong += rows->classes[v - 1] != search_class(w, v) || rows->parents[v - 1] != search_parent(w, v);
-    agree(wrong == 0, what);
-    for (v = 1; v <= w->n; v++)
-        wrong += rows->counts[v - 1] != search_count(w, v);
-    agree(wrong == 0, "its counts");
-    expect_tally(rows, taken, existentials - classes, classes, "its tally");
-}
-
-/* Build; leaves the forest in the formula's own tables, and the search closed. */
-static struct forest compare_build(const struct formula *f)
-{
-    struct forest rows = rows_for(f->n, &own_tables);
-    uint32_t count = 0;
-
-    search_variables(&world, f);
-    search_clauses(&world, f);
-    search_close(&world);
-    expect_accepted(call_build(f, &rows, &count), "build");
-    agree(count == f->n, "build gives n");
-    compare_forest(&world, &rows, judge_clause_count(f), "the forest is the searched one");
-    return rows;
 }
 
 /* Entry points by the definition for the formula's own forest; a second time by the tables, which may be any. */
@@ -173,23 +156,25 @@ static void compare_list(const struct formula *f, const struct forest *rows, int
     agree(size == length, "the size is the length of the searched set");
 }
 
-/* Whether clauses have x in both signs. */
+/* Whether clauses that are not always true have x in both signs. */
 static int both_signs(const struct formula *f, uint32_t x)
 {
     int positive = 0, negative = 0;
+    uint32_t k = 0;
     size_t e;
 
     for (e = 0; e < f->clauses_len; e++) {
-        positive |= f->clauses[e] == (int32_t)x;
-        negative |= f->clauses[e] == -(int32_t)x;
+        if (f->clauses[e] == 0)
+            k++;
+        else if (f->clauses[e] == (int32_t)x && !judge_always_true(f, k))
+            positive = 1;
+        else if (f->clauses[e] == -(int32_t)x && !judge_always_true(f, k))
+            negative = 1;
     }
     return positive && negative;
 }
 
 static const struct scheme standard = { SNOW_STANDARD, SNOW_STANDARD }, strict = { SNOW_STRICT, SNOW_STRICT };
-
-/* How many strict lists were seen that are not empty and shorter than the standard one. */
-static uint32_t shorter_seen;
 
 /* What the universal x has by the strict scheme it has by the standard one; and nothing where it has one sign only. */
 static void compare_strict(const struct formula *f, const struct forest *rows, int of_set, uint32_t x)
@@ -205,7 +190,8 @@ static void compare_strict(const struct formula *f, const struct forest *rows, i
     }
     agree(within == fewer, "the strict list lies within the standard one");
     agree(fewer == 0 || both_signs(f, x), "it is empty where x has one sign only");
-    shorter_seen += fewer > 0 && fewer < count;
+    if (fewer > 0 && fewer < count)
+        saw(SAW_SHORTER);
 }
 
 /* Every list of x: by the calls that name no scheme, which mean the strict one, by each scheme, and by a scheme number that is drawn. */
@@ -257,55 +243,12 @@ static void compare_answers(const struct formula *f, const struct forest *rows, 
     for (x = 0; x <= f->n + 1; x++) {
         compare_lists(f, rows, own, x);
         for (y = 0; y <= f->n + 1; y++)
-            if (judge_universal(f, x) || y == x)
+            if (own || judge_universal(f, x) || y == x)
                 compare_entry(f, rows, own, x, y);
     }
     compare_sets(f, rows, own, NULL);
     for (k = 0; k < SCHEMES; k++)
         compare_sets(f, rows, own, &schemes[k]);
-}
-
-/* Add, on any well-formed forest and a tally that fits it: the searched forest of the list that the tables stand for, with the clause. */
-static void compare_add(const struct formula *f, struct forest *rows)
-{
-    int32_t clause[8];
-    uint32_t length = f->n == 0 ? 0 : draw(5), taken = rows->tally.clauses, k;
-
-    for (k = 0; k < length; k++)
-        clause[k] = draw_literal(f->n);
-    search_variables(&grown, f);
-    search_forest(&grown, rows);
-    search_join(&grown, clause, length);
-    search_close(&grown);
-    expect_accepted(call_add(f, rows, clause, length), "add");
-    compare_forest(&grown, rows, taken + 1, "the forest with the clause");
-}
-
-/* Adds on the formula's own forest, held against the search on all its clauses. */
-static void compare_adds(const struct formula *f, struct forest *rows)
-{
-    int32_t clause[8];
-    uint32_t length, k, times, taken = judge_clause_count(f);
-
-    for (times = draw(4); times > 0 && f->n > 0; times--) {
-        length = draw(5);
-        for (k = 0; k < length; k++)
-            clause[k] = draw_literal(f->n);
-        search_join(&world, clause, length);
-        search_close(&world);
-        expect_accepted(call_add(f, rows, clause, length), "add");
-        compare_forest(&world, rows, ++taken, "the forest is that of all clauses");
-    }
-}
-
-/* Add with a tally that was damaged: the judge's 18, or the forest with the clause if it fits still. */
-static void compare_damaged_tally(const struct formula *f, struct forest *rows)
-{
-    damage_tally(f, &rows->tally);
-    if (judge_tally(f, rows).number == 0)
-        compare_add(f, rows);
-    else
-        expect_refused(call_add(f, rows, NULL, 0), 18, 0, "add, bad tally");
 }
 
 /* The calls on a damaged forest: the judge's 12, or what the tables as lent say if they are well formed still. */
@@ -315,7 +258,10 @@ static void compare_damaged_forest(const struct formula *f, struct forest *rows)
     uint32_t x = 1 + draw(f->n), y = 1 + draw(f->n), count, size, entry, rises, out[SMALL];
 
     damage_forest(f, rows);
+    if (draw(3) == 0)
+        damage_forest(f, rows);
     judged = judge_forest(f, rows);
+    saw(judged.number == 0 ? SAW_FOREST_CHANGED : SAW_FOREST_WRONG);
     if (judged.number == 0) {
         compare_answers(f, rows, 0);
         draw_tally(f, rows);
@@ -353,34 +299,44 @@ static void compare_refused(const struct formula *f)
     expect_verdict(call_add(f, &rows, f->clauses, f->clauses_len), judge_added(f, f->clauses, f->clauses_len), "add");
 }
 
-static void compare(const struct formula *f)
+/* A formula that is accepted, and not too large for the search. */
+static void compare_accepted(const struct formula *f)
 {
-    struct forest rows;
+    struct forest own, rows;
+    uint32_t times;
 
-    expect_verdict(call_check(f), judge_formula(f), "check");
-    compare_clauses(f);
-    compare_text(f);
-    if (judge_formula(f).number != 0 || f->n > SMALL) {
-        if (judge_formula(f).number != 0)
-            compare_refused(f);
-        return;
-    }
-    rows = compare_build(f);
-    compare_answers(f, &rows, 1);
-    compare_adds(f, &rows);
+    saw_formula(f);
+    own = compare_build(f, &world, &own_tables);
+    compare_answers(f, &own, 1);
+    compare_in_turn(f, &own);
+    compare_near_tallies(f, &own);
+    compare_adds(f, &world, &own);
     /* the search goes back to the formula's own clauses */
     search_variables(&world, f);
     search_clauses(&world, f);
     search_close(&world);
+    /* by rows of other clauses than those lent: with the added ones, and then any rows that are well formed */
+    compare_answers(f, &own, 0);
     rows = draw_forest(f, &other_tables);
     compare_answers(f, &rows, 0);
     compare_add(f, &rows);
     rows = draw_forest(f, &other_tables);
     compare_damaged_tally(f, &rows);
-    if (f->n > 0) {
-        rows = draw_forest(f, &other_tables);
+    for (times = 0; f->n > 0 && times < DAMAGES; times++) {
+        rows = times % 2 == 0 ? draw_forest(f, &other_tables) : copy_forest(f, &own, &other_tables);
         compare_damaged_forest(f, &rows);
     }
+}
+
+static void compare(const struct formula *f)
+{
+    expect_verdict(call_check(f), judge_formula(f), "check");
+    compare_clauses(f);
+    compare_text(f);
+    if (judge_formula(f).number != 0)
+        compare_refused(f);
+    else if (f->n <= SMALL)
+        compare_accepted(f);
 }
 
 /* Read, on a damaged text. */
@@ -474,8 +430,6 @@ void test_drawn(void)
         draw_signs(&d);
         compare(&d.f);
     }
-    about("shorter strict lists", shorter_seen);
-    agree(shorter_seen > 200, "strict lists that are not empty and shorter than the standard ones were seen");
     group("random formulas, damaged");
     for (round = 0; round < 4 * ROUNDS; round++) {
         about("formula", round);
@@ -494,6 +448,8 @@ void test_drawn(void)
         compare(&d.f);
     }
     joined();
+    group("what was drawn");
+    compare_sights();
     group("random texts, damaged");
     texts();
 }

@@ -1,9 +1,10 @@
 # Finds the Rattle kit as its command `rt` does, and compiles, links and runs C programs with it: the kit's own clang, ld.lld and C library,
-# with no install. Programs are for x86-64; on another processor they run under the kit's emulator. To be sourced by bash, with `root` set.
+# with no install; and makes archives of crates with no proof. Programs are for x86-64; on another processor they run under the kit's
+# emulator. To be sourced by bash, with `root` set.
 
-# The kit's folder, from RATTLE_HOME or from where `rt` really stands; then the tools for this machine.
+# The kit's folder `home`, from RATTLE_HOME or from where `rt` really stands; then the tools for this machine.
 kit_find() {
-    local rt home
+    local rt
     if [ -n "${RATTLE_HOME:-}" ]; then
         home=$RATTLE_HOME
     else
@@ -16,6 +17,38 @@ kit_find() {
     loader=$tools/lib/ld-linux-x86-64.so.2
     emulator=$tools/bin/qemu-x86_64
     [ -x "$emulator" ] || emulator=''
+}
+
+# kit_libs CRATE: a word NAME:std,DEP..=FILE for each crate that one stands on, itself left out, by the lines `name: names` of crates.txt.
+kit_libs() {
+    local name deps left=$1
+    local -A listed=() seen=()
+    while read -r name deps; do
+        [[ $name != *: ]] || listed[${name%:}]=$deps
+    done <"$root/crates.txt"
+    [ -n "${listed[$1]+is}" ] || { echo "crates.txt has no $1" >&2; return 1; }
+    while [ -n "$left" ]; do
+        read -r name left <<<"$left"
+        for name in ${listed[$name]:-}; do
+            [ -z "${seen[$name]+is}" ] || continue
+            [ -n "${listed[$name]+is}" ] || { echo "crates.txt has no $name" >&2; return 1; }
+            seen[$name]=1
+            left="$left $name"
+            deps="std ${listed[$name]}"
+            deps=${deps% }
+            echo "$name:${deps// /,}=$root/crates/$name/src/lib.rt"
+        done
+    done
+}
+
+# kit_archive OUT.a CRATE: the archive of a crate straight from the sources, with no proof.
+kit_archive() {
+    local out=$1 crate=$2 compiler=${tools%/*}/bin/rattle-cases word words libs=()
+    [ -x "$compiler" ] || { echo "the kit has no $compiler" >&2; return 1; }
+    words=$(kit_libs "$crate") || return 1
+    for word in $words; do libs+=(--lib "$word"); done
+    "$compiler" --toolchain "$tools" --staticlib "$out" "$root/crates/$crate/src/lib.rt" --crate-name "$crate" \
+        --lib "std:=$home/libs/std/src/lib.rt" "${libs[@]}"
 }
 
 # kit_compile OUT.o FILE.c [WORDS..]: the words go to clang. The kit has no C headers: capi/bare has the few that are needed.

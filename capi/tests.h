@@ -3,6 +3,7 @@
 #define TESTS_H
 
 void test_formula_a(void);  /* formula_a.c: every call accepted, by the worked examples */
+void test_cases(const char *path);  /* cases.c: the cases that a text writes out, by its path */
 void test_refusals(void);   /* refusals.c: each refusal of each call, by hand */
 void test_texts(void);      /* texts.c: QDIMACS lines, within and outside the rules */
 void test_stored(void);     /* stored.c: files of a forest, written, read and damaged */
