@@ -4,8 +4,11 @@ use formula::clauses::variable_at;
 use levelling::fill_levels;
 use libc::STDIN_FILENO;
 use libc::STDOUT_FILENO;
+use lines::head_line;
+use lines::refused_line;
+use lines::universal_line;
 use picking::Asked;
-use picking::list_picked;
+use picking::write_picked;
 use qdimacs::Reading;
 use runs::refloor;
 use runs::row_at;
@@ -23,16 +26,19 @@ use threads::flag_points;
 use threads::thread;
 ghost use Prim.Native.Nat.{ℕ, _≤_, _<_};
 ghost use mathlib.Core.Path.{_≡_};
+ghost use mathlib.Core.Bool.{Bool};
 ghost use mathlib.Core.List.{List};
 ghost use lib.ListN.{length};
 ghost use Rattle.formula.specs.Levels.{SoundPrefix, Levelled};
 ghost use Rattle.formula.specs.Lookup.{SoundClauses};
 ghost use Rattle.formula.specs.Meaning.{blocks, clauses as Meaning·clauses};
 ghost use Rattle.tables.specs.Counting.{FormedBy};
-ghost use Rattle.threads.specs.Threads.{Closed, Tied};
+ghost use Rattle.terms.specs.declared.Scheme.the-variants.{Strict};
+ghost use Rattle.threads.specs.Threads.{Closed, Tied, EnteredBy};
 ghost use Rattle.runs.specs.Runs.{Within, Leads, Led};
 ghost use Rattle.sets.specs.Passed.{Ready};
-ghost use Rattle.lines.specs.Lines.{Small};
+ghost use Rattle.lines.specs.Lines.{universalLine, Small, Stored};
+ghost use Rattle.listing.specs.Listing.{HeadOf, LineOf, Front, TopsOf, flaggedLine, soleList};
 
 fn main() {
     let mut text = [0u8; 65537];
@@ -55,14 +61,12 @@ fn list_text(text: &[u8]) {
 }
 
 // Prints a refusal. Numbers and places have at most five digits.
-fn print_refusal(number: u32, place: usize) {
+fn print_refusal(number: u32, place: usize)
+    requires { ⌜ (number < 100000) × (place < 100000) ⌝ }
+{
     let mut line = [0u8; 65536];
-    if number < 100000 {
-        if place < 100000 {
-            let end = lines::refused_line(&mut line, number, place as u32);
-            io::write_all(STDOUT_FILENO, &line[..end]);
-        }
-    }
+    let end = refused_line(&mut line, number, place as u32);
+    io::write_all(STDOUT_FILENO, &line[..end]);
 }
 
 // Lists an accepted formula; refusals 1 to 11 are build's. The counts and the tally are not asked for.
@@ -98,19 +102,27 @@ fn list_forest(n: u32, prefix: &[u32], clauses: &[i32], classes: &[u32], parents
     let mut levels = [0u32; 4097];
     let mut universals = [false; 4097];
     fill_levels(prefix, &mut levels, &mut universals);
-    let blocks = count_blocks(prefix);
-    let clause_count = count_clauses(clauses);
-    print_head(n, blocks, clause_count);
+    print_head(n, prefix, clauses);
     list_universals(n, prefix, &levels, &universals, clauses, classes, parents);
 }
 
 // Prints the first line.
-fn print_head(n: u32, blocks: usize, clauses: usize)
-    requires { ⌜ (n < 100000) × (blocks < 100000) × (clauses < 100000) ⌝ }
+fn print_head(n: u32, prefix: &[u32], clauses: &[i32])
+    requires { ⌜ (n ≤ 4096) × (length (now prefix) < 100000) × (length (now clauses) < 100000) ⌝ }
 {
     let mut line = [0u8; 65536];
-    let end = lines::head_line(&mut line, n, blocks as u32, clauses as u32);
+    let end = head_of(n, prefix, clauses, &mut line);
     io::write_all(STDOUT_FILENO, &line[..end]);
+}
+
+// Stores the first line from the start of `line` on, and gives its length.
+fn head_of(n: u32, prefix: &[u32], clauses: &[i32], line: &mut [u8]) -> usize
+    requires { ⌜ (n ≤ 4096) × (length (now prefix) < 100000) × (length (now clauses) < 100000) × (65536 ≤ length (now line)) ⌝ }
+    ensures { λ r. ⌜ Front (HeadOf n (now (prefix .entry)) (now (clauses .entry))) (now (line .entry)) (now (line .exit)) r ⌝ }
+{
+    let blocks = count_blocks(prefix);
+    let clause_count = count_clauses(clauses);
+    head_line(line, n, blocks as u32, clause_count as u32)
 }
 
 // How many blocks a prefix has: one for each 0.
@@ -215,7 +227,7 @@ fn list_tied(
                 &mut lead,
                 &mut after,
             );
-            list_universal(
+            let end = line_of(
                 n,
                 clauses,
                 first,
@@ -227,12 +239,14 @@ fn list_tied(
                 &after,
                 &mut line,
             );
+            io::write_all(STDOUT_FILENO, &line[..end]);
         }
     }
 }
 
-// The line of one universal. Where it has one strict entry point, its set is the run of that.
-fn list_universal(
+// Stores the line of one universal from the start of `line` on, and gives its length. Whatever prefix and forest tables the tops are of, it is
+// the line of x by them. Where x has one strict entry point, its set is the run of that.
+fn line_of(
     n: u32,
     clauses: &[i32],
     first: &[u32],
@@ -243,31 +257,41 @@ fn list_universal(
     lead: &[u32],
     after: &[u32],
     line: &mut [u8],
-)
-    requires { ⌜ (n ≤ 4096) × Tied (now clauses) (now first) (now next) (x .0) × Within n (now tops) × Led n (now tops) (now lead) (now after) × (65536 ≤ length (now line)) ⌝ }
+) -> usize
+    requires { ⌜ (n ≤ 4096) × (x .0 ≤ n) × (level .0 < 100000) × Closed (now clauses) × Tied (now clauses) (now first) (now next) (x .0) ⌝ }
+    requires { ⌜ Within n (now tops) × Led n (now tops) (now lead) (now after) × (65536 ≤ length (now line)) ⌝ }
+    ensures { λ r. ⌜ ((es classes parents : List ℕ) → TopsOf n es classes parents (x .0) (level .0) (now (tops .entry)) → Front (LineOf n es (now (clauses .entry)) classes parents (x .0)) (now (line .entry)) (now (line .exit)) r) ⌝ }
 {
     match sole_point(Scheme::Strict, n, clauses, first, next, x, tops) {
-        Sole::Several => list_flagged(n, clauses, first, next, x, level, tops, line),
-        Sole::Top(top) => list_run(row_at(lead, top), after, top, x, level, line),
+        Sole::Several => flagged_line(n, clauses, first, next, x, level, tops, line),
+        Sole::Top(top) => run_line(row_at(lead, top), after, top, x, level, line),
     }
 }
 
-// The line of a universal with one entry point at most, to the run of which a row leads.
-fn list_run(row: u32, after: &[u32], top: Variable, x: Variable, level: Level, line: &mut [u8])
-    requires { ⌜ ((list : List ℕ) × Leads (now after) row list × Small list) × (top .0 ≤ 4096) × (65536 ≤ length (now line)) ⌝ }
+// Stores the line of a universal with one entry point at most, to the run of which a row leads.
+fn run_line(
+    row: u32,
+    after: &[u32],
+    top: Variable,
+    x: Variable,
+    level: Level,
+    line: &mut [u8],
+) -> usize
+    requires { ⌜ ((list : List ℕ) × Leads (now after) row list × Small list) × (top .0 ≤ 4096) × (x .0 ≤ 4096) × (level .0 < 100000) ⌝ }
+    ensures { λ r. ⌜ ((list : List ℕ) → Leads (now (after .entry)) row list → Stored 65536 (universalLine (x .0) (level .0) (soleList (top .0)) list) (now (line .entry)) (now (line .exit)) 0 r) ⌝ }
 {
     let mut set = [0u32; 4096];
     write_run(after, row % 65536, 0, &mut set);
     let size = (row / 65536) as usize;
     if top.0 == 0 {
-        print_lists(x, level, &[], &set[..size], line);
-    } else {
-        print_lists(x, level, &[top.0], &set[..size], line);
+        return universal_line(line, x.0, level.0, &[], &set[..size]);
     }
+    universal_line(line, x.0, level.0, &[top.0], &set[..size])
 }
 
-// The line of a universal with any number of entry points: they are flagged, along its chain, and they and the set are listed by the flags.
-fn list_flagged(
+// Stores the line of a universal with any number of entry points: they are flagged, along its chain, and they and the set are listed by the
+// flags.
+fn flagged_line(
     n: u32,
     clauses: &[i32],
     first: &[u32],
@@ -276,8 +300,9 @@ fn list_flagged(
     level: Level,
     tops: &[u32],
     line: &mut [u8],
-)
-    requires { ⌜ (n ≤ 4096) × Tied (now clauses) (now first) (now next) (x .0) × (65536 ≤ length (now line)) ⌝ }
+) -> usize
+    requires { ⌜ (n ≤ 4096) × (x .0 ≤ 4096) × (level .0 < 100000) × Tied (now clauses) (now first) (now next) (x .0) ⌝ }
+    ensures { λ r. ⌜ ((flags : List Bool) × EnteredBy Strict n (now (tops .entry)) (now (clauses .entry)) (x .0) flags × Stored 65536 (flaggedLine n (now (tops .entry)) flags (x .0) (level .0)) (now (line .entry)) (now (line .exit)) 0 r) ⌝ }
 {
     let mut entered = [false; 4097];
     flag_points(
@@ -290,38 +315,24 @@ fn list_flagged(
         tops,
         &mut entered,
     );
-    print_picked(n, x, level, &entered, tops, line);
+    picked_line(n, x, level, &entered, tops, line)
 }
 
-// Lists the entry points and the set, ascending, and prints them.
-fn print_picked(n: u32, x: Variable, level: Level, entered: &[bool], tops: &[u32], line: &mut [u8])
-    requires { ⌜ (n ≤ 4096) × (65536 ≤ length (now line)) ⌝ }
+// Stores the line with the entry points and the set that the flags pick, ascending.
+fn picked_line(
+    n: u32,
+    x: Variable,
+    level: Level,
+    entered: &[bool],
+    tops: &[u32],
+    line: &mut [u8],
+) -> usize
+    requires { ⌜ (n ≤ 4096) × (x .0 ≤ 4096) × (level .0 < 100000) ⌝ }
+    ensures { λ r. ⌜ Stored 65536 (flaggedLine n (now (tops .entry)) (now (entered .entry)) (x .0) (level .0)) (now (line .entry)) (now (line .exit)) 0 r ⌝ }
 {
     let mut entries = [0u32; 4096];
     let mut set = [0u32; 4096];
-    match list_picked(n, Asked::Points, entered, tops, &mut entries) {
-        Filled::Refused(_, _) => {}
-        Filled::Count(found) => match list_picked(n, Asked::Set, entered, tops, &mut set) {
-            Filled::Refused(_, _) => {}
-            Filled::Count(size) => print_lists(
-                x,
-                level,
-                &entries[..found as usize],
-                &set[..size as usize],
-                line,
-            ),
-        },
-    }
-}
-
-// Prints the line of a universal, made in a buffer.
-fn print_lists(x: Variable, level: Level, entries: &[u32], set: &[u32], line: &mut [u8])
-    requires { ⌜ Small (now entries) × Small (now set) × (65536 ≤ length (now line)) ⌝ }
-{
-    if x.0 < 100000 {
-        if level.0 < 100000 {
-            let end = lines::universal_line(line, x.0, level.0, entries, set);
-            io::write_all(STDOUT_FILENO, &line[..end]);
-        }
-    }
+    let found = write_picked(n, Asked::Points, entered, tops, 0, 0, &mut entries);
+    let size = write_picked(n, Asked::Set, entered, tops, 0, 0, &mut set);
+    universal_line(line, x.0, level.0, &entries[..found], &set[..size])
 }

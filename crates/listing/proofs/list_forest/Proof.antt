@@ -12,12 +12,6 @@ slice-aggregate-fill-levels-2 c = search needs
 fill-levels-requires : tie.Need-fill-levels-requires
 fill-levels-requires c κs = search needs
 
-count-blocks-requires : tie.Need-count-blocks-requires
-count-blocks-requires c κs = search needs
-
-count-clauses-requires : tie.Need-count-clauses-requires
-count-clauses-requires c κs = search needs
-
 print-head-requires : tie.Need-print-head-requires
 print-head-requires c κs = search needs
 
@@ -28,7 +22,7 @@ slice-aggregate-list-universals-2 : tie.Need-slice-aggregate-list-universals-2
 slice-aggregate-list-universals-2 c = search needs
 
 list-universals-requires : tie.Need-list-universals-requires
-list-universals-requires c κs = let pre = c .before .before .before .before .before .before .before .before .before .before .before .before .before .pre in (pre .0, c .before .before .before .before .before .before .before .fill-levels .ensures, pre .1, pre .2, pre .3)
+list-universals-requires c κs = let pre = c .before .before .before .before .before .before .before .before .before .before .before .pre in (pre .0, c .before .before .before .before .before .fill-levels .ensures, pre .1, pre .2, pre .3)
 
 returns : tie.Need-returns
 returns c = search needs
@@ -40,8 +34,6 @@ list-forest-spec =
     slice-aggregate-fill-levels
     slice-aggregate-fill-levels-2
     fill-levels-requires
-    count-blocks-requires
-    count-clauses-requires
     print-head-requires
     slice-aggregate-list-universals
     slice-aggregate-list-universals-2

@@ -5,7 +5,7 @@ use Prim.Native.Nat.{ℕ}
 use lib.IntN.{ℤ}
 use Rattle.terms.specs.Refusals.{NoneOf}
 use Rattle.terms.specs.declared.Filled.{Filled}
-use Rattle.terms.specs.declared.Filled.the-variants.{Count}
+use Rattle.terms.specs.declared.Filled.the-variants.{Count, Refused}
 use Rattle.formula.specs.Causes.{checkOrder}
 use Rattle.connection.specs.Tables.{WellFormed}
 use Rattle.connection.proofs.Growth.{forest-is}
@@ -14,6 +14,7 @@ use Rattle.tables.proofs.Agreeing.{lawful}
 use Rattle.formula.proofs.Sound.{sound-check, sound-clauses}
 use Rattle.sets.proofs.AllSets.{sound-closed}
 use Rattle.growth.specs.Grown.{Standing, tableOf, Builds}
+use Rattle.listing.proofs.Refusals.{Digits, build-digits}
 use borrow.Author.Needs.{needs}
 use Rattle.listing.proofs.list_formula.Statement.{statement}
 use Rattle.listing.proofs.list_formula.Tie as tie
@@ -25,6 +26,10 @@ ready {n} {es} {ls} {s} {s′} answer is built =
     let b = subst (Builds n es ls s s′) is built in
     let all = b .judged in
     ((all .0, (all .1 .0, (all .1 .1 .0, (all .1 .1 .1 .0, tt)))), forest-is (lawful n es) .0 (b .leaves .1 .forest) .formed)
+
+-- Where it refuses, the number and the place have at most five digits.
+refused : {n : ℕ} {es : List ℕ} {ls : List ℤ} {s s′ : Standing} {number place : ℕ} (answer : Filled) → answer ≡ Refused number place → Builds n es ls s s′ answer → Digits number place
+refused {n} {es} {ls} {s} {s′} {number} {place} answer is built = build-digits n es ls s number place (subst (Builds n es ls s s′) is built .judged)
 
 slice-aggregate-build-tallied : tie.Need-slice-aggregate-build-tallied
 slice-aggregate-build-tallied c = search needs
@@ -42,7 +47,7 @@ enum-known-answer : tie.Need-enum-known-answer
 enum-known-answer c = search needs
 
 print-refusal-requires : tie.Need-print-refusal-requires
-print-refusal-requires c κs = search needs
+print-refusal-requires c κs = refused _ (c .before .answer .given .1) (c .before .before .before .before .before .before .build-tallied .ensures)
 
 enum-told : tie.Need-enum-told
 enum-told c = search needs

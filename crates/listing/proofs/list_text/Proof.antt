@@ -5,6 +5,7 @@ use lib.IntN.{pos}
 use lib.ListN.{replicate}
 use lib.Seq.{length-take-le}
 use Rattle.qdimacs.specs.Reading.{ReadIs}
+use Rattle.listing.proofs.Refusals.{read-digits}
 use borrow.Author.Needs.{needs}
 use Rattle.listing.proofs.list_text.Statement.{statement}
 use Rattle.listing.proofs.list_text.Tie as tie
@@ -22,7 +23,7 @@ enum-known-number : tie.Need-enum-known-number
 enum-known-number c = search needs
 
 print-refusal-requires : tie.Need-print-refusal-requires
-print-refusal-requires c κs = search needs
+print-refusal-requires c κs = read-digits (c .before .before .before .before .before .before .before .before .before .args .text .now) (replicate 8192 0) (replicate 16384 (pos 0)) (c .before .number .given .0 .0) (c .before .number .given .0 .1 .0) (subst (ReadIs (c .before .before .before .before .before .before .before .before .before .args .text .now) (replicate 8192 0) (c .before .before .before .before .before .read .last .1 .0) (replicate 16384 (pos 0)) (c .before .before .before .before .before .read .last .1 .1 .0)) (c .before .number .given .1) (c .before .before .before .before .before .read .ensures) .0)
 
 enum-known-n : tie.Need-enum-known-n
 enum-known-n c = search needs

@@ -4,9 +4,11 @@ use mathlib.Core.Path.{_≡_, sym, _∙_}
 use mathlib.Core.Bool.{true, false}
 use native.Mathlib.Omega.{arith}
 use lib.ListN.{length, getD, length-replicate}
+use lib.Seq.{length-take-le}
 use Rattle.tables.specs.Formula.{variables, universalIn}
 use Rattle.tables.proofs.Agreeing.{lawful, level-agrees}
 use Rattle.tables.proofs.Readings.{flag-within}
+use Rattle.loose.proofs.Passes.{level-most}
 use Rattle.runs.specs.Runs.{Floored}
 use Rattle.runs.proofs.Linked.{floored-none}
 use borrow.Author.Needs.{needs}
@@ -57,39 +59,56 @@ refloor-requires c κs =
     let less = c .before .before .before .before .before .before .loop-test .taken in
     ((ready .sound, ready .formed, omega arith, (a .universals .now, ready .table)), c .before .before .before .before .before .before .before .loop .inv .1)
 
-slice-aggregate-list-universal : tie.Need-slice-aggregate-list-universal Inv-loop μ-loop
-slice-aggregate-list-universal c = search needs
+slice-aggregate-line-of : tie.Need-slice-aggregate-line-of Inv-loop μ-loop
+slice-aggregate-line-of c = search needs
 
-slice-aggregate-list-universal-2 : tie.Need-slice-aggregate-list-universal-2 Inv-loop μ-loop
-slice-aggregate-list-universal-2 c = search needs
+slice-aggregate-line-of-2 : tie.Need-slice-aggregate-line-of-2 Inv-loop μ-loop
+slice-aggregate-line-of-2 c = search needs
 
-slice-aggregate-list-universal-3 : tie.Need-slice-aggregate-list-universal-3 Inv-loop μ-loop
-slice-aggregate-list-universal-3 c = search needs
+slice-aggregate-line-of-3 : tie.Need-slice-aggregate-line-of-3 Inv-loop μ-loop
+slice-aggregate-line-of-3 c = search needs
 
-slice-aggregate-list-universal-4 : tie.Need-slice-aggregate-list-universal-4 Inv-loop μ-loop
-slice-aggregate-list-universal-4 c = search needs
+slice-aggregate-line-of-4 : tie.Need-slice-aggregate-line-of-4 Inv-loop μ-loop
+slice-aggregate-line-of-4 c = search needs
 
-list-universal-requires : tie.Need-list-universal-requires Inv-loop μ-loop
+line-of-requires : tie.Need-line-of-requires Inv-loop μ-loop
 unfolding universalIn
-list-universal-requires c κs =
+line-of-requires c κs =
     let a = c .before .before .before .before .before .before .before .before .before .before .before .before .before .before .before .before .before .before .before .before .before .before .before .before .args in
     let ready = c .before .before .before .before .before .before .before .before .before .before .before .before .before .before .before .before .before .before .before .before .before .before .before .before .pre in
     let few = ready .sound .few in
+    let short = ready .sound .short in
     let heads = ready .heads in
     let x = c .before .before .before .before .before .before .before .before .before .before .before .before .before .new2 .result .0 in
     let u = sym (c .before .before .before .before .before .before .before .before .before .before .before .before .universal-at .ensures) ∙ c .before .before .before .before .before .before .before .before .before .before .before .if1 .taken in
     let (_, most, flag) = flag-within (a .n) x (getD (a .universals .now) x false) u in
-    let floored = c .before .before .before .before .before .before .before .refloor .ensures .0 in
+    let (floored, low) = c .before .before .before .before .before .before .before .refloor .ensures in
+    let level = low .0 in
     let long = c .before .before .before .before .before .before .before .before .before .before .before .before .before .before .before .loop .inv .2 in
-    (few, record { heads = omega arith; links = ready .links; universals = a .universals .now; threaded = ready .threaded; universal = flag }, floored .within, floored .led, omega arith)
+    ((few, most, omega (arith, level-most (a .prefix .now) x), ready .closed, record { heads = omega arith; links = ready .links; universals = a .universals .now; threaded = ready .threaded; universal = flag }), (floored .within, floored .led, omega arith))
+
+array-share-prefix-line : tie.Need-array-share-prefix-line Inv-loop μ-loop
+array-share-prefix-line c =
+    let a = c .before .before .before .before .before .before .before .before .before .before .before .before .before .before .before .before .before .before .before .before .before .before .before .before .before .before .args in
+    let (floored, low) = c .before .before .before .before .before .before .before .before .before .refloor .ensures in
+    let line = c .before .line-of .ensures (a .prefix .now) (a .classes .now) (a .parents .now) (record { formed = c .before .before .before .before .before .before .before .before .before .before .before .before .before .before .before .before .before .before .before .before .before .before .before .before .before .before .pre .formed; low = low .0; rows = floored .over .rows }) in
+    let near = line .stored .near in
+    let long = c .before .line-of .kept .1 .1 .1 .1 .1 .1 .1 .1 .1 .0 ∙ c .before .before .before .before .before .before .before .before .before .before .before .before .before .before .before .before .before .loop .inv .2 in
+    omega arith
+
+slice-aggregate-write-all : tie.Need-slice-aggregate-write-all Inv-loop μ-loop
+slice-aggregate-write-all c = sym (length-take-le (c .before .before .line-of .result) (c .before .before .line-of .last .1 .1 .1 .1 .1 .1 .1 .1 .1 .0) (array-share-prefix-line (c .before)))
+
+write-all-requires : tie.Need-write-all-requires Inv-loop μ-loop
+write-all-requires c κs = search needs
 
 loop-less : tie.Need-loop-less Inv-loop μ-loop
-loop-less c = let less = c .before .before .before .before .before .before .before .before .before .before .before .before .before .before .before .before .loop-test .taken in omega arith
+loop-less c = let less = c .before .before .before .before .before .before .before .before .before .before .before .before .before .before .before .before .before .before .loop-test .taken in omega arith
 
 loop-again : tie.Need-loop-again Inv-loop μ-loop
 loop-again c =
-    let less = c .before .before .before .before .before .before .before .before .before .before .before .before .before .before .before .before .loop-test .taken in
-    (omega arith, c .before .before .before .before .before .before .before .before .before .refloor .ensures .0, c .before .list-universal .kept .1 .1 .1 .1 .1 .1 .1 .1 .1 .0 ∙ c .before .before .before .before .before .before .before .before .before .before .before .before .before .before .before .before .before .loop .inv .2)
+    let less = c .before .before .before .before .before .before .before .before .before .before .before .before .before .before .before .before .before .before .loop-test .taken in
+    (omega arith, c .before .before .before .before .before .before .before .before .before .before .before .refloor .ensures .0, c .before .before .before .line-of .kept .1 .1 .1 .1 .1 .1 .1 .1 .1 .0 ∙ c .before .before .before .before .before .before .before .before .before .before .before .before .before .before .before .before .before .before .before .loop .inv .2)
 
 loop-less-2 : tie.Need-loop-less-2 Inv-loop μ-loop
 loop-less-2 c = let less = c .before .before .before .loop-test .taken in omega arith
@@ -115,11 +134,14 @@ list-tied-spec =
     slice-aggregate-refloor-2
     slice-aggregate-refloor-3
     refloor-requires
-    slice-aggregate-list-universal
-    slice-aggregate-list-universal-2
-    slice-aggregate-list-universal-3
-    slice-aggregate-list-universal-4
-    list-universal-requires
+    slice-aggregate-line-of
+    slice-aggregate-line-of-2
+    slice-aggregate-line-of-3
+    slice-aggregate-line-of-4
+    line-of-requires
+    array-share-prefix-line
+    slice-aggregate-write-all
+    write-all-requires
     loop-less
     loop-again
     loop-less-2

@@ -26,12 +26,6 @@ write-all-requires c κs = search needs
 returns : tie.Need-returns
 returns c = search needs
 
-returns-2 : tie.Need-returns-2
-returns-2 c = search needs
-
-returns-3 : tie.Need-returns-3
-returns-3 c = search needs
-
 pub print-refusal-spec : {M : Type 1} → statement M
 print-refusal-spec =
     tie.close
@@ -42,6 +36,4 @@ print-refusal-spec =
     array-share-prefix-line
     slice-aggregate-write-all
     write-all-requires
-    returns
-    returns-2
-    returns-3)
+    returns)

@@ -1,0 +1,52 @@
+-- What the lines of the listing program say (document 01, "Two sides of each rule"; document 02, request 10). How they are spelt is in the
+-- definitions of `lines`.
+use Prim.Native.Nat.{ℕ, zero, suc}
+use mathlib.Core.Path.{_≡_}
+use mathlib.Core.Bool.{Bool}
+use mathlib.Core.List.{List, [], _∷_}
+use lib.IntN.{ℤ}
+use lib.ListN.{length, take}
+use Rattle.formula.specs.Meaning.{blocks, clauses, level}
+use Rattle.connection.specs.Tables.{lent}
+use Rattle.connection.specs.Listed.{Listed}
+use Rattle.tables.specs.Formula.{variables}
+use Rattle.tables.specs.Counting.{FormedBy}
+use Rattle.searching.specs.Search.{TopRows}
+use Rattle.picking.specs.declared.Asked.the-variants.{Points, Set}
+use Rattle.picking.specs.Picked.{pick, picked}
+use Rattle.forest.specs.Answers.{Entries, Members}
+use Rattle.lines.specs.Lines.{headLine, universalLine, Stored}
+
+-- the first line of a formula: n, the number of its blocks and the number of its clauses
+abbrev pub HeadOf : ℕ → List ℕ → List ℤ → List ℕ → Type 0
+HeadOf n es ls bytes = bytes ≡ headLine n (length (blocks es)) (length (clauses ls))
+
+-- The line of the universal x of a formula, by forest tables: its number, its level, its entry points and its set, each list ascending. The
+-- program names no scheme, so that entry points and set are the strict ones.
+pub record LineOf (n : ℕ) (es : List ℕ) (ls : List ℤ) (classes parents : List ℕ) (x : ℕ) (bytes : List ℕ) : Type 0 where
+  pub entries : List ℕ
+  pub set : List ℕ
+  pub entries-are : Listed (Entries n es ls classes parents x) entries
+  pub set-is : Listed (Members n es ls classes parents x) set
+  pub is : bytes ≡ universalLine x (level es x) entries set
+
+-- A line, of which P says what it is, was stored from the start of a buffer on: the bytes up to its end are the line, and those behind it are
+-- as they were.
+pub record Front (P : List ℕ → Type 0) (before after : List ℕ) (end : ℕ) : Type 0 where
+  pub says : P (take end after)
+  pub stored : Stored 65536 (take end after) before after 0 end
+
+-- What the rows of tops stand for: forest tables that are well formed by a prefix, of which they are the tops over the level of x.
+pub record TopsOf (n : ℕ) (es classes parents : List ℕ) (x floor : ℕ) (tops : List ℕ) : Type 0 where
+  pub formed : FormedBy n es classes parents
+  pub low : floor ≡ level es x
+  pub rows : TopRows (variables n es) (lent (variables n es) classes parents) floor tops
+
+-- the line of x by flags: the flagged numbers, and the variables that have a flagged top
+abbrev pub flaggedLine : ℕ → List ℕ → List Bool → ℕ → ℕ → List ℕ
+flaggedLine n tops flags x floor = universalLine x floor (picked (pick Points n flags tops) n) (picked (pick Set n flags tops) n)
+
+-- the list of a sole entry point, 0 for none
+unfoldable pub soleList : ℕ → List ℕ
+soleList zero = []
+soleList (suc top) = suc top ∷ []
