@@ -20,7 +20,8 @@ use Rattle.cells.specs.Formulas.{ThreeInCells, listedSaid}
 use Rattle.capi.specs.Told.{Told}
 use Rattle.capi.proofs.Places.{Small, small-then, small-within}
 use Rattle.capi.proofs.Telling.{Known, fits-known, tell-known}
-use Rattle.capi.proofs.Texts.{words-few, entries-few, line-few, place-few, overlong-place}
+use Rattle.grammar.proofs.Places.{place-few}
+use Rattle.capi.proofs.Texts.{words-few, entries-few, line-few, overlong-place}
 
 -- A line adds no more entries than it has bytes and its LF, and a text no more than it has bytes.
 list-few : {line l : List ℕ} → ListLine line l → length l ≤ length line + 1

@@ -10,7 +10,8 @@ use lib.IntN.{ℤ}
 use lib.ListN.{length}
 use Rattle.terms.specs.Refusals.{Causes, At0, FirstOf, NoneOf}
 use Rattle.formula.specs.Meaning.{clauses}
-use Rattle.formula.specs.Causes.{VariableCount, PrefixLong, ClausesLong, PrefixCause, ClauseCause, clauseOrder}
+use Rattle.formula.specs.Causes.{VariableCount, PrefixLong, ClausesLong, ClauseCause, clauseOrder}
+use Rattle.formula.proofs.Places.{prefix-place, clause-place}
 use Rattle.tables.specs.Causes.{ForestCause, short, bad-row, bad-count}
 use Rattle.tables.specs.Formula.{variables}
 use Rattle.terms.specs.declared.Scheme.{Scheme}
@@ -40,16 +41,7 @@ small-within causes most fits within k p (inr f) = absurd (f .1)
 pub small-at0 : (number : ℕ) (condition : Type 0) → Small (At0 number condition ∷ [])
 small-at0 number condition = small-within (At0 number condition) 0 (omega arith) (λ k p cause. let q = cause .1 in omega arith)
 
--- the entries of a prefix and of a clause table, and their lengths
-prefix-place : {n : ℕ} {es : List ℕ} (k p : ℕ) → PrefixCause n es k p → p ≤ length es
-prefix-place k p (PrefixCause.ends-inside _ q _) = omega arith
-prefix-place k p (PrefixCause.no-mark _ m _ _) = let l = m .0 in omega arith
-prefix-place k p (PrefixCause.same-mark _ _ m _ _) = let l = m .0 in omega arith
-prefix-place k p (PrefixCause.too-many-blocks _ m _) = let l = m .0 in omega arith
-prefix-place k p (PrefixCause.outside _ m _) = let l = m .0 in omega arith
-prefix-place k p (PrefixCause.named-before _ _ m _ _ _) = let l = m .0 in omega arith
-prefix-place k p (PrefixCause.empty-block _ _ _ _ m) = let l = m .0 in omega arith
-
+-- the entries of a joined prefix and of an added clause, and their lengths
 joined-place : {n : ℕ} {es : List ℕ} (k p : ℕ) → JoinedCause n es k p → p ≤ length es
 joined-place k p (JoinedCause.ends-inside _ q _) = omega arith
 joined-place k p (JoinedCause.no-mark _ m _ _) = let l = m .0 in omega arith
@@ -58,12 +50,8 @@ joined-place k p (JoinedCause.outside _ m _) = let l = m .0 in omega arith
 joined-place k p (JoinedCause.named-before _ _ m _ _ _) = let l = m .0 in omega arith
 
 ruled-place : (joins : Bool) (n : ℕ) (es : List ℕ) (k p : ℕ) → causesIf joins n es k p → p ≤ length es
-ruled-place false n es k p cause = prefix-place k p cause
+ruled-place false n es k p cause = prefix-place k p cause .1
 ruled-place true n es k p cause = joined-place k p cause
-
-clause-place : {n : ℕ} {ls : List ℤ} (k p : ℕ) → ClauseCause n ls k p → p ≤ length ls
-clause-place k p (ClauseCause.outside _ l _ _) = omega arith
-clause-place k p (ClauseCause.ends-inside _ q _) = omega arith
 
 added-place : {n : ℕ} {ls : List ℤ} (k p : ℕ) → AddedCause n ls k p → p ≤ length ls
 added-place k p (AddedCause.outside _ l _) = omega arith
@@ -79,7 +67,7 @@ few : (n : ℕ) → NoneOf (VariableCount n ∷ []) → n ≤ 4096
 few n none = let over : ¬ (4096 < n) = λ l. none .0 1 0 (refl, refl, l) in omega arith
 
 pub small-clauses : (n : ℕ) (ls : List ℤ) → length ls ≤ 16384 → Small (ClauseCause n ls ∷ [])
-small-clauses n ls l = small-within (ClauseCause n ls) 16384 (omega arith) (λ k p cause. let m = clause-place k p cause in omega arith)
+small-clauses n ls l = small-within (ClauseCause n ls) 16384 (omega arith) (λ k p cause. let m = clause-place k p cause .1 in omega arith)
 
 small-added : (n : ℕ) (ls : List ℤ) → length ls ≤ 16384 → Small (AddedCause n ls ∷ [])
 small-added n ls l = small-within (AddedCause n ls) 16384 (omega arith) (λ k p cause. let m = added-place k p cause in omega arith)

@@ -16,30 +16,13 @@ use Rattle.tokens.specs.declared.Item.{Item}
 use Rattle.tokens.specs.declared.Item.the-variants.{Closing, Plain, Negated, Other}
 use Rattle.tokens.specs.Words.{LF, SPACE, pieces, onto, filled, words, itemOf, Kind, prepend, closed, entry, entriesOf}
 use Rattle.grammar.specs.Grammar.{QuantifierLine, e-line, a-line, ClauseLine, literals-line, Line, a-comment, the-problem, a-block, a-clause, Lines, no-line, one-more, TextOf, Fault, outside, unended, no-problem, many, few, placeAfter, FaultIn}
+use Rattle.grammar.proofs.Places.{pieces-place, place-few, fault-place}
 use Rattle.qdimacs.specs.Reading.{Overlong, overlong, NoRoom, no-room-prefix, no-room-clauses, readOrder, ReadInto, ReadIs}
 use Rattle.cells.specs.Cells.{Fits, Laid}
 use Rattle.cells.specs.Formulas.{TwoInCells, readingSaid}
 use Rattle.capi.specs.Told.{Told}
 use Rattle.capi.proofs.Places.{Small, small-then, small-within}
 use Rattle.capi.proofs.Telling.{Known, fits-known, tell-known}
-
--- Cut at a mark, bytes are as many as their pieces with a mark each, but for the last.
-onto-place : (byte : ℕ) (cut : List (List ℕ)) → 0 < placeAfter cut → placeAfter (onto byte cut) ≡ placeAfter cut + 1
-unfolding onto
-onto-place byte [] l = absurd (omega arith)
-onto-place byte (piece ∷ more) l = omega arith
-
-pieces-place : (mark : ℕ) (bytes : List ℕ) → placeAfter (pieces mark bytes) ≡ length bytes + 1
-unfolding pieces
-pieces-place mark [] = refl
-pieces-place mark (byte ∷ bytes) = by-mark (eqb byte mark) (pieces-place mark bytes) where
-  by-mark : (b : Bool) → placeAfter (pieces mark bytes) ≡ length bytes + 1 → placeAfter (cond b ([] ∷ pieces mark bytes) (onto byte (pieces mark bytes))) ≡ length (byte ∷ bytes) + 1
-  by-mark true q = omega arith
-  by-mark false q = let r = onto-place byte (pieces mark bytes) (omega arith) in omega arith
-
-place-append : (lines more : List (List ℕ)) → placeAfter (lines ++ more) ≡ placeAfter lines + placeAfter more
-place-append [] more = omega arith
-place-append (line ∷ lines) more = let q = place-append lines more in omega arith
 
 -- A line has at most one word more than bytes, and as many entries as words.
 filled-few : (cut : List (List ℕ)) → length (filled cut) ≤ placeAfter cut
@@ -107,27 +90,8 @@ lines-few (one-more {p = p} {P = P} {c = c} {C = C} line lines) =
     let r = length-append c C in
     omega arith
 
--- the place after lines of a text, of which something is left
-pub place-few : (text : List ℕ) (lines left : List (List ℕ)) → pieces LF text ≡ lines ++ left → 0 < placeAfter left → placeAfter lines ≤ length text
-place-few text lines left cut some-left =
-    let q = place-append lines left in
-    let r : placeAfter (pieces LF text) ≡ placeAfter (lines ++ left) = ap placeAfter cut in
-    let s = pieces-place LF text in
-    omega arith
-
 text-few : {n : ℕ} {P : List ℕ} {C : List ℤ} {text : List ℕ} → TextOf n P C text → length P + length C ≤ length text
 text-few {text = text} t = let l = lines-few (t .follow) in let m = place-few text (t .lines) ([] ∷ []) (t .cut) (omega arith) in omega arith
-
--- A fault stands in what is left of a text, which has a piece at least.
-fault-some : {k : ℕ} {stage : Stage} {left : List (List ℕ)} → Fault k stage left → 0 < placeAfter left
-fault-some (outside _ _) = omega arith
-fault-some unended = omega arith
-fault-some no-problem = omega arith
-fault-some (many _) = omega arith
-fault-some (few _) = omega arith
-
-fault-place : (text : List ℕ) (k p : ℕ) → FaultIn text k p → p ≤ length text
-fault-place text k p f = let m = place-few text (f .lines) (f .left) (f .cut) (fault-some (f .fault)) in let at = f .at in omega arith
 
 pub overlong-place : {text : List ℕ} {k p : ℕ} → Overlong text k p → p ≤ 65536
 overlong-place (overlong l) = omega arith
@@ -141,7 +105,7 @@ small-read text prefix clauses =
     small-then (Overlong text ∷ []) (FaultIn text ∷ NoRoom text prefix clauses ∷ []) (small-within (Overlong text) 65536 (omega arith) (λ k p cause. overlong-place cause))
     (λ clean.
     let long : ¬ (65536 < length text) = λ l. clean .0 15 65536 (overlong l) in
-    small-then (FaultIn text ∷ []) (NoRoom text prefix clauses ∷ []) (small-within (FaultIn text) 65536 (omega arith) (λ k p cause. let l = fault-place text k p cause in omega arith))
+    small-then (FaultIn text ∷ []) (NoRoom text prefix clauses ∷ []) (small-within (FaultIn text) 65536 (omega arith) (λ k p cause. let l = fault-place text k p cause .1 in omega arith))
     (λ _. small-within (NoRoom text prefix clauses) 0 (omega arith) (λ k p cause. no-room-place cause)))
 
 -- the counts of what was read

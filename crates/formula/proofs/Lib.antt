@@ -12,6 +12,8 @@ pub mod Signs
 pub mod Sound
 pub mod Levelling
 pub mod Ordered
+-- Where refusals stand.
+pub mod Places
 -- Nothing is left open; acceptance by computing, and worked examples.
 pub mod Tight
 pub mod Accepts

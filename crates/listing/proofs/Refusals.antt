@@ -1,19 +1,17 @@
 -- The number of a refusal and its place have at most five digits, so that every refusal has a line.
-use Prim.Native.Nat.{ℕ, _+_, _≤_, _<_}
-use mathlib.Core.Path.{_≡_, refl, ap}
-use mathlib.Core.Bool.{Bool, true, false, cond}
-use mathlib.Core.List.{List, [], _∷_, _++_}
+use Prim.Native.Nat.{ℕ, _≤_, _<_}
+use mathlib.Core.Path.{refl}
+use mathlib.Core.List.{List}
 use mathlib.Core.Logic.{inl, inr}
 use native.Mathlib.Omega.{arith}
-use lib.Dec.{eqb}
 use lib.IntN.{ℤ}
 use lib.ListN.{length}
 use Rattle.terms.specs.Refusals.{At0, FirstOf}
 use Rattle.formula.specs.Causes.{PrefixCause, ClauseCause}
+use Rattle.formula.proofs.Places.{prefix-place, clause-place}
 use Rattle.growth.specs.Grown.{Standing, buildOrder}
-use Rattle.grammar.specs.declared.Stage.{Stage}
-use Rattle.grammar.specs.Grammar.{Fault, outside, unended, no-problem, many, few, placeAfter, FaultIn}
-use Rattle.tokens.specs.Words.{LF, onto, pieces}
+use Rattle.grammar.specs.Grammar.{FaultIn}
+use Rattle.grammar.proofs.Places.{fault-place}
 use Rattle.qdimacs.specs.Reading.{Overlong, overlong, NoRoom, no-room-prefix, no-room-clauses, readOrder}
 
 -- both have at most five digits
@@ -26,17 +24,10 @@ at0-digits k low (number-is, place-is, _) = (omega arith, omega arith)
 
 -- A refusal at an entry of a prefix within its limit, or at its length, and of a clause table.
 prefix-digits : {n : ℕ} {es : List ℕ} (number place : ℕ) → length es ≤ 8192 → PrefixCause n es number place → Digits number place
-prefix-digits number place l (PrefixCause.ends-inside q r _) = (omega arith, omega arith)
-prefix-digits number place l (PrefixCause.no-mark q m _ _) = let less = m .0 in (omega arith, omega arith)
-prefix-digits number place l (PrefixCause.same-mark _ q m _ _) = let less = m .0 in (omega arith, omega arith)
-prefix-digits number place l (PrefixCause.too-many-blocks q m _) = let less = m .0 in (omega arith, omega arith)
-prefix-digits number place l (PrefixCause.outside q m _) = let less = m .0 in (omega arith, omega arith)
-prefix-digits number place l (PrefixCause.named-before _ q m _ _ _) = let less = m .0 in (omega arith, omega arith)
-prefix-digits number place l (PrefixCause.empty-block _ q _ _ m) = let less = m .0 in (omega arith, omega arith)
+prefix-digits number place l cause = let (low, within) = prefix-place number place cause in (omega arith, omega arith)
 
 clause-digits : {n : ℕ} {ls : List ℤ} (number place : ℕ) → length ls ≤ 16384 → ClauseCause n ls number place → Digits number place
-clause-digits number place l (ClauseCause.outside q less _ _) = (omega arith, omega arith)
-clause-digits number place l (ClauseCause.ends-inside q r _) = (omega arith, omega arith)
+clause-digits number place l cause = let (low, within) = clause-place number place cause in (omega arith, omega arith)
 
 -- So no refusal of build is longer: by the time that a table is looked at its length is within its limit.
 pub build-digits : (n : ℕ) (es : List ℕ) (ls : List ℤ) (s : Standing) (number place : ℕ) → FirstOf (buildOrder n es ls s) number place → Digits number place
@@ -47,41 +38,9 @@ build-digits n es ls s number place (inr (_, inr (short, inr (_, inl f)))) = let
 build-digits n es ls s number place (inr (_, inr (_, inr (_, inr (_, inl f))))) = at0-digits 14 (omega arith) (f .holds)
 build-digits n es ls s number place (inr (_, inr (_, inr (_, inr (_, inr (_, none)))))) = absurd none
 
--- Cut at a mark, bytes are as many as their pieces with a mark each, but for the last.
-onto-place : (byte : ℕ) (cut : List (List ℕ)) → 0 < placeAfter cut → placeAfter (onto byte cut) ≡ placeAfter cut + 1
-unfolding onto
-onto-place byte [] l = absurd (omega arith)
-onto-place byte (piece ∷ more) l = omega arith
-
-pieces-place : (mark : ℕ) (bytes : List ℕ) → placeAfter (pieces mark bytes) ≡ length bytes + 1
-unfolding pieces
-pieces-place mark [] = refl
-pieces-place mark (byte ∷ bytes) = by-mark (eqb byte mark) (pieces-place mark bytes)
-  where
-    by-mark : (b : Bool) → placeAfter (pieces mark bytes) ≡ length bytes + 1 → placeAfter (cond b ([] ∷ pieces mark bytes) (onto byte (pieces mark bytes))) ≡ length (byte ∷ bytes) + 1
-    by-mark true q = omega arith
-    by-mark false q = let r = onto-place byte (pieces mark bytes) (omega arith) in omega arith
-
--- the place after lines and more lines
-place-append : (lines more : List (List ℕ)) → placeAfter (lines ++ more) ≡ placeAfter lines + placeAfter more
-place-append [] more = omega arith
-place-append (line ∷ lines) more = let q = place-append lines more in omega arith
-
--- A fault stands in what is left of a text, which has a piece at least, and its number is 16 or 17.
-fault-some : {k : ℕ} {stage : Stage} {left : List (List ℕ)} → Fault k stage left → (0 < placeAfter left) × (k ≤ 17)
-fault-some (outside _ _) = (omega arith, omega arith)
-fault-some unended = (omega arith, omega arith)
-fault-some no-problem = (omega arith, omega arith)
-fault-some (many _) = (omega arith, omega arith)
-fault-some (few _) = (omega arith, omega arith)
-
--- So the place of a fault is within the text.
+-- A fault stands within the text.
 fault-digits : (text : List ℕ) (number place : ℕ) → length text ≤ 65536 → FaultIn text number place → Digits number place
-fault-digits text number place short f =
-    let (left, low) = fault-some (f .fault) in
-    let all : placeAfter (pieces LF text) ≡ placeAfter (f .lines ++ f .left) = ap placeAfter (f .cut) in
-    let at = f .at in
-    (omega arith, omega (arith, place-append (f .lines) (f .left), pieces-place LF text))
+fault-digits text number place short f = let (low, within) = fault-place text number place f in (omega arith, omega arith)
 
 -- A text that is too long is refused at its limit, and tables that do not fit at 0.
 overlong-digits : {text : List ℕ} {number place : ℕ} → Overlong text number place → Digits number place

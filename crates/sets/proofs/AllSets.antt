@@ -19,11 +19,11 @@ use Rattle.formula.specs.Meaning.{level}
 use Rattle.connection.specs.Reach.{Variables}
 use Rattle.connection.specs.Tables.{Table, lent, WellFormed}
 use Rattle.connection.specs.Listed.{Listed}
-use Rattle.picking.specs.declared.Asked.the-variants.{Set}
+use Rattle.picking.specs.declared.Asked.the-variants.{Points, Set}
 use Rattle.terms.specs.declared.Scheme.{Scheme}
 use Rattle.tables.specs.Formula.{variables, universal, SharesBy}
 use Rattle.tables.specs.Causes.{ForestCause}
-use Rattle.forest.specs.Answers.{MembersBy}
+use Rattle.forest.specs.Answers.{EntriesBy, MembersBy}
 use Rattle.forest.specs.Listed.{Filling}
 use Rattle.searching.specs.Search.{TopRows}
 use Rattle.marks.specs.Flags.{Takes, Via, Entering}
@@ -33,7 +33,9 @@ use Rattle.threads.specs.Threads.{Closed, Together, EnteredBy}
 use Rattle.oneset.specs.Put.{PutSet, RoomFor}
 use Rattle.sets.specs.Passed.{SetsUpto, RoomUpto, PutAll, Fills}
 use Rattle.marks.proofs.Flags.{via-as}
-use Rattle.forest.proofs.Schemes.{over-enters}
+use Rattle.picking.proofs.Picked.{picked-listed}
+use Rattle.forest.proofs.Entered.{of-within}
+use Rattle.forest.proofs.Schemes.{scheme-points, over-enters}
 use Rattle.threads.proofs.Followed.{together-shares}
 use Rattle.tables.proofs.Agreeing.{lawful}
 use Rattle.forest.proofs.Listings.{members-picked}
@@ -72,13 +74,23 @@ module _ (scheme : Scheme) (n : ℕ) (es : List ℕ) (ls : List ℤ) (classes pa
       let bound : m * (n + 2) ≤ 4096 * (n + 2) = mul-le-mul-right (n + 2) (omega arith) in
       omega arith
 
-  -- The set of x by the scheme, by the tops over its level and the flags of those that it takes.
-  pub set-picked : n ≤ 4096 → Closed ls → WellFormed X W → (x floor : ℕ) (tops : List ℕ) (flags : List Bool) → floor ≡ level es x → TopRows X W floor tops → EnteredBy scheme n tops ls x flags → Listed (S x) (picked (pick Set n flags tops) n)
-  set-picked few closed formed x floor tops flags low rows f =
-      let there : (e : ℕ) → Takes scheme (λ sign. Via n tops (Together ls sign x) e) → Takes scheme (λ sign. Via n tops (SharesBy ls sign x) e) = λ e. takes-as scheme (λ sign. via-as (λ v. together-shares ls sign x v closed .0)) in
-      let back : (e : ℕ) → Takes scheme (λ sign. Via n tops (SharesBy ls sign x) e) → Takes scheme (λ sign. Via n tops (Together ls sign x) e) = λ e. takes-as scheme (λ sign. via-as (λ v. together-shares ls sign x v closed .1)) in
-      let shared : Entering n (λ e. Takes scheme (λ sign. Via n tops (SharesBy ls sign x) e)) tops tops flags = record { tells = λ e l. let t = f .tells e l in (λ q. there e (t .0 q), λ p. t .1 (back e p)); same = f .same } in
-      members-picked n es ls classes parents x formed few scheme tops (over-enters n es ls classes parents x floor tops scheme formed low rows shared)
+  -- The set of x by the scheme, and its entry points, by the tops over its level and the flags of those that it takes.
+  module _ (few : n ≤ 4096) (closed : Closed ls) (formed : WellFormed X W) (x floor : ℕ) (tops : List ℕ) (flags : List Bool) (low : floor ≡ level es x) (rows : TopRows X W floor tops) (f : EnteredBy scheme n tops ls x flags) where
+    -- what is in a clause together with x shares one with it, and the other way round
+    shared : Entering n (λ e. Takes scheme (λ sign. Via n tops (SharesBy ls sign x) e)) tops tops flags
+    shared =
+        let there : (e : ℕ) → Takes scheme (λ sign. Via n tops (Together ls sign x) e) → Takes scheme (λ sign. Via n tops (SharesBy ls sign x) e) = λ e. takes-as scheme (λ sign. via-as (λ v. together-shares ls sign x v closed .0)) in
+        let back : (e : ℕ) → Takes scheme (λ sign. Via n tops (SharesBy ls sign x) e) → Takes scheme (λ sign. Via n tops (Together ls sign x) e) = λ e. takes-as scheme (λ sign. via-as (λ v. together-shares ls sign x v closed .1)) in
+        record { tells = λ e l. let t = f .tells e l in (λ q. there e (t .0 q), λ p. t .1 (back e p)); same = f .same }
+
+    pub set-picked : Listed (S x) (picked (pick Set n flags tops) n)
+    set-picked = members-picked n es ls classes parents x formed few scheme tops (over-enters n es ls classes parents x floor tops scheme formed low rows shared)
+
+    pub points-picked : Listed (EntriesBy scheme n es ls classes parents x) (picked (pick Points n flags tops) n)
+    unfolding pick lent
+    points-picked =
+        let (_, _, entered) = over-enters n es ls classes parents x floor tops scheme formed low rows shared in
+        picked-listed (pick Points n flags tops) n (λ e o. of-within (lawful n es) formed (scheme-points n es ls classes parents x scheme e o)) (λ e _ l. entered .tells e (omega arith))
 
   module _ (few : n ≤ 4096) (closed : Closed ls) (formed : WellFormed X W) (m x floor : ℕ) (tops : List ℕ) (writing : Bool) (before : List ℕ) {out : List ℕ} {end : ℕ}
       (is : x ≡ m + 1) (p : PutAll (R m) writing before out end) where
