@@ -11,7 +11,8 @@ use Rattle.picking.specs.Picked.{pick, picked}
 use Rattle.threads.specs.Threads.{Closed, EnteredBy}
 use Rattle.sets.proofs.AllSets.{set-picked, points-picked}
 use Rattle.lines.specs.Lines.{universalLine, Stored}
-use Rattle.listing.specs.Listing.{LineOf, Front, TopsOf, flaggedLine}
+use Rattle.listing.specs.Listing.{LineOf, Front}
+use Rattle.listing.specs.Inner.{TopsOf, flaggedLine}
 use Rattle.listing.proofs.Printed.{line-front}
 
 module _ {n : ℕ} (es : List ℕ) {ls : List ℤ} (classes parents : List ℕ) {x floor : ℕ} {tops : List ℕ} {flags : List Bool} (few : n ≤ 4096) (closed : Closed ls) (t : TopsOf n es classes parents x floor tops)

@@ -18,7 +18,8 @@ use Rattle.soles.specs.Soles.{Is}
 use Rattle.runs.specs.Runs.{Run, Leads, only}
 use Rattle.runs.proofs.Linked.{run-one, only-set, only-own}
 use Rattle.lines.specs.Lines.{Small, Stored}
-use Rattle.listing.specs.Listing.{Front, soleList}
+use Rattle.listing.specs.Listing.{Front}
+use Rattle.listing.specs.Inner.{soleList}
 
 -- what stands at an index is in the list
 member-at : (l : List ℕ) (i : ℕ) → i < length l → List·Memᴰ (getD l i 0) l

@@ -1,19 +1,12 @@
 -- What the lines of the listing program say (document 01, "Two sides of each rule"; document 02, request 10). How they are spelt is in the
 -- definitions of `lines`.
-use Prim.Native.Nat.{ℕ, zero, suc}
+use Prim.Native.Nat.{ℕ}
 use mathlib.Core.Path.{_≡_}
-use mathlib.Core.Bool.{Bool}
-use mathlib.Core.List.{List, [], _∷_}
+use mathlib.Core.List.{List}
 use lib.IntN.{ℤ}
 use lib.ListN.{length, take}
 use Rattle.formula.specs.Meaning.{blocks, clauses, level}
-use Rattle.connection.specs.Tables.{lent}
 use Rattle.connection.specs.Listed.{Listed}
-use Rattle.tables.specs.Formula.{variables}
-use Rattle.tables.specs.Counting.{FormedBy}
-use Rattle.searching.specs.Search.{TopRows}
-use Rattle.picking.specs.declared.Asked.the-variants.{Points, Set}
-use Rattle.picking.specs.Picked.{pick, picked}
 use Rattle.forest.specs.Answers.{Entries, Members}
 use Rattle.lines.specs.Lines.{headLine, universalLine, Stored}
 
@@ -35,18 +28,3 @@ pub record LineOf (n : ℕ) (es : List ℕ) (ls : List ℤ) (classes parents : L
 pub record Front (P : List ℕ → Type 0) (before after : List ℕ) (end : ℕ) : Type 0 where
   pub says : P (take end after)
   pub stored : Stored 65536 (take end after) before after 0 end
-
--- What the rows of tops stand for: forest tables that are well formed by a prefix, of which they are the tops over the level of x.
-pub record TopsOf (n : ℕ) (es classes parents : List ℕ) (x floor : ℕ) (tops : List ℕ) : Type 0 where
-  pub formed : FormedBy n es classes parents
-  pub low : floor ≡ level es x
-  pub rows : TopRows (variables n es) (lent (variables n es) classes parents) floor tops
-
--- the line of x by flags: the flagged numbers, and the variables that have a flagged top
-abbrev pub flaggedLine : ℕ → List ℕ → List Bool → ℕ → ℕ → List ℕ
-flaggedLine n tops flags x floor = universalLine x floor (picked (pick Points n flags tops) n) (picked (pick Set n flags tops) n)
-
--- the list of a sole entry point, 0 for none
-unfoldable pub soleList : ℕ → List ℕ
-soleList zero = []
-soleList (suc top) = suc top ∷ []

@@ -38,7 +38,8 @@ ghost use Rattle.threads.specs.Threads.{Closed, Tied, EnteredBy};
 ghost use Rattle.runs.specs.Runs.{Within, Leads, Led};
 ghost use Rattle.sets.specs.Passed.{Ready};
 ghost use Rattle.lines.specs.Lines.{universalLine, Small, Stored};
-ghost use Rattle.listing.specs.Listing.{HeadOf, LineOf, Front, TopsOf, flaggedLine, soleList};
+ghost use Rattle.listing.specs.Listing.{HeadOf, LineOf, Front};
+ghost use Rattle.listing.specs.Inner.{TopsOf, flaggedLine, soleList};
 
 fn main() {
     let mut text = [0u8; 65537];
