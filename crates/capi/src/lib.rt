@@ -14,6 +14,7 @@ use cells::lay_entry;
 use cells::lay_output;
 use cells::lay_verdict;
 use cells::scheme_in;
+use cells::tallies::TallyCells;
 use cells::tallies::lay_added;
 use cells::tallies::lay_built;
 use cells::tallies::tally_in;
@@ -90,7 +91,7 @@ pub extern "C" fn snow_build(
     classes: &mut [u32],
     parents: &mut [u32],
     counts: &mut [u32],
-    tally: &mut [u32; 3],
+    tally: &mut TallyCells,
     count: &mut u32,
     place: &mut u32,
 ) -> u32
@@ -406,7 +407,7 @@ pub extern "C" fn snow_add(
     classes: &mut [u32],
     parents: &mut [u32],
     counts: &mut [u32],
-    tally: &mut [u32; 3],
+    tally: &mut TallyCells,
     clause: &[i32],
     place: &mut u32,
 ) -> u32

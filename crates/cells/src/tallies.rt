@@ -8,8 +8,11 @@ ghost use mathlib.Core.Path.{_≡_};
 ghost use Rattle.cells.specs.Codes.{tallyIn};
 ghost use Rattle.cells.specs.Cells.{Fits, Any, Laid, TallyLaid, filledSaid, builtSaid, addedSaid};
 
+// Clauses, merges and classes, in this order.
+pub type TallyCells = [u32; 3];
+
 // The tally that was lent.
-pub fn tally_in(cells: &[u32; 3]) -> Tally
+pub fn tally_in(cells: &TallyCells) -> Tally
     ensures { λ r. ⌜ r ≡ tallyIn (now (cells .entry)) ⌝ }
 {
     Tally {
@@ -20,7 +23,7 @@ pub fn tally_in(cells: &[u32; 3]) -> Tally
 }
 
 // The tally of an answer that accepts goes into the cells.
-fn lay_tally(told: Tallied, cells: &mut [u32; 3])
+fn lay_tally(told: Tallied, cells: &mut TallyCells)
     ensures { λ r. ⌜ TallyLaid (filledSaid (told .answer)) (told .tally) (now (cells .entry)) (now (cells .exit)) ⌝ }
 {
     let answer = told.answer;
@@ -33,7 +36,7 @@ fn lay_tally(told: Tallied, cells: &mut [u32; 3])
 }
 
 // What build gives: a count and the tally.
-pub fn lay_built(told: Tallied, cells: &mut [u32; 3], count: &mut u32, place: &mut u32) -> u32
+pub fn lay_built(told: Tallied, cells: &mut TallyCells, count: &mut u32, place: &mut u32) -> u32
     requires { ⌜ Fits Any (filledSaid (told .answer)) ⌝ }
     ensures { λ r. ⌜ Laid (builtSaid (filledSaid (told .answer)) (told .tally) (now (cells .entry))) (now (count .entry), now (cells .entry)) (now (count .exit), now (cells .exit)) (now (place .entry)) (now (place .exit)) r ⌝ }
 {
@@ -43,7 +46,7 @@ pub fn lay_built(told: Tallied, cells: &mut [u32; 3], count: &mut u32, place: &m
 }
 
 // What add gives: the tally.
-pub fn lay_added(told: Tallied, cells: &mut [u32; 3], place: &mut u32) -> u32
+pub fn lay_added(told: Tallied, cells: &mut TallyCells, place: &mut u32) -> u32
     requires { ⌜ Fits Any (filledSaid (told .answer)) ⌝ }
     ensures { λ r. ⌜ Laid (addedSaid (builtSaid (filledSaid (told .answer)) (told .tally) (now (cells .entry)))) (now (cells .entry)) (now (cells .exit)) (now (place .entry)) (now (place .exit)) r ⌝ }
 {
