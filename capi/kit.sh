@@ -2,9 +2,10 @@
 # with no install; and makes archives of crates with no proof. Programs are for x86-64; on another processor they run under the kit's
 # emulator. To be sourced by bash, with `root` set.
 
-# The kit's folder `home`, from RATTLE_HOME or from where `rt` really stands; then the tools for this machine.
+# The kit's folder `home`, from RATTLE_HOME or from where `rt` really stands; then the tools for this machine, and the words that `run` a
+# program with them.
 kit_find() {
-    local rt
+    local rt never=1000000000
     if [ -n "${RATTLE_HOME:-}" ]; then
         home=$RATTLE_HOME
     else
@@ -14,9 +15,14 @@ kit_find() {
     fi
     if [ -d "$home/on" ]; then tools=$home/on/$(uname -m)/toolchain; else tools=$home/toolchain; fi
     [ -x "$tools/bin/clang" ] || { echo "the kit at $home has no compiler for $(uname -m)" >&2; return 1; }
-    loader=$tools/lib/ld-linux-x86-64.so.2
-    emulator=$tools/bin/qemu-x86_64
-    [ -x "$emulator" ] || emulator=''
+    # The emulator takes the instructions by which the C library clears and copies large tables byte by byte, some twenty times as long as
+    # others: the C library is told to keep to those.
+    run=("$tools/lib/ld-linux-x86-64.so.2" --library-path "$tools/lib")
+    emulated=''
+    if [ -x "$tools/bin/qemu-x86_64" ]; then
+        emulated=yes
+        run=("$tools/bin/qemu-x86_64" -E "GLIBC_TUNABLES=glibc.cpu.x86_rep_stosb_threshold=$never:glibc.cpu.x86_rep_movsb_threshold=$never" "${run[@]}")
+    fi
 }
 
 # kit_libs CRATE: a word NAME:std,DEP..=FILE for each crate that one stands on, itself left out, by the lines `name: names` of crates.txt.
@@ -63,7 +69,7 @@ kit_compile() {
 kit_link() {
     local out=$1 lib=$tools/lib
     shift
-    "$tools/bin/ld.lld" -pie --dynamic-linker "$loader" -o "$out" "$lib/Scrt1.o" "$lib/crti.o" "$@" \
+    "$tools/bin/ld.lld" -pie --dynamic-linker "$lib/ld-linux-x86-64.so.2" -o "$out" "$lib/Scrt1.o" "$lib/crti.o" "$@" \
         "$lib/libc.so.6" "$lib/libc_nonshared.a" "$lib/crtn.o"
 }
 
@@ -71,5 +77,5 @@ kit_link() {
 kit_run() {
     local word drop=()
     for word in $(env | sed -n 's/^\(QEMU_[A-Za-z0-9_]*\)=.*/\1/p'); do drop+=(-u "$word"); done
-    env "${drop[@]}" ${emulator:+"$emulator"} "$loader" --library-path "$tools/lib" "$@"
+    env "${drop[@]}" "${run[@]}" "$@"
 }
