@@ -4,7 +4,7 @@ use mathlib.Core.Path.{_≡_, refl, sym, ap, _∙_}
 use mathlib.Core.Bool.{true, false}
 use mathlib.Core.List.{List, [], _∷_, _++_}
 use native.Mathlib.Omega.{arith}
-use native.Mathlib.Nat.{pow-succ'}
+use native.Mathlib.Nat.{pow-succ', one-le-pow}
 use borrow.Author.Tests.{lt-ltb, le-ltb, ltb-true, ltb-false}
 use lib.Dec.{ltb}
 use lib.ListN.{length, length-append}
@@ -53,3 +53,20 @@ digits-most value (suc k) h =
           let long = length-append (decimal (value / 10)) ((ZERO + value % 10) ∷ []) in
           rw (decimal-large value large) (omega arith)
     ] refl
+
+-- One that is the k-th power of 10 or more has more than k digits, and so suc k of them below the next power.
+digits-least : (value k : ℕ) → 10 ^ k ≤ value → suc k ≤ length (decimal value)
+digits-least value zero h =
+    elim (ltb value 10) as (λ t. ltb value 10 ≡ t → 1 ≤ length (decimal value)) [
+      | true ↦ λ t. rw (decimal-small value (ltb-true value 10 t)) (omega arith)
+      | false ↦ λ t. rw (decimal-large value (ltb-false value 10 t)) (omega (arith, length-append (decimal (value / 10)) ((ZERO + value % 10) ∷ [])))
+    ] refl
+digits-least value (suc k) h =
+    let power = pow-succ' 10 k in
+    let some = one-le-pow k 10 (omega arith) in
+    let tenth = digits-least (value / 10) k (omega arith) in
+    let long = length-append (decimal (value / 10)) ((ZERO + value % 10) ∷ []) in
+    rw (decimal-large value (omega arith)) (omega arith)
+
+pub digits-are : (value k : ℕ) → 10 ^ k ≤ value → value < 10 ^ suc k → suc k ≡ length (decimal value)
+digits-are value k least most = omega (arith, digits-least value k least, digits-most value k most)

@@ -8,7 +8,7 @@ use native.Mathlib.Nat.{add-zero}
 use native.Mathlib.Numerals.{add-one}
 use lib.Dec.{eqb}
 use lib.ListN.{length, getD, drop, length-append, drop-of-length-le}
-use lib.Seq.{sets, length-sets, drop-cons}
+use lib.Seq.{sets, set-out, length-sets, drop-cons}
 use borrow.Author.Tests.{eq-eqb, ne-eqb, ltb-true}
 use lib.IntN.{ℤ, pos, negsuc, natAbs}
 use lib.Signed.{ltZ}
@@ -21,9 +21,16 @@ use Rattle.spelling.specs.Writing.{decimal, markWord, literalWord, space
 use Rattle.spelling.specs.Bytes.{Wrote, SmallEntries, entryBytes, literalBytes, nextFirst}
 use Rattle.spelling.proofs.Decimal.{digits-most}
 
--- Nothing stored, and one run behind another.
+-- Nothing stored, nothing past the end of the buffer, and one run behind another.
 pub wrote-none : (buffer : List ℕ) (at : ℕ) → Wrote [] buffer buffer at at
 wrote-none buffer at = record { end = sym (add-zero at); stored = refl }
+
+sets-out : (buffer : List ℕ) (at : ℕ) (xs : List ℕ) → length buffer ≤ at → sets buffer at xs ≡ buffer
+sets-out buffer at [] h = refl
+sets-out buffer at (x ∷ xs) h = ap (λ (t : List ℕ). sets t (suc at) xs) (set-out buffer at x h) ∙ sets-out buffer (suc at) xs (omega arith)
+
+pub wrote-out : (xs buffer : List ℕ) (at : ℕ) {width : ℕ} → width ≡ length xs → length buffer ≤ at → Wrote xs buffer buffer at (at + width)
+wrote-out xs buffer at size h = record { end = ap (λ (k : ℕ). at + k) size; stored = sym (sets-out buffer at xs h) }
 
 pub wrote-more : {xs ys before mid after : List ℕ} {at next last : ℕ} → Wrote xs before mid at next → Wrote ys mid after next last → Wrote (xs ++ ys) before after at last
 wrote-more {xs} {ys} {before} {mid} {after} {at} {next} {last} a b =

@@ -2,8 +2,10 @@
 // so that a length can be known before anything is written.
 
 use crate::ZERO;
-ghost use mathlib.Core.List.{[], _∷_};
 ghost use Prim.Native.Nat.{_<_};
+ghost use mathlib.Core.Path.{_≡_};
+ghost use mathlib.Core.List.{[], _∷_};
+ghost use lib.ListN.{length};
 ghost use Rattle.spelling.specs.Writing.{decimal};
 ghost use Rattle.spelling.specs.Bytes.{Wrote};
 
@@ -19,14 +21,45 @@ pub fn put_byte(out: &mut [u8], at: usize, byte: u8) -> usize
     at + 1
 }
 
-// The decimal digits of a number.
+// The decimal digits of a number; where the buffer has no room for the first of them, how many there are says where they end.
 pub fn put_number(out: &mut [u8], at: usize, value: u32) -> usize
+    requires { ⌜ (at < 4294967200) × (value < 100000) ⌝ }
+    ensures { λ r. ⌜ Wrote (decimal value) (now (out .entry)) (now (out .exit)) at r ⌝ }
+{
+    if at < out.len() {
+        return put_digits(out, at, value);
+    }
+    at + width(value)
+}
+
+// The digits one by one, as far as the buffer has room: those of a tenth of the number, and one more.
+fn put_digits(out: &mut [u8], at: usize, value: u32) -> usize
     requires { ⌜ (at < 4294967200) × (value < 100000) ⌝ }
     ensures { λ r. ⌜ Wrote (decimal value) (now (out .entry)) (now (out .exit)) at r ⌝ }
 {
     if value < 10 {
         return put_byte(out, at, ZERO + (value as u8));
     }
-    let next = put_number(out, at, value / 10);
+    let next = put_digits(out, at, value / 10);
     put_byte(out, next, ZERO + ((value % 10) as u8))
+}
+
+// How many digits a number has.
+fn width(value: u32) -> usize
+    requires { ⌜ value < 100000 ⌝ }
+    ensures { λ r. ⌜ r ≡ length (decimal value) ⌝ }
+{
+    if 9999 < value {
+        return 5;
+    }
+    if 999 < value {
+        return 4;
+    }
+    if 99 < value {
+        return 3;
+    }
+    if 9 < value {
+        return 2;
+    }
+    1
 }

@@ -1,0 +1,148 @@
+-- `spelling::bytes::put_digits` meets its contract: the digits of a tenth, and one more.
+use borrow.Author.Needs.{needs}
+use Prim.Native.Nat.{ℕ, _<_, _/_}
+use mathlib.Core.Path.{sym, subst}
+use mathlib.Core.List.{List}
+use native.Mathlib.Omega.{arith}
+use Rattle.spelling.specs.Bytes.{Wrote}
+use Rattle.spelling.proofs.Decimal.{decimal-small, decimal-large, digits-most}
+use Rattle.spelling.proofs.Stores.{wrote-more}
+use borrow.Fn.Kinds.{In}
+use borrow.Fn.PlainCycle.{Measures, is, falls, and}
+use Rattle.spelling.proofs.bytes.put_digits.Reads as put-digits
+use Rattle.spelling.proofs.bytes.put_digits.Kinds as put-digits-kinds
+use Rattle.spelling.proofs.bytes.+put_digits.Lts-put_digits as put-digits-lts
+use Rattle.spelling.proofs.bytes.put_byte.Reads as put-byte-reads
+use Rattle.spelling.proofs.bytes.+put_digits.{statement}
+use Rattle.spelling.proofs.bytes.+put_digits.Tie.{close}
+
+abbrev μ-put-digits : Measures 1 put-digits-kinds.ps ℕ
+μ-put-digits κs a = a .1 .1 .0
+
+abbrev put-digits-at : ℕ → In 1 put-digits-kinds.ps
+put-digits-at t =
+    and 1 put-digits-kinds.ps (is 1 put-digits-kinds.ps μ-put-digits t) put-digits.Pre
+
+abbrev put-digits-below : ℕ → In 1 put-digits-kinds.ps
+put-digits-below t =
+    and 1 put-digits-kinds.ps (falls 1 put-digits-kinds.ps _<_ μ-put-digits t) put-digits.Pre
+
+put-digits-cast-put-byte : (t : ℕ) → put-digits-lts.Need-cast-put-byte (
+  put-byte-reads.Asked,
+  put-byte-reads.Learnt,
+  put-digits-below t,
+  put-digits.Post,
+) (put-digits-at t) put-digits.Post
+put-digits-cast-put-byte t c = search needs
+
+put-digits-add-put-byte : (t : ℕ) → put-digits-lts.Need-add-put-byte (
+  put-byte-reads.Asked,
+  put-byte-reads.Learnt,
+  put-digits-below t,
+  put-digits.Post,
+) (put-digits-at t) put-digits.Post
+put-digits-add-put-byte t c = search needs
+
+put-digits-put-byte-requires : (t : ℕ) → put-digits-lts.Need-put-byte-requires (
+  put-byte-reads.Asked,
+  put-byte-reads.Learnt,
+  put-digits-below t,
+  put-digits.Post,
+) (put-digits-at t) put-digits.Post
+put-digits-put-byte-requires t c κs = search needs
+
+put-digits-same-length : (t : ℕ) → put-digits-lts.Need-same-length (
+  put-byte-reads.Asked,
+  put-byte-reads.Learnt,
+  put-digits-below t,
+  put-digits.Post,
+) (put-digits-at t) put-digits.Post
+put-digits-same-length t c = search needs
+
+put-digits-returns : (t : ℕ) → put-digits-lts.Need-returns (
+  put-byte-reads.Asked,
+  put-byte-reads.Learnt,
+  put-digits-below t,
+  put-digits.Post,
+) (put-digits-at t) put-digits.Post
+put-digits-returns t c =
+    let a = c .before .before .before .before .before .before .args in
+    let o = c .before .before .put-byte in
+    subst (λ (xs : List ℕ). Wrote xs (a .out .now) (o .last .0) (a .at) (o .result)) (sym (decimal-small (a .value) (c .before .before .before .before .if1 .taken))) (o .ensures)
+
+put-digits-put-digits-requires : (t : ℕ) → put-digits-lts.Need-put-digits-requires (
+  put-byte-reads.Asked,
+  put-byte-reads.Learnt,
+  put-digits-below t,
+  put-digits.Post,
+) (put-digits-at t) put-digits.Post
+put-digits-put-digits-requires t c κs = search needs
+
+put-digits-cast-put-byte-2 : (t : ℕ) → put-digits-lts.Need-cast-put-byte-2 (
+  put-byte-reads.Asked,
+  put-byte-reads.Learnt,
+  put-digits-below t,
+  put-digits.Post,
+) (put-digits-at t) put-digits.Post
+put-digits-cast-put-byte-2 t c = search needs
+
+put-digits-add-put-byte-2 : (t : ℕ) → put-digits-lts.Need-add-put-byte-2 (
+  put-byte-reads.Asked,
+  put-byte-reads.Learnt,
+  put-digits-below t,
+  put-digits.Post,
+) (put-digits-at t) put-digits.Post
+put-digits-add-put-byte-2 t c = search needs
+
+put-digits-put-byte-requires-2 : (t : ℕ) → put-digits-lts.Need-put-byte-requires-2 (
+  put-byte-reads.Asked,
+  put-byte-reads.Learnt,
+  put-digits-below t,
+  put-digits.Post,
+) (put-digits-at t) put-digits.Post
+put-digits-put-byte-requires-2 t c κs =
+    let a = c .before .before .before .before .before .before .before .args in
+    let pre = c .before .before .before .before .before .before .before .pre .1 in
+    let d = digits-most (a .value / 10) 4 (omega (arith, pre .1)) in
+    omega (arith, pre .0, c .before .before .before .put-digits .ensures .end, d)
+
+put-digits-same-length-2 : (t : ℕ) → put-digits-lts.Need-same-length-2 (
+  put-byte-reads.Asked,
+  put-byte-reads.Learnt,
+  put-digits-below t,
+  put-digits.Post,
+) (put-digits-at t) put-digits.Post
+put-digits-same-length-2 t c = search needs
+
+put-digits-returns-2 : (t : ℕ) → put-digits-lts.Need-returns-2 (
+  put-byte-reads.Asked,
+  put-byte-reads.Learnt,
+  put-digits-below t,
+  put-digits.Post,
+) (put-digits-at t) put-digits.Post
+put-digits-returns-2 t c =
+    let a = c .before .before .before .before .before .before .before .before .before .before .args in
+    let o = c .before .before .put-byte2 in
+    subst (λ (xs : List ℕ). Wrote xs (a .out .now) (o .last .0) (a .at) (o .result)) (sym (decimal-large (a .value) (c .before .before .before .before .before .before .before .before .if1 .left)))
+    (wrote-more (c .before .before .before .before .before .before .put-digits .ensures) (o .ensures))
+
+pub +put-digits-spec : {M : Type 1} → statement M
++put-digits-spec = close μ-put-digits λ t. put-digits-lts.spec (
+  put-byte-reads.Asked,
+  put-byte-reads.Learnt,
+  put-digits-below t,
+  put-digits.Post,
+)
+    (put-digits-at t)
+    put-digits.Post
+    (put-digits-cast-put-byte t)
+    (put-digits-add-put-byte t)
+    (put-digits-put-byte-requires t)
+    (put-digits-same-length t)
+    (put-digits-returns t)
+    (put-digits-put-digits-requires t)
+    (put-digits-cast-put-byte-2 t)
+    (put-digits-add-put-byte-2 t)
+    (put-digits-put-byte-requires-2 t)
+    (put-digits-same-length-2 t)
+    (put-digits-returns-2 t)
