@@ -3,6 +3,7 @@
 use levelling::fill_levels;
 use marks::flag_entries;
 use searching::fill_tops;
+use searching::place_behind;
 use tables::checking::check_forest;
 use tables::rows::level_at;
 use tables::rows::universal_at;
@@ -121,6 +122,7 @@ fn enter_over(
     requires { ⌜ SoundPrefix n (now prefix) × FormedBy n (now prefix) (now classes) (now parents) × SoundClauses (now clauses) × (length (now tops) ≡ 4097) × (length (now entered) ≡ 4097) × (x .0 ≤ 4096) × (floor .0 ≡ level (now prefix) (x .0)) ⌝ }
     ensures { λ r. ⌜ Enters (variables n (now (prefix .entry))) (lent (variables n (now (prefix .entry))) (now (classes .entry)) (now (parents .entry))) (EntriesBy scheme n (now (prefix .entry)) (now (clauses .entry)) (now (classes .entry)) (now (parents .entry)) (x .0)) (x .0) (now (tops .exit)) (now (entered .exit)) Accepted ⌝ }
 {
-    fill_tops(n, prefix, classes, parents, floor, tops);
+    let place = place_behind(prefix, 0, floor.0);
+    fill_tops(n, prefix, place, classes, parents, tops);
     flag_entries(scheme, n, clauses, x, tops, entered);
 }

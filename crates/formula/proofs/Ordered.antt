@@ -1,17 +1,18 @@
 -- An accepted prefix names its variables in the order of their levels: the level of a variable by its place, and of one that no place names.
-use Prim.Native.Nat.{ℕ, zero, suc, _+_, _≤_, _<_}
+use Prim.Native.Nat.{ℕ, zero, suc, _+_, _-_, _≤_, _<_}
 use mathlib.Core.Path.{_≡_, refl, sym, ap, subst, _∙_}
 use mathlib.Core.Bool.{Bool, true, false, cond, true≢false}
-use mathlib.Core.List.{List}
+use mathlib.Core.List.{List, [], _∷_}
 use mathlib.Core.Logic.{_⊎_, inl, inr, ⊎-elim, _≢_, by-cases}
 use native.Mathlib.Decide.{ℕ-discrete, decLe}
 use native.Mathlib.Numerals.{add-one}
 use native.Mathlib.Omega.{arith}
 use lib.Dec.{eqb}
-use lib.ListN.{length, getD, set, replicate, getD-replicate, length-replicate}
+use borrow.Author.Tests.{eq-eqb}
+use lib.ListN.{length, getD, set, replicate, getD-replicate, length-replicate, List·getD-eq-default}
 use lib.Seq.{getD-set-same, getD-set-other}
-use Rattle.formula.specs.Tables.{at, opens, marksBefore, VariableAt}
-use Rattle.formula.specs.Causes.{named-before}
+use Rattle.formula.specs.Tables.{at, opens, cut, marksBefore, VariableAt}
+use Rattle.formula.specs.Causes.{ends-inside, named-before}
 use Rattle.formula.specs.Meaning.{blocks, firstMark, level, freeLevel}
 use Rattle.formula.specs.Levels.{SoundPrefix}
 use Rattle.formula.proofs.Levelling.{Levelling, level-none, level-mark, level-close, level-variable, levelled, variable-small}
@@ -73,6 +74,12 @@ free-most es = go (eqb (firstMark (blocks es)) 1)
     go : (b : Bool) → cond b 1 0 ≤ 1
     go true = omega arith
     go false = omega arith
+
+-- it is 1 only where a block opens
+free-within : (es : List ℕ) → freeLevel es ≤ marksBefore es (length es)
+unfolding freeLevel blocks cut
+free-within [] = omega arith
+free-within (e ∷ es) = let most = free-most (e ∷ es) in let rise = marks-rise (e ∷ es) 1 (length (e ∷ es)) (omega arith) in omega arith
 
 module _ {n : ℕ} {es : List ℕ} (sound : SoundPrefix n es) where
   -- the pass over the prefix, with the level of each variable that is named so far, and the free level in every other row
@@ -180,3 +187,13 @@ module _ {n : ℕ} {es : List ℕ} (sound : SoundPrefix n es) where
           let free = level-free c small-c none in
           let free-p = level-free p small-p none-p in
           omega arith
+
+  -- no level is more than the number of blocks
+  pub level-most : (v : ℕ) → v ≤ 4096 → level es v ≤ marksBefore es (length es)
+  level-most v small = ⊎-elim (λ d. let (e, _, there, is) = d in let own = sym (ap (level es) is) ∙ level-at e there in let rise = marks-rise es e (length es) (let l = there .0 in omega arith) in omega arith)
+      (λ none. let own = level-free v small none in let most = free-within es in omega arith) (named? es v)
+
+  -- an accepted prefix ends between two blocks
+  pub closed-end : (i : ℕ) → length es ≤ i → opens es i ≡ true
+  closed-end zero done = refl
+  closed-end (suc i) done = eq-eqb (at es i) 0 (by-cases (decLe (length es) i) (λ over. List·getD-eq-default es 0 {n = i} over) (λ last. by-cases (ℕ-discrete (at es i) 0) (λ z. z) (λ some. absurd (sound .faultless 3 (length es) (ends-inside refl refl (omega arith, subst (λ (k : ℕ). at es k ≢ 0) (let q : i ≡ length es - 1 = omega arith in q) some))))))

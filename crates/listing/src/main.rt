@@ -209,6 +209,7 @@ fn list_tied(
     let mut line = [0u8; 65536];
     let mut floor = Floor {
         level: Level::new(4294967295),
+        place: 0,
         from: 0,
     };
     let mut passed = 0;

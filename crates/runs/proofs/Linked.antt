@@ -219,9 +219,9 @@ tops-within {X} {W} {floor} tops law formed rows v = by-cases (decLt floor (X .l
     go false un deep = let z = rows v .none (λ u. clash (u .0) un) in omega arith
 
 -- The tops over a level that nothing is deeper than, and their runs: every row is 0.
-pub floored-none : (n : ℕ) (es classes parents : List ℕ) (floor : ℕ) → ((v : ℕ) → variables n es .ex v ≡ true → variables n es .lev v ≤ floor) → Floored n es classes parents floor 0 (replicate 4096 0) (replicate 4097 0) (replicate 4097 0)
-floored-none n es classes parents floor low =
-    record { over = over; within = λ v. let z = none v in omega arith; led = led-none n (replicate 4096 0) (replicate 4097 0) (replicate 4097 0) none (new-zero 4097); rows = length-replicate {A = ℕ} 4096 0; heads = length-replicate {A = ℕ} 4097 0; links = length-replicate {A = ℕ} 4097 0 }
+pub floored-none : (n : ℕ) (es classes parents : List ℕ) (floor : ℕ) → 4294967295 ≤ floor → ((v : ℕ) → variables n es .ex v ≡ true → variables n es .lev v ≤ floor) → Floored n es classes parents floor 0 0 (replicate 4096 0) (replicate 4097 0) (replicate 4097 0)
+floored-none n es classes parents floor high low =
+    record { known = λ less. absurd (omega arith); over = over; within = λ v. let z = none v in omega arith; led = led-none n (replicate 4096 0) (replicate 4097 0) (replicate 4097 0) none (new-zero 4097); rows = length-replicate {A = ℕ} 4096 0; heads = length-replicate {A = ℕ} 4097 0; links = length-replicate {A = ℕ} 4097 0 }
   where
     over : TopsOver (variables n es) (lent (variables n es) classes parents) floor 0 (replicate 4096 0)
     over = tops-over {X = variables n es} {W = lent (variables n es) classes parents} floor 4096 low

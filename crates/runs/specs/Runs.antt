@@ -9,7 +9,7 @@ use Rattle.picking.specs.declared.Asked.the-variants.{Set}
 use Rattle.connection.specs.Tables.{row, lent}
 use Rattle.tables.specs.Formula.{variables}
 use Rattle.picking.specs.Picked.{pick, picked}
-use Rattle.searching.specs.Search.{TopsOver}
+use Rattle.searching.specs.Search.{Known, TopsOver}
 
 -- the table leads from v over the numbers of the list, from each to the next, and ends with 0
 abbrev pub Run : List ℕ → ℕ → List ℕ → Type 0
@@ -37,8 +37,9 @@ Within n tops = (v : ℕ) → row n tops v ≤ n
 abbrev pub Led : ℕ → List ℕ → List ℕ → List ℕ → Type 0
 Led n tops lead after = (top : ℕ) → top ≤ n → Leads after (getD lead top 0) (having n tops top)
 
--- the tops over a floor, and their runs, in tables of their lengths
-pub record Floored (n : ℕ) (es classes parents : List ℕ) (floor from : ℕ) (tops lead after : List ℕ) : Type 0 where
+-- the tops over a floor, and their runs, in tables of their lengths; and where the blocks deeper than that floor begin
+pub record Floored (n : ℕ) (es classes parents : List ℕ) (floor place from : ℕ) (tops lead after : List ℕ) : Type 0 where
+  pub known : Known es floor place
   pub over : TopsOver (variables n es) (lent (variables n es) classes parents) floor from tops
   pub within : Within n tops
   pub led : Led n tops lead after

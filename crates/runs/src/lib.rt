@@ -33,8 +33,8 @@ pub fn refloor(
     after: &mut [u32],
 ) -> Floor
     requires { ⌜ SoundPrefix n (now prefix) × FormedBy n (now prefix) (now classes) (now parents) × (x .0 ≤ 4096) × ((universals : List Bool) × Levelled (now prefix) (now levels) universals) ⌝ }
-    requires { ⌜ Floored n (now prefix) (now classes) (now parents) (was .level .0) (was .from) (now tops) (now lead) (now after) ⌝ }
-    ensures { λ r. ⌜ Floored n (now (prefix .entry)) (now (classes .entry)) (now (parents .entry)) (r .level .0) (r .from) (now (tops .exit)) (now (lead .exit)) (now (after .exit)) ⌝ }
+    requires { ⌜ Floored n (now prefix) (now classes) (now parents) (was .level .0) (was .place) (was .from) (now tops) (now lead) (now after) ⌝ }
+    ensures { λ r. ⌜ Floored n (now (prefix .entry)) (now (classes .entry)) (now (parents .entry)) (r .level .0) (r .place) (r .from) (now (tops .exit)) (now (lead .exit)) (now (after .exit)) ⌝ }
     ensures { λ r. ⌜ (r .level .0 ≡ level (now (prefix .entry)) (x .0)) × (was .level .0 ≡ r .level .0 → now (tops .exit) ≡ now (tops .entry)) ⌝ }
 {
     let level = level_at(levels, x);

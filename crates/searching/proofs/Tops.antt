@@ -1,7 +1,7 @@
 -- The tops of all variables over a floor: each from that of the parent of its class, along the prefix.
 use Prim.Native.Nat.{ℕ, suc, _+_, _-_, _≤_, _<_}
 use mathlib.Core.Path.{_≡_, refl, sym, ap, _∙_, subst}
-use mathlib.Core.Bool.{Bool, true, false, cond}
+use mathlib.Core.Bool.{Bool, true, false, cond, true≢false}
 use mathlib.Core.List.{List}
 use mathlib.Core.Logic.{_≢_, ⊎-elim, by-cases}
 use native.Mathlib.Decide.{ℕ-discrete, decLe, decLt}
@@ -13,16 +13,17 @@ use lib.Dec.{eqb}
 use lib.ListN.{length, getD, set, replicate}
 use Rattle.terms.proofs.Common.{clash}
 use Rattle.formula.specs.Tables.{at, opens, marksBefore, VariableAt}
-use Rattle.formula.specs.Causes.{no-mark, outside}
+use Rattle.formula.specs.Causes.{outside}
 use Rattle.formula.specs.Meaning.{level}
 use Rattle.formula.specs.Levels.{SoundPrefix}
-use Rattle.formula.proofs.Ordered.{NamedFrom, named?, marks-rise, once, level-at, deeper-named}
+use Rattle.formula.proofs.Levelling.{mark-there}
+use Rattle.formula.proofs.Ordered.{NamedFrom, named?, marks-rise, once, level-at, level-most, closed-end, deeper-named}
 use Rattle.connection.specs.Reach.{Variables, Lawful}
 use Rattle.connection.specs.Tables.{Table, row, lent, WellFormed, Above, start, rise}
 use Rattle.connection.proofs.Climb.{above-class}
 use Rattle.tables.specs.Formula.{variables}
 use Rattle.tables.specs.Counting.{FormedBy}
-use Rattle.searching.specs.Search.{Searched, topBy, TopRow, TopRows, TopsOver}
+use Rattle.searching.specs.Search.{Searched, topBy, TopRow, TopRows, Behind, TopsOver}
 use Rattle.tables.proofs.Readings.{new-zero, row-none, row-over, row-at, row-stored, row-kept}
 use Rattle.tables.proofs.Agreeing.{lawful}
 
@@ -120,8 +121,13 @@ module _ (n : ℕ) (es classes parents : List ℕ) (floor : ℕ) where
   abbrev W : Table
   W = lent X classes parents
 
-  topping-none : (tops : List ℕ) → ((v : ℕ) → v < n → getD tops v 0 ≡ 0) → Topping n es classes parents floor tops 0
-  topping-none tops zeros = record { rows = λ e l. absurd (omega arith); rest = λ v none. row-zero n tops zeros v }
+  -- What stands before the first block that is deeper than the floor has no top.
+  topping-from : SoundPrefix n es → (tops : List ℕ) (place : ℕ) → marksBefore es place ≡ floor → ((v : ℕ) → v < n → getD tops v 0 ≡ 0) → Topping n es classes parents floor tops place
+  topping-from sound tops place is zeros =
+      record {
+        rows = λ e l there. subst (TopRow X W floor (at es e)) (sym (row-zero n tops zeros (at es e))) (top-shallow (let own = level-at sound e there in let rise = marks-rise es e place (omega arith) in omega arith));
+        rest = λ v none. row-zero n tops zeros v;
+      }
 
   -- An entry that names nothing.
   topping-over : {tops : List ℕ} {i : ℕ} → (VariableAt es i → ⊥) → Topping n es classes parents floor tops i → Topping n es classes parents floor tops (i + 1)
@@ -132,15 +138,6 @@ module _ (n : ℕ) (es classes parents : List ℕ) (floor : ℕ) where
       }
 
   module _ (sound : SoundPrefix n es) {tops : List ℕ} {i : ℕ} (there : VariableAt es i) (t : Topping n es classes parents floor tops i) where
-    -- One that names a variable no deeper than the floor.
-    topping-shallow : marksBefore es i ≤ floor → Topping n es classes parents floor tops (i + 1)
-    topping-shallow low =
-        record {
-          rows = below-more (λ e. VariableAt es e → TopRow X W floor (at es e) (row n tops (at es e))) i (t .rows)
-              (λ _. subst (TopRow X W floor (at es i)) (sym (t .rest (at es i) (λ e l at-e. once sound e i at-e there l))) (top-shallow (let own = level-at sound i there in omega arith)));
-          rest = λ v unnamed. t .rest v (λ e l. unnamed e (omega arith));
-        }
-
     module _ (formed : FormedBy n es classes parents) (x : ℕ) (small : x ≤ 4096) (low : floor ≡ level es x) where
       -- The variables of lesser blocks have their tops already.
       lesser : (u : ℕ) → u ≤ 4096 → level es u < marksBefore es i → TopRow X W floor u (row n tops u)
@@ -209,37 +206,37 @@ module _ (n : ℕ) (es classes parents : List ℕ) (floor : ℕ) where
       (record { found = λ under. absurd (none (deeper-named sound x y small (let w = lawful n es .within y (under .0) .1 in let few = sound .few in omega arith) (let d = under .1 in omega arith))); none = λ _. refl }))
       (named? es y)
 
--- The loop along the prefix: whether a block opens at entry i, how many have opened before it, and the rows.
-pub record Passing (n : ℕ) (es classes parents : List ℕ) (floor : ℕ) (tops : List ℕ) (opening : Bool) (block i : ℕ) : Type 0 where
+-- What stands behind an entry.
+module _ (es : List ℕ) (i : ℕ) where
+  opens-next : opens es (i + 1) ≡ eqb (at es i) 0
+  opens-next = ap (opens es) (add-one i)
+
+  marks-next : {b : Bool} → opens es i ≡ b → marksBefore es (i + 1) ≡ cond b (suc (marksBefore es i)) (marksBefore es i)
+  marks-next q = ap (marksBefore es) (add-one i) ∙ ap (λ b. cond b (suc (marksBefore es i)) (marksBefore es i)) q
+
+-- The loop along the prefix, from where the blocks deeper than the floor begin: whether a block opens at entry i, and the rows.
+pub record Passing (n : ℕ) (es classes parents : List ℕ) (floor : ℕ) (tops : List ℕ) (opening : Bool) (i : ℕ) : Type 0 where
   pub opening-is : opening ≡ opens es i
-  pub block-is : block ≡ marksBefore es i
-  pub few : block ≤ i
+  pub deep : floor ≤ marksBefore es i
+  pub inside : opening ≡ false → floor < marksBefore es i
   pub topping : Topping n es classes parents floor tops i
 
 module _ (n : ℕ) (es classes parents : List ℕ) (floor : ℕ) where
-  pub passing-none : (tops : List ℕ) → ((v : ℕ) → v < n → getD tops v 0 ≡ 0) → Passing n es classes parents floor tops true 0 0
-  passing-none tops zeros = record { opening-is = refl; block-is = refl; few = omega arith; topping = topping-none n es classes parents floor tops zeros }
+  pub passing-from : SoundPrefix n es → (tops : List ℕ) (place : ℕ) → Behind es floor place → ((v : ℕ) → v < n → getD tops v 0 ≡ 0) → Passing n es classes parents floor tops true place
+  passing-from sound tops place (open′, is) zeros =
+      record { opening-is = sym open′; deep = omega arith; inside = λ shut. absurd (true≢false shut); topping = topping-from n es classes parents floor sound tops place is zeros }
 
-  -- what stands behind entry i
-  opens-next : (i : ℕ) → opens es (i + 1) ≡ eqb (at es i) 0
-  opens-next i = ap (opens es) (add-one i)
-
-  marks-next : (i : ℕ) {b : Bool} → opens es i ≡ b → marksBefore es (i + 1) ≡ cond b (suc (marksBefore es i)) (marksBefore es i)
-  marks-next i q = ap (marksBefore es) (add-one i) ∙ ap (λ b. cond b (suc (marksBefore es i)) (marksBefore es i)) q
-
-  module _ {tops : List ℕ} {opening : Bool} {block i : ℕ} (sound : SoundPrefix n es) (p : Passing n es classes parents floor tops opening block i) (more : i < length es) where
+  module _ {tops : List ℕ} {opening : Bool} {i : ℕ} (sound : SoundPrefix n es) (p : Passing n es classes parents floor tops opening i) (more : i < length es) where
     -- A mark opens a block, and is no 0.
-    pub passing-mark : opening ≡ true → Passing n es classes parents floor tops false (block + 1) (i + 1)
+    pub passing-mark : opening ≡ true → Passing n es classes parents floor tops false (i + 1)
     passing-mark open′ =
         let opened = sym (p .opening-is) ∙ open′ in
-        let some : at es i ≢ 0 = λ z. sound .faultless 4 i (no-mark refl (more, opened) (λ q. omega arith) (λ q. omega arith)) in
-        let marks = marks-next i opened in
-        let here = p .block-is in
-        let few = p .few in
+        let marks = marks-next es i opened in
+        let deep = p .deep in
         record {
-          opening-is = sym (opens-next i ∙ ne-eqb (at es i) 0 some);
-          block-is = omega arith;
-          few = omega arith;
+          opening-is = sym (opens-next es i ∙ ne-eqb (at es i) 0 (mark-there sound i more opened));
+          deep = omega arith;
+          inside = λ _. omega arith;
           topping = topping-over n es classes parents floor (λ there. clash opened (there .1)) (p .topping);
         }
 
@@ -248,17 +245,18 @@ module _ (n : ℕ) (es classes parents : List ℕ) (floor : ℕ) where
       shut-here = sym (p .opening-is) ∙ shut
 
       -- A 0 closes it.
-      pub passing-close : at es i ≡ 0 → Passing n es classes parents floor tops true block (i + 1)
+      pub passing-close : at es i ≡ 0 → Passing n es classes parents floor tops true (i + 1)
       passing-close none =
-          let few = p .few in
+          let marks = marks-next es i shut-here in
+          let deep = p .deep in
           record {
-            opening-is = sym (opens-next i ∙ eq-eqb (at es i) 0 none);
-            block-is = p .block-is ∙ sym (marks-next i shut-here);
-            few = omega arith;
+            opening-is = sym (opens-next es i ∙ eq-eqb (at es i) 0 none);
+            deep = omega arith;
+            inside = λ q. absurd (true≢false q);
             topping = topping-over n es classes parents floor (λ there. there .2 none) (p .topping);
           }
 
-      -- Any other entry names a variable, no deeper than the floor or deeper.
+      -- Any other entry names a variable, which is deeper than the floor.
       module _ (some : at es i ≢ 0) where
         there : VariableAt es i
         there = (more, shut-here, some)
@@ -266,20 +264,68 @@ module _ (n : ℕ) (es classes parents : List ℕ) (floor : ℕ) where
         pub named-within : at es i ≤ n
         named-within = by-cases (decLe (at es i) n) (λ l. l) (λ over. absurd (sound .faultless 7 i (outside refl there (omega arith))))
 
-        passing-on : {tops′ : List ℕ} → Topping n es classes parents floor tops′ (i + 1) → Passing n es classes parents floor tops′ opening block (i + 1)
-        passing-on t =
-            let few = p .few in
+        pub passing-top : FormedBy n es classes parents → (x : ℕ) → x ≤ 4096 → floor ≡ level es x → (top : ℕ) → n ≤ length tops → top ≡ topBy (row n classes (at es i)) (row n tops (row n parents (row n classes (at es i))))
+            → Passing n es classes parents floor (set tops (at es i - 1) top) opening (i + 1)
+        passing-top formed x small low top long is =
+            let marks = marks-next es i shut-here in
+            let inside = p .inside shut in
             record {
-              opening-is = shut ∙ sym (opens-next i ∙ ne-eqb (at es i) 0 some);
-              block-is = p .block-is ∙ sym (marks-next i shut-here);
-              few = omega arith;
-              topping = t;
+              opening-is = shut ∙ sym (opens-next es i ∙ ne-eqb (at es i) 0 some);
+              deep = omega arith;
+              inside = λ _. omega arith;
+              topping = topping-more n es classes parents floor sound there (p .topping) formed x small low inside top long named-within is;
             }
 
-        pub passing-shallow : block ≤ floor → Passing n es classes parents floor tops opening block (i + 1)
-        passing-shallow low = passing-on (topping-shallow n es classes parents floor sound there (p .topping) (let here = p .block-is in omega arith))
+-- On the way to where the blocks deeper than the floor begin: so many are left to be passed, one more with that which is open.
+pub record Seeking (es : List ℕ) (floor left i : ℕ) : Type 0 where
+  pub between : opens es i ≡ true → marksBefore es i + left ≡ floor
+  pub inside : opens es i ≡ false → (marksBefore es i + left ≡ floor + 1) × (1 ≤ left)
 
-        pub passing-top : floor < block → FormedBy n es classes parents → (x : ℕ) → x ≤ 4096 → floor ≡ level es x → (top : ℕ) → n ≤ length tops → top ≡ topBy (row n classes (at es i)) (row n tops (row n parents (row n classes (at es i))))
-            → Passing n es classes parents floor (set tops (at es i - 1) top) opening block (i + 1)
-        passing-top deep formed x small low top long is =
-            passing-on (topping-more n es classes parents floor sound there (p .topping) formed x small low (let here = p .block-is in omega arith) top long named-within is)
+pub seeking-none : (es : List ℕ) (left place : ℕ) → opens es place ≡ true → Seeking es (marksBefore es place + left) left place
+seeking-none es left place open′ = record { between = λ _. refl; inside = λ shut. absurd (clash open′ shut) }
+
+module _ {n : ℕ} {es : List ℕ} (sound : SoundPrefix n es) {floor left i : ℕ} (s : Seeking es floor left i) where
+  -- A 0 closes a block, ...
+  pub seeking-close : i < length es → at es i ≡ 0 → Seeking es floor (left - 1) (i + 1)
+  seeking-close more none = go (opens es i) refl
+    where
+      go : (b : Bool) → opens es i ≡ b → Seeking es floor (left - 1) (i + 1)
+      go true open′ = absurd (mark-there sound i more open′ none)
+      go false shut =
+          let marks = marks-next es i shut in
+          let (sum, some) = s .inside shut in
+          record { between = λ _. omega arith; inside = λ shut′. absurd (clash (opens-next es i ∙ eq-eqb (at es i) 0 none) shut′) }
+
+  -- ... and any other entry leaves it open or opens one.
+  pub seeking-on : at es i ≢ 0 → left ≢ 0 → Seeking es floor left (i + 1)
+  seeking-on some rest = go (opens es i) refl
+    where
+      go : (b : Bool) → opens es i ≡ b → Seeking es floor left (i + 1)
+      go true open′ =
+          let marks = marks-next es i open′ in
+          let sum = s .between open′ in
+          record { between = λ open″. absurd (clash open″ (opens-next es i ∙ ne-eqb (at es i) 0 some)); inside = λ _. (omega arith, omega arith) }
+      go false shut =
+          let marks = marks-next es i shut in
+          let (sum, more) = s .inside shut in
+          record { between = λ open″. absurd (clash open″ (opens-next es i ∙ ne-eqb (at es i) 0 some)); inside = λ _. (omega arith, omega arith) }
+
+  -- Where none is left the place is found, ...
+  pub seeking-found : left ≡ 0 → Behind es floor i
+  seeking-found none = go (opens es i) refl
+    where
+      go : (b : Bool) → opens es i ≡ b → Behind es floor i
+      go true open′ = let sum = s .between open′ in (open′, omega arith)
+      go false shut = absurd (let some = s .inside shut .1 in omega arith)
+
+  -- ... and at the end none is left, if there are as many blocks.
+  pub seeking-end : length es ≤ i → (x : ℕ) → x ≤ 4096 → floor ≡ level es x → Behind es floor i
+  seeking-end done x small low = go (opens es i) refl
+    where
+      go : (b : Bool) → opens es i ≡ b → Behind es floor i
+      go true open′ =
+          let sum = s .between open′ in
+          let most = level-most sound x small in
+          let rise = marks-rise es (length es) i done in
+          (open′, omega arith)
+      go false shut = absurd (clash (closed-end sound i done) shut)

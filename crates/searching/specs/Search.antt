@@ -6,6 +6,7 @@ use mathlib.Core.List.{List, []}
 use mathlib.Core.Logic.{_≢_}
 use lib.Dec.{eqb}
 use lib.ListN.{getD}
+use Rattle.formula.specs.Tables.{opens, marksBefore}
 use Rattle.connection.specs.Reach.{Variables}
 use Rattle.connection.specs.Tables.{Table, row, Above, EntryPoint}
 use Rattle.searching.specs.declared.Found.{Found}
@@ -50,6 +51,14 @@ TopRows X W floor tops = (y : ℕ) → TopRow X W floor y (row (X .count) tops y
 -- up to a number no variable has a top
 abbrev pub Topless : ℕ → List ℕ → ℕ → Type 0
 Topless n tops from = (v : ℕ) → 1 ≤ v → v ≤ from → row n tops v ≡ 0
+
+-- a place of a prefix behind as many blocks as a level says: those deeper than the level begin there
+abbrev pub Behind : List ℕ → ℕ → ℕ → Type 0
+Behind es floor place = (opens es place ≡ true) × (marksBefore es place ≡ floor)
+
+-- the same of a level that there is; over any other the place is not known
+abbrev pub Known : List ℕ → ℕ → ℕ → Type 0
+Known es floor place = floor < 4294967295 → Behind es floor place
 
 -- the rows are the tops over a floor, and up to a number no variable has one
 pub record TopsOver (X : Variables) (W : Table) (floor from : ℕ) (tops : List ℕ) : Type 0 where

@@ -7,16 +7,17 @@ use terms::Level;
 use terms::Variable;
 ghost use Prim.Native.Nat.{ℕ, _+_, _≤_, _<_};
 ghost use mathlib.Core.Path.{_≡_};
-ghost use mathlib.Core.Bool.{Bool};
+ghost use mathlib.Core.Bool.{Bool, true};
 ghost use mathlib.Core.List.{List};
 ghost use lib.ListN.{length, getD};
+ghost use Rattle.formula.specs.Tables.{opens, marksBefore};
 ghost use Rattle.formula.specs.Meaning.{level};
 ghost use Rattle.formula.specs.Levels.{SoundPrefix, Levelled};
 ghost use Rattle.connection.specs.Tables.{row, lent, WellFormed};
 ghost use Rattle.tables.specs.Formula.{variables, tabled};
 ghost use Rattle.tables.specs.Counting.{FormedBy};
 ghost use Rattle.tables.specs.Rows.{rowsOf};
-ghost use Rattle.searching.specs.Search.{Falling, Climbs, Finds, topBy, TopRows, Topless, TopsOver};
+ghost use Rattle.searching.specs.Search.{Falling, Climbs, Finds, topBy, TopRows, Topless, Behind, Known, TopsOver};
 
 // Where a climb ends, and how many classes it passed, the first not counted.
 pub struct End {
@@ -24,9 +25,11 @@ pub struct End {
     pub rises: u32,
 }
 
-// What a table of tops is over: a level, and a number up to which no variable has a top.
+// What a table of tops is over: a level, the place in the prefix where the blocks deeper than that begin, and a number up to which no variable has
+// a top.
 pub struct Floor {
     pub level: Level,
+    pub place: usize,
     pub from: u32,
 }
 
@@ -81,21 +84,22 @@ pub fn find_entry(
     Found::At(class, rises)
 }
 
-// Fills the row of each variable with its top over the level of x: the class name where the search from its class ends, 0 for a variable that
-// is not existential and deeper. The prefix names a class behind the classes above it, so that one pass along it needs no climb.
+// Fills the row of each variable with its top over a level, by the place in the prefix where the blocks deeper than that begin: the class name where
+// the search from its class ends, 0 for a variable that is not existential and deeper. The prefix names a class behind the classes above it, so that
+// one pass along it needs no climb.
 pub fn fill_tops(
     n: u32,
     prefix: &[u32],
+    place: usize,
     classes: &[u32],
     parents: &[u32],
-    floor: Level,
     tops: &mut [u32],
 )
-    requires { ⌜ SoundPrefix n (now prefix) × FormedBy n (now prefix) (now classes) (now parents) × (n ≤ length (now tops)) × ((x : ℕ) × (x ≤ 4096) × (floor .0 ≡ level (now prefix) x)) ⌝ }
-    ensures { λ r. ⌜ TopRows (variables n (now (prefix .entry))) (lent (variables n (now (prefix .entry))) (now (classes .entry)) (now (parents .entry))) (floor .0) (now (tops .exit)) ⌝ }
+    requires { ⌜ SoundPrefix n (now prefix) × FormedBy n (now prefix) (now classes) (now parents) × (n ≤ length (now tops)) × ((x : ℕ) × (x ≤ 4096) × Behind (now prefix) (level (now prefix) x) place) ⌝ }
+    ensures { λ r. ⌜ ((floor : ℕ) → Behind (now (prefix .entry)) floor place → TopRows (variables n (now (prefix .entry))) (lent (variables n (now (prefix .entry))) (now (classes .entry)) (now (parents .entry))) floor (now (tops .exit))) ⌝ }
 {
     clear_rows(n, tops);
-    top_blocks(n, prefix, classes, parents, floor, tops);
+    top_blocks(n, prefix, place, classes, parents, tops);
 }
 
 // Makes the first n rows 0: no other is read.
@@ -111,31 +115,27 @@ pub fn clear_rows(n: u32, rows: &mut [u32])
     }
 }
 
-// Gives each variable of a block deeper than the floor its top, in the order of the prefix, where the first n rows are 0 before.
+// Gives each variable of the blocks from a place on its top, in the order of the prefix, where the first n rows are 0 before.
 fn top_blocks(
     n: u32,
     prefix: &[u32],
+    place: usize,
     classes: &[u32],
     parents: &[u32],
-    floor: Level,
     tops: &mut [u32],
 )
-    requires { ⌜ SoundPrefix n (now prefix) × FormedBy n (now prefix) (now classes) (now parents) × (n ≤ length (now tops)) × ((x : ℕ) × (x ≤ 4096) × (floor .0 ≡ level (now prefix) x)) × ((v : ℕ) → v < n → getD (now tops) v 0 ≡ 0) ⌝ }
-    ensures { λ r. ⌜ TopRows (variables n (now (prefix .entry))) (lent (variables n (now (prefix .entry))) (now (classes .entry)) (now (parents .entry))) (floor .0) (now (tops .exit)) ⌝ }
+    requires { ⌜ SoundPrefix n (now prefix) × FormedBy n (now prefix) (now classes) (now parents) × (n ≤ length (now tops)) × ((x : ℕ) × (x ≤ 4096) × Behind (now prefix) (level (now prefix) x) place) × ((v : ℕ) → v < n → getD (now tops) v 0 ≡ 0) ⌝ }
+    ensures { λ r. ⌜ ((floor : ℕ) → Behind (now (prefix .entry)) floor place → TopRows (variables n (now (prefix .entry))) (lent (variables n (now (prefix .entry))) (now (classes .entry)) (now (parents .entry))) floor (now (tops .exit))) ⌝ }
 {
     let mut opens = true;
-    let mut block: u32 = 0;
-    let mut i = 0;
+    let mut i = place;
     while i < prefix.len() {
         let entry = prefix[i];
         if opens {
-            block += 1;
             opens = false;
             i += 1;
         } else if entry == 0 {
             opens = true;
-            i += 1;
-        } else if block <= floor.0 {
             i += 1;
         } else {
             let top = top_of(n, classes, parents, tops, Variable::new(entry));
@@ -158,6 +158,39 @@ fn top_of(n: u32, classes: &[u32], parents: &[u32], tops: &[u32], v: Variable) -
     if above.0 == 0 { class } else { above }
 }
 
+// The place in the prefix where the blocks deeper than a level begin, sought from where they do over a lesser one, if that is known.
+pub fn deeper_place(prefix: &[u32], known: Floor, floor: Level) -> usize
+    requires { ⌜ ((n : ℕ) × SoundPrefix n (now prefix)) × ((x : ℕ) × (x ≤ 4096) × (floor .0 ≡ level (now prefix) x)) × Known (now prefix) (known .level .0) (known .place) ⌝ }
+    ensures { λ r. ⌜ Behind (now (prefix .entry)) (floor .0) r ⌝ }
+{
+    let lesser = known.level;
+    if lesser.0 < floor.0 {
+        return place_behind(prefix, known.place, floor.0 - lesser.0);
+    }
+    place_behind(prefix, 0, floor.0)
+}
+
+// The place behind so many blocks, from one on where a block opens.
+pub fn place_behind(prefix: &[u32], place: usize, blocks: u32) -> usize
+    requires { ⌜ ((n : ℕ) × SoundPrefix n (now prefix)) × (opens (now prefix) place ≡ true) × ((x : ℕ) × (x ≤ 4096) × (marksBefore (now prefix) place + blocks ≡ level (now prefix) x)) ⌝ }
+    ensures { λ r. ⌜ Behind (now (prefix .entry)) (marksBefore (now (prefix .entry)) place + blocks) r ⌝ }
+{
+    let mut left = blocks;
+    let mut i = place;
+    while i < prefix.len() {
+        if left == 0 {
+            return i;
+        }
+        if prefix[i] == 0 {
+            left -= 1;
+            i += 1;
+        } else {
+            i += 1;
+        }
+    }
+    i
+}
+
 // Refills the rows, which are tops over one floor, with those over the level of x, if that is another; gives the floor that they are over now.
 pub fn retop(
     n: u32,
@@ -171,8 +204,8 @@ pub fn retop(
 ) -> Floor
     requires { ⌜ SoundPrefix n (now prefix) × FormedBy n (now prefix) (now classes) (now parents) × (n ≤ length (now tops)) ⌝ }
     requires { ⌜ (x .0 ≤ 4096) × ((universals : List Bool) × Levelled (now prefix) (now levels) universals) ⌝ }
-    requires { ⌜ TopsOver (variables n (now prefix)) (lent (variables n (now prefix)) (now classes) (now parents)) (was .level .0) (was .from) (now tops) ⌝ }
-    ensures { λ r. ⌜ TopsOver (variables n (now (prefix .entry))) (lent (variables n (now (prefix .entry))) (now (classes .entry)) (now (parents .entry))) (r .level .0) (r .from) (now (tops .exit)) ⌝ }
+    requires { ⌜ TopsOver (variables n (now prefix)) (lent (variables n (now prefix)) (now classes) (now parents)) (was .level .0) (was .from) (now tops) × Known (now prefix) (was .level .0) (was .place) ⌝ }
+    ensures { λ r. ⌜ TopsOver (variables n (now (prefix .entry))) (lent (variables n (now (prefix .entry))) (now (classes .entry)) (now (parents .entry))) (r .level .0) (r .from) (now (tops .exit)) × Known (now (prefix .entry)) (r .level .0) (r .place) ⌝ }
     ensures { λ r. ⌜ r .level .0 ≡ level (now (prefix .entry)) (x .0) ⌝ }
 {
     let level = level_at(levels, x);
@@ -180,9 +213,10 @@ pub fn retop(
     if old.0 == level.0 {
         return was;
     }
-    fill_tops(n, prefix, classes, parents, level, tops);
+    let place = deeper_place(prefix, was, level);
+    fill_tops(n, prefix, place, classes, parents, tops);
     let from = topless(n, tops);
-    Floor { level, from }
+    Floor { level, place, from }
 }
 
 // The last number up to which no variable has a top.

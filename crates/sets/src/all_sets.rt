@@ -193,6 +193,7 @@ fn pass_sets(
     let mut places = [0u32; 4097];
     let mut floor = Floor {
         level: Level::new(4294967295),
+        place: 0,
         from: 0,
     };
     let mut end: usize = 0;
@@ -251,8 +252,8 @@ fn refloor(
     places: &mut [u32],
 ) -> Floor
     requires { ⌜ SoundPrefix n (now prefix) × FormedBy n (now prefix) (now classes) (now parents) × (x .0 ≤ 4096) × ((universals : List Bool) × Levelled (now prefix) (now levels) universals) ⌝ }
-    requires { ⌜ Floored n (now prefix) (now classes) (now parents) (was .level .0) (was .from) (now tops) (now lead) (now after) × (length (now places) ≡ 4097) ⌝ }
-    ensures { λ r. ⌜ Floored n (now (prefix .entry)) (now (classes .entry)) (now (parents .entry)) (r .level .0) (r .from) (now (tops .exit)) (now (lead .exit)) (now (after .exit)) ⌝ }
+    requires { ⌜ Floored n (now prefix) (now classes) (now parents) (was .level .0) (was .place) (was .from) (now tops) (now lead) (now after) × (length (now places) ≡ 4097) ⌝ }
+    ensures { λ r. ⌜ Floored n (now (prefix .entry)) (now (classes .entry)) (now (parents .entry)) (r .level .0) (r .place) (r .from) (now (tops .exit)) (now (lead .exit)) (now (after .exit)) ⌝ }
     ensures { λ r. ⌜ r .level .0 ≡ level (now (prefix .entry)) (x .0) ⌝ }
     ensures { λ r. ⌜ ((out : List ℕ) (end : ℕ) → Placed n (now (tops .entry)) (now (places .entry)) out end → Placed n (now (tops .exit)) (now (places .exit)) out end) ⌝ }
 {

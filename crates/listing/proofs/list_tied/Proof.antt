@@ -17,7 +17,7 @@ use Rattle.listing.proofs.list_tied.Tie as tie
 
 abbrev Inv-loop : tie.InvT-loop
 Inv-loop n prefix levels universals clauses classes parents first next tops₀ lead₀ after₀ line₀ floor₀ passed₀ tops lead after line floor passed =
-    (passed ≤ n) × Floored n prefix classes parents (floor .level .0) (floor .from) tops lead after × (length line ≡ 65536)
+    (passed ≤ n) × Floored n prefix classes parents (floor .level .0) (floor .place) (floor .from) tops lead after × (length line ≡ 65536)
 
 abbrev μ-loop : tie.MeasureT-loop
 μ-loop n prefix levels universals clauses classes parents first next tops₀ lead₀ after₀ line₀ floor₀ passed₀ tops lead after line floor passed = n - passed
@@ -30,7 +30,7 @@ loop-holds c =
     let a = c .before .before .before .before .before .before .before .before .args in
     let ready = c .before .before .before .before .before .before .before .before .pre in
     let low : (v : ℕ) → variables (a .n) (a .prefix .now) .ex v ≡ true → variables (a .n) (a .prefix .now) .lev v ≤ c .new .result .0 = λ v ex. let is = c .new .ensures in let own = level-agrees (ready .sound) (ready .table) v (lawful (a .n) (a .prefix .now) .within v ex .1) in omega (arith, c .before .before .before .before .before .before .shared-slice-known2 .given v) in
-    (omega arith, floored-none (a .n) (a .prefix .now) (a .classes .now) (a .parents .now) (c .new .result .0) low, length-replicate {A = ℕ} 65536 0)
+    (omega arith, floored-none (a .n) (a .prefix .now) (a .classes .now) (a .parents .now) (c .new .result .0) (omega (arith, c .new .ensures)) low, length-replicate {A = ℕ} 65536 0)
 
 add-passed : tie.Need-add-passed Inv-loop μ-loop
 add-passed c = omega arith

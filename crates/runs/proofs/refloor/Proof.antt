@@ -22,7 +22,7 @@ retop-requires c κs =
     let floored = c .before .before .before .before .before .before .before .before .before .before .before .before .before .pre .1 in
     let few = sound .few in
     let rows = floored .rows in
-    ((sound, formed, omega arith), ((small, levelled), floored .over))
+    ((sound, formed, omega arith), ((small, levelled), (floored .over, floored .known)))
 
 link-runs-requires : tie.Need-link-runs-requires
 link-runs-requires c κs =
@@ -31,7 +31,7 @@ link-runs-requires c κs =
     let few = sound .few in
     let links = floored .links in
     let heads = floored .heads in
-    let over = c .before .before .before .before .before .retop .ensures .0 in
+    let over = c .before .before .before .before .before .retop .ensures .0 .0 in
     (few, over .most, over .none, tops-within (c .before .before .before .before .before .retop .last .1 .1 .1 .1 .1 .1 .1 .0) (lawful (c .before .before .before .before .before .before .before .before .before .before .before .before .before .before .before .before .before .before .before .args .n) (c .before .before .before .before .before .before .before .before .before .before .before .before .before .before .before .before .before .before .before .args .prefix .now)) formed (over .rows), omega arith, omega arith)
 
 same-length : tie.Need-same-length
@@ -51,7 +51,7 @@ returns-2 c =
     let retop = c .before .before .before .before .before .before .before .before .before .before .retop in
     let link = c .before .before .before .before .link-runs in
     let own = c .before .before .before .before .before .before .before .before .before .before .before .before .before .before .before .before .level-at .ensures ∙ levelled .1 .level-is (a .x .0) small in (
-      record { over = retop .ensures .0; within = tops-within (retop .last .1 .1 .1 .1 .1 .1 .1 .0) (lawful (a .n) (a .prefix .now)) formed (retop .ensures .0 .rows); led = link .ensures; rows = retop .kept .1 .1 .1 .1 .1 .1 .1 .0 ∙ floored .rows; heads = link .kept .1 .1 .1 .0 ∙ floored .heads; links = link .kept .1 .1 .1 .1 .0 ∙ floored .links },
+      record { known = retop .ensures .0 .1; over = retop .ensures .0 .0; within = tops-within (retop .last .1 .1 .1 .1 .1 .1 .1 .0) (lawful (a .n) (a .prefix .now)) formed (retop .ensures .0 .0 .rows); led = link .ensures; rows = retop .kept .1 .1 .1 .1 .1 .1 .1 .0 ∙ floored .rows; heads = link .kept .1 .1 .1 .0 ∙ floored .heads; links = link .kept .1 .1 .1 .1 .0 ∙ floored .links },
       (retop .ensures .1, λ same. absurd (c .before .before .before .before .before .before .before .before .before .before .before .before .if1 .left (same ∙ retop .ensures .1 ∙ sym own))),
     )
 

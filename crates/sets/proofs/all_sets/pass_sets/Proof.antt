@@ -19,7 +19,7 @@ use Rattle.sets.proofs.all_sets.pass_sets.Tie as tie
 
 abbrev Inv-loop : tie.InvT-loop
 Inv-loop scheme n prefix levels universals clauses classes parents first next writing out₀ tops₀ lead₀ after₀ places₀ floor₀ end₀ passed₀ out tops lead after places floor end passed =
-    (passed ≤ n) × Floored n prefix classes parents (floor .level .0) (floor .from) tops lead after × ((length places ≡ 4097) × Placed n tops places out end) × PutAll (SetsUpto scheme n prefix clauses classes parents passed) writing out₀ out end
+    (passed ≤ n) × Floored n prefix classes parents (floor .level .0) (floor .place) (floor .from) tops lead after × ((length places ≡ 4097) × Placed n tops places out end) × PutAll (SetsUpto scheme n prefix clauses classes parents passed) writing out₀ out end
 
 abbrev μ-loop : tie.MeasureT-loop
 μ-loop scheme n prefix levels universals clauses classes parents first next writing out₀ tops₀ lead₀ after₀ places₀ floor₀ end₀ passed₀ out tops lead after places floor end passed = n - passed
@@ -34,7 +34,7 @@ loop-holds c =
     let X : Variables = variables (a .n) (a .prefix .now) in
     let low : (v : ℕ) → X .ex v ≡ true → X .lev v ≤ c .new .result .0 = λ v ex. let is = c .new .ensures in let own = level-agrees (ready .sound) (ready .table) v (lawful (a .n) (a .prefix .now) .within v ex .1) in omega (arith, c .before .before .before .before .before .before .before .shared-slice-known2 .given v) in
     let long = length-replicate {A = ℕ} 4097 0 in
-    (omega arith, floored-none (a .n) (a .prefix .now) (a .classes .now) (a .parents .now) (c .new .result .0) low, (long, λ top _ some. absurd (some (new-zero 4097 top))), put-none (a .scheme) (a .n) (a .prefix .now) (a .clauses .now) (a .classes .now) (a .parents .now) (a .writing) (a .out .now))
+    (omega arith, floored-none (a .n) (a .prefix .now) (a .classes .now) (a .parents .now) (c .new .result .0) (omega (arith, c .new .ensures)) low, (long, λ top _ some. absurd (some (new-zero 4097 top))), put-none (a .scheme) (a .n) (a .prefix .now) (a .clauses .now) (a .classes .now) (a .parents .now) (a .writing) (a .out .now))
 
 add-passed : tie.Need-add-passed Inv-loop μ-loop
 add-passed c = omega arith

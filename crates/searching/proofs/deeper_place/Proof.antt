@@ -1,0 +1,37 @@
+-- `searching::deeper_place` meets its contract.
+use mathlib.Core.Path.{refl}
+use native.Mathlib.Omega.{arith}
+use borrow.Author.Needs.{needs}
+use Rattle.searching.proofs.deeper_place.Statement.{statement}
+use Rattle.searching.proofs.deeper_place.Tie as tie
+
+sub-place-behind : tie.Need-sub-place-behind
+sub-place-behind c = search needs
+
+place-behind-requires : tie.Need-place-behind-requires
+place-behind-requires c κs =
+    let (sound, (x, small, low), known) = c .before .before .before .before .before .before .before .pre in
+    let less = c .before .before .if1 .taken in
+    let (open′, here) = known (omega arith) in
+    (sound, open′, (x, small, omega arith))
+
+returns : tie.Need-returns
+returns c =
+    let (sound, (x, small, low), known) = c .before .before .before .before .before .before .before .before .pre in
+    let less = c .before .before .before .if1 .taken in
+    let here = known (omega arith) .1 in
+    let (open′, there) = c .place-behind .ensures in
+    (open′, omega arith)
+
+place-behind-requires-2 : tie.Need-place-behind-requires-2
+place-behind-requires-2 c κs =
+    let (sound, (x, small, low), known) = c .before .before .before .before .before .pre in
+    (sound, refl, (x, small, omega arith))
+
+returns-2 : tie.Need-returns-2
+returns-2 c = search needs
+
+pub deeper-place-spec : {M : Type 1} → statement M
+deeper-place-spec =
+    tie.close
+    (tie.spec sub-place-behind place-behind-requires returns place-behind-requires-2 returns-2)
