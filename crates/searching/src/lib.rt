@@ -159,7 +159,7 @@ fn top_of(n: u32, classes: &[u32], parents: &[u32], tops: &[u32], v: Variable) -
 }
 
 // The place in the prefix where the blocks deeper than a level begin, sought from where they do over a lesser one, if that is known.
-pub fn deeper_place(prefix: &[u32], known: Floor, floor: Level) -> usize
+fn deeper_place(prefix: &[u32], known: Floor, floor: Level) -> usize
     requires { ⌜ ((n : ℕ) × SoundPrefix n (now prefix)) × ((x : ℕ) × (x ≤ 4096) × (floor .0 ≡ level (now prefix) x)) × Known (now prefix) (known .level .0) (known .place) ⌝ }
     ensures { λ r. ⌜ Behind (now (prefix .entry)) (floor .0) r ⌝ }
 {
