@@ -33,6 +33,15 @@ marks-rise es e (suc f) l = by (λ k. marks-rise es e f k) (ℕ-discrete e (suc 
         let here = one (opens es f) (marksBefore es f) in
         omega arith
 
+-- and are no more than the entries before
+pub marks-within : (es : List ℕ) (e : ℕ) → marksBefore es e ≤ e
+marks-within es zero = omega arith
+marks-within es (suc e) = one (opens es e) (marks-within es e)
+  where
+    one : (b : Bool) → marksBefore es e ≤ e → cond b (suc (marksBefore es e)) (marksBefore es e) ≤ suc e
+    one true l = omega arith
+    one false l = omega arith
+
 -- a place names v
 abbrev pub NamedFrom : List ℕ → ℕ → ℕ → Type 0
 NamedFrom es i v = (e : ℕ) × (i ≤ e) × VariableAt es e × (at es e ≡ v)

@@ -8,16 +8,17 @@ use native.Mathlib.Decide.{ℕ-discrete, decLt}
 use native.Mathlib.Numerals.{add-one}
 use native.Mathlib.Omega.{arith}
 use borrow.Author.Tests.{le-ltb, lt-ltb, lt-leb, le-leb}
-use lib.Dec.{ltb, leb, eqb}
+use lib.Dec.{ltb, leb}
 use lib.IntN.{ℤ}
 use lib.ListN.{length, getD, take, drop, set, replicate, length-replicate, length-set, length-append, drop-of-length-le, List·getD-eq-default}
 use lib.Seq.{getD-set-same, getD-set-other, set-getD}
 use Rattle.terms.proofs.Common.{below-suc}
 use Rattle.formula.specs.Levels.{SoundPrefix, Levelled}
 use Rattle.formula.specs.Lookup.{NextZero}
-use Rattle.formula.specs.Meaning.{blocks, clauses, isZero, names, saidOf, freeLevel, firstMark, level, isUniversal, isExistential, connected}
+use Rattle.formula.specs.Meaning.{clauses, level, isUniversal, isExistential, connected}
 use Rattle.formula.specs.Tables.{cut, push}
 use Rattle.formula.proofs.Lookups.{clauses-closed, clauses-unclosed}
+use Rattle.formula.proofs.Ordered.{marks-within, level-most}
 use Rattle.tables.specs.Formula.{joined}
 use Rattle.tables.proofs.Readings.{new-zero, flag-over}
 use Rattle.connection.specs.Reach.{Variables, From, Joined, Reach, here}
@@ -31,7 +32,7 @@ use Rattle.loose.specs.Rows.{EndsAt, depthOf, Depths, Holds, Settled, Wr
 use Rattle.chains.proofs.Inside.{inside-links, equal-trans, equal-snoc, equal-added}
 use Rattle.chains.proofs.Ways.{kept-none, kept-trans, halved-row}
 
--- A table holds no more lists than it has entries ...
+-- A table holds no more lists than it has entries.
 cut-length : {A : Type 0} (isNought : A → Bool) (xs : List A) → length (cut isNought xs) ≤ length xs
 unfolding cut
 cut-length isNought [] = omega arith
@@ -48,24 +49,6 @@ cut-length {A} isNought (x ∷ xs) = go (isNought x) (cut-length isNought xs)
 pub many-most : (ls : List ℤ) → length (clauses ls) ≤ length ls
 unfolding clauses
 many-most ls = cut-length _ ls
-
--- ... and a level is at most the number of blocks, or 1.
-said-most : (bs : List (List ℕ)) (k found v : ℕ) → found ≤ k + length bs → saidOf (λ number mark. number) bs k found v ≤ k + length bs
-said-most [] k found v h = h
-said-most (b ∷ bs) k found v h = omega (arith, said-most bs (suc k) (cond (names b v) k found) v (go (names b v)))
-  where
-    go : (t : Bool) → cond t k found ≤ suc k + length bs
-    go true = omega arith
-    go false = omega arith
-
-pub level-most : (es : List ℕ) (v : ℕ) → level es v ≤ 1 + length es
-unfolding level freeLevel blocks
-level-most es v =
-    let most = said-most (cut isZero es) 1 (cond (eqb (firstMark (cut isZero es)) 1) 1 0) v (go (eqb (firstMark (cut isZero es)) 1)) in omega (arith, cut-length isZero es)
-  where
-    go : (t : Bool) → cond t 1 0 ≤ 1 + length (cut isZero es)
-    go true = omega arith
-    go false = omega arith
 
 -- A store up to n leaves the rows past n.
 ends-set : {n : ℕ} {T : List ℕ} → EndsAt n T → (v x : ℕ) → v ≤ n → EndsAt n (set T v x)
@@ -108,7 +91,7 @@ depth-past n levels universals v h = ap (λ (b : Bool). cond b (getD levels v 0 
 -- Depths from levels and quantifiers.
 pub levels-most : {n : ℕ} {es levels : List ℕ} {universals : List Bool} → SoundPrefix n es → Levelled es levels universals → (v : ℕ) → getD levels v 0 ≤ 8193
 levels-most {es = es} {levels = levels} sound l v = by-cases (decLt v 4097)
-    (λ h. omega (arith, l .level-is v (omega arith), level-most es v, sound .short))
+    (λ h. omega (arith, l .level-is v (omega arith), level-most sound v (omega arith), marks-within es (length es), sound .short))
     (λ h. omega (arith, List·getD-eq-default levels 0 {n = v} (omega (arith, l .sizes .0))))
 
 pub depths-are : {n : ℕ} {es levels depths : List ℕ} {universals : List Bool} → SoundPrefix n es → Levelled es levels universals → length depths ≡ 4097

@@ -8,7 +8,7 @@ use lib.Seq.{length-take-le}
 use Rattle.tables.specs.Formula.{variables, universalIn}
 use Rattle.tables.proofs.Agreeing.{lawful, level-agrees}
 use Rattle.tables.proofs.Readings.{flag-within}
-use Rattle.loose.proofs.Passes.{level-most}
+use Rattle.formula.proofs.Ordered.{marks-within, level-most}
 use Rattle.runs.specs.Runs.{Floored}
 use Rattle.runs.proofs.Linked.{floored-none}
 use borrow.Author.Needs.{needs}
@@ -85,7 +85,7 @@ line-of-requires c κs =
     let (floored, low) = c .before .before .before .before .before .before .before .refloor .ensures in
     let level = low .0 in
     let long = c .before .before .before .before .before .before .before .before .before .before .before .before .before .before .before .loop .inv .2 in
-    ((few, most, omega (arith, level-most (a .prefix .now) x), ready .closed, record { heads = omega arith; links = ready .links; universals = a .universals .now; threaded = ready .threaded; universal = flag }), (floored .within, floored .led, omega arith))
+    ((few, most, omega (arith, level-most (ready .sound) x (omega arith), marks-within (a .prefix .now) (length (a .prefix .now))), ready .closed, record { heads = omega arith; links = ready .links; universals = a .universals .now; threaded = ready .threaded; universal = flag }), (floored .within, floored .led, omega arith))
 
 array-share-prefix-line : tie.Need-array-share-prefix-line Inv-loop μ-loop
 array-share-prefix-line c =
