@@ -15,8 +15,8 @@ kit_find() {
     fi
     if [ -d "$home/on" ]; then tools=$home/on/$(uname -m)/toolchain; else tools=$home/toolchain; fi
     [ -x "$tools/bin/clang" ] || { echo "the kit at $home has no compiler for $(uname -m)" >&2; return 1; }
-    # The emulator takes the instructions by which the C library clears and copies large tables byte by byte, some twenty times as long as
-    # others: the C library is told to keep to those.
+    # The C library clears and copies large tables by instructions that the emulator takes byte by byte, in some twenty times the time that
+    # plain stores take: it is told never to.
     run=("$tools/lib/ld-linux-x86-64.so.2" --library-path "$tools/lib")
     emulated=''
     if [ -x "$tools/bin/qemu-x86_64" ]; then

@@ -7,8 +7,8 @@ use mathlib.Core.Logic.{_⊎_, inl, inr, ⊎-elim, _≢_, by-cases}
 use native.Mathlib.Decide.{ℕ-discrete, decLe}
 use native.Mathlib.Numerals.{add-one}
 use native.Mathlib.Omega.{arith}
-use lib.Dec.{eqb}
 use borrow.Author.Tests.{eq-eqb}
+use lib.Dec.{eqb}
 use lib.ListN.{length, getD, set, replicate, getD-replicate, length-replicate, List·getD-eq-default}
 use lib.Seq.{getD-set-same, getD-set-other}
 use Rattle.formula.specs.Tables.{at, opens, cut, marksBefore, VariableAt}
@@ -84,7 +84,7 @@ free-most es = go (eqb (firstMark (blocks es)) 1)
     go true = omega arith
     go false = omega arith
 
--- it is 1 only where a block opens
+-- the free level is 1 only where a block opens
 free-within : (es : List ℕ) → freeLevel es ≤ marksBefore es (length es)
 unfolding freeLevel blocks cut
 free-within [] = omega arith
@@ -205,4 +205,9 @@ module _ {n : ℕ} {es : List ℕ} (sound : SoundPrefix n es) where
   -- an accepted prefix ends between two blocks
   pub closed-end : (i : ℕ) → length es ≤ i → opens es i ≡ true
   closed-end zero done = refl
-  closed-end (suc i) done = eq-eqb (at es i) 0 (by-cases (decLe (length es) i) (λ over. List·getD-eq-default es 0 {n = i} over) (λ last. by-cases (ℕ-discrete (at es i) 0) (λ z. z) (λ some. absurd (sound .faultless 3 (length es) (ends-inside refl refl (omega arith, subst (λ (k : ℕ). at es k ≢ 0) (let q : i ≡ length es - 1 = omega arith in q) some))))))
+  closed-end (suc i) done = eq-eqb (at es i) 0 (by-cases (decLe (length es) i) (λ over. List·getD-eq-default es 0 {n = i} over) last)
+    where
+      last : ¬ (length es ≤ i) → at es i ≡ 0
+      last within =
+          let is : length es - 1 ≡ i = omega arith in
+          by-cases (ℕ-discrete (at es i) 0) (λ z. z) (λ some. absurd (sound .faultless 3 (length es) (ends-inside refl refl (omega arith, λ z. some (sym (ap (at es) is) ∙ z)))))

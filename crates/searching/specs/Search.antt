@@ -56,7 +56,7 @@ Topless n tops from = (v : ℕ) → 1 ≤ v → v ≤ from → row n tops v ≡ 
 abbrev pub Behind : List ℕ → ℕ → ℕ → Type 0
 Behind es floor place = (opens es place ≡ true) × (marksBefore es place ≡ floor)
 
--- the same of a level that there is; over any other the place is not known
+-- the same, but for 4294967295: the passes over the universals begin with tops over that, which no level is, and then no place is known
 abbrev pub Known : List ℕ → ℕ → ℕ → Type 0
 Known es floor place = floor < 4294967295 → Behind es floor place
 

@@ -68,7 +68,7 @@ put-digits-returns : (t : ℕ) → put-digits-lts.Need-returns (
 put-digits-returns t c =
     let a = c .before .before .before .before .before .before .args in
     let o = c .before .before .put-byte in
-    subst (λ (xs : List ℕ). Wrote xs (a .out .now) (o .last .0) (a .at) (o .result)) (sym (decimal-small (a .value) (c .before .before .before .before .if1 .taken))) (o .ensures)
+    subst (λ (xs : List ℕ). Wrote xs (a .out .now) (o .last .0) (a .at) (o .result)) (sym (decimal-small (a .value) (omega (arith, c .before .before .before .before .if1 .taken)))) (o .ensures)
 
 put-digits-put-digits-requires : (t : ℕ) → put-digits-lts.Need-put-digits-requires (
   put-byte-reads.Asked,
@@ -123,7 +123,7 @@ put-digits-returns-2 : (t : ℕ) → put-digits-lts.Need-returns-2 (
 put-digits-returns-2 t c =
     let a = c .before .before .before .before .before .before .before .before .before .before .args in
     let o = c .before .before .put-byte2 in
-    subst (λ (xs : List ℕ). Wrote xs (a .out .now) (o .last .0) (a .at) (o .result)) (sym (decimal-large (a .value) (c .before .before .before .before .before .before .before .before .if1 .left)))
+    subst (λ (xs : List ℕ). Wrote xs (a .out .now) (o .last .0) (a .at) (o .result)) (sym (decimal-large (a .value) (omega (arith, c .before .before .before .before .before .before .before .before .if1 .left))))
     (wrote-more (c .before .before .before .before .before .before .put-digits .ensures) (o .ensures))
 
 pub +put-digits-spec : {M : Type 1} → statement M
