@@ -11,7 +11,9 @@ build-tallied-requires : tie.Need-build-tallied-requires
 build-tallied-requires c κs = search needs
 
 lay-built-requires : tie.Need-lay-built-requires
-lay-built-requires c κs = fits-built (c .before .before .before .before .before .before .before .before .before .build-tallied .ensures)
+lay-built-requires c κs =
+    let at-build-tallied = c .before .before .before .before .before .before .before .before .before in
+    fits-built (at-build-tallied .build-tallied .ensures)
 
 same-length : tie.Need-same-length
 same-length c = search needs
@@ -24,9 +26,12 @@ same-length-3 c = search needs
 
 returns : tie.Need-returns
 returns c =
-    let a = c .before .before .before .before .before .before .before .before .before .before .before .before .before .before .before .before .before .before .before .before .args in
-    let b = c .before .before .before .before .before .before .before .before .before .before .build-tallied in
-    tell-built (a .classes .now) (a .parents .now) (a .counts .now) (a .tally .now) _ _ _ (a .rule) (a .n) (a .prefix .now) (a .clauses .now) (b .result .tally) (b .result .answer) (c .before .before .before .before .before .before .before .before .before .before .before .before .before .before .tally-in .ensures) (c .lay-built .ensures) (b .ensures)
+    let at-build-tallied = c .before .before .before .before .before .before .before .before .before .before in
+    let at-tally-in = at-build-tallied .before .before .before .before in
+    let at-start = at-tally-in .before .before .before .before .before .before in
+    let a = at-start .args in
+    let b = at-build-tallied .build-tallied in
+    tell-built (a .classes .now) (a .parents .now) (a .counts .now) (a .tally .now) _ _ _ (a .rule) (a .n) (a .prefix .now) (a .clauses .now) (b .result .tally) (b .result .answer) (at-tally-in .tally-in .ensures) (c .lay-built .ensures) (b .ensures)
 
 pub snow-build-spec : {M : Type 1} → statement M
 snow-build-spec = tie.close (tie.spec tally-in-requires build-tallied-requires lay-built-requires same-length same-length-2 same-length-3 returns)

@@ -11,14 +11,17 @@ check-requires c κs = search needs
 
 lay-verdict-requires : tie.Need-lay-verdict-requires
 lay-verdict-requires c κs =
-    let a = c .before .before .before .args in
+    let at-start = c .before .before .before in
+    let a = at-start .args in
     let b = c .before .check in
     fits-verdict (checkOrderUnder (a .rule) (a .n) (a .prefix .now) (a .clauses .now)) (b .result) (small-check (a .rule) (a .n) (a .prefix .now) (a .clauses .now)) (b .ensures)
 
 returns : tie.Need-returns
 returns c =
-    let a = c .before .before .before .before .args in
-    let b = c .before .before .check in
+    let at-check = c .before .before in
+    let at-start = at-check .before .before in
+    let a = at-start .args in
+    let b = at-check .check in
     tell-verdict (checkOrderUnder (a .rule) (a .n) (a .prefix .now) (a .clauses .now)) (b .result) (c .lay-verdict .ensures) (b .ensures)
 
 pub snow-check-spec : {M : Type 1} → statement M

@@ -14,34 +14,27 @@ use Rattle.capi.proofs.Telling.{tell-accepted, tell-refused, named}
 use Rattle.capi.proofs.snow_clause.Statement.{statement}
 use Rattle.capi.proofs.snow_clause.Tie as tie
 
-clause-verdict-requires : tie.Need-clause-verdict-requires
-clause-verdict-requires c κs = search needs
-
-enum-known-number : tie.Need-enum-known-number
-enum-known-number c = search needs
-
 cast-place : tie.Need-cast-place
 cast-place c =
-    let a = c .before .before .before .before .args in
-    record { fits = small-clause (a .n) (a .clauses .now) (a .asked) _ _ (named (clauseOrder (a .n) (a .clauses .now) (a .asked)) (c .before .number .given .1) (c .before .before .before .clause-verdict .ensures)) }
-
-enum-told : tie.Need-enum-told
-enum-told c = search needs
-
-find-requires : tie.Need-find-requires
-find-requires c κs = search needs
-
-enum-known-from : tie.Need-enum-known-from
-enum-known-from c = search needs
+    let at-clause-verdict = c .before .before .before in
+    let at-start = at-clause-verdict .before in
+    let a = at-start .args in
+    record { fits = small-clause (a .n) (a .clauses .now) (a .asked) _ _ (named (clauseOrder (a .n) (a .clauses .now) (a .asked)) (c .before .number .given .1) (at-clause-verdict .clause-verdict .ensures)) }
 
 -- where the clause stands, once it is found, in a table within its limit
 found : (c : tie.After-known-told2) → Stands (c .before .before .before .before .before .before .before .args .clauses .now) (c .before .before .before .before .before .before .before .args .asked) (At (c .before .from .given .0 .0) (c .before .from .given .0 .1 .0))
-found c = subst (Stands (c .before .before .before .before .before .before .before .args .clauses .now) (c .before .before .before .before .before .before .before .args .asked)) (c .before .from .given .1) (c .before .before .before .find .ensures)
+found c =
+    let at-find = c .before .before .before in
+    let at-start = at-find .before .before .before .before in
+    subst (Stands (at-start .args .clauses .now) (at-start .args .asked)) (c .before .from .given .1) (at-find .find .ensures)
 
 within : (c : tie.After-known-told2) → length (c .before .before .before .before .before .before .before .args .clauses .now) ≤ 16384
 within c =
-    let a = c .before .before .before .before .before .before .before .args in
-    let none = subst (Judged (clauseOrder (a .n) (a .clauses .now) (a .asked))) (c .before .before .before .before .enum-told .given .1) (c .before .before .before .before .before .before .clause-verdict .ensures) in
+    let at-enum-told = c .before .before .before .before in
+    let at-clause-verdict = at-enum-told .before .before in
+    let at-start = at-clause-verdict .before in
+    let a = at-start .args in
+    let none = subst (Judged (clauseOrder (a .n) (a .clauses .now) (a .asked))) (at-enum-told .enum-told .given .1) (at-clause-verdict .clause-verdict .ensures) in
     let over : ¬ (16384 < length (a .clauses .now)) = λ l. none .1 .0 2 0 (refl, refl, l) in
     omega arith
 
@@ -57,47 +50,40 @@ cast-len : tie.Need-cast-len
 unfolding Stands
 cast-len c = let from = found c .0 in let to = found c .1 in let few = within c in omega arith
 
-enum-told-2 : tie.Need-enum-told-2
-enum-told-2 c = search needs
-
 returns : tie.Need-returns
 returns c =
-    let a = c .before .before .before .before .args in
-    tell-refused (clauseOrder (a .n) (a .clauses .now) (a .asked)) _ (c .before .number .given .1) (c .before .before .before .clause-verdict .ensures) (refl, refl)
+    let at-clause-verdict = c .before .before .before in
+    let at-start = at-clause-verdict .before in
+    let a = at-start .args in
+    tell-refused (clauseOrder (a .n) (a .clauses .now) (a .asked)) _ (c .before .number .given .1) (at-clause-verdict .clause-verdict .ensures) (refl, refl)
 
 returns-2 : tie.Need-returns-2
 unfolding Stands
 returns-2 c =
-    let a = c .before .before .before .before .before .before .before .args in
+    let at-enum-told = c .before .before .before .before in
+    let at-clause-verdict = at-enum-told .before .before in
+    let at-start = at-clause-verdict .before in
+    let a = at-start .args in
     let start = c .before .from .given .0 .0 in
     let end = c .before .from .given .0 .1 .0 in
     let from = found c .0 in
     let to = found c .1 in
     let size : length (take (end - start) (drop start (a .clauses .now))) ≡ end - start = length-take-le (end - start) (drop start (a .clauses .now)) (rw (length-drop start (a .clauses .now)) (omega arith)) in
-    tell-accepted (clauseOrder (a .n) (a .clauses .now) (a .asked)) _ (c .before .before .before .before .enum-told .given .1) (c .before .before .before .before .before .before .clause-verdict .ensures) (found c .4, sym size ∙ ap length (found c .3))
+    tell-accepted (clauseOrder (a .n) (a .clauses .now) (a .asked)) _ (at-enum-told .enum-told .given .1) (at-clause-verdict .clause-verdict .ensures) (found c .4, sym size ∙ ap length (found c .3))
 
 returns-3 : tie.Need-returns-3
 unfolding Stands
 returns-3 c =
-    let a = c .before .before .before .before .before .before .args in
-    let none = subst (Judged (clauseOrder (a .n) (a .clauses .now) (a .asked))) (c .before .before .before .enum-told .given .1) (c .before .before .before .before .before .clause-verdict .ensures) in
-    let past = subst (Stands (a .clauses .now) (a .asked)) (c .enum-told2 .given .1) (c .before .before .find .ensures) in
+    let at-find = c .before .before in
+    let at-enum-told = at-find .before in
+    let at-clause-verdict = at-enum-told .before .before in
+    let at-start = at-clause-verdict .before in
+    let a = at-start .args in
+    let none = subst (Judged (clauseOrder (a .n) (a .clauses .now) (a .asked))) (at-enum-told .enum-told .given .1) (at-clause-verdict .clause-verdict .ensures) in
+    let past = subst (Stands (a .clauses .now) (a .asked)) (c .enum-told2 .given .1) (at-find .find .ensures) in
     absurd (none .1 .1 .1 .0 13 0 (refl, refl, past))
 
 pub snow-clause-spec : {M : Type 1} → statement M
 snow-clause-spec =
-    tie.close
-    (tie.spec
-    clause-verdict-requires
-    enum-known-number
-    cast-place
-    enum-told
-    find-requires
-    enum-known-from
-    cast-start
-    sub-len
-    cast-len
-    enum-told-2
-    returns
-    returns-2
-    returns-3)
+    tie.close (tie.spec (λ c κs. search needs) (λ c. search needs) cast-place (λ c. search needs) (λ c κs. search needs) (λ c. search needs)
+    cast-start sub-len cast-len (λ c. search needs) returns returns-2 returns-3)

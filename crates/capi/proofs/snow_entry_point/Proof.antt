@@ -9,14 +9,18 @@ entry-point-requires c κs = search needs
 
 lay-entry-requires : tie.Need-lay-entry-requires
 lay-entry-requires c κs =
-    let a = c .before .before .before .before .before .before .before .before .args in
-    let b = c .before .before .before .entry-point in
+    let at-entry-point = c .before .before .before in
+    let at-start = at-entry-point .before .before .before .before .before in
+    let a = at-start .args in
+    let b = at-entry-point .entry-point in
     fits-entry (a .rule) (a .n) (a .prefix .now) (a .classes .now) (a .parents .now) (a .counts .now) (a .x) (a .y) (b .result) (b .ensures)
 
 returns : tie.Need-returns
 returns c =
-    let a = c .before .before .before .before .before .before .before .before .before .args in
-    let b = c .before .before .before .before .entry-point in
+    let at-entry-point = c .before .before .before .before in
+    let at-start = at-entry-point .before .before .before .before .before in
+    let a = at-start .args in
+    let b = at-entry-point .entry-point in
     tell-entry (a .rule) (a .n) (a .prefix .now) (a .classes .now) (a .parents .now) (a .counts .now) (a .x) (a .y) (b .result) (c .lay-entry .ensures) (b .ensures)
 
 pub snow-entry-point-spec : {M : Type 1} → statement M

@@ -12,7 +12,9 @@ same-length c = search needs
 
 returns : tie.Need-returns
 unfolding schemeOf
-returns c = c .before .before .snow-entry-points-by .ensures
+returns c =
+    let at-snow-entry-points-by = c .before .before in
+    at-snow-entry-points-by .snow-entry-points-by .ensures
 
 pub snow-entry-points-spec : {M : Type 1} → statement M
 snow-entry-points-spec = tie.close (tie.spec snow-entry-points-by-requires same-length returns)

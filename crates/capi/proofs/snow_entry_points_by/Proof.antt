@@ -15,18 +15,24 @@ entry-points-by-requires c κs = search needs
 
 lay-requires : tie.Need-lay-requires
 lay-requires c κs =
-    let a = c .before .before .before .before .before .before .before .before .before .before .before .before .args in
-    let b = c .before .before .before .before .entry-points-by in
-    fits-listing (a .rule) (a .n) (a .prefix .now) (a .clauses .now) (a .classes .now) (a .parents .now) (a .counts .now) (EntriesBy (c .before .before .before .before .before .before .scheme-in .result) (a .n) (readAs (a .rule) (a .prefix .now)) (a .clauses .now) (a .classes .now) (a .parents .now) (a .x)) (a .x) (a .out .now) _ (b .result) (b .ensures)
+    let at-entry-points-by = c .before .before .before .before in
+    let at-scheme-in = at-entry-points-by .before .before in
+    let at-start = at-scheme-in .before .before .before .before .before .before in
+    let a = at-start .args in
+    let b = at-entry-points-by .entry-points-by in
+    fits-listing (a .rule) (a .n) (a .prefix .now) (a .clauses .now) (a .classes .now) (a .parents .now) (a .counts .now) (EntriesBy (at-scheme-in .scheme-in .result) (a .n) (readAs (a .rule) (a .prefix .now)) (a .clauses .now) (a .classes .now) (a .parents .now) (a .x)) (a .x) (a .out .now) _ (b .result) (b .ensures)
 
 same-length : tie.Need-same-length
 same-length c = search needs
 
 returns : tie.Need-returns
 returns c =
-    let a = c .before .before .before .before .before .before .before .before .before .before .before .before .before .args in
-    let b = c .before .before .before .before .before .entry-points-by in
-    tell-listing (a .rule) (a .n) (a .prefix .now) (a .clauses .now) (a .classes .now) (a .parents .now) (a .counts .now) (λ (s : Scheme). EntriesBy s (a .n) (readAs (a .rule) (a .prefix .now)) (a .clauses .now) (a .classes .now) (a .parents .now) (a .x)) (a .x) (a .out .now) _ (b .result) (c .before .before .before .before .before .before .before .scheme-in .ensures) (c .lay .ensures) (b .ensures)
+    let at-entry-points-by = c .before .before .before .before .before in
+    let at-scheme-in = at-entry-points-by .before .before in
+    let at-start = at-scheme-in .before .before .before .before .before .before in
+    let a = at-start .args in
+    let b = at-entry-points-by .entry-points-by in
+    tell-listing (a .rule) (a .n) (a .prefix .now) (a .clauses .now) (a .classes .now) (a .parents .now) (a .counts .now) (λ (s : Scheme). EntriesBy s (a .n) (readAs (a .rule) (a .prefix .now)) (a .clauses .now) (a .classes .now) (a .parents .now) (a .x)) (a .x) (a .out .now) _ (b .result) (at-scheme-in .scheme-in .ensures) (c .lay .ensures) (b .ensures)
 
 pub snow-entry-points-by-spec : {M : Type 1} → statement M
 snow-entry-points-by-spec = tie.close (tie.spec scheme-in-requires entry-points-by-requires lay-requires same-length returns)

@@ -9,8 +9,10 @@ read-requires c κs = search needs
 
 lay-reading-requires : tie.Need-lay-reading-requires
 lay-reading-requires c κs =
-    let a = c .before .before .before .before .before .before .before .before .before .before .before .before .args in
-    let b = c .before .before .before .before .before .before .before .read in
+    let at-read = c .before .before .before .before .before .before .before in
+    let at-start = at-read .before .before .before .before .before in
+    let a = at-start .args in
+    let b = at-read .read in
     fits-read (a .text .now) (a .prefix .now) _ (a .clauses .now) _ (b .result) (b .ensures)
 
 same-length : tie.Need-same-length
@@ -21,8 +23,10 @@ same-length-2 c = search needs
 
 returns : tie.Need-returns
 returns c =
-    let a = c .before .before .before .before .before .before .before .before .before .before .before .before .before .args in
-    let b = c .before .before .before .before .before .before .before .before .read in
+    let at-read = c .before .before .before .before .before .before .before .before in
+    let at-start = at-read .before .before .before .before .before in
+    let a = at-start .args in
+    let b = at-read .read in
     tell-read (a .text .now) (a .prefix .now) _ (a .clauses .now) _ (b .result) (c .lay-reading .ensures) (b .ensures)
 
 pub snow-read-spec : {M : Type 1} → statement M

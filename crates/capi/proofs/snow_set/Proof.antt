@@ -12,7 +12,9 @@ same-length c = search needs
 
 returns : tie.Need-returns
 unfolding schemeOf
-returns c = c .before .before .snow-set-by .ensures
+returns c =
+    let at-snow-set-by = c .before .before in
+    at-snow-set-by .snow-set-by .ensures
 
 pub snow-set-spec : {M : Type 1} → statement M
 snow-set-spec = tie.close (tie.spec snow-set-by-requires same-length returns)

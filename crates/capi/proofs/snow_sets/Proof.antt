@@ -12,7 +12,9 @@ same-length c = search needs
 
 returns : tie.Need-returns
 unfolding schemeOf
-returns c = c .before .before .snow-sets-by .ensures
+returns c =
+    let at-snow-sets-by = c .before .before in
+    at-snow-sets-by .snow-sets-by .ensures
 
 pub snow-sets-spec : {M : Type 1} → statement M
 snow-sets-spec = tie.close (tie.spec snow-sets-by-requires same-length returns)

@@ -10,13 +10,17 @@ enum-known-output : tie.Need-enum-known-output
 enum-known-output c = search needs
 
 cast-count : tie.Need-cast-count
-cast-count c = record { fits = subst (λ (a : Output). Fits InCell (outputSaid a)) (c .before .output .given .1) (c .before .before .before .pre) }
+cast-count c =
+    let at-start = c .before .before .before in
+    record { fits = subst (λ (a : Output). Fits InCell (outputSaid a)) (c .before .output .given .1) (at-start .pre) }
 
 enum-known-output-2 : tie.Need-enum-known-output-2
 enum-known-output-2 c = search needs
 
 cast-place : tie.Need-cast-place
-cast-place c = record { fits = subst (λ (a : Output). Fits InCell (outputSaid a)) (c .before .output2 .given .1) (c .before .before .before .pre) }
+cast-place c =
+    let at-start = c .before .before .before in
+    record { fits = subst (λ (a : Output). Fits InCell (outputSaid a)) (c .before .output2 .given .1) (at-start .pre) }
 
 returns : tie.Need-returns
 returns c = given (ap outputSaid (c .before .output .given .1)) refl refl refl

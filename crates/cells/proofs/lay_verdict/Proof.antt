@@ -13,7 +13,9 @@ enum-known-verdict : tie.Need-enum-known-verdict
 enum-known-verdict c = search needs
 
 cast-place : tie.Need-cast-place
-cast-place c = record { fits = subst (λ (a : Verdict). Fits Any (verdictSaid a)) (c .before .verdict .given .1) (c .before .before .before .pre) }
+cast-place c =
+    let at-start = c .before .before .before in
+    record { fits = subst (λ (a : Verdict). Fits Any (verdictSaid a)) (c .before .verdict .given .1) (at-start .pre) }
 
 returns : tie.Need-returns
 returns c = given (ap verdictSaid (c .enum-told .given .1)) refl refl refl

@@ -13,36 +13,44 @@ abbrev μ-loop : tie.MeasureT-loop
 μ-loop depths classes₀ parents₀ left₀ classes parents left = getD depths (left .0 .0) 0 + getD depths (left .1 .0) 0
 
 loop-holds : tie.Need-loop-holds Inv-loop μ-loop
-loop-holds c = merge-none (c .before .before .before .pre .0) (c .before .before .before .pre .1)
+loop-holds c =
+    let at-start = c .before .before .before in
+    merge-none (at-start .pre .0) (at-start .pre .1)
 
 advance-requires : tie.Need-advance-requires Inv-loop μ-loop
-advance-requires c κs = let m = c .before .before .before .before .loop .inv in (m .growing, m .pending, c .before .before .if1 .taken)
+advance-requires c κs =
+    let at-if1 = c .before .before in
+    let at-loop = at-if1 .before .before in
+    let m = at-loop .loop .inv in (m .growing, m .pending, at-if1 .if1 .taken)
 
 loop-less : tie.Need-loop-less Inv-loop μ-loop
-loop-less c = c .before .before .before .before .advance .ensures .fell
+loop-less c =
+    let at-advance = c .before .before .before .before in
+    at-advance .advance .ensures .fell
 
 loop-again : tie.Need-loop-again Inv-loop μ-loop
-loop-again c = merge-step (c .before .before .before .before .before .before .before .before .before .loop .inv) (c .before .before .before .before .advance .ensures)
+loop-again c =
+    let at-advance = c .before .before .before .before in
+    let at-loop = at-advance .before .before .before .before .before in
+    merge-step (at-loop .loop .inv) (at-advance .advance .ensures)
 
 same-length : tie.Need-same-length Inv-loop μ-loop
-same-length c = c .before .before .loop .inv .growing .sizes .1 ∙ sym (c .before .before .before .before .before .before .pre .0 .sizes .1)
+same-length c =
+    let at-loop = c .before .before in
+    let at-start = at-loop .before .before .before .before in
+    at-loop .loop .inv .growing .sizes .1 ∙ sym (at-start .pre .0 .sizes .1)
 
 same-length-2 : tie.Need-same-length-2 Inv-loop μ-loop
-same-length-2 c = c .before .before .loop .inv .growing .sizes .2 ∙ sym (c .before .before .before .before .before .before .pre .0 .sizes .2)
+same-length-2 c =
+    let at-loop = c .before .before in
+    let at-start = at-loop .before .before .before .before in
+    at-loop .loop .inv .growing .sizes .2 ∙ sym (at-start .pre .0 .sizes .2)
 
 returns : tie.Need-returns Inv-loop μ-loop
-returns c = merge-all (c .before .before .loop .inv) (c .if1 .left)
+returns c =
+    let at-loop = c .before .before in
+    merge-all (at-loop .loop .inv) (c .if1 .left)
 
 pub merge-spec : {M : Type 1} → statement M
 merge-spec =
-    tie.close
-    (tie.spec
-    Inv-loop
-    μ-loop
-    loop-holds
-    advance-requires
-    loop-less
-    loop-again
-    same-length
-    same-length-2
-    returns)
+    tie.close (tie.spec Inv-loop μ-loop loop-holds advance-requires loop-less loop-again same-length same-length-2 returns)

@@ -30,61 +30,48 @@ returns c = inl (at0-first 1 (c .if1 .taken))
 returns-2 : tie.Need-returns-2
 returns-2 c = inr (at0-none 1 (λ over. omega arith), inl (at0-first 2 (c .if2 .taken)))
 
-check-clauses-requires : tie.Need-check-clauses-requires
-check-clauses-requires c κs = search needs
-
-enum-known-number : tie.Need-enum-known-number
-enum-known-number c = search needs
-
-enum-told : tie.Need-enum-told
-enum-told c = search needs
-
-find-requires : tie.Need-find-requires
-find-requires c κs = search needs
-
-enum-told-2 : tie.Need-enum-told-2
-enum-told-2 c = search needs
-
-enum-told-3 : tie.Need-enum-told-3
-enum-told-3 c = search needs
-
 returns-3 : tie.Need-returns-3
 returns-3 c =
-    let a = c .before .before .before .before .before .before .args in
+    let at-check-clauses = c .before .before .before in
+    let at-if2 = at-check-clauses .before in
+    let at-if1 = at-if2 .before in
+    let at-start = at-if1 .before in
+    let a = at-start .args in
     let said = c .before .number .given in
-    within (a .n) (a .clauses .now) (a .asked) (Refused (said .0 .0) (said .0 .1 .0)) (c .before .before .before .before .before .if1 .left) (c .before .before .before .before .if2 .left)
-    (refused-first (ClauseCause (a .n) (a .clauses .now) ∷ []) (At0 13 (length (clauses (a .clauses .now)) ≤ a .asked) ∷ []) (said .1) (c .before .before .before .check-clauses .ensures))
+    within (a .n) (a .clauses .now) (a .asked) (Refused (said .0 .0) (said .0 .1 .0)) (at-if1 .if1 .left) (at-if2 .if2 .left)
+    (refused-first (ClauseCause (a .n) (a .clauses .now) ∷ []) (At0 13 (length (clauses (a .clauses .now)) ≤ a .asked) ∷ []) (said .1) (at-check-clauses .check-clauses .ensures))
 
 returns-4 : tie.Need-returns-4
 unfolding Stands
 returns-4 c =
-    let a = c .before .before .before .before .before .before .before .before .args in
-    let stands = subst (Stands (a .clauses .now) (a .asked)) (c .enum-told2 .given .1) (c .before .before .find .ensures) in
-    within (a .n) (a .clauses .now) (a .asked) Accepted (c .before .before .before .before .before .before .before .if1 .left) (c .before .before .before .before .before .before .if2 .left)
-    (accepted-then (ClauseCause (a .n) (a .clauses .now) ∷ []) (At0 13 (length (clauses (a .clauses .now)) ≤ a .asked) ∷ []) Accepted (c .before .before .before .enum-told .given .1) (c .before .before .before .before .before .check-clauses .ensures)
+    let at-find = c .before .before in
+    let at-enum-told = at-find .before in
+    let at-check-clauses = at-enum-told .before .before in
+    let at-if2 = at-check-clauses .before in
+    let at-if1 = at-if2 .before in
+    let at-start = at-if1 .before in
+    let a = at-start .args in
+    let stands = subst (Stands (a .clauses .now) (a .asked)) (c .enum-told2 .given .1) (at-find .find .ensures) in
+    within (a .n) (a .clauses .now) (a .asked) Accepted (at-if1 .if1 .left) (at-if2 .if2 .left)
+    (accepted-then (ClauseCause (a .n) (a .clauses .now) ∷ []) (At0 13 (length (clauses (a .clauses .now)) ≤ a .asked) ∷ []) Accepted (at-enum-told .enum-told .given .1) (at-check-clauses .check-clauses .ensures)
     (at0-none 13 (λ past. let below = stands .2 in omega arith), tt))
 
 returns-5 : tie.Need-returns-5
 unfolding Stands
 returns-5 c =
-    let a = c .before .before .before .before .before .before .before .before .args in
-    let past = subst (Stands (a .clauses .now) (a .asked)) (c .enum-told3 .given .1) (c .before .before .find .ensures) in
-    within (a .n) (a .clauses .now) (a .asked) (Refused 13 0) (c .before .before .before .before .before .before .before .if1 .left) (c .before .before .before .before .before .before .if2 .left)
-    (accepted-then (ClauseCause (a .n) (a .clauses .now) ∷ []) (At0 13 (length (clauses (a .clauses .now)) ≤ a .asked) ∷ []) (Refused 13 0) (c .before .before .before .enum-told .given .1) (c .before .before .before .before .before .check-clauses .ensures)
+    let at-find = c .before .before in
+    let at-enum-told = at-find .before in
+    let at-check-clauses = at-enum-told .before .before in
+    let at-if2 = at-check-clauses .before in
+    let at-if1 = at-if2 .before in
+    let at-start = at-if1 .before in
+    let a = at-start .args in
+    let past = subst (Stands (a .clauses .now) (a .asked)) (c .enum-told3 .given .1) (at-find .find .ensures) in
+    within (a .n) (a .clauses .now) (a .asked) (Refused 13 0) (at-if1 .if1 .left) (at-if2 .if2 .left)
+    (accepted-then (ClauseCause (a .n) (a .clauses .now) ∷ []) (At0 13 (length (clauses (a .clauses .now)) ≤ a .asked) ∷ []) (Refused 13 0) (at-enum-told .enum-told .given .1) (at-check-clauses .check-clauses .ensures)
     (inl (at0-first 13 past)))
 
 pub clause-verdict-spec : {M : Type 1} → statement M
 clause-verdict-spec =
-    tie.close
-    (tie.spec
-    returns
-    returns-2
-    check-clauses-requires
-    enum-known-number
-    enum-told
-    find-requires
-    enum-told-2
-    enum-told-3
-    returns-3
-    returns-4
-    returns-5)
+    tie.close (tie.spec returns returns-2 (λ c κs. search needs) (λ c. search needs) (λ c. search needs) (λ c κs. search needs)
+    (λ c. search needs) (λ c. search needs) returns-3 returns-4 returns-5)

@@ -18,59 +18,30 @@ use borrow.Author.Needs.{needs}
 use Rattle.dependents.proofs.set_read.Statement.{statement}
 use Rattle.dependents.proofs.set_read.Tie as tie
 
-slice-aggregate-enter : tie.Need-slice-aggregate-enter
-slice-aggregate-enter c = search needs
-
-slice-aggregate-enter-2 : tie.Need-slice-aggregate-enter-2
-slice-aggregate-enter-2 c = search needs
-
 enter-requires : tie.Need-enter-requires
 enter-requires c κs = (length-replicate {A = ℕ} 4097 0, length-replicate 4097 false)
 
-enum-known-number : tie.Need-enum-known-number
-enum-known-number c = search needs
-
-enum-told : tie.Need-enum-told
-enum-told c = search needs
-
-slice-aggregate-list-picked : tie.Need-slice-aggregate-list-picked
-slice-aggregate-list-picked c = search needs
-
-slice-aggregate-list-picked-2 : tie.Need-slice-aggregate-list-picked-2
-slice-aggregate-list-picked-2 c = search needs
-
-list-picked-requires : tie.Need-list-picked-requires
-list-picked-requires c κs = search needs
-
 returns : tie.Need-returns
 returns c =
-    let a = c .before .before .before .before .before .before .before .before .before .before .before .args in
-    (refused-first (enterOrder (a .n) (a .prefix .now) (a .clauses .now) (a .lists .now) (a .x .0)) (At0 14 (TooLong (DependsOnBy (a .scheme) (a .n) (a .prefix .now) (a .clauses .now) (a .lists .now) (a .x .0)) (a .out .now)) ∷ []) (c .before .number .given .1) (c .before .before .before .before .before .enter .ensures .0), refl)
-
-same-length : tie.Need-same-length
-same-length c = search needs
+    let at-enter = c .before .before .before .before .before in
+    let at-start = at-enter .before .before .before .before .before .before in
+    let a = at-start .args in
+    (refused-first (enterOrder (a .n) (a .prefix .now) (a .clauses .now) (a .lists .now) (a .x .0)) (At0 14 (TooLong (DependsOnBy (a .scheme) (a .n) (a .prefix .now) (a .clauses .now) (a .lists .now) (a .x .0)) (a .out .now)) ∷ []) (c .before .number .given .1) (at-enter .enter .ensures .0), refl)
 
 returns-2 : tie.Need-returns-2
 returns-2 c =
-    let a = c .before .before .before .before .before .before .before .before .before .before .before .before .before .before .before .before .args in
-    let rows = c .before .before .before .before .before .before .before .before .before .before .enter .last .1 .1 .1 .1 .1 .1 .0 in
-    let flags = c .before .before .before .before .before .before .before .before .before .before .enter .last .1 .1 .1 .1 .1 .1 .1 .0 in
-    let none = subst (Judged (enterOrder (a .n) (a .prefix .now) (a .clauses .now) (a .lists .now) (a .x .0))) (c .before .before .before .before .before .before .enum-told .given .1) (c .before .before .before .before .before .before .before .before .before .before .enter .ensures .0) in
-    let tell = subst (Entered (a .scheme) (a .n) (a .prefix .now) (a .clauses .now) (a .lists .now) (a .x .0) rows flags) (c .before .before .before .before .before .before .enum-told .given .1) (c .before .before .before .before .before .before .before .before .before .before .enter .ensures .1) in
-    picks-listing (enterOrder (a .n) (a .prefix .now) (a .clauses .now) (a .lists .now) (a .x .0)) (pick Set (a .n) flags rows) (a .n) (a .out .now) (c .before .before .list-picked .last .1 .1 .1 .1 .0) none (set-listed (a .scheme) (a .n) (a .prefix .now) (a .clauses .now) (a .lists .now) (a .x .0) rows flags tell) (c .before .before .list-picked .result) (c .before .before .list-picked .ensures)
+    let at-list-picked = c .before .before in
+    let at-enum-told = at-list-picked .before .before .before .before in
+    let at-enter = at-enum-told .before .before .before .before in
+    let at-start = at-enter .before .before .before .before .before .before in
+    let a = at-start .args in
+    let rows = at-enter .enter .last .1 .1 .1 .1 .1 .1 .0 in
+    let flags = at-enter .enter .last .1 .1 .1 .1 .1 .1 .1 .0 in
+    let none = subst (Judged (enterOrder (a .n) (a .prefix .now) (a .clauses .now) (a .lists .now) (a .x .0))) (at-enum-told .enum-told .given .1) (at-enter .enter .ensures .0) in
+    let tell = subst (Entered (a .scheme) (a .n) (a .prefix .now) (a .clauses .now) (a .lists .now) (a .x .0) rows flags) (at-enum-told .enum-told .given .1) (at-enter .enter .ensures .1) in
+    picks-listing (enterOrder (a .n) (a .prefix .now) (a .clauses .now) (a .lists .now) (a .x .0)) (pick Set (a .n) flags rows) (a .n) (a .out .now) (at-list-picked .list-picked .last .1 .1 .1 .1 .0) none (set-listed (a .scheme) (a .n) (a .prefix .now) (a .clauses .now) (a .lists .now) (a .x .0) rows flags tell) (at-list-picked .list-picked .result) (at-list-picked .list-picked .ensures)
 
 pub set-read-spec : {M : Type 1} → statement M
 set-read-spec =
-    tie.close
-    (tie.spec
-    slice-aggregate-enter
-    slice-aggregate-enter-2
-    enter-requires
-    enum-known-number
-    enum-told
-    slice-aggregate-list-picked
-    slice-aggregate-list-picked-2
-    list-picked-requires
-    returns
-    same-length
-    returns-2)
+    tie.close (tie.spec (λ c. search needs) (λ c. search needs) enter-requires (λ c. search needs) (λ c. search needs) (λ c. search needs)
+    (λ c. search needs) (λ c κs. search needs) returns (λ c. search needs) returns-2)

@@ -18,14 +18,18 @@ same-length c = search needs
 returns : tie.Need-returns
 unfolding lettered
 returns c =
-    let a = c .before .before .before .before .before .before .args in
-    let o = c .before .before .put-byte in
-    subst (λ (t : Bool). Wrote (lettered t []) (a .out .now) (o .last .0) (a .at) (o .result)) (sym (c .before .before .before .before .if1 .taken)) (o .ensures)
+    let at-put-byte = c .before .before in
+    let at-if1 = at-put-byte .before .before in
+    let at-start = at-if1 .before .before in
+    let a = at-start .args in
+    let o = at-put-byte .put-byte in
+    subst (λ (t : Bool). Wrote (lettered t []) (a .out .now) (o .last .0) (a .at) (o .result)) (sym (at-if1 .if1 .taken)) (o .ensures)
 
 returns-2 : tie.Need-returns-2
 unfolding lettered
 returns-2 c =
-    let a = c .before .before .args in
+    let at-start = c .before .before in
+    let a = at-start .args in
     subst (λ (t : Bool). Wrote (lettered t []) (a .out .now) (a .out .now) (a .at) (a .at)) (sym (c .if1 .left)) (wrote-none (a .out .now) (a .at))
 
 pub put-letter-spec : {M : Type 1} → statement M

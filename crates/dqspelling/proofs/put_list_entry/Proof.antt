@@ -15,18 +15,23 @@ put-letter-requires c κs = search needs
 
 put-entry-requires : tie.Need-put-entry-requires
 put-entry-requires c κs =
-    let k = c .before .before .before .before .before .before in
+    let at-put-letter = c .before .before .before in
+    let at-before = at-put-letter .before .before in
+    let k = at-before .before in
     let most = letter-most (k .args .first) in
-    (omega (arith, c .before .before .before .put-letter .ensures .end, k .pre .0), k .pre .1)
+    (omega (arith, at-put-letter .put-letter .ensures .end, k .pre .0), k .pre .1)
 
 same-length : tie.Need-same-length
 same-length c = search needs
 
 returns : tie.Need-returns
 returns c =
-    let a = c .before .before .before .before .before .before .before .before .before .args in
-    let o = c .before .before .put-entry in
-    subst (λ (xs : List ℕ). Wrote xs (a .out .now) (o .last .0) (a .at) (o .result)) (sym (list-bytes (a .first) (a .entry))) (wrote-more (c .before .before .before .before .before .before .put-letter .ensures) (o .ensures))
+    let at-put-entry = c .before .before in
+    let at-put-letter = at-put-entry .before .before .before .before in
+    let at-start = at-put-letter .before .before .before in
+    let a = at-start .args in
+    let o = at-put-entry .put-entry in
+    subst (λ (xs : List ℕ). Wrote xs (a .out .now) (o .last .0) (a .at) (o .result)) (sym (list-bytes (a .first) (a .entry))) (wrote-more (at-put-letter .put-letter .ensures) (o .ensures))
 
 pub put-list-entry-spec : {M : Type 1} → statement M
 put-list-entry-spec = tie.close (tie.spec put-letter-requires put-entry-requires same-length returns)

@@ -15,59 +15,43 @@ use borrow.Author.Needs.{needs}
 use Rattle.forest.proofs.size_by.Statement.{statement}
 use Rattle.forest.proofs.size_by.Tie as tie
 
-slice-aggregate-enter : tie.Need-slice-aggregate-enter
-slice-aggregate-enter c = search needs
-
-slice-aggregate-enter-2 : tie.Need-slice-aggregate-enter-2
-slice-aggregate-enter-2 c = search needs
-
 enter-requires : tie.Need-enter-requires
 enter-requires c κs = (length-replicate {A = ℕ} 4097 0, length-replicate 4097 false)
-
-enum-known-number : tie.Need-enum-known-number
-enum-known-number c = search needs
-
-enum-told : tie.Need-enum-told
-enum-told c = search needs
-
-slice-aggregate-sum-flagged : tie.Need-slice-aggregate-sum-flagged
-slice-aggregate-sum-flagged c = search needs
 
 -- nothing is refused before the sum
 none-refused : (c : tie.After-enum-told) → NoneOf (readOrder (c .before .before .before .before .before .before .before .before .before .before .before .args .n) (c .before .before .before .before .before .before .before .before .before .before .before .args .prefix .now) (c .before .before .before .before .before .before .before .before .before .before .before .args .clauses .now) (c .before .before .before .before .before .before .before .before .before .before .before .args .classes .now) (c .before .before .before .before .before .before .before .before .before .before .before .args .parents .now) (c .before .before .before .before .before .before .before .before .before .before .before .args .counts .now) (c .before .before .before .before .before .before .before .before .before .before .before .args .x .0))
 none-refused c =
-    let a = c .before .before .before .before .before .before .before .before .before .before .before .args in
-    subst (Judged (readOrder (a .n) (a .prefix .now) (a .clauses .now) (a .classes .now) (a .parents .now) (a .counts .now) (a .x .0))) (c .enum-told .given .1) (c .before .before .before .before .enter .ensures .0)
+    let at-enter = c .before .before .before .before in
+    let at-start = at-enter .before .before .before .before .before .before .before in
+    let a = at-start .args in
+    subst (Judged (readOrder (a .n) (a .prefix .now) (a .clauses .now) (a .classes .now) (a .parents .now) (a .counts .now) (a .x .0))) (c .enum-told .given .1) (at-enter .enter .ensures .0)
 
 sum-flagged-requires : tie.Need-sum-flagged-requires
 sum-flagged-requires c κs =
+    let at-start = c .before .before .before .before .before .before .before .before .before .before .before .before in
     let none = none-refused (c .before) in
-    (sound-check (none .0, (none .1 .0, (none .1 .1 .0, (none .1 .1 .1 .0, tt)))) .few, counts-small (c .before .before .before .before .before .before .before .before .before .before .before .before .args .x .0) none)
+    (sound-check (none .0, (none .1 .0, (none .1 .1 .0, (none .1 .1 .1 .0, tt)))) .few, counts-small (at-start .args .x .0) none)
 
 returns : tie.Need-returns
 returns c =
-    let a = c .before .before .before .before .before .before .before .before .before .before .before .before .args in
-    subst (Judged (readOrder (a .n) (a .prefix .now) (a .clauses .now) (a .classes .now) (a .parents .now) (a .counts .now) (a .x .0))) (c .before .number .given .1) (c .before .before .before .before .before .enter .ensures .0)
+    let at-enter = c .before .before .before .before .before in
+    let at-start = at-enter .before .before .before .before .before .before .before in
+    let a = at-start .args in
+    subst (Judged (readOrder (a .n) (a .prefix .now) (a .clauses .now) (a .classes .now) (a .parents .now) (a .counts .now) (a .x .0))) (c .before .number .given .1) (at-enter .enter .ensures .0)
 
 returns-2 : tie.Need-returns-2
 returns-2 c =
-    let a = c .before .before .before .before .before .before .before .before .before .before .before .before .before .args in
-    let tops = c .before .before .before .before .before .before .enter .last .1 .1 .1 .1 .1 .1 .1 .1 .0 in
-    let entered = c .before .before .before .before .before .before .enter .last .1 .1 .1 .1 .1 .1 .1 .1 .1 .0 in
+    let at-enum-told = c .before .before in
+    let at-enter = at-enum-told .before .before .before .before in
+    let at-start = at-enter .before .before .before .before .before .before .before in
+    let a = at-start .args in
+    let tops = at-enter .enter .last .1 .1 .1 .1 .1 .1 .1 .1 .0 in
+    let entered = at-enter .enter .last .1 .1 .1 .1 .1 .1 .1 .1 .1 .0 in
     let none = none-refused (c .before .before) in
-    let enters = subst (Enters (variables (a .n) (a .prefix .now)) (lent (variables (a .n) (a .prefix .now)) (a .classes .now) (a .parents .now)) (EntriesBy (a .scheme) (a .n) (a .prefix .now) (a .clauses .now) (a .classes .now) (a .parents .now) (a .x .0)) (a .x .0) tops entered) (c .before .before .enum-told .given .1) (c .before .before .before .before .before .before .enter .ensures .1) in
+    let enters = subst (Enters (variables (a .n) (a .prefix .now)) (lent (variables (a .n) (a .prefix .now)) (a .classes .now) (a .parents .now)) (EntriesBy (a .scheme) (a .n) (a .prefix .now) (a .clauses .now) (a .classes .now) (a .parents .now) (a .x .0)) (a .x .0) tops entered) (at-enum-told .enum-told .given .1) (at-enter .enter .ensures .1) in
     (none, subst (SizeBy (a .scheme) (a .n) (a .prefix .now) (a .clauses .now) (a .classes .now) (a .parents .now) (a .counts .now) (a .x .0)) (sym (c .sum-flagged .ensures)) (entries-sized (a .x .0) none (a .scheme) tops enters))
 
 pub size-by-spec : {M : Type 1} → statement M
 size-by-spec =
-    tie.close
-    (tie.spec
-    slice-aggregate-enter
-    slice-aggregate-enter-2
-    enter-requires
-    enum-known-number
-    enum-told
-    slice-aggregate-sum-flagged
-    sum-flagged-requires
-    returns
-    returns-2)
+    tie.close (tie.spec (λ c. search needs) (λ c. search needs) enter-requires (λ c. search needs) (λ c. search needs) (λ c. search needs)
+    sum-flagged-requires returns returns-2)

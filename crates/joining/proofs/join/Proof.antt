@@ -9,20 +9,13 @@ use Rattle.joining.proofs.Orders.{accepted-two, joins}
 use Rattle.joining.proofs.join.Statement.{statement}
 use Rattle.joining.proofs.join.Tie as tie
 
-rule-verdict-requires : tie.Need-rule-verdict-requires
-rule-verdict-requires c κs = search needs
-
-enum-known-number : tie.Need-enum-known-number
-enum-known-number c = search needs
-
-enum-told : tie.Need-enum-told
-enum-told c = search needs
-
 lay-out-requires : tie.Need-lay-out-requires
 lay-out-requires c κs =
-    let b = c .before .before .before .before .before .before in
+    let at-rule-verdict = c .before .before .before in
+    let at-before = at-rule-verdict .before .before in
+    let b = at-before .before in
     let a = b .args in
-    let none = subst (Judged (ruledPrefix (a .rule) (a .n) (a .prefix .now) (a .entries))) (c .before .enum-told .given .1) (c .before .before .before .rule-verdict .ensures) in
+    let none = subst (Judged (ruledPrefix (a .rule) (a .n) (a .prefix .now) (a .entries))) (c .before .enum-told .given .1) (at-rule-verdict .rule-verdict .ensures) in
     let (is, few, short, small, faultless) = accepted-two (a .rule) (a .n) (a .prefix .now) (a .entries) (b .pre .0) none in
     ((a .n, faultless), omega (arith, joined-short few faultless, b .pre .1))
 
@@ -34,11 +27,10 @@ cast-t13 c =
 
 returns : tie.Need-returns
 returns c =
-    let a = c .before .before .before .before .before .before .args in
-    subst (Judged (ruledPrefix (a .rule) (a .n) (a .prefix .now) (a .entries))) (c .before .number .given .1) (c .before .before .before .rule-verdict .ensures)
-
-same-length : tie.Need-same-length
-same-length c = search needs
+    let at-rule-verdict = c .before .before .before in
+    let at-start = at-rule-verdict .before .before .before in
+    let a = at-start .args in
+    subst (Judged (ruledPrefix (a .rule) (a .n) (a .prefix .now) (a .entries))) (c .before .number .given .1) (at-rule-verdict .rule-verdict .ensures)
 
 returns-2 : tie.Need-returns-2
 returns-2 c =
@@ -50,13 +42,5 @@ returns-2 c =
 
 pub join-spec : {M : Type 1} → statement M
 join-spec =
-    tie.close
-    (tie.spec
-    rule-verdict-requires
-    enum-known-number
-    enum-told
-    lay-out-requires
-    cast-t13
-    returns
-    same-length
+    tie.close (tie.spec (λ c κs. search needs) (λ c. search needs) (λ c. search needs) lay-out-requires cast-t13 returns (λ c. search needs)
     returns-2)

@@ -15,47 +15,45 @@ next-at-requires c κs =
     omega arith
 
 returns : tie.Need-returns
-returns c = let q = c .before .next-at .ensures in cut refl (c .before .before .before .pre .1) (let l = c .if1 .taken in omega arith)
+returns c =
+    let at-start = c .before .before .before in
+    let q = c .before .next-at .ensures in cut refl (at-start .pre .1) (let l = c .if1 .taken in omega arith)
 
 four-at-requires : tie.Need-four-at-requires
 four-at-requires c κs =
-    let small = c .before .before .before .pre .0 in
-    let l = c .before .before .before .pre .1 .goes-on in
+    let at-start = c .before .before .before in
+    let small = at-start .pre .0 in
+    let l = at-start .pre .1 .goes-on in
     omega arith
 
 add-two-at : tie.Need-add-two-at
 add-two-at c =
-    let small = c .before .before .before .before .pre .0 in
-    let l = c .before .before .before .before .pre .1 .goes-on in
+    let at-start = c .before .before .before .before in
+    let small = at-start .pre .0 in
+    let l = at-start .pre .1 .goes-on in
     omega arith
 
 two-at-requires : tie.Need-two-at-requires
 two-at-requires c κs =
-    let small = c .before .before .before .before .pre .0 in
-    let l = c .before .before .before .before .pre .1 .goes-on in
+    let at-start = c .before .before .before .before in
+    let small = at-start .pre .0 in
+    let l = at-start .pre .1 .goes-on in
     omega arith
-
-wrong-size-requires : tie.Need-wrong-size-requires
-wrong-size-requires c κs = search needs
 
 returns-2 : tie.Need-returns-2
 returns-2 c =
-    let a = c .before .before .before .before .before .before .args in
-    let pre = c .before .before .before .before .before .before .pre in
+    let at-four-at = c .before .before in
+    let at-if1 = at-four-at .before in
+    let at-next-at = at-if1 .before in
+    let at-start = at-next-at .before .before in
+    let a = at-start .args in
+    let pre = at-start .pre in
     let kind = kind-read (a .file .now) (a .at) (c .before .two-at .ensures .0) in
-    let size = size-read (a .file .now) (a .at) (c .before .before .four-at .ensures) in
-    let q = c .before .before .before .before .next-at .ensures in
-    let l = c .before .before .before .if1 .left in
+    let size = size-read (a .file .now) (a .at) (at-four-at .four-at .ensures) in
+    let q = at-next-at .next-at .ensures in
+    let l = at-if1 .if1 .left in
     told-back (c .wrong-size .result) (wrong-record (a .file .now) (pre .1) kind size) (right-record (a .file .now) kind size (omega arith)) (c .wrong-size .ensures)
 
 pub bad-record-spec : {M : Type 1} → statement M
 bad-record-spec =
-    tie.close
-    (tie.spec
-    next-at-requires
-    returns
-    four-at-requires
-    add-two-at
-    two-at-requires
-    wrong-size-requires
-    returns-2)
+    tie.close (tie.spec next-at-requires returns four-at-requires add-two-at two-at-requires (λ c κs. search needs) returns-2)

@@ -15,37 +15,30 @@ use Rattle.layout.proofs.layout_verdict.Tie as tie
 returns : tie.Need-returns
 returns c = inl (at0-first 19 (c .if1 .taken))
 
-shape-verdict-requires : tie.Need-shape-verdict-requires
-shape-verdict-requires c κs = search needs
-
-enum-known-number : tie.Need-enum-known-number
-enum-known-number c = search needs
-
-enum-told : tie.Need-enum-told
-enum-told c = search needs
-
 order-and-sum-requires : tie.Need-order-and-sum-requires
-order-and-sum-requires c κs = (c .before .before .before .if1 .left, subst (Judged (RecordCause (c .before .before .before .before .before .args .file .now) ∷ [])) (c .enum-told .given .1) (c .before .before .shape-verdict .ensures) .0)
+order-and-sum-requires c κs =
+    let at-shape-verdict = c .before .before in
+    let at-if1 = at-shape-verdict .before in
+    let at-start = at-if1 .before .before in
+    (at-if1 .if1 .left, subst (Judged (RecordCause (at-start .args .file .now) ∷ [])) (c .enum-told .given .1) (at-shape-verdict .shape-verdict .ensures) .0)
 
 returns-2 : tie.Need-returns-2
 returns-2 c =
-    let file = c .before .before .before .before .before .before .args .file .now in
-    size-then file (c .before .before .before .before .if1 .left) (Verdict.Refused _ _) (refused-first (RecordCause file ∷ []) (OrderCause file ∷ At0 21 (SumsToZero file → ⊥) ∷ []) (c .before .number .given .1) (c .before .before .before .shape-verdict .ensures))
+    let at-shape-verdict = c .before .before .before in
+    let at-if1 = at-shape-verdict .before in
+    let at-start = at-if1 .before .before in
+    let file = at-start .args .file .now in
+    size-then file (at-if1 .if1 .left) (Verdict.Refused _ _) (refused-first (RecordCause file ∷ []) (OrderCause file ∷ At0 21 (SumsToZero file → ⊥) ∷ []) (c .before .number .given .1) (at-shape-verdict .shape-verdict .ensures))
 
 returns-3 : tie.Need-returns-3
 returns-3 c =
-    let file = c .before .before .before .before .before .before .args .file .now in
+    let at-shape-verdict = c .before .before .before in
+    let at-if1 = at-shape-verdict .before in
+    let at-start = at-if1 .before .before in
+    let file = at-start .args .file .now in
     let v = c .order-and-sum .result in
-    size-then file (c .before .before .before .before .if1 .left) v (accepted-then (RecordCause file ∷ []) (OrderCause file ∷ At0 21 (SumsToZero file → ⊥) ∷ []) v (c .before .enum-told .given .1) (c .before .before .before .shape-verdict .ensures) (c .order-and-sum .ensures))
+    size-then file (at-if1 .if1 .left) v (accepted-then (RecordCause file ∷ []) (OrderCause file ∷ At0 21 (SumsToZero file → ⊥) ∷ []) v (c .before .enum-told .given .1) (at-shape-verdict .shape-verdict .ensures) (c .order-and-sum .ensures))
 
 pub layout-verdict-spec : {M : Type 1} → statement M
 layout-verdict-spec =
-    tie.close
-    (tie.spec
-    returns
-    shape-verdict-requires
-    enum-known-number
-    enum-told
-    order-and-sum-requires
-    returns-2
-    returns-3)
+    tie.close (tie.spec returns (λ c κs. search needs) (λ c. search needs) (λ c. search needs) order-and-sum-requires returns-2 returns-3)

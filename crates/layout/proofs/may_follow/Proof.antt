@@ -11,28 +11,40 @@ returns : tie.Need-returns
 returns c = let a = c .before .args in sym (after-start (a .before) (a .kind) (c .if1 .taken))
 
 returns-2 : tie.Need-returns-2
-returns-2 c = let a = c .before .before .args in sym (after-prefix (a .before) (a .kind) (c .if2 .taken))
+returns-2 c =
+    let at-start = c .before .before in
+    let a = at-start .args in sym (after-prefix (a .before) (a .kind) (c .if2 .taken))
 
 returns-3 : tie.Need-returns-3
-returns-3 c = let a = c .before .before .before .args in sym (after-clauses (a .before) (a .kind) (c .if3 .taken))
+returns-3 c =
+    let at-start = c .before .before .before in
+    let a = at-start .args in sym (after-clauses (a .before) (a .kind) (c .if3 .taken))
 
 returns-4 : tie.Need-returns-4
 returns-4 c =
-    let a = c .before .before .before .before .before .args in
+    let at-start = c .before .before .before .before .before in
+    let a = at-start .args in
     sym (after-rows (a .before) (a .kind) (c .before .if4 .taken) ∙ ap (λ (b : Bool). b || eqb (a .kind) 65535) (eq-eqb (a .kind) 4 (c .if5 .taken)))
 
 returns-5 : tie.Need-returns-5
 returns-5 c =
-    let a = c .before .before .before .before .before .args in
+    let at-start = c .before .before .before .before .before in
+    let a = at-start .args in
     sym (after-rows (a .before) (a .kind) (c .before .if4 .taken) ∙ ap (λ (b : Bool). b || eqb (a .kind) 65535) (ne-eqb (a .kind) 4 (c .if5 .left)))
 
 returns-6 : tie.Need-returns-6
-returns-6 c = let a = c .before .before .before .before .before .args in sym (after-sets (a .before) (a .kind) (c .if6 .taken))
+returns-6 c =
+    let at-start = c .before .before .before .before .before in
+    let a = at-start .args in sym (after-sets (a .before) (a .kind) (c .if6 .taken))
 
 returns-7 : tie.Need-returns-7
 returns-7 c =
-    let a = c .before .before .before .before .before .args in
-    sym (after-other (a .before) (a .kind) (c .before .before .before .before .if1 .left) (c .before .before .before .if2 .left) (c .before .before .if3 .left) (c .before .if4 .left) (c .if6 .left))
+    let at-if3 = c .before .before in
+    let at-if2 = at-if3 .before in
+    let at-if1 = at-if2 .before in
+    let at-start = at-if1 .before in
+    let a = at-start .args in
+    sym (after-other (a .before) (a .kind) (at-if1 .if1 .left) (at-if2 .if2 .left) (at-if3 .if3 .left) (c .before .if4 .left) (c .if6 .left))
 
 pub may-follow-spec : {M : Type 1} → statement M
 may-follow-spec =

@@ -23,69 +23,76 @@ loop-holds c = ordered-none (c .before .args .file .now)
 
 add-two-at : tie.Need-add-two-at Inv-loop μ-loop
 add-two-at c =
-    let small = c .before .before .before .pre .0 in
+    let at-start = c .before .before .before in
+    let small = at-start .pre .0 in
     let l = c .loop-test .taken in
     omega arith
 
 two-at-requires : tie.Need-two-at-requires Inv-loop μ-loop
 two-at-requires c κs =
-    let small = c .before .before .before .pre .0 in
+    let at-start = c .before .before .before in
+    let small = at-start .pre .0 in
     let l = c .loop-test .taken in
     omega arith
 
-may-follow-requires : tie.Need-may-follow-requires Inv-loop μ-loop
-may-follow-requires c κs = search needs
-
 returns : tie.Need-returns Inv-loop μ-loop
 returns c =
-    let file = c .before .before .before .before .before .before .args .file .now in
-    let l = c .before .before .before .before .loop in
-    let kind = kind-read file (l .at) (c .before .before .two-at .ensures .0) in
+    let at-two-at = c .before .before in
+    let at-loop-test = at-two-at .before in
+    let at-loop = at-loop-test .before in
+    let at-start = at-loop .before .before in
+    let file = at-start .args .file .now in
+    let l = at-loop .loop in
+    let kind = kind-read file (l .at) (at-two-at .two-at .ensures .0) in
     let no′ = sym (c .before .may-follow .ensures) ∙ not-true (c .before .may-follow .result) (c .if1 .taken) in
-    inl (ordered-fault file (l .inv) (c .before .before .before .loop-test .taken) (ap (mayFollow (l .before)) (sym kind) ∙ no′))
+    inl (ordered-fault file (l .inv) (at-loop-test .loop-test .taken) (ap (mayFollow (l .before)) (sym kind) ∙ no′))
 
 next-at-requires : tie.Need-next-at-requires Inv-loop μ-loop
 next-at-requires c κs =
-    let small = c .before .before .before .before .before .before .pre .0 in
-    let l = c .before .before .before .loop-test .taken in
+    let at-loop-test = c .before .before .before in
+    let at-start = at-loop-test .before .before .before in
+    let small = at-start .pre .0 in
+    let l = at-loop-test .loop-test .taken in
     omega arith
 
 loop-less : tie.Need-loop-less Inv-loop μ-loop
 loop-less c =
-    let file = c .before .before .before .before .before .before .before .args .file .now in
-    let l = c .before .before .before .before .loop-test .taken in
-    let n = next-past file (c .before .before .before .before .before .loop .at) in
+    let at-loop-test = c .before .before .before .before in
+    let at-loop = at-loop-test .before in
+    let at-start = at-loop .before .before in
+    let file = at-start .args .file .now in
+    let l = at-loop-test .loop-test .taken in
+    let n = next-past file (at-loop .loop .at) in
     let q = c .next-at .ensures in
     omega arith
 
 loop-again : tie.Need-loop-again Inv-loop μ-loop
 loop-again c =
-    let file = c .before .before .before .before .before .before .before .args .file .now in
-    let l = c .before .before .before .before .before .loop in
-    let kind = kind-read file (l .at) (c .before .before .before .two-at .ensures .0) in
-    let yes′ = sym (c .before .before .may-follow .ensures) ∙ not-false (c .before .before .may-follow .result) (c .before .if1 .left) in
+    let at-may-follow = c .before .before in
+    let at-two-at = at-may-follow .before in
+    let at-loop-test = at-two-at .before in
+    let at-loop = at-loop-test .before in
+    let at-start = at-loop .before .before in
+    let file = at-start .args .file .now in
+    let l = at-loop .loop in
+    let kind = kind-read file (l .at) (at-two-at .two-at .ensures .0) in
+    let yes′ = sym (at-may-follow .may-follow .ensures) ∙ not-false (at-may-follow .may-follow .result) (c .before .if1 .left) in
     subst (Ordered file (c .next-at .result)) (sym kind)
-    (ordered-more file (l .inv) (c .before .before .before .before .before .before .before .pre .1) (c .next-at .result) (c .next-at .ensures) (c .before .before .before .before .loop-test .taken) (ap (mayFollow (l .before)) (sym kind) ∙ yes′))
+    (ordered-more file (l .inv) (at-start .pre .1) (c .next-at .result) (c .next-at .ensures) (at-loop-test .loop-test .taken) (ap (mayFollow (l .before)) (sym kind) ∙ yes′))
 
 returns-2 : tie.Need-returns-2 Inv-loop μ-loop
-returns-2 c = (ordered-all (c .before .before .before .before .args .file .now) (c .before .before .loop .inv) (c .before .loop-test .left) (c .if2 .taken), tt)
+returns-2 c =
+    let at-loop = c .before .before in
+    let at-start = at-loop .before .before in
+    (ordered-all (at-start .args .file .now) (at-loop .loop .inv) (c .before .loop-test .left) (c .if2 .taken), tt)
 
 returns-3 : tie.Need-returns-3 Inv-loop μ-loop
-returns-3 c = inl (ordered-missing (c .before .before .before .before .args .file .now) (c .before .before .loop .inv) (c .before .loop-test .left) (c .if2 .left))
+returns-3 c =
+    let at-loop = c .before .before in
+    let at-start = at-loop .before .before in
+    inl (ordered-missing (at-start .args .file .now) (at-loop .loop .inv) (c .before .loop-test .left) (c .if2 .left))
 
 pub order-verdict-spec : {M : Type 1} → statement M
 order-verdict-spec =
-    tie.close
-    (tie.spec
-    Inv-loop
-    μ-loop
-    loop-holds
-    add-two-at
-    two-at-requires
-    may-follow-requires
-    returns
-    next-at-requires
-    loop-less
-    loop-again
-    returns-2
-    returns-3)
+    tie.close (tie.spec Inv-loop μ-loop loop-holds add-two-at two-at-requires (λ c κs. search needs) returns next-at-requires loop-less
+    loop-again returns-2 returns-3)

@@ -18,45 +18,50 @@ loop-holds : tie.Need-loop-holds Inv-loop μ-loop
 loop-holds c = shaped-none (c .before .args .file .now)
 
 bad-record-requires : tie.Need-bad-record-requires Inv-loop μ-loop
-bad-record-requires c κs = (c .before .before .before .pre, shaped-record (c .before .before .before .args .file .now) (c .before .loop .inv) (c .loop-test .taken))
+bad-record-requires c κs =
+    let at-start = c .before .before .before in
+    (at-start .pre, shaped-record (at-start .args .file .now) (c .before .loop .inv) (c .loop-test .taken))
 
 returns : tie.Need-returns Inv-loop μ-loop
 returns c =
-    let a = c .before .before .before .before .before .args in
-    inl (shaped-fault (a .file .now) (c .before .before .before .loop .inv) (told (c .before .bad-record .result) (c .if1 .taken) (c .before .bad-record .ensures)))
+    let at-loop = c .before .before .before in
+    let at-start = at-loop .before .before in
+    let a = at-start .args in
+    inl (shaped-fault (a .file .now) (at-loop .loop .inv) (told (c .before .bad-record .result) (c .if1 .taken) (c .before .bad-record .ensures)))
 
 next-at-requires : tie.Need-next-at-requires Inv-loop μ-loop
 next-at-requires c κs =
-    let small = c .before .before .before .before .before .pre in
-    let l = c .before .before .loop-test .taken in
+    let at-loop-test = c .before .before in
+    let at-start = at-loop-test .before .before .before in
+    let small = at-start .pre in
+    let l = at-loop-test .loop-test .taken in
     omega arith
 
 loop-less : tie.Need-loop-less Inv-loop μ-loop
 loop-less c =
-    let a = c .before .before .before .before .before .before .args in
-    let l = c .before .before .before .loop-test .taken in
-    let n = next-past (a .file .now) (c .before .before .before .before .loop .at) in
+    let at-loop-test = c .before .before .before in
+    let at-loop = at-loop-test .before in
+    let at-start = at-loop .before .before in
+    let a = at-start .args in
+    let l = at-loop-test .loop-test .taken in
+    let n = next-past (a .file .now) (at-loop .loop .at) in
     let q = c .next-at .ensures in
     omega arith
 
 loop-again : tie.Need-loop-again Inv-loop μ-loop
 loop-again c =
-    let a = c .before .before .before .before .before .before .args in
-    shaped-more (a .file .now) (c .before .before .before .before .loop .inv) (c .next-at .result) (c .next-at .ensures) (c .before .before .before .loop-test .taken) (told-not (c .before .before .bad-record .result) (c .before .if1 .left) (c .before .before .bad-record .ensures))
+    let at-bad-record = c .before .before in
+    let at-loop-test = at-bad-record .before in
+    let at-loop = at-loop-test .before in
+    let at-start = at-loop .before .before in
+    let a = at-start .args in
+    shaped-more (a .file .now) (at-loop .loop .inv) (c .next-at .result) (c .next-at .ensures) (at-loop-test .loop-test .taken) (told-not (at-bad-record .bad-record .result) (c .before .if1 .left) (at-bad-record .bad-record .ensures))
 
 returns-2 : tie.Need-returns-2 Inv-loop μ-loop
-returns-2 c = (shaped-all (c .before .before .before .args .file .now) (c .before .loop .inv) (c .loop-test .left), tt)
+returns-2 c =
+    let at-start = c .before .before .before in
+    (shaped-all (at-start .args .file .now) (c .before .loop .inv) (c .loop-test .left), tt)
 
 pub shape-verdict-spec : {M : Type 1} → statement M
 shape-verdict-spec =
-    tie.close
-    (tie.spec
-    Inv-loop
-    μ-loop
-    loop-holds
-    bad-record-requires
-    returns
-    next-at-requires
-    loop-less
-    loop-again
-    returns-2)
+    tie.close (tie.spec Inv-loop μ-loop loop-holds bad-record-requires returns next-at-requires loop-less loop-again returns-2)

@@ -8,16 +8,28 @@ returns : tie.Need-returns
 returns c = inl (c .if1 .taken)
 
 returns-2 : tie.Need-returns-2
-returns-2 c = let a = c .before .before .args in tells-count (a .kind) (a .size) (c .before .if1 .left) (c .if2 .taken)
+returns-2 c =
+    let at-start = c .before .before in
+    let a = at-start .args in tells-count (a .kind) (a .size) (c .before .if1 .left) (c .if2 .taken)
 
 returns-3 : tie.Need-returns-3
-returns-3 c = let a = c .before .before .before .args in tells-literals (a .kind) (a .size) (c .before .before .if1 .left) (c .if3 .taken)
+returns-3 c =
+    let at-if1 = c .before .before in
+    let at-start = at-if1 .before in
+    let a = at-start .args in tells-literals (a .kind) (a .size) (at-if1 .if1 .left) (c .if3 .taken)
 
 returns-4 : tie.Need-returns-4
-returns-4 c = let a = c .before .before .before .before .args in tells-word (a .kind) (a .size) (c .before .before .before .if1 .left) (c .if4 .taken)
+returns-4 c =
+    let at-if1 = c .before .before .before in
+    let at-start = at-if1 .before in
+    let a = at-start .args in tells-word (a .kind) (a .size) (at-if1 .if1 .left) (c .if4 .taken)
 
 returns-5 : tie.Need-returns-5
-returns-5 c = let a = c .before .before .before .before .args in tells-other (a .kind) (a .size) (c .before .before .before .if1 .left) (c .before .before .if2 .left) (c .before .if3 .left) (c .if4 .left)
+returns-5 c =
+    let at-if2 = c .before .before in
+    let at-if1 = at-if2 .before in
+    let at-start = at-if1 .before in
+    let a = at-start .args in tells-other (a .kind) (a .size) (at-if1 .if1 .left) (at-if2 .if2 .left) (c .before .if3 .left) (c .if4 .left)
 
 pub wrong-size-spec : {M : Type 1} → statement M
 wrong-size-spec = tie.close (tie.spec returns returns-2 returns-3 returns-4 returns-5)

@@ -18,38 +18,35 @@ abbrev μ-loop : tie.MeasureT-loop
 loop-holds : tie.Need-loop-holds Inv-loop μ-loop
 loop-holds c = (omega arith, c .pre, λ k l. absurd (omega arith), λ k l. absurd (omega arith))
 
-mul-levels : tie.Need-mul-levels Inv-loop μ-loop
-mul-levels c = omega arith
-
 slice-write-levels : tie.Need-slice-write-levels Inv-loop μ-loop
 slice-write-levels c = let size = c .before .loop .inv .1 .0 in omega arith
 
 slice-write-universals : tie.Need-slice-write-universals Inv-loop μ-loop
 slice-write-universals c = let size = c .before .loop .inv .1 .1 in omega arith
 
-add-v : tie.Need-add-v Inv-loop μ-loop
-add-v c = omega arith
-
-loop-less : tie.Need-loop-less Inv-loop μ-loop
-loop-less c = omega arith
-
 loop-again : tie.Need-loop-again Inv-loop μ-loop
 loop-again c =
+    let at-start = c .before .before in
+    let free = at-start .args .free in
     let l = c .before .loop in
     let inv = l .inv in
     let levels-size = inv .1 .0 in
     let universals-size = inv .1 .1 in (
       omega arith,
-      (length-set (l .levels) (l .v) (c .before .before .args .free) ∙ inv .1 .0, length-set (l .universals) (l .v) false ∙ inv .1 .1),
-      filled-more (l .levels) (c .before .before .args .free) 0 (l .v) (omega arith) (inv .2),
+      (length-set (l .levels) (l .v) free ∙ inv .1 .0, length-set (l .universals) (l .v) false ∙ inv .1 .1),
+      filled-more (l .levels) free 0 (l .v) (omega arith) (inv .2),
       filled-more (l .universals) false false (l .v) (omega arith) (inv .3),
     )
 
 same-length : tie.Need-same-length Inv-loop μ-loop
-same-length c = c .before .loop .inv .1 .0 ∙ sym (c .before .before .pre .0)
+same-length c =
+    let at-start = c .before .before in
+    c .before .loop .inv .1 .0 ∙ sym (at-start .pre .0)
 
 same-length-2 : tie.Need-same-length-2 Inv-loop μ-loop
-same-length-2 c = c .before .loop .inv .1 .1 ∙ sym (c .before .before .pre .1)
+same-length-2 c =
+    let at-start = c .before .before in
+    c .before .loop .inv .1 .1 ∙ sym (at-start .pre .1)
 
 returns : tie.Need-returns Inv-loop μ-loop
 returns c =
@@ -58,17 +55,5 @@ returns c =
 
 pub all-free-spec : {M : Type 1} → statement M
 all-free-spec =
-    tie.close
-    (tie.spec
-    Inv-loop
-    μ-loop
-    loop-holds
-    mul-levels
-    slice-write-levels
-    slice-write-universals
-    add-v
-    loop-less
-    loop-again
-    same-length
-    same-length-2
-    returns)
+    tie.close (tie.spec Inv-loop μ-loop loop-holds (λ c. omega arith) slice-write-levels slice-write-universals (λ c. omega arith)
+    (λ c. omega arith) loop-again same-length same-length-2 returns)

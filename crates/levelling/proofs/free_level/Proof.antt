@@ -16,13 +16,17 @@ shared-slice-read-if2 c = search needs
 
 returns-2 : tie.Need-returns-2
 returns-2 c =
-    let es = c .before .before .before .args .prefix .now in
-    sym (ap (λ b. cond b 1 0) (eq-eqb (at es 0) 1 (c .if2 .taken))) ∙ free-of-first es (c .before .before .before .pre .1) (c .before .before .if1 .left)
+    let at-if1 = c .before .before in
+    let at-start = at-if1 .before in
+    let es = at-start .args .prefix .now in
+    sym (ap (λ b. cond b 1 0) (eq-eqb (at es 0) 1 (c .if2 .taken))) ∙ free-of-first es (at-start .pre .1) (at-if1 .if1 .left)
 
 returns-3 : tie.Need-returns-3
 returns-3 c =
-    let es = c .before .before .before .args .prefix .now in
-    sym (ap (λ b. cond b 1 0) (ne-eqb (at es 0) 1 (c .if2 .left))) ∙ free-of-first es (c .before .before .before .pre .1) (c .before .before .if1 .left)
+    let at-if1 = c .before .before in
+    let at-start = at-if1 .before in
+    let es = at-start .args .prefix .now in
+    sym (ap (λ b. cond b 1 0) (ne-eqb (at es 0) 1 (c .if2 .left))) ∙ free-of-first es (at-start .pre .1) (at-if1 .if1 .left)
 
 pub free-level-spec : {M : Type 1} → statement M
 free-level-spec = tie.close (tie.spec returns shared-slice-read-if2 returns-2 returns-3)

@@ -18,41 +18,36 @@ abbrev μ-loop : tie.MeasureT-loop
 loop-holds : tie.Need-loop-holds Inv-loop μ-loop
 loop-holds c = level-none (c .args .prefix .now) (c .args .levels .now) (c .args .universals .now) (c .pre .1 .0) (c .pre .1 .1 .0) (c .pre .1 .1 .1)
 
-mul-entry : tie.Need-mul-entry Inv-loop μ-loop
-mul-entry c = search needs
-
-shared-slice-read-entry : tie.Need-shared-slice-read-entry Inv-loop μ-loop
-shared-slice-read-entry c = search needs
-
 add-block : tie.Need-add-block Inv-loop μ-loop
 add-block c =
-    let few = c .before .before .before .loop .inv .few in
-    let short = c .before .before .before .before .pre .0 .1 .short in
+    let at-loop = c .before .before .before in
+    let at-start = at-loop .before in
+    let few = at-loop .loop .inv .few in
+    let short = at-start .pre .0 .1 .short in
     omega arith
 
-add-i : tie.Need-add-i Inv-loop μ-loop
-add-i c = omega arith
-
-loop-less : tie.Need-loop-less Inv-loop μ-loop
-loop-less c = omega arith
-
 loop-again : tie.Need-loop-again Inv-loop μ-loop
-loop-again c = level-mark (c .before .before .before .before .pre .0 .1) (c .before .before .before .loop .inv) (c .before .before .loop-test .taken) (c .if1 .taken)
-
-add-i-2 : tie.Need-add-i-2 Inv-loop μ-loop
-add-i-2 c = omega arith
-
-loop-less-2 : tie.Need-loop-less-2 Inv-loop μ-loop
-loop-less-2 c = omega arith
+loop-again c =
+    let at-loop-test = c .before .before in
+    let at-loop = at-loop-test .before in
+    let at-start = at-loop .before in
+    level-mark (at-start .pre .0 .1) (at-loop .loop .inv) (at-loop-test .loop-test .taken) (c .if1 .taken)
 
 loop-again-2 : tie.Need-loop-again-2 Inv-loop μ-loop
-loop-again-2 c = level-close (c .before .before .before .before .before .pre .0 .1) (c .before .before .before .before .loop .inv) (c .before .before .before .loop-test .taken) (c .before .if1 .left) (c .if2 .taken)
+loop-again-2 c =
+    let at-loop-test = c .before .before .before in
+    let at-loop = at-loop-test .before in
+    let at-start = at-loop .before in
+    level-close (at-start .pre .0 .1) (at-loop .loop .inv) (at-loop-test .loop-test .taken) (c .before .if1 .left) (c .if2 .taken)
 
 -- a variable of an accepted prefix has a row
 small : (c : tie.Else2 Inv-loop μ-loop) → at (c .before .before .before .before .before .args .prefix .now) (c .before .before .before .before .loop .i) < 4097
 small c =
-    let s = c .before .before .before .before .loop .inv in
-    variable-small (c .before .before .before .before .before .pre .0 .1) (c .before .before .before .before .loop .i) (c .before .before .before .loop-test .taken) (sym (s .opening-is) ∙ c .before .if1 .left) (c .if2 .left)
+    let at-loop-test = c .before .before .before in
+    let at-loop = at-loop-test .before in
+    let at-start = at-loop .before in
+    let s = at-loop .loop .inv in
+    variable-small (at-start .pre .0 .1) (at-loop .loop .i) (at-loop-test .loop-test .taken) (sym (s .opening-is) ∙ c .before .if1 .left) (c .if2 .left)
 
 cast-v : tie.Need-cast-v Inv-loop μ-loop
 cast-v c = let l = small c in omega arith
@@ -62,57 +57,40 @@ mul-levels c = let l = small c in omega arith
 
 slice-write-levels : tie.Need-slice-write-levels Inv-loop μ-loop
 slice-write-levels c =
-    let size = c .before .before .before .before .loop .inv .sizes .0 in
+    let at-loop = c .before .before .before .before in
+    let size = at-loop .loop .inv .sizes .0 in
     let l = small c in
     omega arith
 
 slice-write-universals : tie.Need-slice-write-universals Inv-loop μ-loop
 slice-write-universals c =
-    let size = c .before .before .before .before .loop .inv .sizes .1 in
+    let at-loop = c .before .before .before .before in
+    let size = at-loop .loop .inv .sizes .1 in
     let l = small c in
     omega arith
 
-add-i-3 : tie.Need-add-i-3 Inv-loop μ-loop
-add-i-3 c = omega arith
-
-loop-less-3 : tie.Need-loop-less-3 Inv-loop μ-loop
-loop-less-3 c = omega arith
-
 loop-again-3 : tie.Need-loop-again-3 Inv-loop μ-loop
-loop-again-3 c = level-variable (c .before .before .before .before .before .pre .0 .1) (c .before .before .before .before .loop .inv) (c .before .before .before .loop-test .taken) (c .before .if1 .left) (c .if2 .left)
+loop-again-3 c =
+    let at-loop-test = c .before .before .before in
+    let at-loop = at-loop-test .before in
+    let at-start = at-loop .before in
+    level-variable (at-start .pre .0 .1) (at-loop .loop .inv) (at-loop-test .loop-test .taken) (c .before .if1 .left) (c .if2 .left)
 
 same-length : tie.Need-same-length Inv-loop μ-loop
-same-length c = c .before .loop .inv .sizes .0 ∙ sym (c .before .before .pre .1 .0 .0)
+same-length c =
+    let at-start = c .before .before in
+    c .before .loop .inv .sizes .0 ∙ sym (at-start .pre .1 .0 .0)
 
 same-length-2 : tie.Need-same-length-2 Inv-loop μ-loop
-same-length-2 c = c .before .loop .inv .sizes .1 ∙ sym (c .before .before .pre .1 .0 .1)
+same-length-2 c =
+    let at-start = c .before .before in
+    c .before .loop .inv .sizes .1 ∙ sym (at-start .pre .1 .0 .1)
 
 returns : tie.Need-returns Inv-loop μ-loop
 returns c = levelled (c .before .loop .inv) (c .loop-test .left)
 
 pub name-levels-spec : {M : Type 1} → statement M
 name-levels-spec =
-    tie.close
-    (tie.spec
-    Inv-loop
-    μ-loop
-    loop-holds
-    mul-entry
-    shared-slice-read-entry
-    add-block
-    add-i
-    loop-less
-    loop-again
-    add-i-2
-    loop-less-2
-    loop-again-2
-    cast-v
-    mul-levels
-    slice-write-levels
-    slice-write-universals
-    add-i-3
-    loop-less-3
-    loop-again-3
-    same-length
-    same-length-2
-    returns)
+    tie.close (tie.spec Inv-loop μ-loop loop-holds (λ c. search needs) (λ c. search needs) add-block (λ c. omega arith) (λ c. omega arith)
+    loop-again (λ c. omega arith) (λ c. omega arith) loop-again-2 cast-v mul-levels slice-write-levels slice-write-universals
+    (λ c. omega arith) (λ c. omega arith) loop-again-3 same-length same-length-2 returns)

@@ -17,13 +17,16 @@ same-length c = search needs
 
 returns : tie.Need-returns
 returns c =
-    let word = c .before .before .before .before .before .before .put-word .ensures in
-    let list = c .before .before .put-numbers .ensures in
+    let at-put-numbers = c .before .before in
+    let at-put-word = at-put-numbers .before .before .before .before in
+    let at-start = at-put-word .before .before .before .before .before in
+    let word = at-put-word .put-word .ensures in
+    let list = at-put-numbers .put-numbers .ensures in
     let first = word .end in
     let last = list .end in
-    let short = c .before .before .before .before .before .before .before .before .before .before .before .pre in
+    let short = at-start .pre in
     let few = short .2 .few in
-    let most = numbers-most (c .before .before .before .before .before .before .before .before .before .before .before .args .list .now) (short .2 .short) in
+    let most = numbers-most (at-start .args .list .now) (short .2 .short) in
     record { wrote = wrote-more word list; near = omega arith }
 
 pub put-list-spec : {M : Type 1} → statement M

@@ -17,12 +17,15 @@ same-length c = search needs
 
 returns : tie.Need-returns
 returns c =
-    let word = c .before .before .before .before .before .before .put-word .ensures in
-    let number = c .before .before .put-number .ensures in
+    let at-put-number = c .before .before in
+    let at-put-word = at-put-number .before .before .before .before in
+    let at-start = at-put-word .before .before .before .before in
+    let word = at-put-word .put-word .ensures in
+    let number = at-put-number .put-number .ensures in
     let first = word .end in
     let last = number .end in
-    let short = c .before .before .before .before .before .before .before .before .before .before .pre in
-    let most = number-most (c .before .before .before .before .before .before .before .before .before .before .args .value) (short .2) in
+    let short = at-start .pre in
+    let most = number-most (at-start .args .value) (short .2) in
     record { wrote = wrote-more word number; near = omega arith }
 
 pub put-named-spec : {M : Type 1} → statement M

@@ -15,72 +15,63 @@ abbrev μ-loop : tie.MeasureT-loop
 μ-loop out₀ at list i₀ next₀ out i next = length list - i
 
 loop-holds : tie.Need-loop-holds Inv-loop μ-loop
-loop-holds c = let a = c .before .before .args in numbers-start (a .list .now) (a .out .now) (a .at)
+loop-holds c =
+    let at-start = c .before .before in
+    let a = at-start .args in numbers-start (a .list .now) (a .out .now) (a .at)
 
 put-byte-requires : tie.Need-put-byte-requires Inv-loop μ-loop
 put-byte-requires c κs =
-    let few = c .before .before .loop .inv .few in
+    let at-loop = c .before .before in
+    let at-start = at-loop .before .before .before in
+    let few = at-loop .loop .inv .few in
     let more = c .before .loop-test .taken in
-    let pre = c .before .before .before .before .before .pre in
+    let pre = at-start .pre in
     let short = pre .1 .few in
     omega arith
-
-mul-put-number : tie.Need-mul-put-number Inv-loop μ-loop
-mul-put-number c = search needs
-
-shared-slice-read-put-number : tie.Need-shared-slice-read-put-number Inv-loop μ-loop
-shared-slice-read-put-number c = search needs
 
 put-number-requires : tie.Need-put-number-requires Inv-loop μ-loop
 put-number-requires c κs =
-    let few = c .before .before .before .before .before .before .before .loop .inv .few in
-    let more = c .before .before .before .before .before .before .loop-test .taken in
-    let end = c .before .before .before .before .put-byte .ensures .end in
-    let pre = c .before .before .before .before .before .before .before .before .before .before .pre in
+    let at-put-byte = c .before .before .before .before in
+    let at-loop-test = at-put-byte .before .before in
+    let at-loop = at-loop-test .before in
+    let at-start = at-loop .before .before .before in
+    let few = at-loop .loop .inv .few in
+    let more = at-loop-test .loop-test .taken in
+    let end = at-put-byte .put-byte .ensures .end in
+    let pre = at-start .pre in
     let short = pre .1 .few in
-    let small = pre .1 .short (c .before .before .before .before .before .before .before .loop .i) more in
+    let small = pre .1 .short (at-loop .loop .i) more in
     omega arith
-
-add-i : tie.Need-add-i Inv-loop μ-loop
-add-i c = omega arith
-
-loop-less : tie.Need-loop-less Inv-loop μ-loop
-loop-less c = omega arith
 
 loop-again : tie.Need-loop-again Inv-loop μ-loop
 loop-again c =
-    let a = c .before .before .before .before .before .before .before .before .before .before .before .before .before .args in
-    let l = c .before .before .before .before .before .before .before .before .before .before .loop in
-    let more = c .before .before .before .before .before .before .before .before .before .loop-test .taken in
-    let o = c .before .before .put-number in
+    let at-put-number = c .before .before in
+    let at-put-byte = at-put-number .before .before .before .before .before in
+    let at-loop-test = at-put-byte .before .before in
+    let at-loop = at-loop-test .before in
+    let at-start = at-loop .before .before .before in
+    let a = at-start .args in
+    let l = at-loop .loop in
+    let more = at-loop-test .loop-test .taken in
+    let o = at-put-number .put-number in
     numbers-more (a .list .now) (a .out .now) (l .out) (o .last .0) (a .at) (l .i) (l .next) (o .result) (l .inv) more
-    (wrote-more (c .before .before .before .before .before .before .before .put-byte .ensures) (o .ensures)) (c .before .before .before .before .before .before .before .before .before .before .before .before .before .pre .1 .short (l .i) more)
+    (wrote-more (at-put-byte .put-byte .ensures) (o .ensures)) (at-start .pre .1 .short (l .i) more)
 
 same-length : tie.Need-same-length Inv-loop μ-loop
 same-length c =
-    let a = c .before .before .before .before .args in
+    let at-start = c .before .before .before .before in
+    let a = at-start .args in
     let l = c .before .loop in
     wrote-length (l .inv .bytes) (a .out .now) (l .out) (a .at) (l .next) (l .inv .wrote)
 
 returns : tie.Need-returns Inv-loop μ-loop
 returns c =
-    let a = c .before .before .before .before .args in
+    let at-start = c .before .before .before .before in
+    let a = at-start .args in
     let l = c .before .loop in
     numbers-all (a .list .now) (a .out .now) (l .out) (a .at) (l .i) (l .next) (l .inv) (c .loop-test .left)
 
 pub put-numbers-spec : {M : Type 1} → statement M
 put-numbers-spec =
-    tie.close
-    (tie.spec
-    Inv-loop
-    μ-loop
-    loop-holds
-    put-byte-requires
-    mul-put-number
-    shared-slice-read-put-number
-    put-number-requires
-    add-i
-    loop-less
-    loop-again
-    same-length
-    returns)
+    tie.close (tie.spec Inv-loop μ-loop loop-holds put-byte-requires (λ c. search needs) (λ c. search needs) put-number-requires
+    (λ c. omega arith) (λ c. omega arith) loop-again same-length returns)

@@ -18,57 +18,36 @@ abbrev μ-loop : tie.MeasureT-loop
 loop-holds : tie.Need-loop-holds Inv-loop μ-loop
 loop-holds c = counted-none isZero 0 (c .args .prefix .now)
 
-mul-if1 : tie.Need-mul-if1 Inv-loop μ-loop
-mul-if1 c = search needs
-
-shared-slice-read-if1 : tie.Need-shared-slice-read-if1 Inv-loop μ-loop
-shared-slice-read-if1 c = search needs
-
 add-count : tie.Need-add-count Inv-loop μ-loop
-add-count c = let most = c .before .before .before .loop .inv .most in omega arith
-
-add-i : tie.Need-add-i Inv-loop μ-loop
-add-i c = omega arith
-
-loop-less : tie.Need-loop-less Inv-loop μ-loop
-loop-less c = omega arith
+add-count c =
+    let at-loop = c .before .before .before in
+    let most = at-loop .loop .inv .most in omega arith
 
 loop-again : tie.Need-loop-again Inv-loop μ-loop
 loop-again c =
-    let es = c .before .before .before .before .args .prefix .now in
-    let l = c .before .before .before .loop in
-    counted-zero isZero 0 es (l .count) (l .i) (l .inv) (c .before .before .loop-test .taken) (eq-eqb (getD es (l .i) 0) 0 (c .if1 .taken))
-
-add-i-2 : tie.Need-add-i-2 Inv-loop μ-loop
-add-i-2 c = omega arith
-
-loop-less-2 : tie.Need-loop-less-2 Inv-loop μ-loop
-loop-less-2 c = omega arith
+    let at-loop-test = c .before .before in
+    let at-loop = at-loop-test .before in
+    let at-start = at-loop .before in
+    let es = at-start .args .prefix .now in
+    let l = at-loop .loop in
+    counted-zero isZero 0 es (l .count) (l .i) (l .inv) (at-loop-test .loop-test .taken) (eq-eqb (getD es (l .i) 0) 0 (c .if1 .taken))
 
 loop-again-2 : tie.Need-loop-again-2 Inv-loop μ-loop
 loop-again-2 c =
-    let es = c .before .before .before .before .args .prefix .now in
-    let l = c .before .before .before .loop in
-    counted-other isZero 0 es (l .count) (l .i) (l .inv) (c .before .before .loop-test .taken) (ne-eqb (getD es (l .i) 0) 0 (c .if1 .left))
+    let at-loop-test = c .before .before in
+    let at-loop = at-loop-test .before in
+    let at-start = at-loop .before in
+    let es = at-start .args .prefix .now in
+    let l = at-loop .loop in
+    counted-other isZero 0 es (l .count) (l .i) (l .inv) (at-loop-test .loop-test .taken) (ne-eqb (getD es (l .i) 0) 0 (c .if1 .left))
 
 returns : tie.Need-returns Inv-loop μ-loop
 unfolding blocks
-returns c = let l = c .before .loop in counted-all isZero 0 (c .before .before .args .prefix .now) (l .count) (l .i) (l .inv) (c .loop-test .left)
+returns c =
+    let at-start = c .before .before in
+    let l = c .before .loop in counted-all isZero 0 (at-start .args .prefix .now) (l .count) (l .i) (l .inv) (c .loop-test .left)
 
 pub count-blocks-spec : {M : Type 1} → statement M
 count-blocks-spec =
-    tie.close
-    (tie.spec
-    Inv-loop
-    μ-loop
-    loop-holds
-    mul-if1
-    shared-slice-read-if1
-    add-count
-    add-i
-    loop-less
-    loop-again
-    add-i-2
-    loop-less-2
-    loop-again-2
-    returns)
+    tie.close (tie.spec Inv-loop μ-loop loop-holds (λ c. search needs) (λ c. search needs) add-count (λ c. omega arith) (λ c. omega arith)
+    loop-again (λ c. omega arith) (λ c. omega arith) loop-again-2 returns)

@@ -26,51 +26,36 @@ abbrev μ-loop : tie.MeasureT-loop
 loop-holds : tie.Need-loop-holds Inv-loop μ-loop
 loop-holds c = counted-none closes (pos 0) (c .args .clauses .now)
 
-variable-at-requires : tie.Need-variable-at-requires Inv-loop μ-loop
-variable-at-requires c κs = search needs
-
 add-count : tie.Need-add-count Inv-loop μ-loop
-add-count c = let most = c .before .before .before .before .loop .inv .most in omega arith
-
-add-i : tie.Need-add-i Inv-loop μ-loop
-add-i c = omega arith
-
-loop-less : tie.Need-loop-less Inv-loop μ-loop
-loop-less c = omega arith
+add-count c =
+    let at-loop = c .before .before .before .before in
+    let most = at-loop .loop .inv .most in omega arith
 
 loop-again : tie.Need-loop-again Inv-loop μ-loop
 loop-again c =
-    let l = c .before .before .before .before .loop in
-    counted-zero closes (pos 0) (c .before .before .before .before .before .args .clauses .now) (l .count) (l .i) (l .inv) (c .before .before .before .loop-test .taken) (eq-eqb _ 0 (sym (c .before .before .variable-at .ensures) ∙ c .if1 .taken))
-
-add-i-2 : tie.Need-add-i-2 Inv-loop μ-loop
-add-i-2 c = omega arith
-
-loop-less-2 : tie.Need-loop-less-2 Inv-loop μ-loop
-loop-less-2 c = omega arith
+    let at-variable-at = c .before .before in
+    let at-loop-test = at-variable-at .before in
+    let at-loop = at-loop-test .before in
+    let at-start = at-loop .before in
+    let l = at-loop .loop in
+    counted-zero closes (pos 0) (at-start .args .clauses .now) (l .count) (l .i) (l .inv) (at-loop-test .loop-test .taken) (eq-eqb _ 0 (sym (at-variable-at .variable-at .ensures) ∙ c .if1 .taken))
 
 loop-again-2 : tie.Need-loop-again-2 Inv-loop μ-loop
 loop-again-2 c =
-    let l = c .before .before .before .before .loop in
-    counted-other closes (pos 0) (c .before .before .before .before .before .args .clauses .now) (l .count) (l .i) (l .inv) (c .before .before .before .loop-test .taken) (ne-eqb _ 0 (λ z. c .if1 .left (c .before .before .variable-at .ensures ∙ z)))
+    let at-variable-at = c .before .before in
+    let at-loop-test = at-variable-at .before in
+    let at-loop = at-loop-test .before in
+    let at-start = at-loop .before in
+    let l = at-loop .loop in
+    counted-other closes (pos 0) (at-start .args .clauses .now) (l .count) (l .i) (l .inv) (at-loop-test .loop-test .taken) (ne-eqb _ 0 (λ z. c .if1 .left (at-variable-at .variable-at .ensures ∙ z)))
 
 returns : tie.Need-returns Inv-loop μ-loop
 unfolding clauses
-returns c = let l = c .before .loop in counted-all closes (pos 0) (c .before .before .args .clauses .now) (l .count) (l .i) (l .inv) (c .loop-test .left)
+returns c =
+    let at-start = c .before .before in
+    let l = c .before .loop in counted-all closes (pos 0) (at-start .args .clauses .now) (l .count) (l .i) (l .inv) (c .loop-test .left)
 
 pub count-clauses-spec : {M : Type 1} → statement M
 count-clauses-spec =
-    tie.close
-    (tie.spec
-    Inv-loop
-    μ-loop
-    loop-holds
-    variable-at-requires
-    add-count
-    add-i
-    loop-less
-    loop-again
-    add-i-2
-    loop-less-2
-    loop-again-2
-    returns)
+    tie.close (tie.spec Inv-loop μ-loop loop-holds (λ c κs. search needs) add-count (λ c. omega arith) (λ c. omega arith) loop-again
+    (λ c. omega arith) (λ c. omega arith) loop-again-2 returns)

@@ -31,57 +31,20 @@ ready {n} {es} {ls} {s} {s′} answer is built =
 refused : {n : ℕ} {es : List ℕ} {ls : List ℤ} {s s′ : Standing} {number place : ℕ} (answer : Filled) → answer ≡ Refused number place → Builds n es ls s s′ answer → Digits number place
 refused {n} {es} {ls} {s} {s′} {number} {place} answer is built = build-digits n es ls s number place (subst (Builds n es ls s s′) is built .judged)
 
-slice-aggregate-build-tallied : tie.Need-slice-aggregate-build-tallied
-slice-aggregate-build-tallied c = search needs
-
-slice-aggregate-build-tallied-2 : tie.Need-slice-aggregate-build-tallied-2
-slice-aggregate-build-tallied-2 c = search needs
-
-slice-aggregate-build-tallied-3 : tie.Need-slice-aggregate-build-tallied-3
-slice-aggregate-build-tallied-3 c = search needs
-
-build-tallied-requires : tie.Need-build-tallied-requires
-build-tallied-requires c κs = search needs
-
-enum-known-answer : tie.Need-enum-known-answer
-enum-known-answer c = search needs
-
 print-refusal-requires : tie.Need-print-refusal-requires
-print-refusal-requires c κs = refused _ (c .before .answer .given .1) (c .before .before .before .before .before .before .build-tallied .ensures)
-
-enum-told : tie.Need-enum-told
-enum-told c = search needs
-
-slice-aggregate-list-forest : tie.Need-slice-aggregate-list-forest
-slice-aggregate-list-forest c = search needs
-
-slice-aggregate-list-forest-2 : tie.Need-slice-aggregate-list-forest-2
-slice-aggregate-list-forest-2 c = search needs
+print-refusal-requires c κs =
+    let at-build-tallied = c .before .before .before .before .before .before in
+    refused _ (c .before .answer .given .1) (at-build-tallied .build-tallied .ensures)
 
 list-forest-requires : tie.Need-list-forest-requires
 list-forest-requires c κs =
-    let (none, formed) = ready _ (c .before .before .enum-told .given .1) (c .before .before .before .before .before .before .before .build-tallied .ensures) in
+    let at-enum-told = c .before .before in
+    let at-build-tallied = at-enum-told .before .before .before .before .before in
+    let (none, formed) = ready _ (at-enum-told .enum-told .given .1) (at-build-tallied .build-tallied .ensures) in
     (sound-check none, sound-clauses none, sound-closed none, formed)
-
-returns : tie.Need-returns
-returns c = search needs
-
-returns-2 : tie.Need-returns-2
-returns-2 c = search needs
 
 pub list-formula-spec : {M : Type 1} → statement M
 list-formula-spec =
-    tie.close
-    (tie.spec
-    slice-aggregate-build-tallied
-    slice-aggregate-build-tallied-2
-    slice-aggregate-build-tallied-3
-    build-tallied-requires
-    enum-known-answer
-    print-refusal-requires
-    enum-told
-    slice-aggregate-list-forest
-    slice-aggregate-list-forest-2
-    list-forest-requires
-    returns
-    returns-2)
+    tie.close (tie.spec (λ c. search needs) (λ c. search needs) (λ c. search needs) (λ c κs. search needs) (λ c. search needs)
+    print-refusal-requires (λ c. search needs) (λ c. search needs) (λ c. search needs) list-forest-requires (λ c. search needs)
+    (λ c. search needs))

@@ -22,128 +22,95 @@ Inv-loop n prefix levels universals clauses classes parents first next tops₀ l
 abbrev μ-loop : tie.MeasureT-loop
 μ-loop n prefix levels universals clauses classes parents first next tops₀ lead₀ after₀ line₀ floor₀ passed₀ tops lead after line floor passed = n - passed
 
-new-requires : tie.Need-new-requires Inv-loop μ-loop
-new-requires c κs = search needs
-
 loop-holds : tie.Need-loop-holds Inv-loop μ-loop
 loop-holds c =
-    let a = c .before .before .before .before .before .before .before .before .args in
-    let ready = c .before .before .before .before .before .before .before .before .pre in
-    let low : (v : ℕ) → variables (a .n) (a .prefix .now) .ex v ≡ true → variables (a .n) (a .prefix .now) .lev v ≤ c .new .result .0 = λ v ex. let is = c .new .ensures in let own = level-agrees (ready .sound) (ready .table) v (lawful (a .n) (a .prefix .now) .within v ex .1) in omega (arith, c .before .before .before .before .before .before .shared-slice-known2 .given v) in
+    let at-shared-slice-known2 = c .before .before .before .before .before .before in
+    let at-start = at-shared-slice-known2 .before .before in
+    let a = at-start .args in
+    let ready = at-start .pre in
+    let low : (v : ℕ) → variables (a .n) (a .prefix .now) .ex v ≡ true → variables (a .n) (a .prefix .now) .lev v ≤ c .new .result .0 = λ v ex. let is = c .new .ensures in let own = level-agrees (ready .sound) (ready .table) v (lawful (a .n) (a .prefix .now) .within v ex .1) in omega (arith, at-shared-slice-known2 .shared-slice-known2 .given v) in
     (omega arith, floored-none (a .n) (a .prefix .now) (a .classes .now) (a .parents .now) (c .new .result .0) (omega (arith, c .new .ensures)) low, length-replicate {A = ℕ} 65536 0)
-
-add-passed : tie.Need-add-passed Inv-loop μ-loop
-add-passed c = omega arith
-
-new-requires-2 : tie.Need-new-requires-2 Inv-loop μ-loop
-new-requires-2 c κs = search needs
-
-universal-at-requires : tie.Need-universal-at-requires Inv-loop μ-loop
-universal-at-requires c κs = search needs
-
-slice-aggregate-refloor : tie.Need-slice-aggregate-refloor Inv-loop μ-loop
-slice-aggregate-refloor c = search needs
-
-slice-aggregate-refloor-2 : tie.Need-slice-aggregate-refloor-2 Inv-loop μ-loop
-slice-aggregate-refloor-2 c = search needs
-
-slice-aggregate-refloor-3 : tie.Need-slice-aggregate-refloor-3 Inv-loop μ-loop
-slice-aggregate-refloor-3 c = search needs
 
 refloor-requires : tie.Need-refloor-requires Inv-loop μ-loop
 refloor-requires c κs =
-    let a = c .before .before .before .before .before .before .before .before .before .before .before .before .before .before .before .before .args in
-    let ready = c .before .before .before .before .before .before .before .before .before .before .before .before .before .before .before .before .pre in
+    let at-new2 = c .before .before .before .before .before in
+    let at-loop-test = at-new2 .before in
+    let at-loop = at-loop-test .before in
+    let at-start = at-loop .before .before .before .before .before .before .before .before .before in
+    let a = at-start .args in
+    let ready = at-start .pre in
     let few = ready .sound .few in
-    let is = c .before .before .before .before .before .new2 .ensures in
-    let less = c .before .before .before .before .before .before .loop-test .taken in
-    ((ready .sound, ready .formed, omega arith, (a .universals .now, ready .table)), c .before .before .before .before .before .before .before .loop .inv .1)
-
-slice-aggregate-line-of : tie.Need-slice-aggregate-line-of Inv-loop μ-loop
-slice-aggregate-line-of c = search needs
-
-slice-aggregate-line-of-2 : tie.Need-slice-aggregate-line-of-2 Inv-loop μ-loop
-slice-aggregate-line-of-2 c = search needs
-
-slice-aggregate-line-of-3 : tie.Need-slice-aggregate-line-of-3 Inv-loop μ-loop
-slice-aggregate-line-of-3 c = search needs
-
-slice-aggregate-line-of-4 : tie.Need-slice-aggregate-line-of-4 Inv-loop μ-loop
-slice-aggregate-line-of-4 c = search needs
+    let is = at-new2 .new2 .ensures in
+    let less = at-loop-test .loop-test .taken in
+    ((ready .sound, ready .formed, omega arith, (a .universals .now, ready .table)), at-loop .loop .inv .1)
 
 line-of-requires : tie.Need-line-of-requires Inv-loop μ-loop
 unfolding universalIn
 line-of-requires c κs =
-    let a = c .before .before .before .before .before .before .before .before .before .before .before .before .before .before .before .before .before .before .before .before .before .before .before .before .args in
-    let ready = c .before .before .before .before .before .before .before .before .before .before .before .before .before .before .before .before .before .before .before .before .before .before .before .before .pre in
+    let at-refloor = c .before .before .before .before .before .before .before in
+    let at-if1 = at-refloor .before .before .before .before in
+    let at-universal-at = at-if1 .before in
+    let at-new2 = at-universal-at .before in
+    let at-loop = at-new2 .before .before in
+    let at-start = at-loop .before .before .before .before .before .before .before .before .before in
+    let a = at-start .args in
+    let ready = at-start .pre in
     let few = ready .sound .few in
     let short = ready .sound .short in
     let heads = ready .heads in
-    let x = c .before .before .before .before .before .before .before .before .before .before .before .before .before .new2 .result .0 in
-    let u = sym (c .before .before .before .before .before .before .before .before .before .before .before .before .universal-at .ensures) ∙ c .before .before .before .before .before .before .before .before .before .before .before .if1 .taken in
+    let x = at-new2 .new2 .result .0 in
+    let u = sym (at-universal-at .universal-at .ensures) ∙ at-if1 .if1 .taken in
     let (_, most, flag) = flag-within (a .n) x (getD (a .universals .now) x false) u in
-    let (floored, low) = c .before .before .before .before .before .before .before .refloor .ensures in
+    let (floored, low) = at-refloor .refloor .ensures in
     let level = low .0 in
-    let long = c .before .before .before .before .before .before .before .before .before .before .before .before .before .before .before .loop .inv .2 in
+    let long = at-loop .loop .inv .2 in
     ((few, most, omega (arith, level-most (ready .sound) x (omega arith), marks-within (a .prefix .now) (length (a .prefix .now))), ready .closed, record { heads = omega arith; links = ready .links; universals = a .universals .now; threaded = ready .threaded; universal = flag }), (floored .within, floored .led, omega arith))
 
 array-share-prefix-line : tie.Need-array-share-prefix-line Inv-loop μ-loop
 array-share-prefix-line c =
-    let a = c .before .before .before .before .before .before .before .before .before .before .before .before .before .before .before .before .before .before .before .before .before .before .before .before .before .before .args in
-    let (floored, low) = c .before .before .before .before .before .before .before .before .before .refloor .ensures in
-    let line = c .before .line-of .ensures (a .prefix .now) (a .classes .now) (a .parents .now) (record { formed = c .before .before .before .before .before .before .before .before .before .before .before .before .before .before .before .before .before .before .before .before .before .before .before .before .before .before .pre .formed; low = low .0; rows = floored .over .rows }) in
+    let at-refloor = c .before .before .before .before .before .before .before .before .before in
+    let at-loop = at-refloor .before .before .before .before .before .before .before .before in
+    let at-start = at-loop .before .before .before .before .before .before .before .before .before in
+    let a = at-start .args in
+    let (floored, low) = at-refloor .refloor .ensures in
+    let line = c .before .line-of .ensures (a .prefix .now) (a .classes .now) (a .parents .now) (record { formed = at-start .pre .formed; low = low .0; rows = floored .over .rows }) in
     let near = line .stored .near in
-    let long = c .before .line-of .kept .1 .1 .1 .1 .1 .1 .1 .1 .1 .0 ∙ c .before .before .before .before .before .before .before .before .before .before .before .before .before .before .before .before .before .loop .inv .2 in
+    let long = c .before .line-of .kept .1 .1 .1 .1 .1 .1 .1 .1 .1 .0 ∙ at-loop .loop .inv .2 in
     omega arith
 
 slice-aggregate-write-all : tie.Need-slice-aggregate-write-all Inv-loop μ-loop
-slice-aggregate-write-all c = sym (length-take-le (c .before .before .line-of .result) (c .before .before .line-of .last .1 .1 .1 .1 .1 .1 .1 .1 .1 .0) (array-share-prefix-line (c .before)))
-
-write-all-requires : tie.Need-write-all-requires Inv-loop μ-loop
-write-all-requires c κs = search needs
+slice-aggregate-write-all c =
+    let at-line-of = c .before .before in
+    sym (length-take-le (at-line-of .line-of .result) (at-line-of .line-of .last .1 .1 .1 .1 .1 .1 .1 .1 .1 .0) (array-share-prefix-line (c .before)))
 
 loop-less : tie.Need-loop-less Inv-loop μ-loop
-loop-less c = let less = c .before .before .before .before .before .before .before .before .before .before .before .before .before .before .before .before .before .before .loop-test .taken in omega arith
+loop-less c =
+    let at-loop-test = c .before .before .before .before .before .before .before .before .before .before .before .before .before .before .before .before .before .before in
+    let less = at-loop-test .loop-test .taken in omega arith
 
 loop-again : tie.Need-loop-again Inv-loop μ-loop
 loop-again c =
-    let less = c .before .before .before .before .before .before .before .before .before .before .before .before .before .before .before .before .before .before .loop-test .taken in
-    (omega arith, c .before .before .before .before .before .before .before .before .before .before .before .refloor .ensures .0, c .before .before .before .line-of .kept .1 .1 .1 .1 .1 .1 .1 .1 .1 .0 ∙ c .before .before .before .before .before .before .before .before .before .before .before .before .before .before .before .before .before .before .before .loop .inv .2)
+    let at-line-of = c .before .before .before in
+    let at-refloor = at-line-of .before .before .before .before .before .before .before .before in
+    let at-loop-test = at-refloor .before .before .before .before .before .before .before in
+    let at-loop = at-loop-test .before in
+    let less = at-loop-test .loop-test .taken in
+    (omega arith, at-refloor .refloor .ensures .0, at-line-of .line-of .kept .1 .1 .1 .1 .1 .1 .1 .1 .1 .0 ∙ at-loop .loop .inv .2)
 
 loop-less-2 : tie.Need-loop-less-2 Inv-loop μ-loop
-loop-less-2 c = let less = c .before .before .before .loop-test .taken in omega arith
+loop-less-2 c =
+    let at-loop-test = c .before .before .before in
+    let less = at-loop-test .loop-test .taken in omega arith
 
 loop-again-2 : tie.Need-loop-again-2 Inv-loop μ-loop
-loop-again-2 c = let less = c .before .before .before .loop-test .taken in (omega arith, c .before .before .before .before .loop .inv .1, c .before .before .before .before .loop .inv .2)
-
-returns : tie.Need-returns Inv-loop μ-loop
-returns c = search needs
+loop-again-2 c =
+    let at-loop-test = c .before .before .before in
+    let at-loop = at-loop-test .before in
+    let less = at-loop-test .loop-test .taken in (omega arith, at-loop .loop .inv .1, at-loop .loop .inv .2)
 
 pub list-tied-spec : {M : Type 1} → statement M
 list-tied-spec =
-    tie.close
-    (tie.spec
-    Inv-loop
-    μ-loop
-    new-requires
-    loop-holds
-    add-passed
-    new-requires-2
-    universal-at-requires
-    slice-aggregate-refloor
-    slice-aggregate-refloor-2
-    slice-aggregate-refloor-3
-    refloor-requires
-    slice-aggregate-line-of
-    slice-aggregate-line-of-2
-    slice-aggregate-line-of-3
-    slice-aggregate-line-of-4
-    line-of-requires
-    array-share-prefix-line
-    slice-aggregate-write-all
-    write-all-requires
-    loop-less
-    loop-again
-    loop-less-2
-    loop-again-2
-    returns)
+    tie.close (tie.spec Inv-loop μ-loop (λ c κs. search needs) loop-holds (λ c. omega arith) (λ c κs. search needs) (λ c κs. search needs)
+    (λ c. search needs) (λ c. search needs) (λ c. search needs) refloor-requires (λ c. search needs) (λ c. search needs) (λ c. search needs)
+    (λ c. search needs) line-of-requires array-share-prefix-line slice-aggregate-write-all (λ c κs. search needs) loop-less loop-again
+    loop-less-2 loop-again-2 (λ c. search needs))

@@ -9,46 +9,27 @@ use Rattle.threads.proofs.Gathering.{levelled-covers}
 use Rattle.listing.proofs.list_universals.Statement.{statement}
 use Rattle.listing.proofs.list_universals.Tie as tie
 
-slice-aggregate-thread : tie.Need-slice-aggregate-thread
-slice-aggregate-thread c = search needs
-
-slice-aggregate-thread-2 : tie.Need-slice-aggregate-thread-2
-slice-aggregate-thread-2 c = search needs
-
 thread-requires : tie.Need-thread-requires
 thread-requires c κs =
-    let pre = c .before .before .before .before .before .before .before .pre in
+    let at-start = c .before .before .before .before .before .before .before in
+    let pre = at-start .pre in
     let few = pre .2 in
     let size = pre .1 .sizes .1 in
     let heads = length-replicate {A = ℕ} 4097 0 in
     let links = length-replicate {A = ℕ} 16384 0 in
     (few, omega arith, omega arith, new-zero 4097, levelled-covers (pre .1) few)
 
-slice-aggregate-list-tied : tie.Need-slice-aggregate-list-tied
-slice-aggregate-list-tied c = search needs
-
-slice-aggregate-list-tied-2 : tie.Need-slice-aggregate-list-tied-2
-slice-aggregate-list-tied-2 c = search needs
-
 list-tied-requires : tie.Need-list-tied-requires
 list-tied-requires c κs =
-    let pre = c .before .before .before .before .before .before .before .before .before .before .before .before .pre in
+    let at-thread = c .before .before .before .before in
+    let at-start = at-thread .before .before .before .before .before .before .before .before in
+    let pre = at-start .pre in
     let short = pre .2 in
-    let heads = c .before .before .before .before .thread .kept .1 .1 .0 ∙ length-replicate {A = ℕ} 4097 0 in
-    let links = c .before .before .before .before .thread .kept .1 .1 .1 .0 ∙ length-replicate {A = ℕ} 16384 0 in
-    record { sound = pre .0; table = pre .1; formed = pre .4; closed = pre .3; heads = heads; links = omega arith; threaded = c .before .before .before .before .thread .ensures }
-
-returns : tie.Need-returns
-returns c = search needs
+    let heads = at-thread .thread .kept .1 .1 .0 ∙ length-replicate {A = ℕ} 4097 0 in
+    let links = at-thread .thread .kept .1 .1 .1 .0 ∙ length-replicate {A = ℕ} 16384 0 in
+    record { sound = pre .0; table = pre .1; formed = pre .4; closed = pre .3; heads = heads; links = omega arith; threaded = at-thread .thread .ensures }
 
 pub list-universals-spec : {M : Type 1} → statement M
 list-universals-spec =
-    tie.close
-    (tie.spec
-    slice-aggregate-thread
-    slice-aggregate-thread-2
-    thread-requires
-    slice-aggregate-list-tied
-    slice-aggregate-list-tied-2
-    list-tied-requires
-    returns)
+    tie.close (tie.spec (λ c. search needs) (λ c. search needs) thread-requires (λ c. search needs) (λ c. search needs) list-tied-requires
+    (λ c. search needs))

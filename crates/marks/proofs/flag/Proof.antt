@@ -15,10 +15,14 @@ same-length : tie.Need-same-length
 same-length c = search needs
 
 returns : tie.Need-returns
-returns c = flag-set (c .before .before .args .flags .now) (c .before .before .args .v .0) (c .if1 .taken)
+returns c =
+    let at-start = c .before .before in
+    flag-set (at-start .args .flags .now) (at-start .args .v .0) (c .if1 .taken)
 
 returns-2 : tie.Need-returns-2
-returns-2 c = flag-nothing (c .before .before .args .flags .now) (λ w l q. let out = c .if1 .left in omega arith)
+returns-2 c =
+    let at-start = c .before .before in
+    flag-nothing (at-start .args .flags .now) (λ w l q. let out = c .if1 .left in omega arith)
 
 pub flag-spec : {M : Type 1} → statement M
 flag-spec = tie.close (tie.spec cast-at slice-write-flags same-length returns returns-2)

@@ -22,51 +22,47 @@ abbrev μ-loop : tie.MeasureT-loop
 
 loop-holds : tie.Need-loop-holds Inv-loop μ-loop
 loop-holds c =
-    let a = c .before .before .args in
+    let at-start = c .before .before in
+    let a = at-start .args in
     (omega arith, λ w. w, λ e l s. absurd (omega arith), flag-nothing (a .flags .now) (λ e l t. has-none (a .clauses .now) (a .start) (t .for) (t .holds)))
 
-variable-at-requires : tie.Need-variable-at-requires Inv-loop μ-loop
-variable-at-requires c κs = search needs
-
 same-length : tie.Need-same-length Inv-loop μ-loop
-same-length c = c .before .before .before .before .loop .inv .3 .size
+same-length c =
+    let at-loop = c .before .before .before .before in
+    at-loop .loop .inv .3 .size
 
 returns : tie.Need-returns Inv-loop μ-loop
 returns c =
-    let inv = c .before .before .before .before .loop .inv in
-    (c .before .before .before .before .loop .i, record { from = inv .0; within = inv .1; literals = λ e s l. inv .2 e l s; closes = λ _. sym (c .before .before .variable-at .ensures) ∙ c .if1 .taken }, inv .3)
-
-row-of-requires : tie.Need-row-of-requires Inv-loop μ-loop
-row-of-requires c κs = search needs
-
-add-i : tie.Need-add-i Inv-loop μ-loop
-add-i c = omega arith
-
-loop-less : tie.Need-loop-less Inv-loop μ-loop
-loop-less c = omega arith
+    let at-variable-at = c .before .before in
+    let at-loop = at-variable-at .before .before in
+    let inv = at-loop .loop .inv in
+    (at-loop .loop .i, record { from = inv .0; within = inv .1; literals = λ e s l. inv .2 e l s; closes = λ _. sym (at-variable-at .variable-at .ensures) ∙ c .if1 .taken }, inv .3)
 
 loop-again : tie.Need-loop-again Inv-loop μ-loop
 loop-again c =
-    let a = c .before .before .before .before .before .before .before .before .before .before .args in
-    let inv = c .before .before .before .before .before .before .before .loop .inv in
+    let at-row-of = c .before .before in
+    let at-if1 = at-row-of .before in
+    let at-variable-at = at-if1 .before .before in
+    let at-loop = at-variable-at .before .before in
+    let at-start = at-loop .before .before .before in
+    let a = at-start .args in
+    let inv = at-loop .loop .inv in
     let from = inv .0 in
-    (omega arith, λ w. omega arith, below-more _ _ (inv .2) (λ _ q. c .before .before .before .if1 .left (c .before .before .before .before .before .variable-at .ensures ∙ q)), tops-none (a .n) (a .tops .now) (c .before .before .before .before .before .variable-at .result .0) (c .before .before .row-of .result .0) (has-next (a .clauses .now) (a .start) (c .before .before .before .before .before .before .before .loop .i) (c .before .before .before .before .before .variable-at .result .0) from (c .before .before .before .before .before .variable-at .ensures)) (c .before .before .row-of .ensures) (c .if2 .taken) (inv .3))
-
-flag-requires : tie.Need-flag-requires Inv-loop μ-loop
-flag-requires c κs = search needs
-
-add-i-2 : tie.Need-add-i-2 Inv-loop μ-loop
-add-i-2 c = omega arith
-
-loop-less-2 : tie.Need-loop-less-2 Inv-loop μ-loop
-loop-less-2 c = omega arith
+    (omega arith, λ w. omega arith, below-more _ _ (inv .2) (λ _ q. at-if1 .if1 .left (at-variable-at .variable-at .ensures ∙ q)), tops-none (a .n) (a .tops .now) (at-variable-at .variable-at .result .0) (at-row-of .row-of .result .0) (has-next (a .clauses .now) (a .start) (at-loop .loop .i) (at-variable-at .variable-at .result .0) from (at-variable-at .variable-at .ensures)) (at-row-of .row-of .ensures) (c .if2 .taken) (inv .3))
 
 loop-again-2 : tie.Need-loop-again-2 Inv-loop μ-loop
 loop-again-2 c =
-    let a = c .before .before .before .before .before .before .before .before .before .before .before .before .before .before .args in
-    let inv = c .before .before .before .before .before .before .before .before .before .before .before .loop .inv in
+    let at-flag = c .before .before in
+    let at-if2 = at-flag .before .before in
+    let at-row-of = at-if2 .before .before in
+    let at-if1 = at-row-of .before in
+    let at-variable-at = at-if1 .before .before in
+    let at-loop = at-variable-at .before .before in
+    let at-start = at-loop .before .before .before in
+    let a = at-start .args in
+    let inv = at-loop .loop .inv in
     let from = inv .0 in
-    (omega arith, λ w. omega arith, below-more _ _ (inv .2) (λ _ q. c .before .before .before .before .before .before .before .if1 .left (c .before .before .before .before .before .before .before .before .before .variable-at .ensures ∙ q)), tops-one (a .n) (a .tops .now) (c .before .before .before .before .before .before .before .before .before .variable-at .result .0) (c .before .before .before .before .before .before .row-of .result .0) (has-next (a .clauses .now) (a .start) (c .before .before .before .before .before .before .before .before .before .before .before .loop .i) (c .before .before .before .before .before .before .before .before .before .variable-at .result .0) from (c .before .before .before .before .before .before .before .before .before .variable-at .ensures)) (c .before .before .before .before .before .before .row-of .ensures) (c .before .before .before .before .if2 .left) (inv .3) (c .before .before .flag .ensures))
+    (omega arith, λ w. omega arith, below-more _ _ (inv .2) (λ _ q. at-if1 .if1 .left (at-variable-at .variable-at .ensures ∙ q)), tops-one (a .n) (a .tops .now) (at-variable-at .variable-at .result .0) (at-row-of .row-of .result .0) (has-next (a .clauses .now) (a .start) (at-loop .loop .i) (at-variable-at .variable-at .result .0) from (at-variable-at .variable-at .ensures)) (at-row-of .row-of .ensures) (at-if2 .if2 .left) (inv .3) (at-flag .flag .ensures))
 
 same-length-2 : tie.Need-same-length-2 Inv-loop μ-loop
 same-length-2 c = c .before .loop .inv .3 .size
@@ -78,21 +74,5 @@ returns-2 c =
 
 pub flag-after-spec : {M : Type 1} → statement M
 flag-after-spec =
-    tie.close
-    (tie.spec
-    Inv-loop
-    μ-loop
-    loop-holds
-    variable-at-requires
-    same-length
-    returns
-    row-of-requires
-    add-i
-    loop-less
-    loop-again
-    flag-requires
-    add-i-2
-    loop-less-2
-    loop-again-2
-    same-length-2
-    returns-2)
+    tie.close (tie.spec Inv-loop μ-loop loop-holds (λ c κs. search needs) same-length returns (λ c κs. search needs) (λ c. omega arith)
+    (λ c. omega arith) loop-again (λ c κs. search needs) (λ c. omega arith) (λ c. omega arith) loop-again-2 same-length-2 returns-2)

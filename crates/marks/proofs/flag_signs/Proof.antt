@@ -24,55 +24,68 @@ abbrev μ-loop : tie.MeasureT-loop
 μ-loop signs n clauses x tops flags₀ seen₀ start₀ flags seen start = length clauses - start
 
 loop-holds : tie.Need-loop-holds Inv-loop μ-loop
-loop-holds c = let a = c .before .before .args in (share-none (a .n) (a .tops .now) (a .clauses .now) (a .signs) (a .x .0) (a .flags .now), stamps-none)
-
-scan-clause-requires : tie.Need-scan-clause-requires Inv-loop μ-loop
-scan-clause-requires c κs = search needs
+loop-holds c =
+    let at-start = c .before .before in
+    let a = at-start .args in (share-none (a .n) (a .tops .now) (a .clauses .now) (a .signs) (a .x .0) (a .flags .now), stamps-none)
 
 same-length : tie.Need-same-length Inv-loop μ-loop
-same-length c = c .before .before .before .loop .inv .0 .size
+same-length c =
+    let at-loop = c .before .before .before in
+    at-loop .loop .inv .0 .size
 
 returns : tie.Need-returns Inv-loop μ-loop
 returns c =
-    let loop = c .before .before .before .loop in
-    share-all (loop .inv .0) (clauses-unclosed (c .before .before .before .before .before .before .args .clauses .now) (loop .start) (c .before .scan-clause .result .end) (c .before .scan-clause .ensures .0) (c .if1 .taken))
-
-has-sign-requires : tie.Need-has-sign-requires Inv-loop μ-loop
-has-sign-requires c κs = search needs
-
-slice-aggregate-flag-clause : tie.Need-slice-aggregate-flag-clause Inv-loop μ-loop
-slice-aggregate-flag-clause c = search needs
+    let at-loop = c .before .before .before in
+    let at-start = at-loop .before .before .before in
+    let loop = at-loop .loop in
+    share-all (loop .inv .0) (clauses-unclosed (at-start .args .clauses .now) (loop .start) (c .before .scan-clause .result .end) (c .before .scan-clause .ensures .0) (c .if1 .taken))
 
 flag-clause-requires : tie.Need-flag-clause-requires Inv-loop μ-loop
-flag-clause-requires c κs = (c .before .before .before .before .before .before .before .before .before .before .pre, c .before .before .before .before .before .scan-clause .ensures .0, c .before .before .before .before .if1 .left, c .before .before .before .before .before .before .before .loop .inv .1)
-
-add-start : tie.Need-add-start Inv-loop μ-loop
-add-start c = omega arith
+flag-clause-requires c κs =
+    let at-if1 = c .before .before .before .before in
+    let at-scan-clause = at-if1 .before in
+    let at-loop = at-scan-clause .before .before in
+    let at-start = at-loop .before .before .before in
+    (at-start .pre, at-scan-clause .scan-clause .ensures .0, at-if1 .if1 .left, at-loop .loop .inv .1)
 
 loop-less : tie.Need-loop-less Inv-loop μ-loop
-loop-less c = let from = c .before .before .before .before .before .before .before .before .before .scan-clause .ensures .0 .from in let less = c .before .before .before .before .before .before .before .before .if1 .left in omega arith
+loop-less c =
+    let at-if1 = c .before .before .before .before .before .before .before .before in
+    let at-scan-clause = at-if1 .before in
+    let from = at-scan-clause .scan-clause .ensures .0 .from in let less = at-if1 .if1 .left in omega arith
 
 loop-again : tie.Need-loop-again Inv-loop μ-loop
 loop-again c =
-    let a = c .before .before .before .before .before .before .before .before .before .before .before .before .before .before .args in
-    let scan = c .before .before .before .before .before .before .before .before .before .scan-clause in
-    let loop = c .before .before .before .before .before .before .before .before .before .before .before .loop in
-    let here = side-has (a .signs) (scan .result .side) (λ (sign : Bool). HasLiteral (a .clauses .now) (loop .start) (scan .result .end) (signed sign (a .x .0))) (sym (c .before .before .before .before .before .before .before .has-sign .ensures) ∙ c .before .before .before .before .before .before .if2 .taken) (scan .ensures .1) in
-    let flagged = c .before .before .before .flag-clause .ensures in
-    (share-has (loop .inv .0) (scan .result .end) (scan .ensures .0) (c .before .before .before .before .before .before .before .before .if1 .left) here (flagged .0), flagged .1)
-
-add-start-2 : tie.Need-add-start-2 Inv-loop μ-loop
-add-start-2 c = omega arith
+    let at-flag-clause = c .before .before .before in
+    let at-if2 = at-flag-clause .before .before .before in
+    let at-has-sign = at-if2 .before in
+    let at-if1 = at-has-sign .before in
+    let at-scan-clause = at-if1 .before in
+    let at-loop = at-scan-clause .before .before in
+    let at-start = at-loop .before .before .before in
+    let a = at-start .args in
+    let scan = at-scan-clause .scan-clause in
+    let loop = at-loop .loop in
+    let here = side-has (a .signs) (scan .result .side) (λ (sign : Bool). HasLiteral (a .clauses .now) (loop .start) (scan .result .end) (signed sign (a .x .0))) (sym (at-has-sign .has-sign .ensures) ∙ at-if2 .if2 .taken) (scan .ensures .1) in
+    let flagged = at-flag-clause .flag-clause .ensures in
+    (share-has (loop .inv .0) (scan .result .end) (scan .ensures .0) (at-if1 .if1 .left) here (flagged .0), flagged .1)
 
 loop-less-2 : tie.Need-loop-less-2 Inv-loop μ-loop
-loop-less-2 c = let from = c .before .before .before .scan-clause .ensures .0 .from in let less = c .before .before .if1 .left in omega arith
+loop-less-2 c =
+    let at-if1 = c .before .before in
+    let at-scan-clause = at-if1 .before in
+    let from = at-scan-clause .scan-clause .ensures .0 .from in let less = at-if1 .if1 .left in omega arith
 
 loop-again-2 : tie.Need-loop-again-2 Inv-loop μ-loop
 loop-again-2 c =
-    let a = c .before .before .before .before .before .before .before .before .args in
-    let scan = c .before .before .before .scan-clause in
-    let loop = c .before .before .before .before .before .loop in
-    let less = c .before .before .if1 .left in
+    let at-if1 = c .before .before in
+    let at-scan-clause = at-if1 .before in
+    let at-loop = at-scan-clause .before .before in
+    let at-start = at-loop .before .before .before in
+    let a = at-start .args in
+    let scan = at-scan-clause .scan-clause in
+    let loop = at-loop .loop in
+    let less = at-if1 .if1 .left in
     let none = side-not (a .signs) (scan .result .side) (λ (sign : Bool). HasLiteral (a .clauses .now) (loop .start) (scan .result .end) (signed sign (a .x .0))) (sym (c .before .has-sign .ensures) ∙ c .if2 .left) (scan .ensures .1) in
     (share-not (loop .inv .0) (scan .result .end) (scan .ensures .0) less (λ v h k. none (λ p q. sides-apart (a .clauses .now) (a .x .0) (loop .start) (scan .result .end) (scan .ensures .0) (omega arith) v p q k) h), stamps-more (loop .inv .1) (omega (arith, scan .ensures .0 .from)))
 
@@ -82,26 +95,10 @@ same-length-2 c = c .before .loop .inv .0 .size
 returns-2 : tie.Need-returns-2 Inv-loop μ-loop
 unfolding clauses cut
 returns-2 c =
-    share-all (c .before .loop .inv .0) (ap clauses (drop-of-length-le (c .before .before .before .before .args .clauses .now) (c .loop-test .left)))
+    let at-start = c .before .before .before .before in
+    share-all (c .before .loop .inv .0) (ap clauses (drop-of-length-le (at-start .args .clauses .now) (c .loop-test .left)))
 
 pub flag-signs-spec : {M : Type 1} → statement M
 flag-signs-spec =
-    tie.close
-    (tie.spec
-    Inv-loop
-    μ-loop
-    loop-holds
-    scan-clause-requires
-    same-length
-    returns
-    has-sign-requires
-    slice-aggregate-flag-clause
-    flag-clause-requires
-    add-start
-    loop-less
-    loop-again
-    add-start-2
-    loop-less-2
-    loop-again-2
-    same-length-2
-    returns-2)
+    tie.close (tie.spec Inv-loop μ-loop loop-holds (λ c κs. search needs) same-length returns (λ c κs. search needs) (λ c. search needs)
+    flag-clause-requires (λ c. omega arith) loop-less loop-again (λ c. omega arith) loop-less-2 loop-again-2 same-length-2 returns-2)

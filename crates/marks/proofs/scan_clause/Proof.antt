@@ -24,55 +24,47 @@ abbrev μ-loop : tie.MeasureT-loop
 loop-holds : tie.Need-loop-holds Inv-loop μ-loop
 loop-holds c = (omega arith, λ w. w, λ e l s. absurd (omega arith), sided-none (c .args .clauses .now) (c .args .start) (c .args .x .0))
 
-literal-at-requires : tie.Need-literal-at-requires Inv-loop μ-loop
-literal-at-requires c κs = search needs
-
-variable-requires : tie.Need-variable-requires Inv-loop μ-loop
-variable-requires c κs = search needs
-
 returns : tie.Need-returns Inv-loop μ-loop
 returns c =
-    let inv = c .before .before .before .before .before .loop .inv in
-    let read = c .before .before .variable .ensures ∙ ap variableOf (c .before .before .before .literal-at .ensures) in
+    let at-variable = c .before .before in
+    let at-literal-at = at-variable .before in
+    let at-loop = at-literal-at .before .before in
+    let inv = at-loop .loop .inv in
+    let read = at-variable .variable .ensures ∙ ap variableOf (at-literal-at .literal-at .ensures) in
     (record { from = inv .0; within = inv .1; literals = λ e s l. inv .2 e l s; closes = λ _. sym read ∙ c .if1 .taken }, inv .3)
-
-side-of-requires : tie.Need-side-of-requires Inv-loop μ-loop
-side-of-requires c κs = search needs
-
-add-i : tie.Need-add-i Inv-loop μ-loop
-add-i c = omega arith
-
-loop-less : tie.Need-loop-less Inv-loop μ-loop
-loop-less c = omega arith
 
 loop-again : tie.Need-loop-again Inv-loop μ-loop
 loop-again c =
-    let a = c .before .before .before .before .before .before .before .before .before .before .args in
-    let loop = c .before .before .before .before .before .before .before .before .before .loop in
+    let at-if1 = c .before .before .before .before in
+    let at-variable = at-if1 .before .before in
+    let at-literal-at = at-variable .before in
+    let at-loop = at-literal-at .before .before in
+    let at-start = at-loop .before in
+    let a = at-start .args in
+    let loop = at-loop .loop in
     let inv = loop .inv in
     let from = inv .0 in
-    let literal = c .before .before .before .before .before .before .before .literal-at in
-    let variable = c .before .before .before .before .before .before .variable in (
+    let literal = at-literal-at .literal-at in
+    let variable = at-variable .variable in (
       omega arith,
       λ w. omega arith,
-      below-more _ _ (inv .2) (λ _ q. c .before .before .before .before .if1 .left (variable .ensures ∙ ap variableOf (literal .ensures) ∙ q)),
+      below-more _ _ (inv .2) (λ _ q. at-if1 .if1 .left (variable .ensures ∙ ap variableOf (literal .ensures) ∙ q)),
       sided-here (a .clauses .now) (a .start) (a .x .0) (loop .i) from (c .side-of .result) (literal .result .0) (literal .ensures) (sym (variable .ensures) ∙ c .before .if2 .taken) (c .side-of .ensures),
     )
 
-add-i-2 : tie.Need-add-i-2 Inv-loop μ-loop
-add-i-2 c = omega arith
-
-loop-less-2 : tie.Need-loop-less-2 Inv-loop μ-loop
-loop-less-2 c = omega arith
-
 loop-again-2 : tie.Need-loop-again-2 Inv-loop μ-loop
 loop-again-2 c =
-    let a = c .before .before .before .before .before .before .before .before .before .args in
-    let loop = c .before .before .before .before .before .before .before .before .loop in
+    let at-if1 = c .before .before .before in
+    let at-variable = at-if1 .before .before in
+    let at-literal-at = at-variable .before in
+    let at-loop = at-literal-at .before .before in
+    let at-start = at-loop .before in
+    let a = at-start .args in
+    let loop = at-loop .loop in
     let inv = loop .inv in
     let from = inv .0 in
-    let read = c .before .before .before .before .before .variable .ensures ∙ ap variableOf (c .before .before .before .before .before .before .literal-at .ensures) in
-    (omega arith, λ w. omega arith, below-more _ _ (inv .2) (λ _ q. c .before .before .before .if1 .left (read ∙ q)), sided-past (a .clauses .now) (a .start) (a .x .0) (loop .i) from (loop .side) (λ q. c .if2 .left (read ∙ q)) (inv .3))
+    let read = at-variable .variable .ensures ∙ ap variableOf (at-literal-at .literal-at .ensures) in
+    (omega arith, λ w. omega arith, below-more _ _ (inv .2) (λ _ q. at-if1 .if1 .left (read ∙ q)), sided-past (a .clauses .now) (a .start) (a .x .0) (loop .i) from (loop .side) (λ q. c .if2 .left (read ∙ q)) (inv .3))
 
 returns-2 : tie.Need-returns-2 Inv-loop μ-loop
 returns-2 c =
@@ -81,19 +73,5 @@ returns-2 c =
 
 pub scan-clause-spec : {M : Type 1} → statement M
 scan-clause-spec =
-    tie.close
-    (tie.spec
-    Inv-loop
-    μ-loop
-    loop-holds
-    literal-at-requires
-    variable-requires
-    returns
-    side-of-requires
-    add-i
-    loop-less
-    loop-again
-    add-i-2
-    loop-less-2
-    loop-again-2
-    returns-2)
+    tie.close (tie.spec Inv-loop μ-loop loop-holds (λ c κs. search needs) (λ c κs. search needs) returns (λ c κs. search needs)
+    (λ c. omega arith) (λ c. omega arith) loop-again (λ c. omega arith) (λ c. omega arith) loop-again-2 returns-2)

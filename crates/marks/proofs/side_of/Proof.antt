@@ -6,10 +6,14 @@ use Rattle.marks.proofs.side_of.Statement.{statement}
 use Rattle.marks.proofs.side_of.Tie as tie
 
 returns : tie.Need-returns
-returns c = negative-sign (toZ-ofZ {w = w32} {z = c .before .before .before .args .literal .0} (record { sfits = c .before .struct-told .given .0 .1 })) (c .if1 .taken)
+returns c =
+    let at-start = c .before .before .before in
+    negative-sign (toZ-ofZ {w = w32} {z = at-start .args .literal .0} (record { sfits = c .before .struct-told .given .0 .1 })) (c .if1 .taken)
 
 returns-2 : tie.Need-returns-2
-returns-2 c = positive-sign (toZ-ofZ {w = w32} {z = c .before .before .before .args .literal .0} (record { sfits = c .before .struct-told .given .0 .1 })) (c .if1 .left)
+returns-2 c =
+    let at-start = c .before .before .before in
+    positive-sign (toZ-ofZ {w = w32} {z = at-start .args .literal .0} (record { sfits = c .before .struct-told .given .0 .1 })) (c .if1 .left)
 
 pub side-of-spec : {M : Type 1} → statement M
 side-of-spec = tie.close (tie.spec returns returns-2)

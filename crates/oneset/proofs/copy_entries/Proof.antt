@@ -20,32 +20,55 @@ loop-holds : tie.Need-loop-holds Inv-loop μ-loop
 loop-holds c = (omega arith, refl, λ list _ _. refl)
 
 add-out : tie.Need-add-out Inv-loop μ-loop
-add-out c = let less = c .loop-test .taken in let size = c .before .loop .inv .1 in let behind = c .before .before .pre .0 in let room = c .before .before .pre .1 in omega arith
+add-out c =
+    let at-start = c .before .before in
+    let less = c .loop-test .taken in let size = c .before .loop .inv .1 in let behind = at-start .pre .0 in let room = at-start .pre .1 in omega arith
 
 mul-out : tie.Need-mul-out Inv-loop μ-loop
-mul-out c = let less = c .loop-test .taken in let size = c .before .loop .inv .1 in let behind = c .before .before .pre .0 in let room = c .before .before .pre .1 in omega arith
+mul-out c =
+    let at-start = c .before .before in
+    let less = c .loop-test .taken in let size = c .before .loop .inv .1 in let behind = at-start .pre .0 in let room = at-start .pre .1 in omega arith
 
 slice-read-out : tie.Need-slice-read-out Inv-loop μ-loop
-slice-read-out c = let less = c .before .loop-test .taken in let size = c .before .before .loop .inv .1 in let behind = c .before .before .before .pre .0 in let room = c .before .before .before .pre .1 in omega arith
+slice-read-out c =
+    let at-loop = c .before .before in
+    let at-start = at-loop .before in
+    let less = c .before .loop-test .taken in let size = at-loop .loop .inv .1 in let behind = at-start .pre .0 in let room = at-start .pre .1 in omega arith
 
 add-out-2 : tie.Need-add-out-2 Inv-loop μ-loop
-add-out-2 c = let less = c .before .loop-test .taken in let size = c .before .before .loop .inv .1 in let behind = c .before .before .before .pre .0 in let room = c .before .before .before .pre .1 in omega arith
+add-out-2 c =
+    let at-loop = c .before .before in
+    let at-start = at-loop .before in
+    let less = c .before .loop-test .taken in let size = at-loop .loop .inv .1 in let behind = at-start .pre .0 in let room = at-start .pre .1 in omega arith
 
 mul-out-2 : tie.Need-mul-out-2 Inv-loop μ-loop
-mul-out-2 c = let less = c .before .loop-test .taken in let size = c .before .before .loop .inv .1 in let behind = c .before .before .before .pre .0 in let room = c .before .before .before .pre .1 in omega arith
+mul-out-2 c =
+    let at-loop = c .before .before in
+    let at-start = at-loop .before in
+    let less = c .before .loop-test .taken in let size = at-loop .loop .inv .1 in let behind = at-start .pre .0 in let room = at-start .pre .1 in omega arith
 
 slice-write-out : tie.Need-slice-write-out Inv-loop μ-loop
-slice-write-out c = let less = c .before .loop-test .taken in let size = c .before .before .loop .inv .1 in let behind = c .before .before .before .pre .0 in let room = c .before .before .before .pre .1 in omega arith
+slice-write-out c =
+    let at-loop = c .before .before in
+    let at-start = at-loop .before in
+    let less = c .before .loop-test .taken in let size = at-loop .loop .inv .1 in let behind = at-start .pre .0 in let room = at-start .pre .1 in omega arith
 
 add-i : tie.Need-add-i Inv-loop μ-loop
-add-i c = let less = c .before .loop-test .taken in let size = c .before .before .loop .inv .1 in let behind = c .before .before .before .pre .0 in let room = c .before .before .before .pre .1 in omega arith
+add-i c =
+    let at-loop = c .before .before in
+    let at-start = at-loop .before in
+    let less = c .before .loop-test .taken in let size = at-loop .loop .inv .1 in let behind = at-start .pre .0 in let room = at-start .pre .1 in omega arith
 
 loop-less : tie.Need-loop-less Inv-loop μ-loop
-loop-less c = let less = c .before .loop-test .taken in let size = c .before .before .loop .inv .1 in let behind = c .before .before .before .pre .0 in let room = c .before .before .before .pre .1 in omega arith
+loop-less c =
+    let at-loop = c .before .before in
+    let at-start = at-loop .before in
+    let less = c .before .loop-test .taken in let size = at-loop .loop .inv .1 in let behind = at-start .pre .0 in let room = at-start .pre .1 in omega arith
 
 loop-again : tie.Need-loop-again Inv-loop μ-loop
 loop-again c =
-    let loop = c .before .before .loop in
+    let at-loop = c .before .before in
+    let loop = at-loop .loop in
     let less = c .before .loop-test .taken in
     (omega arith, length-set (loop .out) _ _ ∙ loop .inv .1, λ list size stands. copy-more stands (omega arith) (loop .inv .2 list size stands))
 
@@ -54,24 +77,11 @@ same-length c = c .before .loop .inv .1
 
 returns : tie.Need-returns Inv-loop μ-loop
 returns c =
+    let at-start = c .before .before in
     let done = c .loop-test .left in
-    λ list size stands. c .before .loop .inv .2 list size stands ∙ ap (sets (c .before .before .args .out .now) (c .before .before .args .to)) (take-all (c .before .loop .i) list (omega arith))
+    λ list size stands. c .before .loop .inv .2 list size stands ∙ ap (sets (at-start .args .out .now) (at-start .args .to)) (take-all (c .before .loop .i) list (omega arith))
 
 pub copy-entries-spec : {M : Type 1} → statement M
 copy-entries-spec =
-    tie.close
-    (tie.spec
-    Inv-loop
-    μ-loop
-    loop-holds
-    add-out
-    mul-out
-    slice-read-out
-    add-out-2
-    mul-out-2
-    slice-write-out
-    add-i
-    loop-less
-    loop-again
-    same-length
-    returns)
+    tie.close (tie.spec Inv-loop μ-loop loop-holds add-out mul-out slice-read-out add-out-2 mul-out-2 slice-write-out add-i loop-less
+    loop-again same-length returns)

@@ -21,7 +21,9 @@ returns : tie.Need-returns
 returns c = search needs
 
 returns-2 : tie.Need-returns-2
-returns-2 c = sym (set-out (c .before .before .args .places .now) (c .before .before .args .top .0) (c .before .before .args .start) (c .if1 .left))
+returns-2 c =
+    let at-start = c .before .before in
+    sym (set-out (at-start .args .places .now) (at-start .args .top .0) (at-start .args .start) (c .if1 .left))
 
 pub note-place-spec : {M : Type 1} → statement M
 note-place-spec =

@@ -15,71 +15,64 @@ use borrow.Author.Needs.{needs}
 use Rattle.oneset.proofs.put_flagged.Statement.{statement}
 use Rattle.oneset.proofs.put_flagged.Tie as tie
 
-slice-aggregate-flag-points : tie.Need-slice-aggregate-flag-points
-slice-aggregate-flag-points c = search needs
-
 flag-points-requires : tie.Need-flag-points-requires
-flag-points-requires c κs = (c .before .before .before .before .before .pre .0 .2, fresh)
-
-slice-aggregate-count-picked : tie.Need-slice-aggregate-count-picked
-slice-aggregate-count-picked c = search needs
+flag-points-requires c κs =
+    let at-start = c .before .before .before .before .before in
+    (at-start .pre .0 .2, fresh)
 
 count-picked-requires : tie.Need-count-picked-requires
-count-picked-requires c κs = (c .before .before .before .before .before .before .before .before .before .pre .1 .0 .0, topless-none (c .before .before .before .before .before .before .before .before .before .args .scheme) (c .before .before .before .before .before .before .before .before .before .args .n) (c .before .before .before .before .before .before .before .before .before .args .tops .now) (c .before .before .before .before .before .before .before .before .before .args .clauses .now) (c .before .before .before .before .before .before .before .before .before .args .x .0) (c .before .before .before .flag-points .last .1 .1 .1 .1 .1 .1 .1 .0) (c .before .before .before .before .before .before .before .before .before .args .floor .from) (c .before .before .before .flag-points .ensures) (c .before .before .before .before .before .before .before .before .before .pre .1 .0 .1))
+count-picked-requires c κs =
+    let at-flag-points = c .before .before .before in
+    let at-start = at-flag-points .before .before .before .before .before .before in
+    (at-start .pre .1 .0 .0, topless-none (at-start .args .scheme) (at-start .args .n) (at-start .args .tops .now) (at-start .args .clauses .now) (at-start .args .x .0) (at-flag-points .flag-points .last .1 .1 .1 .1 .1 .1 .1 .0) (at-start .args .floor .from) (at-flag-points .flag-points .ensures) (at-start .pre .1 .0 .1))
 
 add-result : tie.Need-add-result
-add-result c = let small = c .before .before .before .before .before .before .before .before .before .before .pre .0 .1 in omega arith
-
-cast-result : tie.Need-cast-result
-cast-result c = search needs
+add-result c =
+    let at-start = c .before .before .before .before .before .before .before .before .before .before in
+    let small = at-start .pre .0 .1 in omega arith
 
 add-result-2 : tie.Need-add-result-2
 add-result-2 c =
-    let a = c .before .before .before .before .before .before .before .before .before .before .args in
-    let small = c .before .before .before .before .before .before .before .before .before .before .pre .0 .1 in
-    let few = c .before .before .before .before .before .before .before .before .before .before .pre .0 .0 in
-    let flags = c .before .before .before .before .flag-points .last .1 .1 .1 .1 .1 .1 .1 .0 in
+    let at-flag-points = c .before .before .before .before in
+    let at-start = at-flag-points .before .before .before .before .before .before in
+    let a = at-start .args in
+    let small = at-start .pre .0 .1 in
+    let few = at-start .pre .0 .0 in
+    let flags = at-flag-points .flag-points .last .1 .1 .1 .1 .1 .1 .1 .0 in
     let count = c .count-picked .ensures in
     let most = picked-most (pick Set (a .n) flags (a .tops .now)) (a .n) in
     omega arith
 
 returns : tie.Need-returns
 returns c =
-    let a = c .before .before .before .before .before .before .before .before .before .before .args in
-    let flags = c .before .before .before .before .flag-points .last .1 .1 .1 .1 .1 .1 .1 .0 in
+    let at-if1 = c .before .before in
+    let at-flag-points = at-if1 .before .before in
+    let at-start = at-flag-points .before .before .before .before .before .before in
+    let a = at-start .args in
+    let flags = at-flag-points .flag-points .last .1 .1 .1 .1 .1 .1 .1 .0 in
     let count = c .count-picked .ensures in
     let part = a .x .0 ∷ length (picked (pick Set (a .n) flags (a .tops .now)) (a .n)) ∷ picked (pick Set (a .n) flags (a .tops .now)) (a .n) in
-    record { flags = flags; flagged = c .before .before .before .before .flag-points .ensures; put = (omega arith, sym (ap (λ w. cond w (sets (a .out .now) (a .at) part) (a .out .now)) (not-true (a .writing) (c .before .before .if1 .taken)))) }
-
-slice-aggregate-write-record : tie.Need-slice-aggregate-write-record
-slice-aggregate-write-record c = search needs
+    record { flags = flags; flagged = at-flag-points .flag-points .ensures; put = (omega arith, sym (ap (λ w. cond w (sets (a .out .now) (a .at) part) (a .out .now)) (not-true (a .writing) (at-if1 .if1 .taken)))) }
 
 write-record-requires : tie.Need-write-record-requires
-write-record-requires c κs = ((c .before .before .before .before .before .before .before .before .before .before .pre .1 .0 .0, topless-none (c .before .before .before .before .before .before .before .before .before .before .args .scheme) (c .before .before .before .before .before .before .before .before .before .before .args .n) (c .before .before .before .before .before .before .before .before .before .before .args .tops .now) (c .before .before .before .before .before .before .before .before .before .before .args .clauses .now) (c .before .before .before .before .before .before .before .before .before .before .args .x .0) (c .before .before .before .before .flag-points .last .1 .1 .1 .1 .1 .1 .1 .0) (c .before .before .before .before .before .before .before .before .before .before .args .floor .from) (c .before .before .before .before .flag-points .ensures) (c .before .before .before .before .before .before .before .before .before .before .pre .1 .0 .1)), (c .before .before .before .before .before .before .before .before .before .before .pre .0 .1, c .before .before .before .before .before .before .before .before .before .before .pre .1 .1 (not-false (c .before .before .before .before .before .before .before .before .before .before .args .writing) (c .before .before .if1 .left)) (c .before .before .before .before .flag-points .last .1 .1 .1 .1 .1 .1 .1 .0) (c .before .before .before .before .flag-points .ensures)))
-
-same-length : tie.Need-same-length
-same-length c = search needs
+write-record-requires c κs =
+    let at-if1 = c .before .before in
+    let at-flag-points = at-if1 .before .before in
+    let at-start = at-flag-points .before .before .before .before .before .before in
+    ((at-start .pre .1 .0 .0, topless-none (at-start .args .scheme) (at-start .args .n) (at-start .args .tops .now) (at-start .args .clauses .now) (at-start .args .x .0) (at-flag-points .flag-points .last .1 .1 .1 .1 .1 .1 .1 .0) (at-start .args .floor .from) (at-flag-points .flag-points .ensures) (at-start .pre .1 .0 .1)), (at-start .pre .0 .1, at-start .pre .1 .1 (not-false (at-start .args .writing) (at-if1 .if1 .left)) (at-flag-points .flag-points .last .1 .1 .1 .1 .1 .1 .1 .0) (at-flag-points .flag-points .ensures)))
 
 returns-2 : tie.Need-returns-2
 returns-2 c =
-    let a = c .before .before .before .before .before .before .before .before .before .before .before .before .before .args in
-    let flags = c .before .before .before .before .before .before .before .flag-points .last .1 .1 .1 .1 .1 .1 .1 .0 in
+    let at-write-record = c .before .before in
+    let at-if1 = at-write-record .before .before .before in
+    let at-flag-points = at-if1 .before .before in
+    let at-start = at-flag-points .before .before .before .before .before .before in
+    let a = at-start .args in
+    let flags = at-flag-points .flag-points .last .1 .1 .1 .1 .1 .1 .1 .0 in
     let part = a .x .0 ∷ length (picked (pick Set (a .n) flags (a .tops .now)) (a .n)) ∷ picked (pick Set (a .n) flags (a .tops .now)) (a .n) in
-    record { flags = flags; flagged = c .before .before .before .before .before .before .before .flag-points .ensures; put = (c .before .before .write-record .ensures .0, c .before .before .write-record .ensures .1 ∙ sym (ap (λ w. cond w (sets (a .out .now) (a .at) part) (a .out .now)) (not-false (a .writing) (c .before .before .before .before .before .if1 .left)))) }
+    record { flags = flags; flagged = at-flag-points .flag-points .ensures; put = (at-write-record .write-record .ensures .0, at-write-record .write-record .ensures .1 ∙ sym (ap (λ w. cond w (sets (a .out .now) (a .at) part) (a .out .now)) (not-false (a .writing) (at-if1 .if1 .left)))) }
 
 pub put-flagged-spec : {M : Type 1} → statement M
 put-flagged-spec =
-    tie.close
-    (tie.spec
-    slice-aggregate-flag-points
-    flag-points-requires
-    slice-aggregate-count-picked
-    count-picked-requires
-    add-result
-    cast-result
-    add-result-2
-    returns
-    slice-aggregate-write-record
-    write-record-requires
-    same-length
-    returns-2)
+    tie.close (tie.spec (λ c. search needs) flag-points-requires (λ c. search needs) count-picked-requires add-result (λ c. search needs)
+    add-result-2 returns (λ c. search needs) write-record-requires (λ c. search needs) returns-2)

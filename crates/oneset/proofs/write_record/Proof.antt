@@ -20,10 +20,12 @@ write-picked-requires c κs = search needs
 
 write-front-requires : tie.Need-write-front-requires
 write-front-requires c κs =
-    let a = c .before .before .before .before .before .before .before .before .args in
-    let room = c .before .before .before .before .before .before .before .before .pre .1 .1 in
-    let end = c .before .before .before .write-picked .ensures .0 in
-    let size = ap length (c .before .before .before .write-picked .ensures .1) ∙ length-sets (a .out .now) (a .at + 2) (picked (pick Set (a .n) (a .entered .now) (a .tops .now)) (a .n)) in
+    let at-write-picked = c .before .before .before in
+    let at-start = at-write-picked .before .before .before .before .before in
+    let a = at-start .args in
+    let room = at-start .pre .1 .1 in
+    let end = at-write-picked .write-picked .ensures .0 in
+    let size = ap length (at-write-picked .write-picked .ensures .1) ∙ length-sets (a .out .now) (a .at + 2) (picked (pick Set (a .n) (a .entered .now) (a .tops .now)) (a .n)) in
     let most = picked-most (pick Set (a .n) (a .entered .now) (a .tops .now)) (a .n) in
     (omega arith, omega arith, omega arith)
 
@@ -32,10 +34,13 @@ same-length c = search needs
 
 returns : tie.Need-returns
 returns c =
-    let a = c .before .before .before .before .before .before .before .before .before .before .before .args in
+    let at-write-front = c .before .before in
+    let at-write-picked = at-write-front .before .before .before .before in
+    let at-start = at-write-picked .before .before .before .before .before in
+    let a = at-start .args in
     let members = picked (pick Set (a .n) (a .entered .now) (a .tops .now)) (a .n) in
-    let end = c .before .before .before .before .before .before .write-picked .ensures .0 in
-    (end, record-stored (a .out .now) (a .at) (a .x .0) members end (c .before .before .before .before .before .before .write-picked .ensures .1) (c .before .before .write-front .ensures))
+    let end = at-write-picked .write-picked .ensures .0 in
+    (end, record-stored (a .out .now) (a .at) (a .x .0) members end (at-write-picked .write-picked .ensures .1) (at-write-front .write-front .ensures))
 
 pub write-record-spec : {M : Type 1} → statement M
 write-record-spec =

@@ -16,47 +16,37 @@ use Rattle.paths.proofs.Beginning.{not-over}
 use Rattle.paths.proofs.known_pair.Statement.{statement}
 use Rattle.paths.proofs.known_pair.Tie as tie
 
-slice-aggregate-fill-begins : tie.Need-slice-aggregate-fill-begins
-slice-aggregate-fill-begins c = search needs
-
-fill-begins-requires : tie.Need-fill-begins-requires
-fill-begins-requires c κs = search needs
-
-some-over-requires : tie.Need-some-over-requires
-some-over-requires c κs = search needs
-
 returns : tie.Need-returns
 returns c =
-    let a = c .before .before .before .before .before .before .before .before .args in
-    inl (at0-first 13 (subst (λ k. NumberOver k (a .path .now)) (c .before .before .before .fill-begins .ensures .0) (told (c .before .some-over .result) (c .if1 .taken) (c .before .some-over .ensures))))
-
-slice-aggregate-follow : tie.Need-slice-aggregate-follow
-slice-aggregate-follow c = search needs
+    let at-fill-begins = c .before .before .before in
+    let at-start = at-fill-begins .before .before .before .before .before in
+    let a = at-start .args in
+    inl (at0-first 13 (subst (λ k. NumberOver k (a .path .now)) (at-fill-begins .fill-begins .ensures .0) (told (c .before .some-over .result) (c .if1 .taken) (c .before .some-over .ensures))))
 
 follow-requires : tie.Need-follow-requires
 follow-requires c κs =
-    let a = c .before .before .before .before .before .before .before .before .before .args in
-    let filled = c .before .before .before .before .fill-begins in
-    let none = told-not (c .before .before .some-over .result) (c .before .if1 .left) (c .before .before .some-over .ensures) in
-    (c .before .before .before .before .before .before .before .before .before .pre, record { all = subst (Rows (a .clauses .now) (filled .last .1 .0)) (filled .ensures .0) (filled .ensures .1); below = not-over (a .path .now) (λ over. none (subst (λ k. NumberOver k (a .path .now)) (sym (filled .ensures .0)) over)) })
+    let at-some-over = c .before .before in
+    let at-fill-begins = at-some-over .before .before in
+    let at-start = at-fill-begins .before .before .before .before .before in
+    let a = at-start .args in
+    let filled = at-fill-begins .fill-begins in
+    let none = told-not (at-some-over .some-over .result) (c .before .if1 .left) (at-some-over .some-over .ensures) in
+    (at-start .pre, record { all = subst (Rows (a .clauses .now) (filled .last .1 .0)) (filled .ensures .0) (filled .ensures .1); below = not-over (a .path .now) (λ over. none (subst (λ k. NumberOver k (a .path .now)) (sym (filled .ensures .0)) over)) })
 
 returns-2 : tie.Need-returns-2
 returns-2 c =
-    let a = c .before .before .before .before .before .before .before .before .before .before .args in
-    let filled = c .before .before .before .before .before .fill-begins in
-    let none = told-not (c .before .before .before .some-over .result) (c .before .before .if1 .left) (c .before .before .before .some-over .ensures) in
+    let at-if1 = c .before .before in
+    let at-some-over = at-if1 .before in
+    let at-fill-begins = at-some-over .before .before in
+    let at-start = at-fill-begins .before .before .before .before .before in
+    let a = at-start .args in
+    let filled = at-fill-begins .fill-begins in
+    let none = told-not (at-some-over .some-over .result) (at-if1 .if1 .left) (at-some-over .some-over .ensures) in
     let over = NumberOver (length (clauses (a .clauses .now))) (a .path .now) in
     accepted-then (At0 13 over ∷ []) (PathCause (tabled (a .n) (a .levels .now) (a .universals .now)) (a .clauses .now) (a .x .0) (a .y .0) (a .path .now) ∷ []) {v = Accepted} (c .follow .result) refl
     (at0-none 13 (λ o. none (subst (λ k. NumberOver k (a .path .now)) (sym (filled .ensures .0)) o)), tt) (c .follow .ensures)
 
 pub known-pair-spec : {M : Type 1} → statement M
 known-pair-spec =
-    tie.close
-    (tie.spec
-    slice-aggregate-fill-begins
-    fill-begins-requires
-    some-over-requires
-    returns
-    slice-aggregate-follow
-    follow-requires
+    tie.close (tie.spec (λ c. search needs) (λ c κs. search needs) (λ c κs. search needs) returns (λ c. search needs) follow-requires
     returns-2)

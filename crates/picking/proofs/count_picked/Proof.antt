@@ -17,56 +17,41 @@ abbrev μ-loop : tie.MeasureT-loop
 
 loop-holds : tie.Need-loop-holds Inv-loop μ-loop
 loop-holds c =
-    let a = c .before .before .args in
-    count-none (a .n) (pick (a .asked) (a .n) (a .flags .now) (a .tops .now)) 0 (a .from) (c .before .before .pre .0) (c .before .before .pre .1)
-
-add-passed : tie.Need-add-passed Inv-loop μ-loop
-add-passed c = omega arith
-
-new-requires : tie.Need-new-requires Inv-loop μ-loop
-new-requires c κs = search needs
-
-picks-requires : tie.Need-picks-requires Inv-loop μ-loop
-picks-requires c κs = search needs
+    let at-start = c .before .before in
+    let a = at-start .args in
+    count-none (a .n) (pick (a .asked) (a .n) (a .flags .now) (a .tops .now)) 0 (a .from) (at-start .pre .0) (at-start .pre .1)
 
 add-count : tie.Need-add-count Inv-loop μ-loop
 add-count c =
-    let a = c .before .before .before .before .before .before .before .args in
-    let counted = c .before .before .before .before .loop .inv .counted in
-    omega (arith, picked-most (pick (a .asked) (a .n) (a .flags .now) (a .tops .now)) (c .before .before .before .before .loop .passed))
-
-loop-less : tie.Need-loop-less Inv-loop μ-loop
-loop-less c = omega arith
+    let at-loop = c .before .before .before .before in
+    let at-start = at-loop .before .before .before in
+    let a = at-start .args in
+    let counted = at-loop .loop .inv .counted in
+    omega (arith, picked-most (pick (a .asked) (a .n) (a .flags .now) (a .tops .now)) (at-loop .loop .passed))
 
 loop-again : tie.Need-loop-again Inv-loop μ-loop
-loop-again c = count-more (c .before .before .before .before .loop .inv) (c .before .before .before .loop-test .taken) (c .before .before .new .result .0) (c .before .picks .result) (c .before .before .new .ensures) (c .before .picks .ensures) (c .if1 .taken)
-
-loop-less-2 : tie.Need-loop-less-2 Inv-loop μ-loop
-loop-less-2 c = omega arith
+loop-again c =
+    let at-new = c .before .before in
+    let at-loop-test = at-new .before in
+    let at-loop = at-loop-test .before in
+    count-more (at-loop .loop .inv) (at-loop-test .loop-test .taken) (at-new .new .result .0) (c .before .picks .result) (at-new .new .ensures) (c .before .picks .ensures) (c .if1 .taken)
 
 loop-again-2 : tie.Need-loop-again-2 Inv-loop μ-loop
-loop-again-2 c = count-same (c .before .before .before .before .loop .inv) (c .before .before .before .loop-test .taken) (c .before .before .new .result .0) (c .before .picks .result) (c .before .before .new .ensures) (c .before .picks .ensures) (c .if1 .left)
+loop-again-2 c =
+    let at-new = c .before .before in
+    let at-loop-test = at-new .before in
+    let at-loop = at-loop-test .before in
+    count-same (at-loop .loop .inv) (at-loop-test .loop-test .taken) (at-new .new .result .0) (c .before .picks .result) (at-new .new .ensures) (c .before .picks .ensures) (c .if1 .left)
 
 returns : tie.Need-returns Inv-loop μ-loop
 returns c =
-    let a = c .before .before .before .before .args in
+    let at-start = c .before .before .before .before in
+    let a = at-start .args in
     let all = count-all (c .before .loop .inv) (c .loop-test .left) in
     let q : 0 + length (picked (pick (a .asked) (a .n) (a .flags .now) (a .tops .now)) (a .n)) ≡ length (picked (pick (a .asked) (a .n) (a .flags .now) (a .tops .now)) (a .n)) = omega arith in
     all ∙ q
 
 pub count-picked-spec : {M : Type 1} → statement M
 count-picked-spec =
-    tie.close
-    (tie.spec
-    Inv-loop
-    μ-loop
-    loop-holds
-    add-passed
-    new-requires
-    picks-requires
-    add-count
-    loop-less
-    loop-again
-    loop-less-2
-    loop-again-2
-    returns)
+    tie.close (tie.spec Inv-loop μ-loop loop-holds (λ c. omega arith) (λ c κs. search needs) (λ c κs. search needs) add-count
+    (λ c. omega arith) loop-again (λ c. omega arith) loop-again-2 returns)

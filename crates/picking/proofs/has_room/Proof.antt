@@ -8,16 +8,14 @@ use Rattle.picking.proofs.has_room.Tie as tie
 
 returns : tie.Need-returns
 returns c =
-    let a = c .before .before .before .args in
+    let at-start = c .before .before .before in
+    let a = at-start .args in
     let most = picked-most (pick (a .asked) (a .n) (a .flags .now) (a .tops .now)) (a .n) in
     let l = c .if1 .taken in
     omega arith
 
 count-picked-requires : tie.Need-count-picked-requires
 count-picked-requires c κs = (omega arith, λ v low high. absurd (omega arith))
-
-cast-if2 : tie.Need-cast-if2
-cast-if2 c = search needs
 
 returns-2 : tie.Need-returns-2
 returns-2 c = λ fit. let count = c .before .count-picked .ensures in let l = c .if2 .taken in omega arith
@@ -27,10 +25,4 @@ returns-3 c = let count = c .before .count-picked .ensures in let l = c .if2 .le
 
 pub has-room-spec : {M : Type 1} → statement M
 has-room-spec =
-    tie.close
-    (tie.spec
-    returns
-    count-picked-requires
-    cast-if2
-    returns-2
-    returns-3)
+    tie.close (tie.spec returns count-picked-requires (λ c. search needs) returns-2 returns-3)

@@ -6,33 +6,19 @@ use Rattle.resolution.proofs.Ruled.{PathList, path-later}
 use Rattle.resolution.proofs.resolution_set.Statement.{statement}
 use Rattle.resolution.proofs.resolution_set.Tie as tie
 
-set-as-read-requires : tie.Need-set-as-read-requires
-set-as-read-requires c κs = search needs
-
-same-length : tie.Need-same-length
-same-length c = search needs
-
 returns : tie.Need-returns
 returns c =
-    let a = c .before .before .before .before .before .before .before .args in
-    fills-one (a .rule) (a .n) (a .prefix .now) (length (a .clauses .now)) (PathList (a .n) (a .clauses .now) (a .x .0)) (path-later (a .n) (a .clauses .now) (a .x .0) (a .out .now)) (a .out .now) _ (c .before .before .set-as-read .result) (c .before .before .before .before .if1 .taken) (c .before .before .set-as-read .ensures)
-
-set-joined-requires : tie.Need-set-joined-requires
-set-joined-requires c κs = search needs
-
-same-length-2 : tie.Need-same-length-2
-same-length-2 c = search needs
+    let at-set-as-read = c .before .before in
+    let at-if1 = at-set-as-read .before .before in
+    let at-start = at-if1 .before .before .before in
+    let a = at-start .args in
+    fills-one (a .rule) (a .n) (a .prefix .now) (length (a .clauses .now)) (PathList (a .n) (a .clauses .now) (a .x .0)) (path-later (a .n) (a .clauses .now) (a .x .0) (a .out .now)) (a .out .now) _ (at-set-as-read .set-as-read .result) (at-if1 .if1 .taken) (at-set-as-read .set-as-read .ensures)
 
 returns-2 : tie.Need-returns-2
-returns-2 c = c .before .before .set-joined .ensures
+returns-2 c =
+    let at-set-joined = c .before .before in
+    at-set-joined .set-joined .ensures
 
 pub resolution-set-spec : {M : Type 1} → statement M
 resolution-set-spec =
-    tie.close
-    (tie.spec
-    set-as-read-requires
-    same-length
-    returns
-    set-joined-requires
-    same-length-2
-    returns-2)
+    tie.close (tie.spec (λ c κs. search needs) (λ c. search needs) returns (λ c κs. search needs) (λ c. search needs) returns-2)

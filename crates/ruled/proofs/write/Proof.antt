@@ -13,46 +13,35 @@ use Rattle.ruled.proofs.Texts.{small}
 use Rattle.ruled.proofs.write.Statement.{statement}
 use Rattle.ruled.proofs.write.Tie as tie
 
-check-requires : tie.Need-check-requires
-check-requires c κs = search needs
-
-enum-known-number : tie.Need-enum-known-number
-enum-known-number c = search needs
-
-enum-told : tie.Need-enum-told
-enum-told c = search needs
-
 write-accepted-requires : tie.Need-write-accepted-requires
 write-accepted-requires c κs =
-    let a = c .before .before .before .before .before .before .args in
-    let none = subst (CheckedUnder (a .rule) (a .n) (a .prefix .now) (a .clauses .now)) (c .before .enum-told .given .1) (c .before .before .before .check .ensures) in
+    let at-check = c .before .before .before in
+    let at-start = at-check .before .before .before in
+    let a = at-start .args in
+    let none = subst (CheckedUnder (a .rule) (a .n) (a .prefix .now) (a .clauses .now)) (c .before .enum-told .given .1) (at-check .check .ensures) in
     let (few, short, room) = limits (a .rule) (a .n) (a .prefix .now) (a .clauses .now) none in
     let (entries, literals) = small (a .rule) (a .n) (a .prefix .now) (a .clauses .now) none in
     (omega arith, short, room, entries, literals)
 
 returns : tie.Need-returns
 returns c =
-    let a = c .before .before .before .before .before .before .args in
-    (refused-first (checkOrderUnder (a .rule) (a .n) (a .prefix .now) (a .clauses .now)) (writeOrder (textOf (a .n) (a .prefix .now) (a .clauses .now)) (a .out .now)) (c .before .number .given .1) (c .before .before .before .check .ensures), refl)
-
-same-length : tie.Need-same-length
-same-length c = search needs
+    let at-check = c .before .before .before in
+    let at-start = at-check .before .before .before in
+    let a = at-start .args in
+    (refused-first (checkOrderUnder (a .rule) (a .n) (a .prefix .now) (a .clauses .now)) (writeOrder (textOf (a .n) (a .prefix .now) (a .clauses .now)) (a .out .now)) (c .before .number .given .1) (at-check .check .ensures), refl)
 
 returns-2 : tie.Need-returns-2
 returns-2 c =
-    let a = c .before .before .before .before .before .before .before .before .before .args in
-    let w = c .before .before .write-accepted in
-    let none = subst (CheckedUnder (a .rule) (a .n) (a .prefix .now) (a .clauses .now)) (c .before .before .before .before .enum-told .given .1) (c .before .before .before .before .before .before .check .ensures) in
+    let at-write-accepted = c .before .before in
+    let at-enum-told = at-write-accepted .before .before in
+    let at-check = at-enum-told .before .before in
+    let at-start = at-check .before .before .before in
+    let a = at-start .args in
+    let w = at-write-accepted .write-accepted in
+    let none = subst (CheckedUnder (a .rule) (a .n) (a .prefix .now) (a .clauses .now)) (at-enum-told .enum-told .given .1) (at-check .check .ensures) in
     writes-accepted (checkOrderUnder (a .rule) (a .n) (a .prefix .now) (a .clauses .now)) (textOf (a .n) (a .prefix .now) (a .clauses .now)) (a .out .now) _ (w .result) none (w .ensures)
 
 pub write-spec : {M : Type 1} → statement M
 write-spec =
-    tie.close
-    (tie.spec
-    check-requires
-    enum-known-number
-    enum-told
-    write-accepted-requires
-    returns
-    same-length
+    tie.close (tie.spec (λ c κs. search needs) (λ c. search needs) (λ c. search needs) write-accepted-requires returns (λ c. search needs)
     returns-2)

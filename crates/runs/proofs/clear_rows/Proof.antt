@@ -14,7 +14,9 @@ same-length : tie.Need-same-length
 same-length c = search needs
 
 returns : tie.Need-returns
-returns c = λ i low. c .before .before .clear-rows .ensures i (omega arith)
+returns c =
+    let at-clear-rows = c .before .before in
+    λ i low. at-clear-rows .clear-rows .ensures i (omega arith)
 
 pub clear-rows-spec : {M : Type 1} → statement M
 clear-rows-spec = tie.close (tie.spec add-clear-rows clear-rows-requires same-length returns)

@@ -18,7 +18,9 @@ returns : tie.Need-returns
 returns c = search needs
 
 returns-2 : tie.Need-returns-2
-returns-2 c = sym (List·getD-eq-default (c .before .before .args .rows .now) 0 (c .if1 .left))
+returns-2 c =
+    let at-start = c .before .before in
+    sym (List·getD-eq-default (at-start .args .rows .now) 0 (c .if1 .left))
 
 pub row-at-spec : {M : Type 1} → statement M
 row-at-spec = tie.close (tie.spec cast-at mul-result shared-slice-read-result returns returns-2)

@@ -44,7 +44,9 @@ climb-returns : (t : ℕ) → climb-lts.Need-returns (
   climb.Post,
 ) (climb-at t) climb.Post
 climb-returns t c =
-    climb-stops (c .before .before .before .before .before .args .n) (c .before .before .before .before .before .args .levels .now) (c .before .before .before .before .before .args .parents .now) (c .before .before .before .before .before .args .floor .0) (c .before .before .before .before .before .args .class .0) (c .before .before .before .before .before .args .rises) (c .before .before .before .before .before .pre .1 .1) (λ some. absurd (some (sym (c .before .before .row-of .ensures) ∙ c .if1 .taken)))
+    let at-row-of = c .before .before in
+    let at-start = at-row-of .before .before .before in
+    climb-stops (at-start .args .n) (at-start .args .levels .now) (at-start .args .parents .now) (at-start .args .floor .0) (at-start .args .class .0) (at-start .args .rises) (at-start .pre .1 .1) (λ some. absurd (some (sym (at-row-of .row-of .ensures) ∙ c .if1 .taken)))
 
 climb-level-at-requires : (t : ℕ) → climb-lts.Need-level-at-requires (
   row-of-reads.Asked,
@@ -65,7 +67,14 @@ climb-returns-2 : (t : ℕ) → climb-lts.Need-returns-2 (
   climb.Post,
 ) (climb-at t) climb.Post
 climb-returns-2 t c =
-    climb-stops (c .before .before .before .before .before .before .before .before .before .args .n) (c .before .before .before .before .before .before .before .before .before .args .levels .now) (c .before .before .before .before .before .before .before .before .before .args .parents .now) (c .before .before .before .before .before .before .before .before .before .args .floor .0) (c .before .before .before .before .before .before .before .before .before .args .class .0) (c .before .before .before .before .before .before .before .before .before .args .rises) (c .before .before .before .before .before .before .before .before .before .pre .1 .1) (λ some. let l : getD (c .before .before .before .before .before .before .before .before .before .args .levels .now) (row (c .before .before .before .before .before .before .before .before .before .args .n) (c .before .before .before .before .before .before .before .before .before .args .parents .now) (c .before .before .before .before .before .before .before .before .before .args .class .0)) 0 ≡ c .before .before .before .level-at .result .0 = ap (λ d. getD (c .before .before .before .before .before .before .before .before .before .args .levels .now) d 0) (sym (c .before .before .before .before .before .before .row-of .ensures)) ∙ sym (c .before .before .before .level-at .ensures) in let h = c .if2 .taken in omega arith)
+    let at-level-at = c .before .before .before in
+    let at-row-of = at-level-at .before .before .before in
+    let at-start = at-row-of .before .before .before in
+    let class = at-start .args .class .0 in
+    let levels = at-start .args .levels .now in
+    let n = at-start .args .n in
+    let parents = at-start .args .parents .now in
+    climb-stops n levels parents (at-start .args .floor .0) class (at-start .args .rises) (at-start .pre .1 .1) (λ some. let l : getD levels (row n parents class) 0 ≡ at-level-at .level-at .result .0 = ap (λ d. getD levels d 0) (sym (at-row-of .row-of .ensures)) ∙ sym (at-level-at .level-at .ensures) in let h = c .if2 .taken in omega arith)
 
 climb-add-climb : (t : ℕ) → climb-lts.Need-add-climb (
   row-of-reads.Asked,
@@ -76,7 +85,10 @@ climb-add-climb : (t : ℕ) → climb-lts.Need-add-climb (
   climb.Post,
 ) (climb-at t) climb.Post
 climb-add-climb t c =
-    let falls = c .before .before .before .before .before .before .before .before .before .pre .1 .0 (c .before .before .before .before .before .before .before .before .before .args .class .0) (λ z. c .before .before .before .before .if1 .left (c .before .before .before .before .before .before .row-of .ensures ∙ z)) in let small = c .before .before .before .before .before .before .before .before .before .pre .1 .2 in omega arith
+    let at-if1 = c .before .before .before .before in
+    let at-row-of = at-if1 .before .before in
+    let at-start = at-row-of .before .before .before in
+    let falls = at-start .pre .1 .0 (at-start .args .class .0) (λ z. at-if1 .if1 .left (at-row-of .row-of .ensures ∙ z)) in let small = at-start .pre .1 .2 in omega arith
 
 climb-climb-requires : (t : ℕ) → climb-lts.Need-climb-requires (
   row-of-reads.Asked,
@@ -87,14 +99,18 @@ climb-climb-requires : (t : ℕ) → climb-lts.Need-climb-requires (
   climb.Post,
 ) (climb-at t) climb.Post
 climb-climb-requires t c κs =
-    let a = c .before .before .before .before .before .before .before .before .before .args in
-    let falls-here = c .before .before .before .before .before .before .before .before .before .pre .1 .0 (a .class .0) (λ z. c .before .before .before .before .if1 .left (c .before .before .before .before .before .before .row-of .ensures ∙ z)) in
-    let same : getD (a .levels .now) (c .before .before .before .before .before .before .row-of .result .0) 0 ≡ getD (a .levels .now) (row (a .n) (a .parents .now) (a .class .0)) 0 = ap (λ d. getD (a .levels .now) d 0) (c .before .before .before .before .before .before .row-of .ensures) in
-    let level = c .before .before .before .level-at .ensures in
-    let small = c .before .before .before .before .before .before .before .before .before .pre .1 .2 in
+    let at-level-at = c .before .before .before in
+    let at-if1 = at-level-at .before in
+    let at-row-of = at-if1 .before .before in
+    let at-start = at-row-of .before .before .before in
+    let a = at-start .args in
+    let falls-here = at-start .pre .1 .0 (a .class .0) (λ z. at-if1 .if1 .left (at-row-of .row-of .ensures ∙ z)) in
+    let same : getD (a .levels .now) (at-row-of .row-of .result .0) 0 ≡ getD (a .levels .now) (row (a .n) (a .parents .now) (a .class .0)) 0 = ap (λ d. getD (a .levels .now) d 0) (at-row-of .row-of .ensures) in
+    let level = at-level-at .level-at .ensures in
+    let small = at-start .pre .1 .2 in
     let over = c .if2 .left in
-    let t-is = c .before .before .before .before .before .before .before .before .before .pre .0 in
-    (omega arith, (c .before .before .before .before .before .before .before .before .before .pre .1 .0, omega arith, omega arith))
+    let t-is = at-start .pre .0 in
+    (omega arith, (at-start .pre .1 .0, omega arith, omega arith))
 
 climb-returns-3 : (t : ℕ) → climb-lts.Need-returns-3 (
   row-of-reads.Asked,
@@ -105,7 +121,10 @@ climb-returns-3 : (t : ℕ) → climb-lts.Need-returns-3 (
   climb.Post,
 ) (climb-at t) climb.Post
 climb-returns-3 t c =
-    climb-goes (c .before .before .before .before .before .before .before .before .before .before .args .n) (c .before .before .before .before .before .before .before .before .before .before .args .levels .now) (c .before .before .before .before .before .before .before .before .before .before .args .parents .now) (c .before .before .before .before .before .before .before .before .before .before .args .floor .0) (c .before .before .before .before .before .before .before .before .before .before .args .class .0) (c .before .before .before .before .before .before .before .before .before .before .args .rises) (c .before .before .before .before .before .before .before .row-of .result .0) (c .before .before .before .before .before .before .before .row-of .ensures) (c .before .before .before .before .before .if1 .left) (c .climb .ensures)
+    let at-if1 = c .before .before .before .before .before in
+    let at-row-of = at-if1 .before .before in
+    let at-start = at-row-of .before .before .before in
+    climb-goes (at-start .args .n) (at-start .args .levels .now) (at-start .args .parents .now) (at-start .args .floor .0) (at-start .args .class .0) (at-start .args .rises) (at-row-of .row-of .result .0) (at-row-of .row-of .ensures) (at-if1 .if1 .left) (c .climb .ensures)
 
 pub +climb-spec : {M : Type 1} → statement M
 +climb-spec = close μ-climb λ t. climb-lts.spec (

@@ -18,24 +18,16 @@ abbrev μ-loop : tie.MeasureT-loop
 loop-holds : tie.Need-loop-holds Inv-loop μ-loop
 loop-holds c = (refl, λ v l. absurd (omega arith))
 
-mul-rows : tie.Need-mul-rows Inv-loop μ-loop
-mul-rows c = search needs
-
-slice-write-rows : tie.Need-slice-write-rows Inv-loop μ-loop
-slice-write-rows c = search needs
-
-add-i : tie.Need-add-i Inv-loop μ-loop
-add-i c = omega arith
-
 loop-less : tie.Need-loop-less Inv-loop μ-loop
 loop-less c = let size = c .before .loop .inv .0 in omega (arith, c .loop-test .taken)
 
 loop-again : tie.Need-loop-again Inv-loop μ-loop
 loop-again c =
+    let at-start = c .before .before in
     let inv = c .before .loop .inv in
     let rows = c .before .loop .rows in
     let i = c .before .loop .i in
-    (length-set rows i 0 ∙ inv .0, below-more _ i (λ v l. getD-set-other rows i v 0 0 (λ q. omega arith) ∙ inv .1 v l) (getD-set-same rows i 0 0 (let long = c .before .before .pre in let size = inv .0 in let less = c .loop-test .taken in omega arith)))
+    (length-set rows i 0 ∙ inv .0, below-more _ i (λ v l. getD-set-other rows i v 0 0 (λ q. omega arith) ∙ inv .1 v l) (getD-set-same rows i 0 0 (let long = at-start .pre in let size = inv .0 in let less = c .loop-test .taken in omega arith)))
 
 same-length : tie.Need-same-length Inv-loop μ-loop
 same-length c = c .before .loop .inv .0
@@ -45,15 +37,5 @@ returns c v l = c .before .loop .inv .1 v (let done = c .loop-test .left in omeg
 
 pub clear-rows-spec : {M : Type 1} → statement M
 clear-rows-spec =
-    tie.close
-    (tie.spec
-    Inv-loop
-    μ-loop
-    loop-holds
-    mul-rows
-    slice-write-rows
-    add-i
-    loop-less
-    loop-again
-    same-length
-    returns)
+    tie.close (tie.spec Inv-loop μ-loop loop-holds (λ c. search needs) (λ c. search needs) (λ c. omega arith) loop-less loop-again
+    same-length returns)

@@ -10,22 +10,27 @@ sub-place-behind c = search needs
 
 place-behind-requires : tie.Need-place-behind-requires
 place-behind-requires c κs =
-    let (sound, (x, small, low), known) = c .before .before .before .before .before .before .before .pre in
-    let less = c .before .before .if1 .taken in
+    let at-if1 = c .before .before in
+    let at-start = at-if1 .before .before .before .before .before in
+    let (sound, (x, small, low), known) = at-start .pre in
+    let less = at-if1 .if1 .taken in
     let (open′, here) = known (omega arith) in
     (sound, open′, (x, small, omega arith))
 
 returns : tie.Need-returns
 returns c =
-    let (sound, (x, small, low), known) = c .before .before .before .before .before .before .before .before .pre in
-    let less = c .before .before .before .if1 .taken in
+    let at-if1 = c .before .before .before in
+    let at-start = at-if1 .before .before .before .before .before in
+    let (sound, (x, small, low), known) = at-start .pre in
+    let less = at-if1 .if1 .taken in
     let here = known (omega arith) .1 in
     let (open′, there) = c .place-behind .ensures in
     (open′, omega arith)
 
 place-behind-requires-2 : tie.Need-place-behind-requires-2
 place-behind-requires-2 c κs =
-    let (sound, (x, small, low), known) = c .before .before .before .before .before .pre in
+    let at-start = c .before .before .before .before .before in
+    let (sound, (x, small, low), known) = at-start .pre in
     (sound, refl, (x, small, omega arith))
 
 returns-2 : tie.Need-returns-2

@@ -18,56 +18,38 @@ loop-holds : tie.Need-loop-holds Inv-loop μ-loop
 loop-holds c = seeking-none (c .args .prefix .now) (c .args .blocks) (c .args .place) (c .pre .1)
 
 returns : tie.Need-returns Inv-loop μ-loop
-returns c = seeking-found (c .before .before .before .pre .0 .1) (c .before .before .loop .inv) (c .if1 .taken)
-
-mul-if2 : tie.Need-mul-if2 Inv-loop μ-loop
-mul-if2 c = search needs
-
-shared-slice-read-if2 : tie.Need-shared-slice-read-if2 Inv-loop μ-loop
-shared-slice-read-if2 c = search needs
+returns c =
+    let at-loop = c .before .before in
+    let at-start = at-loop .before in
+    seeking-found (at-start .pre .0 .1) (at-loop .loop .inv) (c .if1 .taken)
 
 sub-left : tie.Need-sub-left Inv-loop μ-loop
-sub-left c = omega (arith, c .before .before .if1 .left)
-
-add-i : tie.Need-add-i Inv-loop μ-loop
-add-i c = omega arith
-
-loop-less : tie.Need-loop-less Inv-loop μ-loop
-loop-less c = omega arith
+sub-left c =
+    let at-if1 = c .before .before in
+    omega (arith, at-if1 .if1 .left)
 
 loop-again : tie.Need-loop-again Inv-loop μ-loop
-loop-again c = seeking-close (c .before .before .before .before .before .pre .0 .1) (c .before .before .before .before .loop .inv) (c .before .before .before .loop-test .taken) (c .if2 .taken)
-
-add-i-2 : tie.Need-add-i-2 Inv-loop μ-loop
-add-i-2 c = omega arith
-
-loop-less-2 : tie.Need-loop-less-2 Inv-loop μ-loop
-loop-less-2 c = omega arith
+loop-again c =
+    let at-loop-test = c .before .before .before in
+    let at-loop = at-loop-test .before in
+    let at-start = at-loop .before in
+    seeking-close (at-start .pre .0 .1) (at-loop .loop .inv) (at-loop-test .loop-test .taken) (c .if2 .taken)
 
 loop-again-2 : tie.Need-loop-again-2 Inv-loop μ-loop
-loop-again-2 c = seeking-on (c .before .before .before .before .before .pre .0 .1) (c .before .before .before .before .loop .inv) (c .if2 .left) (c .before .before .if1 .left)
+loop-again-2 c =
+    let at-if1 = c .before .before in
+    let at-loop = at-if1 .before .before in
+    let at-start = at-loop .before in
+    seeking-on (at-start .pre .0 .1) (at-loop .loop .inv) (c .if2 .left) (at-if1 .if1 .left)
 
 returns-2 : tie.Need-returns-2 Inv-loop μ-loop
 returns-2 c =
-    let (n, sound) = c .before .before .pre .0 in
-    let (x, small, low) = c .before .before .pre .2 in
+    let at-start = c .before .before in
+    let (n, sound) = at-start .pre .0 in
+    let (x, small, low) = at-start .pre .2 in
     seeking-end sound (c .before .loop .inv) (c .loop-test .left) x small low
 
 pub place-behind-spec : {M : Type 1} → statement M
 place-behind-spec =
-    tie.close
-    (tie.spec
-    Inv-loop
-    μ-loop
-    loop-holds
-    returns
-    mul-if2
-    shared-slice-read-if2
-    sub-left
-    add-i
-    loop-less
-    loop-again
-    add-i-2
-    loop-less-2
-    loop-again-2
-    returns-2)
+    tie.close (tie.spec Inv-loop μ-loop loop-holds returns (λ c. search needs) (λ c. search needs) sub-left (λ c. omega arith)
+    (λ c. omega arith) loop-again (λ c. omega arith) (λ c. omega arith) loop-again-2 returns-2)

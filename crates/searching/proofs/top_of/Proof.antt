@@ -11,8 +11,10 @@ row-of-requires c κs = search needs
 
 returns : tie.Need-returns
 returns c =
-    let a = c .before .before .before .before .before .before .args in
-    top-by-none (row (a .n) (a .tops .now) (row (a .n) (a .parents .now) (row (a .n) (a .classes .now) (a .v .0)))) (c .before .before .row-of .ensures) (c .if1 .taken)
+    let at-row-of = c .before .before in
+    let at-start = at-row-of .before .before .before .before in
+    let a = at-start .args in
+    top-by-none (row (a .n) (a .tops .now) (row (a .n) (a .parents .now) (row (a .n) (a .classes .now) (a .v .0)))) (at-row-of .row-of .ensures) (c .if1 .taken)
 
 row-of-requires-2 : tie.Need-row-of-requires-2
 row-of-requires-2 c κs = search needs
@@ -22,15 +24,25 @@ row-of-requires-3 c κs = search needs
 
 returns-2 : tie.Need-returns-2
 returns-2 c =
-    let a = c .before .before .before .before .before .before .before .before .before .before .args in
-    let above = c .before .before .row-of3 .ensures ∙ ap (row (a .n) (a .tops .now)) (c .before .before .before .row-of2 .ensures ∙ ap (row (a .n) (a .parents .now)) (c .before .before .before .before .before .before .row-of .ensures)) in
-    top-by-class (c .before .before .before .before .before .before .row-of .ensures) (c .before .before .before .before .if1 .left) above (c .if2 .taken)
+    let at-row-of3 = c .before .before in
+    let at-row-of2 = at-row-of3 .before in
+    let at-if1 = at-row-of2 .before in
+    let at-row-of = at-if1 .before .before in
+    let at-start = at-row-of .before .before .before .before in
+    let a = at-start .args in
+    let above = at-row-of3 .row-of3 .ensures ∙ ap (row (a .n) (a .tops .now)) (at-row-of2 .row-of2 .ensures ∙ ap (row (a .n) (a .parents .now)) (at-row-of .row-of .ensures)) in
+    top-by-class (at-row-of .row-of .ensures) (at-if1 .if1 .left) above (c .if2 .taken)
 
 returns-3 : tie.Need-returns-3
 returns-3 c =
-    let a = c .before .before .before .before .before .before .before .before .before .before .args in
-    let above = c .before .before .row-of3 .ensures ∙ ap (row (a .n) (a .tops .now)) (c .before .before .before .row-of2 .ensures ∙ ap (row (a .n) (a .parents .now)) (c .before .before .before .before .before .before .row-of .ensures)) in
-    top-by-above (c .before .before .before .before .before .before .row-of .ensures) (c .before .before .before .before .if1 .left) above (c .if2 .left)
+    let at-row-of3 = c .before .before in
+    let at-row-of2 = at-row-of3 .before in
+    let at-if1 = at-row-of2 .before in
+    let at-row-of = at-if1 .before .before in
+    let at-start = at-row-of .before .before .before .before in
+    let a = at-start .args in
+    let above = at-row-of3 .row-of3 .ensures ∙ ap (row (a .n) (a .tops .now)) (at-row-of2 .row-of2 .ensures ∙ ap (row (a .n) (a .parents .now)) (at-row-of .row-of .ensures)) in
+    top-by-above (at-row-of .row-of .ensures) (at-if1 .if1 .left) above (c .if2 .left)
 
 pub top-of-spec : {M : Type 1} → statement M
 top-of-spec =

@@ -19,41 +19,25 @@ abbrev μ-loop : tie.MeasureT-loop
 loop-holds : tie.Need-loop-holds Inv-loop μ-loop
 loop-holds c = (omega arith, λ v low high. absurd (omega arith))
 
-add-v : tie.Need-add-v Inv-loop μ-loop
-add-v c = omega arith
-
-new-requires : tie.Need-new-requires Inv-loop μ-loop
-new-requires c κs = search needs
-
-row-of-requires : tie.Need-row-of-requires Inv-loop μ-loop
-row-of-requires c κs = search needs
-
 returns : tie.Need-returns Inv-loop μ-loop
-returns c = c .before .before .before .before .before .loop .inv
-
-loop-less : tie.Need-loop-less Inv-loop μ-loop
-loop-less c = omega arith
+returns c =
+    let at-loop = c .before .before .before .before .before in
+    at-loop .loop .inv
 
 loop-again : tie.Need-loop-again Inv-loop μ-loop
 loop-again c =
-    let a = c .before .before .before .before .before .before .before .args in
-    let is = c .before .before .before .new .ensures in
-    (omega arith, λ v low high. by-cases (ℕ-discrete v (c .before .before .before .new .result .0)) (λ q. ap (row (a .n) (a .tops .now)) q ∙ sym (c .before .before .row-of .ensures) ∙ c .if1 .left) (λ other. c .before .before .before .before .before .loop .inv .1 v low (omega arith)))
+    let at-row-of = c .before .before in
+    let at-new = at-row-of .before in
+    let at-loop = at-new .before .before in
+    let at-start = at-loop .before .before in
+    let a = at-start .args in
+    let is = at-new .new .ensures in
+    (omega arith, λ v low high. by-cases (ℕ-discrete v (at-new .new .result .0)) (λ q. ap (row (a .n) (a .tops .now)) q ∙ sym (at-row-of .row-of .ensures) ∙ c .if1 .left) (λ other. at-loop .loop .inv .1 v low (omega arith)))
 
 returns-2 : tie.Need-returns-2 Inv-loop μ-loop
 returns-2 c = c .before .loop .inv
 
 pub topless-spec : {M : Type 1} → statement M
 topless-spec =
-    tie.close
-    (tie.spec
-    Inv-loop
-    μ-loop
-    loop-holds
-    add-v
-    new-requires
-    row-of-requires
-    returns
-    loop-less
-    loop-again
-    returns-2)
+    tie.close (tie.spec Inv-loop μ-loop loop-holds (λ c. omega arith) (λ c κs. search needs) (λ c κs. search needs) returns
+    (λ c. omega arith) loop-again returns-2)

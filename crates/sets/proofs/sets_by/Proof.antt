@@ -12,42 +12,31 @@ use borrow.Author.Needs.{needs}
 use Rattle.sets.proofs.sets_by.Statement.{statement}
 use Rattle.sets.proofs.sets_by.Tie as tie
 
-check-requires : tie.Need-check-requires
-check-requires c κs = search needs
-
-enum-known-number : tie.Need-enum-known-number
-enum-known-number c = search needs
-
-enum-told : tie.Need-enum-told
-enum-told c = search needs
-
 sound-sets-requires : tie.Need-sound-sets-requires
 sound-sets-requires c κs =
-    let a = c .before .before .before .before .before .before .before .before .before .args in
-    let none = subst (Judged (checkOrder (a .n) (a .prefix .now) (a .clauses .now))) (c .before .enum-told .given .1) (c .before .before .before .check .ensures) in
+    let at-check = c .before .before .before in
+    let at-start = at-check .before .before .before .before .before .before in
+    let a = at-start .args in
+    let none = subst (Judged (checkOrder (a .n) (a .prefix .now) (a .clauses .now))) (c .before .enum-told .given .1) (at-check .check .ensures) in
     (sound-check none, sound-clauses none, sound-closed none)
 
 returns : tie.Need-returns
 returns c =
-    let a = c .before .before .before .before .before .before .before .before .before .args in
-    (refused-first (checkOrder (a .n) (a .prefix .now) (a .clauses .now)) (ForestCause (a .n) (a .prefix .now) (a .classes .now) (a .parents .now) (a .counts .now) ∷ At0 14 (SetsTooLongBy (a .scheme) (a .n) (a .prefix .now) (a .clauses .now) (a .classes .now) (a .parents .now) (a .out .now)) ∷ []) (c .before .number .given .1) (c .before .before .before .check .ensures), refl)
-
-same-length : tie.Need-same-length
-same-length c = search needs
+    let at-check = c .before .before .before in
+    let at-start = at-check .before .before .before .before .before .before in
+    let a = at-start .args in
+    (refused-first (checkOrder (a .n) (a .prefix .now) (a .clauses .now)) (ForestCause (a .n) (a .prefix .now) (a .classes .now) (a .parents .now) (a .counts .now) ∷ At0 14 (SetsTooLongBy (a .scheme) (a .n) (a .prefix .now) (a .clauses .now) (a .classes .now) (a .parents .now) (a .out .now)) ∷ []) (c .before .number .given .1) (at-check .check .ensures), refl)
 
 returns-2 : tie.Need-returns-2
 returns-2 c =
-    let a = c .before .before .before .before .before .before .before .before .before .before .before .before .args in
-    filling-then (checkOrder (a .n) (a .prefix .now) (a .clauses .now)) (ForestCause (a .n) (a .prefix .now) (a .classes .now) (a .parents .now) (a .counts .now) ∷ At0 14 (SetsTooLongBy (a .scheme) (a .n) (a .prefix .now) (a .clauses .now) (a .classes .now) (a .parents .now) (a .out .now)) ∷ []) (AllSetsBy (a .scheme) (a .n) (a .prefix .now) (a .clauses .now) (a .classes .now) (a .parents .now)) (a .out .now) (c .before .before .sound-sets .last .1 .1 .1 .1 .1 .1 .1 .0) (c .before .before .before .before .enum-told .given .1) (c .before .before .before .before .before .before .check .ensures) (c .before .before .sound-sets .result) (c .before .before .sound-sets .ensures)
+    let at-sound-sets = c .before .before in
+    let at-enum-told = at-sound-sets .before .before in
+    let at-check = at-enum-told .before .before in
+    let at-start = at-check .before .before .before .before .before .before in
+    let a = at-start .args in
+    filling-then (checkOrder (a .n) (a .prefix .now) (a .clauses .now)) (ForestCause (a .n) (a .prefix .now) (a .classes .now) (a .parents .now) (a .counts .now) ∷ At0 14 (SetsTooLongBy (a .scheme) (a .n) (a .prefix .now) (a .clauses .now) (a .classes .now) (a .parents .now) (a .out .now)) ∷ []) (AllSetsBy (a .scheme) (a .n) (a .prefix .now) (a .clauses .now) (a .classes .now) (a .parents .now)) (a .out .now) (at-sound-sets .sound-sets .last .1 .1 .1 .1 .1 .1 .1 .0) (at-enum-told .enum-told .given .1) (at-check .check .ensures) (at-sound-sets .sound-sets .result) (at-sound-sets .sound-sets .ensures)
 
 pub sets-by-spec : {M : Type 1} → statement M
 sets-by-spec =
-    tie.close
-    (tie.spec
-    check-requires
-    enum-known-number
-    enum-told
-    sound-sets-requires
-    returns
-    same-length
+    tie.close (tie.spec (λ c κs. search needs) (λ c. search needs) (λ c. search needs) sound-sets-requires returns (λ c. search needs)
     returns-2)

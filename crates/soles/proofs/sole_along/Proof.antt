@@ -23,88 +23,78 @@ Inv-loop signs n clauses first next tops sole₀ at₀ sole at =
 abbrev μ-loop : tie.MeasureT-loop
 μ-loop signs n clauses first next tops sole₀ at₀ sole at = at
 
-new-requires : tie.Need-new-requires Inv-loop μ-loop
-new-requires c κs = search needs
-
-cast-at : tie.Need-cast-at Inv-loop μ-loop
-cast-at c = search needs
-
-mul-at : tie.Need-mul-at Inv-loop μ-loop
-mul-at c = search needs
-
 shared-slice-read-at : tie.Need-shared-slice-read-at Inv-loop μ-loop
-shared-slice-read-at c = c .before .before .before .before .before .before .pre .heads
+shared-slice-read-at c =
+    let at-start = c .before .before .before .before .before .before in
+    at-start .pre .heads
 
 loop-holds : tie.Need-loop-holds Inv-loop μ-loop
 loop-holds c =
-    let a = c .before .before .before .before .before .before .args in
-    (λ x noted. follow-none (a .n) (a .tops .now) (a .clauses .now) (a .next .now) (a .signs) x (getD (a .first .now) (a .x .0) 0) (λ _. Unit {0}) (Is (c .before .before .new .result .0)) noted, (a .x .0, λ p o. c .before .before .before .before .before .before .pre .threaded .sound (a .x .0) p o), omega (arith, c .shared-slice-known4 .given (a .x .0)))
-
-sub-entry : tie.Need-sub-entry Inv-loop μ-loop
-sub-entry c = omega arith
+    let at-new = c .before .before in
+    let at-start = at-new .before .before .before .before in
+    let a = at-start .args in
+    (λ x noted. follow-none (a .n) (a .tops .now) (a .clauses .now) (a .next .now) (a .signs) x (getD (a .first .now) (a .x .0) 0) (λ _. Unit {0}) (Is (at-new .new .result .0)) noted, (a .x .0, λ p o. at-start .pre .threaded .sound (a .x .0) p o), omega (arith, c .shared-slice-known4 .given (a .x .0)))
 
 cast-entry : tie.Need-cast-entry Inv-loop μ-loop
 cast-entry c = let small = c .before .loop .inv .2 in omega arith
 
 mul-row : tie.Need-mul-row Inv-loop μ-loop
 mul-row c =
+    let at-start = c .before .before .before .before .before .before .before .before in
     let loop = c .before .loop in
     let some = c .loop-test .taken in
     let (less, falls) = follow-link (loop .inv .0 (loop .inv .1 .0) (loop .inv .1 .1)) (λ z. omega arith) in
-    let room = c .before .before .before .before .before .before .before .before .pre .links in
+    let room = at-start .pre .links in
     omega arith
 
 shared-slice-read-row : tie.Need-shared-slice-read-row Inv-loop μ-loop
 shared-slice-read-row c =
-    let loop = c .before .before .loop in
+    let at-loop = c .before .before in
+    let at-start = at-loop .before .before .before .before .before .before .before in
+    let loop = at-loop .loop in
     let some = c .before .loop-test .taken in
     let (less, falls) = follow-link (loop .inv .0 (loop .inv .1 .0) (loop .inv .1 .1)) (λ z. omega arith) in
-    let room = c .before .before .before .before .before .before .before .before .before .pre .links in
+    let room = at-start .pre .links in
     omega arith
 
-literal-at-requires : tie.Need-literal-at-requires Inv-loop μ-loop
-literal-at-requires c κs = search needs
-
-side-of-requires : tie.Need-side-of-requires Inv-loop μ-loop
-side-of-requires c κs = search needs
-
-has-sign-requires : tie.Need-has-sign-requires Inv-loop μ-loop
-has-sign-requires c κs = search needs
-
 cast-sole-after : tie.Need-cast-sole-after Inv-loop μ-loop
-cast-sole-after c = omega (arith, c .before .before .before .before .shared-slice-known5 .given (c .before .before .before .before .before .before .loop .at - 1))
-
-sole-after-requires : tie.Need-sole-after-requires Inv-loop μ-loop
-sole-after-requires c κs = search needs
-
-enum-told : tie.Need-enum-told Inv-loop μ-loop
-enum-told c = search needs
+cast-sole-after c =
+    let at-shared-slice-known5 = c .before .before .before .before in
+    let at-loop = at-shared-slice-known5 .before .before in
+    omega (arith, at-shared-slice-known5 .shared-slice-known5 .given (at-loop .loop .at - 1))
 
 returns : tie.Need-returns Inv-loop μ-loop
 returns c = tt
 
-enum-known-top : tie.Need-enum-known-top Inv-loop μ-loop
-enum-known-top c = search needs
-
 loop-less : tie.Need-loop-less Inv-loop μ-loop
 loop-less c =
-    let loop = c .before .before .before .before .before .before .before .before .before .before .loop in
-    let some = c .before .before .before .before .before .before .before .before .before .loop-test .taken in
+    let at-loop-test = c .before .before .before .before .before .before .before .before .before in
+    let at-loop = at-loop-test .before in
+    let loop = at-loop .loop in
+    let some = at-loop-test .loop-test .taken in
     let (less, falls) = follow-link (loop .inv .0 (loop .inv .1 .0) (loop .inv .1 .1)) (λ z. omega arith) in
     omega arith
 
 loop-again : tie.Need-loop-again Inv-loop μ-loop
 loop-again c =
-    let a = c .before .before .before .before .before .before .before .before .before .before .before .before .before .before .before .before .before .args in
-    let loop = c .before .before .before .before .before .before .before .before .before .before .loop in
-    let some = c .before .before .before .before .before .before .before .before .before .loop-test .taken in
+    let at-sole-after = c .before .before .before in
+    let at-if1 = at-sole-after .before in
+    let at-has-sign = at-if1 .before in
+    let at-side-of = at-has-sign .before in
+    let at-literal-at = at-side-of .before in
+    let at-loop-test = at-literal-at .before .before in
+    let at-loop = at-loop-test .before in
+    let at-start = at-loop .before .before .before .before .before .before .before in
+    let a = at-start .args in
+    let loop = at-loop .loop in
+    let some = at-loop-test .loop-test .taken in
     let is : loop .at ≡ suc (loop .at - 1) = omega arith in
-    let side = c .before .before .before .before .before .before .side-of in (
+    let side = at-side-of .side-of in (
       λ x noted.
           let f = loop .inv .0 x noted in
-          let own = side-has (a .signs) (side .result) (λ (sign : Bool). literalAt (a .clauses .now) (loop .at - 1) ≡ signed sign x) (sym (c .before .before .before .before .before .has-sign .ensures) ∙ c .before .before .before .before .if1 .taken) (follow-side f (loop .at - 1) is (side .result) (c .before .before .before .before .before .before .before .literal-at .result .0) (c .before .before .before .before .before .before .before .literal-at .ensures) (side .ensures)) in
+          let own = side-has (a .signs) (side .result) (λ (sign : Bool). literalAt (a .clauses .now) (loop .at - 1) ≡ signed sign x) (sym (at-has-sign .has-sign .ensures) ∙ at-if1 .if1 .taken) (follow-side f (loop .at - 1) is (side .result) (at-literal-at .literal-at .result .0) (at-literal-at .literal-at .ensures) (side .ensures)) in
           let (z, next, _) = follow-clause f (loop .at - 1) is in
-          let told = subst (λ s. SoleOf s (λ e. Is (loop .sole .0) e ⊎ Via (a .n) (a .tops .now) (Has (a .clauses .now) (getD (a .next .now) (loop .at - 1) 0 / 65536) z) e)) (c .before .top .given .1) (c .before .before .before .sole-after .ensures z next) in
+          let told = subst (λ s. SoleOf s (λ e. Is (loop .sole .0) e ⊎ Via (a .n) (a .tops .now) (Has (a .clauses .now) (getD (a .next .now) (loop .at - 1) 0 / 65536) z) e)) (c .before .top .given .1) (at-sole-after .sole-after .ensures z next) in
           follow-more f (loop .at - 1) is _ z own next (λ e _. told e),
       loop .inv .1,
       omega arith,
@@ -112,21 +102,28 @@ loop-again c =
 
 loop-less-2 : tie.Need-loop-less-2 Inv-loop μ-loop
 loop-less-2 c =
-    let loop = c .before .before .before .before .before .before .loop in
-    let some = c .before .before .before .before .before .loop-test .taken in
+    let at-loop-test = c .before .before .before .before .before in
+    let at-loop = at-loop-test .before in
+    let loop = at-loop .loop in
+    let some = at-loop-test .loop-test .taken in
     let (less, falls) = follow-link (loop .inv .0 (loop .inv .1 .0) (loop .inv .1 .1)) (λ z. omega arith) in
     omega arith
 
 loop-again-2 : tie.Need-loop-again-2 Inv-loop μ-loop
 loop-again-2 c =
-    let a = c .before .before .before .before .before .before .before .before .before .before .before .before .before .args in
-    let loop = c .before .before .before .before .before .before .loop in
-    let some = c .before .before .before .before .before .loop-test .taken in
+    let at-side-of = c .before .before in
+    let at-literal-at = at-side-of .before in
+    let at-loop-test = at-literal-at .before .before in
+    let at-loop = at-loop-test .before in
+    let at-start = at-loop .before .before .before .before .before .before .before in
+    let a = at-start .args in
+    let loop = at-loop .loop in
+    let some = at-loop-test .loop-test .taken in
     let is : loop .at ≡ suc (loop .at - 1) = omega arith in
-    let side = c .before .before .side-of in (
+    let side = at-side-of .side-of in (
       λ x noted.
           let f = loop .inv .0 x noted in
-          let told = follow-side f (loop .at - 1) is (side .result) (c .before .before .before .literal-at .result .0) (c .before .before .before .literal-at .ensures) (side .ensures) in
+          let told = follow-side f (loop .at - 1) is (side .result) (at-literal-at .literal-at .result .0) (at-literal-at .literal-at .ensures) (side .ensures) in
           follow-past f (loop .at - 1) is (side-not (a .signs) (side .result) (λ (sign : Bool). literalAt (a .clauses .now) (loop .at - 1) ≡ signed sign x) (sym (c .before .has-sign .ensures) ∙ c .if1 .left) told (follow-apart f (loop .at - 1) is)),
       loop .inv .1,
       omega arith,
@@ -134,36 +131,16 @@ loop-again-2 c =
 
 returns-2 : tie.Need-returns-2 Inv-loop μ-loop
 returns-2 c =
-    let a = c .before .before .before .before .before .before .before .before .args in
-    let tied = c .before .before .before .before .before .before .before .before .pre in
+    let at-new = c .before .before .before .before in
+    let at-start = at-new .before .before .before .before in
+    let a = at-start .args in
+    let tied = at-start .pre in
     λ e. let all = follow-all (c .before .loop .inv .0 (a .x .0) (λ p o. tied .threaded .sound (a .x .0) p o)) (tied .universals) (a .first .now) refl (tied .threaded) (tied .universal) (c .loop-test .left) e tt in
-    (λ t. ⊎-elim (λ o. absurd (o .1 (o .0 ∙ c .before .before .before .before .new .ensures))) (λ v. v) (all .0 t), λ v. all .1 (inr v))
+    (λ t. ⊎-elim (λ o. absurd (o .1 (o .0 ∙ at-new .new .ensures))) (λ v. v) (all .0 t), λ v. all .1 (inr v))
 
 pub sole-along-spec : {M : Type 1} → statement M
 sole-along-spec =
-    tie.close
-    (tie.spec
-    Inv-loop
-    μ-loop
-    new-requires
-    cast-at
-    mul-at
-    shared-slice-read-at
-    loop-holds
-    sub-entry
-    cast-entry
-    mul-row
-    shared-slice-read-row
-    literal-at-requires
-    side-of-requires
-    has-sign-requires
-    cast-sole-after
-    sole-after-requires
-    enum-told
-    returns
-    enum-known-top
-    loop-less
-    loop-again
-    loop-less-2
-    loop-again-2
+    tie.close (tie.spec Inv-loop μ-loop (λ c κs. search needs) (λ c. search needs) (λ c. search needs) shared-slice-read-at loop-holds
+    (λ c. omega arith) cast-entry mul-row shared-slice-read-row (λ c κs. search needs) (λ c κs. search needs) (λ c κs. search needs)
+    cast-sole-after (λ c κs. search needs) (λ c. search needs) returns (λ c. search needs) loop-less loop-again loop-less-2 loop-again-2
     returns-2)

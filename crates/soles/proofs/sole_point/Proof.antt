@@ -26,12 +26,14 @@ sole-both-requires c κs = search needs
 
 returns : tie.Need-returns
 returns c =
-    let a = c .before .before .before .before .before .before .args in
+    let at-start = c .before .before .before .before .before .before in
+    let a = at-start .args in
     subst (λ scheme. SoleOf (c .sole-along .result) (λ e. Takes scheme (λ (sign : Bool). Via (a .n) (a .tops .now) (Together (a .clauses .now) sign (a .x .0)) e))) (sym (c .before .enum-told .given .1)) (sole-as (λ e. (via-or, ⊎-elim (via-as (λ y. inl)) (via-as (λ y. inr)))) (c .sole-along .result) (c .sole-along .ensures))
 
 returns-2 : tie.Need-returns-2
 returns-2 c =
-    let a = c .before .before .before .before .before .before .args in
+    let at-start = c .before .before .before .before .before .before in
+    let a = at-start .args in
     subst (λ scheme. SoleOf (c .sole-both .result) (λ e. Takes scheme (λ (sign : Bool). Via (a .n) (a .tops .now) (Together (a .clauses .now) sign (a .x .0)) e))) (sym (c .before .enum-told2 .given .1)) (c .sole-both .ensures)
 
 pub sole-point-spec : {M : Type 1} → statement M

@@ -15,80 +15,84 @@ abbrev μ-loop : tie.MeasureT-loop
 μ-loop depths classes₀ parents₀ clause deep i₀ classes parents i = length clause - i
 
 loop-holds : tie.Need-loop-holds Inv-loop μ-loop
-loop-holds c = join-none _ _ (c .before .before .before .pre .0)
-
-variable-at-requires : tie.Need-variable-at-requires Inv-loop μ-loop
-variable-at-requires c κs = search needs
+loop-holds c =
+    let at-start = c .before .before .before in
+    join-none _ _ (at-start .pre .0)
 
 cast-here : tie.Need-cast-here Inv-loop μ-loop
-cast-here c = let r = c .before .before .before .before .before .before .before .pre .1 (c .before .before .before .loop .i) (c .before .before .loop-test .taken) in omega (arith, c .before .variable-at .ensures)
+cast-here c =
+    let at-loop-test = c .before .before in
+    let at-loop = at-loop-test .before in
+    let at-start = at-loop .before .before .before .before in
+    let r = at-start .pre .1 (at-loop .loop .i) (at-loop-test .loop-test .taken) in omega (arith, c .before .variable-at .ensures)
 
 mul-here : tie.Need-mul-here Inv-loop μ-loop
-mul-here c = let r = c .before .before .before .before .before .before .before .pre .1 (c .before .before .before .loop .i) (c .before .before .loop-test .taken) in omega (arith, c .before .variable-at .ensures)
+mul-here c =
+    let at-loop-test = c .before .before in
+    let at-loop = at-loop-test .before in
+    let at-start = at-loop .before .before .before .before in
+    let r = at-start .pre .1 (at-loop .loop .i) (at-loop-test .loop-test .taken) in omega (arith, c .before .variable-at .ensures)
 
 shared-slice-read-here : tie.Need-shared-slice-read-here Inv-loop μ-loop
-shared-slice-read-here c = let r = c .before .before .before .before .before .before .before .before .pre .1 (c .before .before .before .before .loop .i) (c .before .before .before .loop-test .taken) in omega (arith, c .before .before .variable-at .ensures, c .before .before .before .before .before .before .before .before .pre .0 .sizes .0)
-
-add-i : tie.Need-add-i Inv-loop μ-loop
-add-i c = omega arith
-
-loop-less : tie.Need-loop-less Inv-loop μ-loop
-loop-less c = omega arith
+shared-slice-read-here c =
+    let at-variable-at = c .before .before in
+    let at-loop-test = at-variable-at .before in
+    let at-loop = at-loop-test .before in
+    let at-start = at-loop .before .before .before .before in
+    let r = at-start .pre .1 (at-loop .loop .i) (at-loop-test .loop-test .taken) in omega (arith, at-variable-at .variable-at .ensures, at-start .pre .0 .sizes .0)
 
 loop-again : tie.Need-loop-again Inv-loop μ-loop
-loop-again c = join-skip (c .before .before .before .before .before .before .before .before .before .pre .2) (c .before .before .before .before .before .loop .inv) (c .before .before .before .variable-at .result .0) (c .before .before .before .before .loop-test .taken) (c .before .before .before .variable-at .ensures) (c .if1 .taken)
-
-add-i-2 : tie.Need-add-i-2 Inv-loop μ-loop
-add-i-2 c = omega arith
-
-loop-less-2 : tie.Need-loop-less-2 Inv-loop μ-loop
-loop-less-2 c = omega arith
+loop-again c =
+    let at-variable-at = c .before .before .before in
+    let at-loop-test = at-variable-at .before in
+    let at-loop = at-loop-test .before in
+    let at-start = at-loop .before .before .before .before in
+    join-skip (at-start .pre .2) (at-loop .loop .inv) (at-variable-at .variable-at .result .0) (at-loop-test .loop-test .taken) (at-variable-at .variable-at .ensures) (c .if1 .taken)
 
 loop-again-2 : tie.Need-loop-again-2 Inv-loop μ-loop
-loop-again-2 c = join-own (c .before .before .before .before .before .before .before .before .before .before .before .before .pre .2) (c .before .before .before .before .before .before .before .before .loop .inv) (c .before .before .before .before .before .before .variable-at .result .0) (c .before .before .before .before .before .before .before .loop-test .taken) (c .before .before .before .before .before .before .variable-at .ensures) (c .if2 .taken)
+loop-again-2 c =
+    let at-variable-at = c .before .before .before .before .before .before in
+    let at-loop-test = at-variable-at .before in
+    let at-loop = at-loop-test .before in
+    let at-start = at-loop .before .before .before .before in
+    join-own (at-start .pre .2) (at-loop .loop .inv) (at-variable-at .variable-at .result .0) (at-loop-test .loop-test .taken) (at-variable-at .variable-at .ensures) (c .if2 .taken)
 
 merge-requires : tie.Need-merge-requires Inv-loop μ-loop
-merge-requires c κs = (c .before .before .before .before .before .before .before .before .before .before .loop .inv .growing, join-pending (c .before .before .before .before .before .before .before .before .before .before .before .before .before .before .pre .2) (c .before .before .before .before .before .before .before .before .before .before .loop .inv) (c .before .before .before .before .before .before .before .before .variable-at .result .0) (c .before .before .before .before .before .before .before .before .before .loop-test .taken) (c .before .before .before .before .before .before .before .before .variable-at .ensures) (c .before .before .before .before .before .if1 .left))
-
-add-i-3 : tie.Need-add-i-3 Inv-loop μ-loop
-add-i-3 c = omega arith
-
-loop-less-3 : tie.Need-loop-less-3 Inv-loop μ-loop
-loop-less-3 c = omega arith
+merge-requires c κs =
+    let at-if1 = c .before .before .before .before .before in
+    let at-variable-at = at-if1 .before .before .before in
+    let at-loop-test = at-variable-at .before in
+    let at-loop = at-loop-test .before in
+    let at-start = at-loop .before .before .before .before in
+    (at-loop .loop .inv .growing, join-pending (at-start .pre .2) (at-loop .loop .inv) (at-variable-at .variable-at .result .0) (at-loop-test .loop-test .taken) (at-variable-at .variable-at .ensures) (at-if1 .if1 .left))
 
 loop-again-3 : tie.Need-loop-again-3 Inv-loop μ-loop
-loop-again-3 c = join-one (c .before .before .before .before .before .before .before .before .before .before .before .before .before .before .before .before .before .before .before .pre .2) (c .before .before .before .before .before .before .before .before .before .before .before .before .before .before .before .loop .inv) (c .before .before .before .before .before .before .before .before .before .before .before .before .before .variable-at .result .0) (c .before .before .before .before .before .before .before .before .before .before .before .before .before .before .loop-test .taken) (c .before .before .before .before .before .before .before .before .before .before .before .before .before .variable-at .ensures) (c .before .before .before .before .before .before .before .before .before .before .if1 .left) (c .before .before .before .before .merge .ensures)
+loop-again-3 c =
+    let at-merge = c .before .before .before .before in
+    let at-if1 = at-merge .before .before .before .before .before .before in
+    let at-variable-at = at-if1 .before .before .before in
+    let at-loop-test = at-variable-at .before in
+    let at-loop = at-loop-test .before in
+    let at-start = at-loop .before .before .before .before in
+    join-one (at-start .pre .2) (at-loop .loop .inv) (at-variable-at .variable-at .result .0) (at-loop-test .loop-test .taken) (at-variable-at .variable-at .ensures) (at-if1 .if1 .left) (at-merge .merge .ensures)
 
 same-length : tie.Need-same-length Inv-loop μ-loop
-same-length c = c .before .loop .inv .growing .sizes .1 ∙ sym (c .before .before .before .before .before .pre .0 .sizes .1)
+same-length c =
+    let at-start = c .before .before .before .before .before in
+    c .before .loop .inv .growing .sizes .1 ∙ sym (at-start .pre .0 .sizes .1)
 
 same-length-2 : tie.Need-same-length-2 Inv-loop μ-loop
-same-length-2 c = c .before .loop .inv .growing .sizes .2 ∙ sym (c .before .before .before .before .before .pre .0 .sizes .2)
+same-length-2 c =
+    let at-start = c .before .before .before .before .before in
+    c .before .loop .inv .growing .sizes .2 ∙ sym (at-start .pre .0 .sizes .2)
 
 returns : tie.Need-returns Inv-loop μ-loop
-returns c = joined-all (c .before .before .before .before .before .pre .2) (c .before .loop .inv) (c .loop-test .left)
+returns c =
+    let at-start = c .before .before .before .before .before in
+    joined-all (at-start .pre .2) (c .before .loop .inv) (c .loop-test .left)
 
 pub join-all-spec : {M : Type 1} → statement M
 join-all-spec =
-    tie.close
-    (tie.spec
-    Inv-loop
-    μ-loop
-    loop-holds
-    variable-at-requires
-    cast-here
-    mul-here
-    shared-slice-read-here
-    add-i
-    loop-less
-    loop-again
-    add-i-2
-    loop-less-2
-    loop-again-2
-    merge-requires
-    add-i-3
-    loop-less-3
-    loop-again-3
-    same-length
-    same-length-2
-    returns)
+    tie.close (tie.spec Inv-loop μ-loop loop-holds (λ c κs. search needs) cast-here mul-here shared-slice-read-here (λ c. omega arith)
+    (λ c. omega arith) loop-again (λ c. omega arith) (λ c. omega arith) loop-again-2 merge-requires (λ c. omega arith) (λ c. omega arith)
+    loop-again-3 same-length same-length-2 returns)

@@ -12,50 +12,26 @@ use Rattle.formula.proofs.truth.always_true.Reads as always-true-reads
 use Rattle.stars.proofs.deepest.Reads as deepest-reads
 use Rattle.stars.proofs.join_all.Reads as join-all-reads
 
-always-true-requires : tie.Need-always-true-requires
-always-true-requires c κs = search needs
-
-same-length : tie.Need-same-length
-same-length c = search needs
-
 returns : tie.Need-returns
 returns c =
-    let a = c .before .before .before .before .before .before .before .before .before .args in
-    let told = c .before .before .before .always-true .ensures in
-    (subst (λ vs. Grew (a .depths .now) (a .classes .now) (a .parents .now) vs (a .classes .now) (a .parents .now)) (sym (connected-none (a .clause .now) (sym (told .0) ∙ c .if1 .taken))) (grew-none (c .before .before .before .before .before .before .before .before .before .pre .0)), told .1)
-
-deepest-requires : tie.Need-deepest-requires
-deepest-requires c κs = search needs
-
-join-all-requires : tie.Need-join-all-requires
-join-all-requires c κs = search needs
-
-same-length-2 : tie.Need-same-length-2
-same-length-2 c = search needs
-
-same-length-3 : tie.Need-same-length-3
-same-length-3 c = search needs
-
-same-length-4 : tie.Need-same-length-4
-same-length-4 c = search needs
+    let at-always-true = c .before .before .before in
+    let at-start = at-always-true .before .before .before .before .before .before in
+    let a = at-start .args in
+    let told = at-always-true .always-true .ensures in
+    (subst (λ vs. Grew (a .depths .now) (a .classes .now) (a .parents .now) vs (a .classes .now) (a .parents .now)) (sym (connected-none (a .clause .now) (sym (told .0) ∙ c .if1 .taken))) (grew-none (at-start .pre .0)), told .1)
 
 returns-2 : tie.Need-returns-2
 returns-2 c =
-    let a = c .before .before .before .before .before .before .before .before .before .before .before .before .before .before .before .before .before .args in
-    let told = c .before .before .before .before .before .before .before .before .before .before .before .always-true .ensures in
-    let joined = c .before .before .before .before .join-all in
-    (subst (λ vs. Grew (a .depths .now) (a .classes .now) (a .parents .now) vs (joined .last .1 .0) (joined .last .1 .1 .0)) (sym (connected-all (a .clause .now) (sym (told .0) ∙ c .before .before .before .before .before .before .before .before .if1 .left))) (joined .ensures), told .1)
+    let at-join-all = c .before .before .before .before in
+    let at-if1 = at-join-all .before .before .before .before in
+    let at-always-true = at-if1 .before .before .before in
+    let at-start = at-always-true .before .before .before .before .before .before in
+    let a = at-start .args in
+    let told = at-always-true .always-true .ensures in
+    let joined = at-join-all .join-all in
+    (subst (λ vs. Grew (a .depths .now) (a .classes .now) (a .parents .now) vs (joined .last .1 .0) (joined .last .1 .1 .0)) (sym (connected-all (a .clause .now) (sym (told .0) ∙ at-if1 .if1 .left))) (joined .ensures), told .1)
 
 pub put-spec : {M : Type 1} → statement M
 put-spec =
-    tie.close
-    (tie.spec
-    always-true-requires
-    same-length
-    returns
-    deepest-requires
-    join-all-requires
-    same-length-2
-    same-length-3
-    same-length-4
-    returns-2)
+    tie.close (tie.spec (λ c κs. search needs) (λ c. search needs) returns (λ c κs. search needs) (λ c κs. search needs) (λ c. search needs)
+    (λ c. search needs) (λ c. search needs) returns-2)

@@ -11,7 +11,9 @@ slice-aggregate-put : tie.Need-slice-aggregate-put
 slice-aggregate-put c = search needs
 
 put-requires : tie.Need-put-requires
-put-requires c κs = (c .before .before .before .before .before .before .pre .0, c .before .before .before .before .before .before .pre .1, stamps-none)
+put-requires c κs =
+    let at-start = c .before .before .before .before .before .before in
+    (at-start .pre .0, at-start .pre .1, stamps-none)
 
 same-length : tie.Need-same-length
 same-length c = search needs

@@ -19,9 +19,11 @@ same-length-3 c = search needs
 
 returns : tie.Need-returns
 returns c =
-    let k = c .before .before .before .before .before .before .before .before .before .before .before .before .before .before in
+    let at-build-tallied = c .before .before .before .before .before .before in
+    let at-before = at-build-tallied .before .before .before .before .before .before .before in
+    let k = at-before .before in
     let a = k .args in
-    let o = c .before .before .before .before .before .before .build-tallied in
+    let o = at-build-tallied .build-tallied in
     forest-built (a .rule) (a .n) (a .prefix .now) (a .clauses .now) (k .pre .0) (standing (a .classes .now) (a .parents .now) (a .counts .now) (record { clauses = 0; merges = 0; classes = 0 })) (standing (o .last .1 .1 .1 .1 .0) (o .last .1 .1 .1 .1 .1 .0) (o .last .1 .1 .1 .1 .1 .1 .0) (o .result .tally)) (k .pre .1) (k .pre .2) (k .pre .3) (o .result .answer) (o .ensures)
 
 pub fill-rows-spec : {M : Type 1} → statement M

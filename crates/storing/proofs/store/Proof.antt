@@ -11,42 +11,31 @@ use borrow.Author.Needs.{needs}
 use Rattle.storing.proofs.store.Statement.{statement}
 use Rattle.storing.proofs.store.Tie as tie
 
-check-requires : tie.Need-check-requires
-check-requires c κs = search needs
-
-enum-known-number : tie.Need-enum-known-number
-enum-known-number c = search needs
-
-enum-told : tie.Need-enum-told
-enum-told c = search needs
-
 store-sound-requires : tie.Need-store-sound-requires
 store-sound-requires c κs =
-    let a = c .before .before .before .before .before .before .args in
-    subst (Judged (checkOrderUnder (a .rule) (a .n) (a .prefix .now) (a .clauses .now))) (c .before .enum-told .given .1) (c .before .before .before .check .ensures)
+    let at-check = c .before .before .before in
+    let at-start = at-check .before .before .before in
+    let a = at-start .args in
+    subst (Judged (checkOrderUnder (a .rule) (a .n) (a .prefix .now) (a .clauses .now))) (c .before .enum-told .given .1) (at-check .check .ensures)
 
 returns : tie.Need-returns
 returns c =
-    let a = c .before .before .before .before .before .before .args in
-    (refused-first (checkOrderUnder (a .rule) (a .n) (a .prefix .now) (a .clauses .now)) (At0 19 (FileTooLarge (a .rule) (a .n) (a .prefix .now) (a .clauses .now)) ∷ At0 14 (FileTooLong (a .rule) (a .n) (a .prefix .now) (a .clauses .now) (a .file .now)) ∷ []) (c .before .number .given .1) (c .before .before .before .check .ensures), refl)
-
-same-length : tie.Need-same-length
-same-length c = search needs
+    let at-check = c .before .before .before in
+    let at-start = at-check .before .before .before in
+    let a = at-start .args in
+    (refused-first (checkOrderUnder (a .rule) (a .n) (a .prefix .now) (a .clauses .now)) (At0 19 (FileTooLarge (a .rule) (a .n) (a .prefix .now) (a .clauses .now)) ∷ At0 14 (FileTooLong (a .rule) (a .n) (a .prefix .now) (a .clauses .now) (a .file .now)) ∷ []) (c .before .number .given .1) (at-check .check .ensures), refl)
 
 returns-2 : tie.Need-returns-2
 returns-2 c =
-    let a = c .before .before .before .before .before .before .before .before .before .args in
-    let o = c .before .before .store-sound in
-    filling-then (checkOrderUnder (a .rule) (a .n) (a .prefix .now) (a .clauses .now)) (At0 19 (FileTooLarge (a .rule) (a .n) (a .prefix .now) (a .clauses .now)) ∷ At0 14 (FileTooLong (a .rule) (a .n) (a .prefix .now) (a .clauses .now) (a .file .now)) ∷ []) (FileOf (a .rule) (a .n) (a .prefix .now) (a .clauses .now)) (a .file .now) (o .last .1 .1 .1 .1 .0) (c .before .before .before .before .enum-told .given .1) (c .before .before .before .before .before .before .check .ensures) (o .result) (o .ensures)
+    let at-store-sound = c .before .before in
+    let at-enum-told = at-store-sound .before .before in
+    let at-check = at-enum-told .before .before in
+    let at-start = at-check .before .before .before in
+    let a = at-start .args in
+    let o = at-store-sound .store-sound in
+    filling-then (checkOrderUnder (a .rule) (a .n) (a .prefix .now) (a .clauses .now)) (At0 19 (FileTooLarge (a .rule) (a .n) (a .prefix .now) (a .clauses .now)) ∷ At0 14 (FileTooLong (a .rule) (a .n) (a .prefix .now) (a .clauses .now) (a .file .now)) ∷ []) (FileOf (a .rule) (a .n) (a .prefix .now) (a .clauses .now)) (a .file .now) (o .last .1 .1 .1 .1 .0) (at-enum-told .enum-told .given .1) (at-check .check .ensures) (o .result) (o .ensures)
 
 pub store-spec : {M : Type 1} → statement M
 store-spec =
-    tie.close
-    (tie.spec
-    check-requires
-    enum-known-number
-    enum-told
-    store-sound-requires
-    returns
-    same-length
+    tie.close (tie.spec (λ c κs. search needs) (λ c. search needs) (λ c. search needs) store-sound-requires returns (λ c. search needs)
     returns-2)

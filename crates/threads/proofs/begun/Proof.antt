@@ -6,10 +6,14 @@ use Rattle.threads.proofs.begun.Statement.{statement}
 use Rattle.threads.proofs.begun.Tie as tie
 
 returns : tie.Need-returns
-returns c = let a = c .before .before .args in sym (ap (λ b. cond b (a .next) (a .start)) (eq-eqb (a .variable .0) 0 (c .if1 .taken)))
+returns c =
+    let at-start = c .before .before in
+    let a = at-start .args in sym (ap (λ b. cond b (a .next) (a .start)) (eq-eqb (a .variable .0) 0 (c .if1 .taken)))
 
 returns-2 : tie.Need-returns-2
-returns-2 c = let a = c .before .before .args in sym (ap (λ b. cond b (a .next) (a .start)) (ne-eqb (a .variable .0) 0 (c .if1 .left)))
+returns-2 c =
+    let at-start = c .before .before in
+    let a = at-start .args in sym (ap (λ b. cond b (a .next) (a .start)) (ne-eqb (a .variable .0) 0 (c .if1 .left)))
 
 pub begun-spec : {M : Type 1} → statement M
 begun-spec = tie.close (tie.spec returns returns-2)

@@ -14,13 +14,15 @@ shared-slice-read-if1 c = search needs
 
 returns : tie.Need-returns
 returns c =
-    let a = c .before .before .before .args in
-    sym (ap (λ b. cond b 1 0) (marked-flags (a .universals .now) (c .before .before .before .pre .1) (a .variable .0) ∙ c .if1 .taken))
+    let at-start = c .before .before .before in
+    let a = at-start .args in
+    sym (ap (λ b. cond b 1 0) (marked-flags (a .universals .now) (at-start .pre .1) (a .variable .0) ∙ c .if1 .taken))
 
 returns-2 : tie.Need-returns-2
 returns-2 c =
-    let a = c .before .before .before .args in
-    sym (ap (λ b. cond b 1 0) (marked-flags (a .universals .now) (c .before .before .before .pre .1) (a .variable .0) ∙ c .if1 .left))
+    let at-start = c .before .before .before in
+    let a = at-start .args in
+    sym (ap (λ b. cond b 1 0) (marked-flags (a .universals .now) (at-start .pre .1) (a .variable .0) ∙ c .if1 .left))
 
 pub counted-spec : {M : Type 1} → statement M
 counted-spec = tie.close (tie.spec cast-if1 shared-slice-read-if1 returns returns-2)

@@ -7,38 +7,34 @@ use borrow.Author.Needs.{needs}
 use Rattle.threads.proofs.flag_both.Statement.{statement}
 use Rattle.threads.proofs.flag_both.Tie as tie
 
-slice-aggregate-flag-along : tie.Need-slice-aggregate-flag-along
-slice-aggregate-flag-along c = search needs
-
 flag-along-requires : tie.Need-flag-along-requires
-flag-along-requires c κs = c .before .before .before .before .before .pre .0
+flag-along-requires c κs =
+    let at-start = c .before .before .before .before .before in
+    at-start .pre .0
 
 flag-along-requires-2 : tie.Need-flag-along-requires-2
-flag-along-requires-2 c κs = c .before .before .before .before .before .before .before .before .pre .0
-
-slice-aggregate-keep-common : tie.Need-slice-aggregate-keep-common
-slice-aggregate-keep-common c = search needs
+flag-along-requires-2 c κs =
+    let at-start = c .before .before .before .before .before .before .before .before in
+    at-start .pre .0
 
 keep-common-requires : tie.Need-keep-common-requires
 keep-common-requires c κs =
-    let one = c .before .before .before .before .before .before .before .flag-along .kept .1 .1 .1 .1 .1 .1 .1 .0 ∙ fresh .size in
-    let other = c .before .before .before .before .flag-along2 .kept .1 .1 .1 .1 .1 .1 .1 .0 ∙ c .before .before .before .before .before .before .before .before .before .before .before .before .before .pre .1 .size in
+    let at-flag-along2 = c .before .before .before .before in
+    let at-flag-along = at-flag-along2 .before .before .before in
+    let at-start = at-flag-along .before .before .before .before .before .before in
+    let one = at-flag-along .flag-along .kept .1 .1 .1 .1 .1 .1 .1 .0 ∙ fresh .size in
+    let other = at-flag-along2 .flag-along2 .kept .1 .1 .1 .1 .1 .1 .1 .0 ∙ at-start .pre .1 .size in
     omega arith
 
-same-length : tie.Need-same-length
-same-length c = search needs
-
 returns : tie.Need-returns
-returns c = entered-both fresh (c .before .before .before .before .before .before .before .before .before .before .flag-along .ensures) (c .before .before .before .before .before .before .before .before .before .before .before .before .before .before .before .before .pre .1) (c .before .before .before .before .before .before .before .flag-along2 .ensures) (c .before .before .keep-common .ensures)
+returns c =
+    let at-keep-common = c .before .before in
+    let at-flag-along2 = at-keep-common .before .before .before .before .before in
+    let at-flag-along = at-flag-along2 .before .before .before in
+    let at-start = at-flag-along .before .before .before .before .before .before in
+    entered-both fresh (at-flag-along .flag-along .ensures) (at-start .pre .1) (at-flag-along2 .flag-along2 .ensures) (at-keep-common .keep-common .ensures)
 
 pub flag-both-spec : {M : Type 1} → statement M
 flag-both-spec =
-    tie.close
-    (tie.spec
-    slice-aggregate-flag-along
-    flag-along-requires
-    flag-along-requires-2
-    slice-aggregate-keep-common
-    keep-common-requires
-    same-length
-    returns)
+    tie.close (tie.spec (λ c. search needs) flag-along-requires flag-along-requires-2 (λ c. search needs) keep-common-requires
+    (λ c. search needs) returns)

@@ -11,30 +11,40 @@ enum-told : tie.Need-enum-told
 enum-told c = search needs
 
 flag-along-requires : tie.Need-flag-along-requires
-flag-along-requires c κs = c .before .before .before .before .before .before .before .pre .0
+flag-along-requires c κs =
+    let at-start = c .before .before .before .before .before .before .before in
+    at-start .pre .0
 
 enum-told-2 : tie.Need-enum-told-2
 enum-told-2 c = search needs
 
 flag-both-requires : tie.Need-flag-both-requires
-flag-both-requires c κs = c .before .before .before .before .before .before .before .pre
+flag-both-requires c κs =
+    let at-start = c .before .before .before .before .before .before .before in
+    at-start .pre
 
 same-length : tie.Need-same-length
 same-length c = search needs
 
 returns : tie.Need-returns
 returns c =
-    let a = c .before .before .before .before .before .before .before .before .before .before .args in
-    subst (λ scheme. EnteredBy scheme (a .n) (a .tops .now) (a .clauses .now) (a .x .0) (c .before .before .flag-along .last .1 .1 .1 .1 .1 .1 .1 .0)) (sym (c .before .before .before .before .enum-told .given .1))
-    (entering-either (a .tops .now) (λ (sign : Bool). Together (a .clauses .now) sign (a .x .0)) (c .before .before .before .before .before .before .before .before .before .before .pre .1) (c .before .before .flag-along .ensures))
+    let at-flag-along = c .before .before in
+    let at-enum-told = at-flag-along .before .before in
+    let at-start = at-enum-told .before .before .before .before .before .before in
+    let a = at-start .args in
+    subst (λ scheme. EnteredBy scheme (a .n) (a .tops .now) (a .clauses .now) (a .x .0) (at-flag-along .flag-along .last .1 .1 .1 .1 .1 .1 .1 .0)) (sym (at-enum-told .enum-told .given .1))
+    (entering-either (a .tops .now) (λ (sign : Bool). Together (a .clauses .now) sign (a .x .0)) (at-start .pre .1) (at-flag-along .flag-along .ensures))
 
 same-length-2 : tie.Need-same-length-2
 same-length-2 c = search needs
 
 returns-2 : tie.Need-returns-2
 returns-2 c =
-    let a = c .before .before .before .before .before .before .before .before .before .before .args in
-    subst (λ scheme. EnteredBy scheme (a .n) (a .tops .now) (a .clauses .now) (a .x .0) (c .before .before .flag-both .last .1 .1 .1 .1 .1 .1 .0)) (sym (c .before .before .before .before .enum-told2 .given .1)) (c .before .before .flag-both .ensures)
+    let at-flag-both = c .before .before in
+    let at-enum-told2 = at-flag-both .before .before in
+    let at-start = at-enum-told2 .before .before .before .before .before .before in
+    let a = at-start .args in
+    subst (λ scheme. EnteredBy scheme (a .n) (a .tops .now) (a .clauses .now) (a .x .0) (at-flag-both .flag-both .last .1 .1 .1 .1 .1 .1 .0)) (sym (at-enum-told2 .enum-told2 .given .1)) (at-flag-both .flag-both .ensures)
 
 pub flag-points-spec : {M : Type 1} → statement M
 flag-points-spec =

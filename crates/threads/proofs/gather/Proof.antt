@@ -21,64 +21,83 @@ abbrev μ-loop : tie.MeasureT-loop
 μ-loop clauses universals places₀ starts₀ count₀ start₀ i₀ places starts count start i = length clauses - i
 
 loop-holds : tie.Need-loop-holds Inv-loop μ-loop
-loop-holds c = let a = c .before .before .before .args in (refl, refl, passing-none (a .clauses .now), gathered-none (a .clauses .now) (a .universals .now) (a .places .now) (a .starts .now))
+loop-holds c =
+    let at-start = c .before .before .before in
+    let a = at-start .args in (refl, refl, passing-none (a .clauses .now), gathered-none (a .clauses .now) (a .universals .now) (a .places .now) (a .starts .now))
 
 cast-places : tie.Need-cast-places Inv-loop μ-loop
-cast-places c = let short = c .before .before .before .before .before .pre .0 .short in let less = c .loop-test .taken in omega arith
+cast-places c =
+    let at-start = c .before .before .before .before .before in
+    let short = at-start .pre .0 .short in let less = c .loop-test .taken in omega arith
 
 mul-places : tie.Need-mul-places Inv-loop μ-loop
-mul-places c = let few = c .before .loop .inv .3 .few in let less = c .loop-test .taken in let room = c .before .before .before .before .before .pre .1 in omega arith
+mul-places c =
+    let at-start = c .before .before .before .before .before in
+    let few = c .before .loop .inv .3 .few in let less = c .loop-test .taken in let room = at-start .pre .1 in omega arith
 
 slice-write-places : tie.Need-slice-write-places Inv-loop μ-loop
-slice-write-places c = let few = c .before .loop .inv .3 .few in let less = c .loop-test .taken in let room = c .before .before .before .before .before .pre .1 in let size = c .before .loop .inv .0 in omega arith
+slice-write-places c =
+    let at-start = c .before .before .before .before .before in
+    let few = c .before .loop .inv .3 .few in let less = c .loop-test .taken in let room = at-start .pre .1 in let size = c .before .loop .inv .0 in omega arith
 
 cast-starts : tie.Need-cast-starts Inv-loop μ-loop
-cast-starts c = let short = c .before .before .before .before .before .pre .0 .short in let less = c .loop-test .taken in let from = c .before .loop .inv .2 .from in omega arith
+cast-starts c =
+    let at-start = c .before .before .before .before .before in
+    let short = at-start .pre .0 .short in let less = c .loop-test .taken in let from = c .before .loop .inv .2 .from in omega arith
 
 mul-starts : tie.Need-mul-starts Inv-loop μ-loop
-mul-starts c = let few = c .before .loop .inv .3 .few in let less = c .loop-test .taken in let room = c .before .before .before .before .before .pre .2 in omega arith
+mul-starts c =
+    let at-start = c .before .before .before .before .before in
+    let few = c .before .loop .inv .3 .few in let less = c .loop-test .taken in let room = at-start .pre .2 in omega arith
 
 slice-write-starts : tie.Need-slice-write-starts Inv-loop μ-loop
-slice-write-starts c = let few = c .before .loop .inv .3 .few in let less = c .loop-test .taken in let room = c .before .before .before .before .before .pre .2 in let size = c .before .loop .inv .1 in omega arith
-
-variable-at-requires : tie.Need-variable-at-requires Inv-loop μ-loop
-variable-at-requires c κs = search needs
+slice-write-starts c =
+    let at-start = c .before .before .before .before .before in
+    let few = c .before .loop .inv .3 .few in let less = c .loop-test .taken in let room = at-start .pre .2 in let size = c .before .loop .inv .1 in omega arith
 
 add-i : tie.Need-add-i Inv-loop μ-loop
 add-i c = let less = c .before .loop-test .taken in omega arith
 
 counted-requires : tie.Need-counted-requires Inv-loop μ-loop
 counted-requires c κs =
+    let at-loop = c .before .before in
+    let at-start = at-loop .before .before .before .before in
     let less = c .before .loop-test .taken in
-    let row = c .before .before .before .before .before .before .pre .3 .rows (c .before .before .loop .i) less in
+    let row = at-start .pre .3 .rows (at-loop .loop .i) less in
     let is = c .variable-at .ensures in
-    (omega arith, c .before .before .before .before .before .before .pre .3 .none)
+    (omega arith, at-start .pre .3 .none)
 
 add-count : tie.Need-add-count Inv-loop μ-loop
 add-count c =
-    let few = c .before .before .before .loop .inv .3 .few in
-    let less = c .before .before .loop-test .taken in
-    let short = c .before .before .before .before .before .before .before .pre .0 .short in
-    let one = counts-most (marked (c .before .before .before .before .before .before .before .args .universals .now) (c .before .variable-at .result .0)) in
+    let at-loop-test = c .before .before in
+    let at-loop = at-loop-test .before in
+    let at-start = at-loop .before .before .before .before in
+    let few = at-loop .loop .inv .3 .few in
+    let less = at-loop-test .loop-test .taken in
+    let short = at-start .pre .0 .short in
+    let one = counts-most (marked (at-start .args .universals .now) (c .before .variable-at .result .0)) in
     let is = c .counted .ensures in
     omega arith
 
-begun-requires : tie.Need-begun-requires Inv-loop μ-loop
-begun-requires c κs = search needs
-
 loop-less : tie.Need-loop-less Inv-loop μ-loop
-loop-less c = let less = c .before .before .before .loop-test .taken in omega arith
+loop-less c =
+    let at-loop-test = c .before .before .before in
+    let less = at-loop-test .loop-test .taken in omega arith
 
 loop-again : tie.Need-loop-again Inv-loop μ-loop
 loop-again c =
-    let a = c .before .before .before .before .before .before .before .before .args in
-    let pre = c .before .before .before .before .before .before .before .before .pre in
-    let l = c .before .before .before .before .loop in
+    let at-variable-at = c .before .before in
+    let at-loop-test = at-variable-at .before in
+    let at-loop = at-loop-test .before in
+    let at-start = at-loop .before .before .before .before in
+    let a = at-start .args in
+    let pre = at-start .pre in
+    let l = at-loop .loop in
     let inv = l .inv in
-    let less = c .before .before .before .loop-test .taken in
+    let less = at-loop-test .loop-test .taken in
     let ls = a .clauses .now in
     let flags = a .universals .now in
-    let own = c .before .before .variable-at .ensures in
+    let own = at-variable-at .variable-at .ensures in
     let few = inv .3 .few in
     let room = pre .1 in
     let room′ = pre .2 in
@@ -99,31 +118,13 @@ same-length-2 c = c .before .loop .inv .1
 
 returns : tie.Need-returns Inv-loop μ-loop
 returns c =
-    let a = c .before .before .before .before .before .args in
+    let at-start = c .before .before .before .before .before in
+    let a = at-start .args in
     let l = c .before .loop in
     let q : l .i ≡ length (a .clauses .now) = let w = l .inv .2 .within in let done = c .loop-test .left in omega arith in
     subst (Gathered (a .clauses .now) (a .universals .now) (l .places) (l .starts) (l .count)) q (l .inv .3)
 
 pub gather-spec : {M : Type 1} → statement M
 gather-spec =
-    tie.close
-    (tie.spec
-    Inv-loop
-    μ-loop
-    loop-holds
-    cast-places
-    mul-places
-    slice-write-places
-    cast-starts
-    mul-starts
-    slice-write-starts
-    variable-at-requires
-    add-i
-    counted-requires
-    add-count
-    begun-requires
-    loop-less
-    loop-again
-    same-length
-    same-length-2
-    returns)
+    tie.close (tie.spec Inv-loop μ-loop loop-holds cast-places mul-places slice-write-places cast-starts mul-starts slice-write-starts
+    (λ c κs. search needs) add-i counted-requires add-count (λ c κs. search needs) loop-less loop-again same-length same-length-2 returns)

@@ -14,28 +14,41 @@ abbrev μ-loop : tie.MeasureT-loop
 μ-loop other flags₀ i₀ flags i = length flags - i
 
 loop-holds : tie.Need-loop-holds Inv-loop μ-loop
-loop-holds c = let a = c .before .before .args in keep-none (a .other .now) (a .flags .now)
+loop-holds c =
+    let at-start = c .before .before in
+    let a = at-start .args in keep-none (a .other .now) (a .flags .now)
 
 shared-slice-read-both : tie.Need-shared-slice-read-both Inv-loop μ-loop
-shared-slice-read-both c = let size = c .before .before .loop .inv .size in let long = c .before .before .before .before .before .pre in let less = c .before .loop-test .taken in omega arith
+shared-slice-read-both c =
+    let at-loop = c .before .before in
+    let at-start = at-loop .before .before .before in
+    let size = at-loop .loop .inv .size in let long = at-start .pre in let less = c .before .loop-test .taken in omega arith
 
 slice-read-both : tie.Need-slice-read-both Inv-loop μ-loop
-slice-read-both c = c .before .before .loop-test .taken
-
-both-requires : tie.Need-both-requires Inv-loop μ-loop
-both-requires c κs = search needs
+slice-read-both c =
+    let at-loop-test = c .before .before in
+    at-loop-test .loop-test .taken
 
 slice-write-flags : tie.Need-slice-write-flags Inv-loop μ-loop
-slice-write-flags c = c .before .before .before .loop-test .taken
+slice-write-flags c =
+    let at-loop-test = c .before .before .before in
+    at-loop-test .loop-test .taken
 
 add-i : tie.Need-add-i Inv-loop μ-loop
-add-i c = let less = c .before .before .before .loop-test .taken in omega arith
+add-i c =
+    let at-loop-test = c .before .before .before in
+    let less = at-loop-test .loop-test .taken in omega arith
 
 loop-less : tie.Need-loop-less Inv-loop μ-loop
-loop-less c = let less = c .before .before .before .loop-test .taken in simp length-set (omega arith)
+loop-less c =
+    let at-loop-test = c .before .before .before in
+    let less = at-loop-test .loop-test .taken in simp length-set (omega arith)
 
 loop-again : tie.Need-loop-again Inv-loop μ-loop
-loop-again c = keep-more (c .before .before .before .before .loop .inv) (c .both .ensures) (c .before .before .before .loop-test .taken)
+loop-again c =
+    let at-loop-test = c .before .before .before in
+    let at-loop = at-loop-test .before in
+    keep-more (at-loop .loop .inv) (c .both .ensures) (at-loop-test .loop-test .taken)
 
 same-length : tie.Need-same-length Inv-loop μ-loop
 same-length c = c .before .loop .inv .size
@@ -45,17 +58,5 @@ returns c = keep-all (c .before .loop .inv) (c .loop-test .left)
 
 pub keep-common-spec : {M : Type 1} → statement M
 keep-common-spec =
-    tie.close
-    (tie.spec
-    Inv-loop
-    μ-loop
-    loop-holds
-    shared-slice-read-both
-    slice-read-both
-    both-requires
-    slice-write-flags
-    add-i
-    loop-less
-    loop-again
-    same-length
-    returns)
+    tie.close (tie.spec Inv-loop μ-loop loop-holds shared-slice-read-both slice-read-both (λ c κs. search needs) slice-write-flags add-i
+    loop-less loop-again same-length returns)

@@ -27,8 +27,10 @@ variable-at-requires c κs = search needs
 
 returns : tie.Need-returns Inv-loop μ-loop
 returns c =
-    let inv = c .before .before .before .before .loop .inv in
-    record { most = inv .0; literals = inv .1; opens = inr (sym (c .before .before .variable-at .ensures) ∙ c .if1 .taken) }
+    let at-variable-at = c .before .before in
+    let at-loop = at-variable-at .before .before in
+    let inv = at-loop .loop .inv in
+    record { most = inv .0; literals = inv .1; opens = inr (sym (at-variable-at .variable-at .ensures) ∙ c .if1 .taken) }
 
 sub-i : tie.Need-sub-i Inv-loop μ-loop
 sub-i c = omega arith
@@ -38,11 +40,14 @@ loop-less c = omega arith
 
 loop-again : tie.Need-loop-again Inv-loop μ-loop
 loop-again c =
-    let a = c .before .before .before .before .before .args in
-    let i = c .before .before .before .before .loop .i in
-    let inv = c .before .before .before .before .loop .inv in
+    let at-variable-at = c .before .before in
+    let at-loop = at-variable-at .before .before in
+    let at-start = at-loop .before in
+    let a = at-start .args in
+    let i = at-loop .loop .i in
+    let inv = at-loop .loop .inv in
     let high = inv .0 in
-    let literal : (e : ℕ) → e ≡ i - 1 → variableOf (literalAt (a .clauses .now) e) ≢ 0 = λ e s q. c .if1 .left (c .before .before .variable-at .ensures ∙ ap (λ j. variableOf (literalAt (a .clauses .now) j)) (sym s) ∙ q) in
+    let literal : (e : ℕ) → e ≡ i - 1 → variableOf (literalAt (a .clauses .now) e) ≢ 0 = λ e s q. c .if1 .left (at-variable-at .variable-at .ensures ∙ ap (λ j. variableOf (literalAt (a .clauses .now) j)) (sym s) ∙ q) in
     (omega arith, λ e l g. by-cases (ℕ-discrete e (i - 1)) (literal e) (λ other. inv .1 e (omega arith) g))
 
 returns-2 : tie.Need-returns-2 Inv-loop μ-loop

@@ -17,38 +17,30 @@ abbrev μ-loop : tie.MeasureT-loop
 loop-holds : tie.Need-loop-holds Inv-loop μ-loop
 loop-holds c = named-none _ _
 
-variable-at-requires : tie.Need-variable-at-requires Inv-loop μ-loop
-variable-at-requires c κs = search needs
-
 returns : tie.Need-returns Inv-loop μ-loop
-returns c = inl (named-fault (c .before .before .before .loop .inv) (c .before .variable-at .result .0) (c .before .before .loop-test .taken) (c .before .variable-at .ensures) (inl (c .if1 .taken)))
+returns c =
+    let at-loop-test = c .before .before in
+    let at-loop = at-loop-test .before in
+    inl (named-fault (at-loop .loop .inv) (c .before .variable-at .result .0) (at-loop-test .loop-test .taken) (c .before .variable-at .ensures) (inl (c .if1 .taken)))
 
 returns-2 : tie.Need-returns-2 Inv-loop μ-loop
-returns-2 c = inl (named-fault (c .before .before .before .before .loop .inv) (c .before .before .variable-at .result .0) (c .before .before .before .loop-test .taken) (c .before .before .variable-at .ensures) (inr (c .if2 .taken)))
-
-add-i : tie.Need-add-i Inv-loop μ-loop
-add-i c = omega arith
-
-loop-less : tie.Need-loop-less Inv-loop μ-loop
-loop-less c = omega arith
+returns-2 c =
+    let at-variable-at = c .before .before in
+    let at-loop-test = at-variable-at .before in
+    let at-loop = at-loop-test .before in
+    inl (named-fault (at-loop .loop .inv) (at-variable-at .variable-at .result .0) (at-loop-test .loop-test .taken) (at-variable-at .variable-at .ensures) (inr (c .if2 .taken)))
 
 loop-again : tie.Need-loop-again Inv-loop μ-loop
-loop-again c = named-more (c .before .before .before .before .loop .inv) (c .before .before .variable-at .result .0) (c .before .before .before .loop-test .taken) (c .before .before .variable-at .ensures) (c .before .if1 .left) (c .if2 .left)
+loop-again c =
+    let at-variable-at = c .before .before in
+    let at-loop-test = at-variable-at .before in
+    let at-loop = at-loop-test .before in
+    named-more (at-loop .loop .inv) (at-variable-at .variable-at .result .0) (at-loop-test .loop-test .taken) (at-variable-at .variable-at .ensures) (c .before .if1 .left) (c .if2 .left)
 
 returns-3 : tie.Need-returns-3 Inv-loop μ-loop
 returns-3 c = (named-all (c .before .loop .inv) (c .loop-test .left), tt)
 
 pub check-added-spec : {M : Type 1} → statement M
 check-added-spec =
-    tie.close
-    (tie.spec
-    Inv-loop
-    μ-loop
-    loop-holds
-    variable-at-requires
-    returns
-    returns-2
-    add-i
-    loop-less
-    loop-again
+    tie.close (tie.spec Inv-loop μ-loop loop-holds (λ c κs. search needs) returns returns-2 (λ c. omega arith) (λ c. omega arith) loop-again
     returns-3)

@@ -15,13 +15,18 @@ sub-if3 : tie.Need-sub-if3
 sub-if3 c = search needs
 
 returns-3 : tie.Need-returns-3
-returns-3 c = inr (inr (λ sum. c .if3 .taken (let own = c .before .before .if2 .left in omega arith)))
+returns-3 c =
+    let at-if2 = c .before .before in
+    inr (inr (λ sum. c .if3 .taken (let own = at-if2 .if2 .left in omega arith)))
 
 returns-4 : tie.Need-returns-4
 returns-4 c wrong =
-    let few = c .before .before .before .before .before .before .pre in
-    let own = c .before .before .if2 .left in
-    ⊎-elim (λ many. let low = c .before .before .before .before .if1 .left in omega arith) (λ rest. ⊎-elim (λ other. other own) (λ other. other (let same = c .if3 .left in omega arith)) rest) wrong
+    let at-if2 = c .before .before in
+    let at-if1 = at-if2 .before .before in
+    let at-start = at-if1 .before .before in
+    let few = at-start .pre in
+    let own = at-if2 .if2 .left in
+    ⊎-elim (λ many. let low = at-if1 .if1 .left in omega arith) (λ rest. ⊎-elim (λ other. other own) (λ other. other (let same = c .if3 .left in omega arith)) rest) wrong
 
 pub disagrees-spec : {M : Type 1} → statement M
 disagrees-spec = tie.close (tie.spec returns returns-2 sub-if3 returns-3 returns-4)

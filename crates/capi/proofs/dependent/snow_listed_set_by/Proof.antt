@@ -12,18 +12,24 @@ set-by-requires c κs = search needs
 
 lay-requires : tie.Need-lay-requires
 lay-requires c κs =
-    let a = c .before .before .before .before .before .before .before .before .before .before .args in
-    let b = c .before .before .before .before .set-by in
-    fits-set (a .rule) (a .n) (a .prefix .now) (a .clauses .now) (a .lists .now) (c .before .before .before .before .before .before .scheme-in .result) (a .x) (a .out .now) _ (b .result) (b .ensures)
+    let at-set-by = c .before .before .before .before in
+    let at-scheme-in = at-set-by .before .before in
+    let at-start = at-scheme-in .before .before .before .before in
+    let a = at-start .args in
+    let b = at-set-by .set-by in
+    fits-set (a .rule) (a .n) (a .prefix .now) (a .clauses .now) (a .lists .now) (at-scheme-in .scheme-in .result) (a .x) (a .out .now) _ (b .result) (b .ensures)
 
 same-length : tie.Need-same-length
 same-length c = search needs
 
 returns : tie.Need-returns
 returns c =
-    let a = c .before .before .before .before .before .before .before .before .before .before .before .args in
-    let b = c .before .before .before .before .before .set-by in
-    tell-set (a .rule) (a .n) (a .prefix .now) (a .clauses .now) (a .lists .now) (a .x) (a .out .now) _ (b .result) (c .before .before .before .before .before .before .before .scheme-in .ensures) (c .lay .ensures) (b .ensures)
+    let at-set-by = c .before .before .before .before .before in
+    let at-scheme-in = at-set-by .before .before in
+    let at-start = at-scheme-in .before .before .before .before in
+    let a = at-start .args in
+    let b = at-set-by .set-by in
+    tell-set (a .rule) (a .n) (a .prefix .now) (a .clauses .now) (a .lists .now) (a .x) (a .out .now) _ (b .result) (at-scheme-in .scheme-in .ensures) (c .lay .ensures) (b .ensures)
 
 pub snow-listed-set-by-spec : {M : Type 1} → statement M
 snow-listed-set-by-spec = tie.close (tie.spec scheme-in-requires set-by-requires lay-requires same-length returns)

@@ -9,8 +9,10 @@ expand-requires c κs = search needs
 
 lay-expanded-requires : tie.Need-lay-expanded-requires
 lay-expanded-requires c κs =
-    let a = c .before .before .before .before .before .before .before .before .before .before .before .before .args in
-    let b = c .before .before .before .before .before .before .before .expand in
+    let at-expand = c .before .before .before .before .before .before .before in
+    let at-start = at-expand .before .before .before .before .before in
+    let a = at-start .args in
+    let b = at-expand .expand in
     fits-expand (a .rule) (a .n) (a .prefix .now) (a .clauses .now) (a .x) (a .out-prefix .now) (a .out-clauses .now) _ _ (b .result) (b .ensures)
 
 same-length : tie.Need-same-length
@@ -21,8 +23,10 @@ same-length-2 c = search needs
 
 returns : tie.Need-returns
 returns c =
-    let a = c .before .before .before .before .before .before .before .before .before .before .before .before .before .args in
-    let b = c .before .before .before .before .before .before .before .before .expand in
+    let at-expand = c .before .before .before .before .before .before .before .before in
+    let at-start = at-expand .before .before .before .before .before in
+    let a = at-start .args in
+    let b = at-expand .expand in
     tell-expand (a .rule) (a .n) (a .prefix .now) (a .clauses .now) (a .x) (a .out-prefix .now) (a .out-clauses .now) _ _ (b .result) (c .lay-expanded .ensures) (b .ensures)
 
 pub snow-expand-spec : {M : Type 1} → statement M

@@ -10,8 +10,10 @@ load-requires c κs = search needs
 
 lay-loaded-requires : tie.Need-lay-loaded-requires
 lay-loaded-requires c κs =
-    let a = c .before .before .before .before .before .before .before .before .before .before .before .before .before .before .before .before .before .before .before .before .before .before .before .before .before .args in
-    let b = c .before .before .before .before .before .before .before .before .before .before .before .before .before .before .load in
+    let at-load = c .before .before .before .before .before .before .before .before .before .before .before .before .before .before in
+    let at-start = at-load .before .before .before .before .before .before .before .before .before .before .before in
+    let a = at-start .args in
+    let b = at-load .load in
     let lent = lentTables (a .prefix .now) (a .clauses .now) (a .classes .now) (a .parents .now) (a .counts .now) in
     let after = lentTables (b .last .1 .1 .0) (b .last .1 .1 .1 .0) (b .last .1 .1 .1 .1 .0) (b .last .1 .1 .1 .1 .1 .0) (b .last .1 .1 .1 .1 .1 .1 .0) in
     fits-load (a .rule) (a .file .now) lent after (b .result) (b .ensures)
@@ -33,8 +35,10 @@ same-length-5 c = search needs
 
 returns : tie.Need-returns
 returns c =
-    let a = c .before .before .before .before .before .before .before .before .before .before .before .before .before .before .before .before .before .before .before .before .before .before .before .before .before .before .args in
-    let b = c .before .before .before .before .before .before .before .before .before .before .before .before .before .before .before .load in
+    let at-load = c .before .before .before .before .before .before .before .before .before .before .before .before .before .before .before in
+    let at-start = at-load .before .before .before .before .before .before .before .before .before .before .before in
+    let a = at-start .args in
+    let b = at-load .load in
     let lent = lentTables (a .prefix .now) (a .clauses .now) (a .classes .now) (a .parents .now) (a .counts .now) in
     let after = lentTables (b .last .1 .1 .0) (b .last .1 .1 .1 .0) (b .last .1 .1 .1 .1 .0) (b .last .1 .1 .1 .1 .1 .0) (b .last .1 .1 .1 .1 .1 .1 .0) in
     tell-load (a .rule) (a .file .now) lent after (b .result) (c .lay-loaded .ensures) (b .ensures)

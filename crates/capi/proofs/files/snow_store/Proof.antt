@@ -12,8 +12,10 @@ store-requires c κs = search needs
 
 lay-requires : tie.Need-lay-requires
 lay-requires c κs =
-    let a = c .before .before .before .before .before .before .before .before .args in
-    let b = c .before .before .before .before .store in
+    let at-store = c .before .before .before .before in
+    let at-start = at-store .before .before .before .before in
+    let a = at-start .args in
+    let b = at-store .store in
     fits-filling (storeOrder (a .rule) (a .n) (a .prefix .now) (a .clauses .now) (a .file .now)) (FileOf (a .rule) (a .n) (a .prefix .now) (a .clauses .now)) (a .file .now) _ (b .result) (small-store (a .rule) (a .n) (a .prefix .now) (a .clauses .now) (a .file .now)) (b .ensures)
 
 same-length : tie.Need-same-length
@@ -21,8 +23,10 @@ same-length c = search needs
 
 returns : tie.Need-returns
 returns c =
-    let a = c .before .before .before .before .before .before .before .before .before .args in
-    let b = c .before .before .before .before .before .store in
+    let at-store = c .before .before .before .before .before in
+    let at-start = at-store .before .before .before .before in
+    let a = at-start .args in
+    let b = at-store .store in
     tell-filling (storeOrder (a .rule) (a .n) (a .prefix .now) (a .clauses .now) (a .file .now)) (FileOf (a .rule) (a .n) (a .prefix .now) (a .clauses .now)) (a .file .now) _ (b .result) (c .lay .ensures) (b .ensures)
 
 pub snow-store-spec : {M : Type 1} → statement M

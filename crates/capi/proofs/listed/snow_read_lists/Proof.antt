@@ -10,8 +10,10 @@ read-requires c κs = search needs
 
 lay-listed-requires : tie.Need-lay-listed-requires
 lay-listed-requires c κs =
-    let a = c .before .before .before .before .before .before .before .before .before .before .before .before .before .before .before .before .before .args in
-    let b = c .before .before .before .before .before .before .before .before .before .before .read in
+    let at-read = c .before .before .before .before .before .before .before .before .before .before in
+    let at-start = at-read .before .before .before .before .before .before .before in
+    let a = at-start .args in
+    let b = at-read .read in
     let before : Tables = (a .prefix .now, a .clauses .now, a .lists .now) in
     let after : Tables = (b .last .1 .0, b .last .1 .1 .0, b .last .1 .1 .1 .0) in
     fits-read (a .text .now) before after (b .result) (b .ensures)
@@ -27,8 +29,10 @@ same-length-3 c = search needs
 
 returns : tie.Need-returns
 returns c =
-    let a = c .before .before .before .before .before .before .before .before .before .before .before .before .before .before .before .before .before .before .args in
-    let b = c .before .before .before .before .before .before .before .before .before .before .before .read in
+    let at-read = c .before .before .before .before .before .before .before .before .before .before .before in
+    let at-start = at-read .before .before .before .before .before .before .before in
+    let a = at-start .args in
+    let b = at-read .read in
     let before : Tables = (a .prefix .now, a .clauses .now, a .lists .now) in
     let after : Tables = (b .last .1 .0, b .last .1 .1 .0, b .last .1 .1 .1 .0) in
     tell-read (a .text .now) before after (b .result) (c .lay-listed .ensures) (b .ensures)

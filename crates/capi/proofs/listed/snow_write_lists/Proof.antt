@@ -12,8 +12,10 @@ write-requires c κs = search needs
 
 lay-output-requires : tie.Need-lay-output-requires
 lay-output-requires c κs =
-    let a = c .before .before .before .before .before .before .before .before .before .args in
-    let b = c .before .before .before .before .write in
+    let at-write = c .before .before .before .before in
+    let at-start = at-write .before .before .before .before .before in
+    let a = at-start .args in
+    let b = at-write .write in
     fits-write (checkListsOrder (a .rule) (a .n) (a .prefix .now) (a .clauses .now) (a .lists .now)) (listedTextOf (a .n) (a .prefix .now) (a .clauses .now) (a .lists .now)) (a .text .now) _ (b .result) (small-lists (a .rule) (a .n) (a .prefix .now) (a .clauses .now) (a .lists .now)) (b .ensures)
 
 same-length : tie.Need-same-length
@@ -21,8 +23,10 @@ same-length c = search needs
 
 returns : tie.Need-returns
 returns c =
-    let a = c .before .before .before .before .before .before .before .before .before .before .args in
-    let b = c .before .before .before .before .before .write in
+    let at-write = c .before .before .before .before .before in
+    let at-start = at-write .before .before .before .before .before in
+    let a = at-start .args in
+    let b = at-write .write in
     tell-write (checkListsOrder (a .rule) (a .n) (a .prefix .now) (a .clauses .now) (a .lists .now)) (listedTextOf (a .n) (a .prefix .now) (a .clauses .now) (a .lists .now)) (a .text .now) _ (b .result) (c .lay-output .ensures) (b .ensures)
 
 pub snow-write-lists-spec : {M : Type 1} → statement M

@@ -13,8 +13,10 @@ enum-known-verdict c = search needs
 
 returns : tie.Need-returns
 returns c =
-    let a = c .before .before .before .before .before .before .args in
-    let b = c .before .before .before .path-verdict in
+    let at-path-verdict = c .before .before .before in
+    let at-start = at-path-verdict .before .before .before in
+    let a = at-start .args in
+    let b = at-path-verdict .path-verdict in
     tell-refused (pathOrderUnder (a .rule) (a .n) (a .prefix .now) (a .clauses .now) (a .x) (a .y) (a .path .now)) _ (c .before .verdict .given .1) (b .ensures) tt
 
 enum-told : tie.Need-enum-told
@@ -22,8 +24,10 @@ enum-told c = search needs
 
 returns-2 : tie.Need-returns-2
 returns-2 c =
-    let a = c .before .before .before .before .before .args in
-    let b = c .before .before .path-verdict in
+    let at-path-verdict = c .before .before in
+    let at-start = at-path-verdict .before .before .before in
+    let a = at-start .args in
+    let b = at-path-verdict .path-verdict in
     tell-accepted (pathOrderUnder (a .rule) (a .n) (a .prefix .now) (a .clauses .now) (a .x) (a .y) (a .path .now)) _ (c .enum-told .given .1) (b .ensures) tt
 
 pub snow-path-spec : {M : Type 1} → statement M

@@ -9,8 +9,10 @@ resolution-set-requires c κs = search needs
 
 lay-requires : tie.Need-lay-requires
 lay-requires c κs =
-    let a = c .before .before .before .before .before .before .before .before .args in
-    let b = c .before .before .before .before .resolution-set in
+    let at-resolution-set = c .before .before .before .before in
+    let at-start = at-resolution-set .before .before .before .before in
+    let a = at-start .args in
+    let b = at-resolution-set .resolution-set in
     fits-resolution (a .rule) (a .n) (a .prefix .now) (a .clauses .now) (a .x) (a .out .now) _ (b .result) (b .ensures)
 
 same-length : tie.Need-same-length
@@ -18,8 +20,10 @@ same-length c = search needs
 
 returns : tie.Need-returns
 returns c =
-    let a = c .before .before .before .before .before .before .before .before .before .args in
-    let b = c .before .before .before .before .before .resolution-set in
+    let at-resolution-set = c .before .before .before .before .before in
+    let at-start = at-resolution-set .before .before .before .before in
+    let a = at-start .args in
+    let b = at-resolution-set .resolution-set in
     tell-resolution (a .rule) (a .n) (a .prefix .now) (a .clauses .now) (a .x) (a .out .now) _ (b .result) (c .lay .ensures) (b .ensures)
 
 pub snow-resolution-set-spec : {M : Type 1} → statement M

@@ -11,7 +11,9 @@ lay-requires : tie.Need-lay-requires
 lay-requires c κs = search needs
 
 returns : tie.Need-returns
-returns c = built-laid _ _ (c .lay .ensures) (c .before .before .before .lay-tally .ensures)
+returns c =
+    let at-lay-tally = c .before .before .before in
+    built-laid _ _ (c .lay .ensures) (at-lay-tally .lay-tally .ensures)
 
 pub lay-built-spec : {M : Type 1} → statement M
 lay-built-spec = tie.close (tie.spec lay-tally-requires lay-requires returns)

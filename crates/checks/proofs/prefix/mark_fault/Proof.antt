@@ -13,19 +13,28 @@ is-mark : (entry : ℕ) → 1 ≤ entry → entry < 3 → IsMark entry
 is-mark entry low high = ⊎-elim (λ q. inr q) (λ l. inl (omega arith)) (eq-or-lt-of-le (le-of-suc-le-suc high))
 
 returns : tie.Need-returns
-returns c = same-mark refl (is-mark (c .before .before .before .args .entry) (c .before .before .if1 .left) (c .before .if2 .taken)) (c .if3 .taken)
+returns c =
+    let at-if1 = c .before .before in
+    let at-start = at-if1 .before in
+    same-mark refl (is-mark (at-start .args .entry) (at-if1 .if1 .left) (c .before .if2 .taken)) (c .if3 .taken)
 
 returns-2 : tie.Need-returns-2
 returns-2 c =
+    let at-if2 = c .before .before in
+    let at-if1 = at-if2 .before in
+    let at-start = at-if1 .before in
     too-many refl
-    (is-mark (c .before .before .before .before .args .entry) (c .before .before .before .if1 .left) (c .before .before .if2 .taken))
+    (is-mark (at-start .args .entry) (at-if1 .if1 .left) (at-if2 .if2 .taken))
     (c .before .if3 .left)
     (c .if4 .taken)
 
 returns-3 : tie.Need-returns-3
 returns-3 c =
+    let at-if2 = c .before .before in
+    let at-if1 = at-if2 .before in
+    let at-start = at-if1 .before in
     fine refl
-    (is-mark (c .before .before .before .before .args .entry) (c .before .before .before .if1 .left) (c .before .before .if2 .taken))
+    (is-mark (at-start .args .entry) (at-if1 .if1 .left) (at-if2 .if2 .taken))
     (c .before .if3 .left)
     (c .if4 .left)
 

@@ -25,9 +25,12 @@ check-prefix-requires c κs = search needs
 
 returns-4 : tie.Need-returns-4
 returns-4 c =
-    let a = c .before .before .before .before .before .args in
+    let at-if2 = c .before .before in
+    let at-if1 = at-if2 .before in
+    let at-start = at-if1 .before .before in
+    let a = at-start .args in
     accepted-then (VariableCount (a .n) ∷ At0 2 (PrefixLong (a .prefix .now) ⊎ ClausesLong (a .entries)) ∷ []) (PrefixCause (a .n) (a .prefix .now) ∷ []) {v = Accepted} (c .check-prefix .result) refl
-    (at0-none 1 (λ over. let l = c .before .before .before .if1 .left in omega arith), (at0-none 2 (λ over. ⊎-elim (λ m. let l = c .before .before .if2 .left in omega arith) (λ m. let l = c .before .if3 .left in omega arith) over), tt)) (c .check-prefix .ensures)
+    (at0-none 1 (λ over. let l = at-if1 .if1 .left in omega arith), (at0-none 2 (λ over. ⊎-elim (λ m. let l = at-if2 .if2 .left in omega arith) (λ m. let l = c .before .if3 .left in omega arith) over), tt)) (c .check-prefix .ensures)
 
 pub prefix-verdict-spec : {M : Type 1} → statement M
 prefix-verdict-spec = tie.close (tie.spec returns returns-2 returns-3 check-prefix-requires returns-4)

@@ -21,23 +21,25 @@ abbrev μ-loop : tie.MeasureT-loop
 loop-holds : tie.Need-loop-holds Inv-loop μ-loop
 loop-holds c = let a = c .before .args in (clauses-none (a .value) (a .x .0) (tabled (a .copies .now)) (a .clauses .now) (a .out .now) (a .at), stamps-none)
 
-next-zero-requires : tie.Need-next-zero-requires Inv-loop μ-loop
-next-zero-requires c κs = search needs
-
 same-length : tie.Need-same-length Inv-loop μ-loop
-same-length c = onward-length (c .before .before .before .loop .inv .0 .on)
+same-length c =
+    let at-loop = c .before .before .before in
+    onward-length (at-loop .loop .inv .0 .on)
 
 returns : tie.Need-returns Inv-loop μ-loop
-returns c = clauses-open (c .before .before .before .loop .inv .0) (c .before .next-zero .result) (c .before .next-zero .ensures) (c .if1 .taken)
+returns c =
+    let at-loop = c .before .before .before in
+    clauses-open (at-loop .loop .inv .0) (c .before .next-zero .result) (c .before .next-zero .ensures) (c .if1 .taken)
 
 add-stamp : tie.Need-add-stamp Inv-loop μ-loop
-add-stamp c = omega (arith, c .before .before .before .before .before .pre .0 .short)
+add-stamp c =
+    let at-start = c .before .before .before .before .before in
+    omega (arith, at-start .pre .0 .short)
 
 cast-stamp : tie.Need-cast-stamp Inv-loop μ-loop
-cast-stamp c = omega (arith, c .before .before .before .before .before .pre .0 .short)
-
-mul-copy-clause : tie.Need-mul-copy-clause Inv-loop μ-loop
-mul-copy-clause c = omega arith
+cast-stamp c =
+    let at-start = c .before .before .before .before .before in
+    omega (arith, at-start .pre .0 .short)
 
 sub-copy-clause : tie.Need-sub-copy-clause Inv-loop μ-loop
 sub-copy-clause c = omega (arith, c .before .next-zero .ensures .from)
@@ -45,31 +47,32 @@ sub-copy-clause c = omega (arith, c .before .next-zero .ensures .from)
 part-copy-clause-start : tie.Need-part-copy-clause-start Inv-loop μ-loop
 part-copy-clause-start c = omega (arith, c .before .next-zero .ensures .from)
 
-part-copy-clause-end : tie.Need-part-copy-clause-end Inv-loop μ-loop
-part-copy-clause-end c = omega arith
-
-slice-aggregate-copy-clause : tie.Need-slice-aggregate-copy-clause Inv-loop μ-loop
-slice-aggregate-copy-clause c = search needs
-
 copy-clause-requires : tie.Need-copy-clause-requires Inv-loop μ-loop
 copy-clause-requires c κs =
-    let a = c .before .before .before .before .before .before .before .before .args in
-    let next = c .before .before .before .before .next-zero in
-    let l = c .before .before .before .before .before .before .loop in
-    let pre = c .before .before .before .before .before .before .before .before .pre in
-    let less = c .before .before .before .if1 .left in
+    let at-if1 = c .before .before .before in
+    let at-next-zero = at-if1 .before in
+    let at-loop = at-next-zero .before .before in
+    let at-start = at-loop .before .before in
+    let a = at-start .args in
+    let next = at-next-zero .next-zero in
+    let l = at-loop .loop in
+    let pre = at-start .pre in
+    let less = at-if1 .if1 .left in
     (part-rows (a .clauses .now) (l .start) (next .result) (omega arith) (pre .0 .rows), stamps-more (l .inv .1) (omega (arith, next .ensures .from)), pre .1, omega (arith, part-short (a .clauses .now) (l .start) (next .result), pre .0 .short), omega (arith, l .inv .0 .few, l .inv .0 .within, pre .0 .short, pre .2))
 
-add-start : tie.Need-add-start Inv-loop μ-loop
-add-start c = omega arith
-
 loop-less : tie.Need-loop-less Inv-loop μ-loop
-loop-less c = omega (arith, c .before .before .before .before .before .before .before .next-zero .ensures .from)
+loop-less c =
+    let at-next-zero = c .before .before .before .before .before .before .before in
+    omega (arith, at-next-zero .next-zero .ensures .from)
 
 loop-again : tie.Need-loop-again Inv-loop μ-loop
 loop-again c =
-    let next = c .before .before .before .before .before .before .before .next-zero in
-    (clauses-more (c .before .before .before .before .before .before .before .before .before .loop .inv .0) (next .result) (next .ensures) (c .before .before .before .before .before .before .if1 .left) (c .before .before .copy-clause .ensures .0), c .before .before .copy-clause .ensures .1)
+    let at-copy-clause = c .before .before in
+    let at-if1 = at-copy-clause .before .before .before .before in
+    let at-next-zero = at-if1 .before in
+    let at-loop = at-next-zero .before .before in
+    let next = at-next-zero .next-zero in
+    (clauses-more (at-loop .loop .inv .0) (next .result) (next .ensures) (at-if1 .if1 .left) (at-copy-clause .copy-clause .ensures .0), at-copy-clause .copy-clause .ensures .1)
 
 same-length-2 : tie.Need-same-length-2 Inv-loop μ-loop
 same-length-2 c = onward-length (c .before .loop .inv .0 .on)
@@ -79,24 +82,6 @@ returns-2 c = clauses-all (c .before .loop .inv .0) (c .loop-test .left)
 
 pub copy-all-spec : {M : Type 1} → statement M
 copy-all-spec =
-    tie.close
-    (tie.spec
-    Inv-loop
-    μ-loop
-    loop-holds
-    next-zero-requires
-    same-length
-    returns
-    add-stamp
-    cast-stamp
-    mul-copy-clause
-    sub-copy-clause
-    part-copy-clause-start
-    part-copy-clause-end
-    slice-aggregate-copy-clause
-    copy-clause-requires
-    add-start
-    loop-less
-    loop-again
-    same-length-2
-    returns-2)
+    tie.close (tie.spec Inv-loop μ-loop loop-holds (λ c κs. search needs) same-length returns add-stamp cast-stamp (λ c. omega arith)
+    sub-copy-clause part-copy-clause-start (λ c. omega arith) (λ c. search needs) copy-clause-requires (λ c. omega arith) loop-less
+    loop-again same-length-2 returns-2)

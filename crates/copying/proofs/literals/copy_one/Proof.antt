@@ -24,74 +24,59 @@ abbrev μ-loop : tie.MeasureT-loop
 loop-holds : tie.Need-loop-holds Inv-loop μ-loop
 loop-holds c = let a = c .before .args in literals-none (a .value) (a .x .0) (tabled (a .copies .now)) (a .clause .now) (a .out .now) (a .at)
 
-literal-at-requires : tie.Need-literal-at-requires Inv-loop μ-loop
-literal-at-requires c κs = search needs
-
-variable-requires : tie.Need-variable-requires Inv-loop μ-loop
-variable-requires c κs = search needs
-
-add-i : tie.Need-add-i Inv-loop μ-loop
-add-i c = omega arith
-
-loop-less : tie.Need-loop-less Inv-loop μ-loop
-loop-less c = omega arith
-
 loop-again : tie.Need-loop-again Inv-loop μ-loop
-loop-again c = literals-x (c .before .before .before .before .before .before .loop .inv) (c .before .before .before .before .before .loop-test .taken) (c .before .before .before .variable .ensures ∙ ap variableOf (c .before .before .before .before .literal-at .ensures)) (c .if1 .taken)
+loop-again c =
+    let at-variable = c .before .before .before in
+    let at-literal-at = at-variable .before in
+    let at-loop-test = at-literal-at .before in
+    let at-loop = at-loop-test .before in
+    literals-x (at-loop .loop .inv) (at-loop-test .loop-test .taken) (at-variable .variable .ensures ∙ ap variableOf (at-literal-at .literal-at .ensures)) (c .if1 .taken)
 
 name-by-requires : tie.Need-name-by-requires Inv-loop μ-loop
-name-by-requires c κs = c .before .before .before .before .before .before .before .before .pre .0
-
-store-literal-requires : tie.Need-store-literal-requires Inv-loop μ-loop
-store-literal-requires c κs = search needs
+name-by-requires c κs =
+    let at-start = c .before .before .before .before .before .before .before .before in
+    at-start .pre .0
 
 add-end : tie.Need-add-end Inv-loop μ-loop
-add-end c = omega (arith, c .before .before .before .before .before .before .before .before .before .before .before .loop .inv .few, c .before .before .before .before .before .before .before .before .before .before .before .loop .inv .within, c .before .before .before .before .before .before .before .before .before .before .before .before .before .pre)
-
-add-i-2 : tie.Need-add-i-2 Inv-loop μ-loop
-add-i-2 c = omega arith
-
-loop-less-2 : tie.Need-loop-less-2 Inv-loop μ-loop
-loop-less-2 c = omega arith
+add-end c =
+    let at-loop = c .before .before .before .before .before .before .before .before .before .before .before in
+    let at-start = at-loop .before .before in
+    omega (arith, at-loop .loop .inv .few, at-loop .loop .inv .within, at-start .pre)
 
 loop-again-2 : tie.Need-loop-again-2 Inv-loop μ-loop
 loop-again-2 c =
-    let a = c .before .before .before .before .before .before .before .before .before .before .before .before .before .args in
-    let l = c .before .before .before .before .before .before .before .before .before .before .before .loop in
-    let q = c .before .before .before .before .name-by .ensures ∙ ap (named (a .value) (tabled (a .copies .now))) (c .before .before .before .before .before .before .before .before .before .literal-at .ensures) in
-    literals-more (l .inv) (c .before .before .before .before .before .before .before .before .before .before .loop-test .taken) (c .before .before .before .before .before .before .before .before .variable .ensures ∙ ap variableOf (c .before .before .before .before .before .before .before .before .before .literal-at .ensures)) (c .before .before .before .before .before .if1 .left) (c .before .store-literal .ensures ∙ ap (λ (z : ℤ). set (l .out) (l .end) z) (toZ-ofZ {w = w32} {z = c .before .before .before .before .name-by .result .0} (record { sfits = c .before .before .struct-told .given .0 .1 }) ∙ q))
-
-store-literal-requires-2 : tie.Need-store-literal-requires-2 Inv-loop μ-loop
-store-literal-requires-2 c κs = search needs
+    let at-struct-told = c .before .before in
+    let at-name-by = at-struct-told .before .before in
+    let at-if1 = at-name-by .before in
+    let at-variable = at-if1 .before .before .before in
+    let at-literal-at = at-variable .before in
+    let at-loop-test = at-literal-at .before in
+    let at-loop = at-loop-test .before in
+    let at-start = at-loop .before .before in
+    let a = at-start .args in
+    let l = at-loop .loop in
+    let q = at-name-by .name-by .ensures ∙ ap (named (a .value) (tabled (a .copies .now))) (at-literal-at .literal-at .ensures) in
+    literals-more (l .inv) (at-loop-test .loop-test .taken) (at-variable .variable .ensures ∙ ap variableOf (at-literal-at .literal-at .ensures)) (at-if1 .if1 .left) (c .before .store-literal .ensures ∙ ap (λ (z : ℤ). set (l .out) (l .end) z) (toZ-ofZ {w = w32} {z = at-name-by .name-by .result .0} (record { sfits = at-struct-told .struct-told .given .0 .1 }) ∙ q))
 
 add-result : tie.Need-add-result Inv-loop μ-loop
-add-result c = omega (arith, c .before .before .before .before .loop .inv .few, c .before .before .before .before .loop .inv .within, c .before .before .before .before .before .before .pre)
+add-result c =
+    let at-loop = c .before .before .before .before in
+    let at-start = at-loop .before .before in
+    omega (arith, at-loop .loop .inv .few, at-loop .loop .inv .within, at-start .pre)
 
 same-length : tie.Need-same-length Inv-loop μ-loop
-same-length c = c .before .store-literal2 .kept .0 ∙ onward-length (c .before .before .before .before .loop .inv .on)
+same-length c =
+    let at-loop = c .before .before .before .before in
+    c .before .store-literal2 .kept .0 ∙ onward-length (at-loop .loop .inv .on)
 
 returns : tie.Need-returns Inv-loop μ-loop
-returns c = literals-all (c .before .before .before .before .loop .inv) (c .before .before .before .loop-test .left) (c .before .store-literal2 .ensures)
+returns c =
+    let at-loop-test = c .before .before .before in
+    let at-loop = at-loop-test .before in
+    literals-all (at-loop .loop .inv) (at-loop-test .loop-test .left) (c .before .store-literal2 .ensures)
 
 pub copy-one-spec : {M : Type 1} → statement M
 copy-one-spec =
-    tie.close
-    (tie.spec
-    Inv-loop
-    μ-loop
-    loop-holds
-    literal-at-requires
-    variable-requires
-    add-i
-    loop-less
-    loop-again
-    name-by-requires
-    store-literal-requires
-    add-end
-    add-i-2
-    loop-less-2
-    loop-again-2
-    store-literal-requires-2
-    add-result
-    same-length
-    returns)
+    tie.close (tie.spec Inv-loop μ-loop loop-holds (λ c κs. search needs) (λ c κs. search needs) (λ c. omega arith) (λ c. omega arith)
+    loop-again name-by-requires (λ c κs. search needs) add-end (λ c. omega arith) (λ c. omega arith) loop-again-2 (λ c κs. search needs)
+    add-result same-length returns)

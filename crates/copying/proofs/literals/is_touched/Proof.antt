@@ -19,55 +19,48 @@ abbrev μ-loop : tie.MeasureT-loop
 loop-holds : tie.Need-loop-holds Inv-loop μ-loop
 loop-holds c = refl
 
-literal-at-requires : tie.Need-literal-at-requires Inv-loop μ-loop
-literal-at-requires c κs = search needs
-
-variable-requires : tie.Need-variable-requires Inv-loop μ-loop
-variable-requires c κs = search needs
-
 returns : tie.Need-returns Inv-loop μ-loop
 returns c =
-    let a = c .before .before .before .before .before .before .before .before .args in
-    let l = c .before .before .before .before .before .before .loop in
-    touched-x (a .x .0) (tabled (a .copies .now)) (a .clause .now) (l .i) (l .inv) (c .before .before .before .before .before .loop-test .taken) (c .before .before .before .variable .ensures ∙ ap variableOf (c .before .before .before .before .literal-at .ensures)) (c .if1 .taken)
-
-copy-at-requires : tie.Need-copy-at-requires Inv-loop μ-loop
-copy-at-requires c κs = search needs
+    let at-variable = c .before .before .before in
+    let at-literal-at = at-variable .before in
+    let at-loop-test = at-literal-at .before in
+    let at-loop = at-loop-test .before in
+    let at-start = at-loop .before .before in
+    let a = at-start .args in
+    let l = at-loop .loop in
+    touched-x (a .x .0) (tabled (a .copies .now)) (a .clause .now) (l .i) (l .inv) (at-loop-test .loop-test .taken) (at-variable .variable .ensures ∙ ap variableOf (at-literal-at .literal-at .ensures)) (c .if1 .taken)
 
 returns-2 : tie.Need-returns-2 Inv-loop μ-loop
 returns-2 c =
-    let a = c .before .before .before .before .before .before .before .before .before .before .before .args in
-    let l = c .before .before .before .before .before .before .before .before .before .loop in
-    touched-member (a .x .0) (tabled (a .copies .now)) (a .clause .now) (l .i) (l .inv) (c .before .before .before .before .before .before .before .before .loop-test .taken) (c .before .before .before .before .before .before .variable .ensures ∙ ap variableOf (c .before .before .before .before .before .before .before .literal-at .ensures)) (λ q. c .if2 .taken (c .before .before .copy-at .ensures ∙ q))
-
-add-i : tie.Need-add-i Inv-loop μ-loop
-add-i c = omega arith
-
-loop-less : tie.Need-loop-less Inv-loop μ-loop
-loop-less c = omega arith
+    let at-copy-at = c .before .before in
+    let at-variable = at-copy-at .before .before .before .before in
+    let at-literal-at = at-variable .before in
+    let at-loop-test = at-literal-at .before in
+    let at-loop = at-loop-test .before in
+    let at-start = at-loop .before .before in
+    let a = at-start .args in
+    let l = at-loop .loop in
+    touched-member (a .x .0) (tabled (a .copies .now)) (a .clause .now) (l .i) (l .inv) (at-loop-test .loop-test .taken) (at-variable .variable .ensures ∙ ap variableOf (at-literal-at .literal-at .ensures)) (λ q. c .if2 .taken (at-copy-at .copy-at .ensures ∙ q))
 
 loop-again : tie.Need-loop-again Inv-loop μ-loop
 loop-again c =
-    let a = c .before .before .before .before .before .before .before .before .before .before .before .args in
-    let l = c .before .before .before .before .before .before .before .before .before .loop in
-    touched-more (a .x .0) (tabled (a .copies .now)) (a .clause .now) (l .i) (l .inv) (c .before .before .before .before .before .before .before .before .loop-test .taken) (c .before .before .before .before .before .before .variable .ensures ∙ ap variableOf (c .before .before .before .before .before .before .before .literal-at .ensures)) (c .before .before .before .if1 .left) (sym (c .before .before .copy-at .ensures) ∙ c .if2 .left)
+    let at-copy-at = c .before .before in
+    let at-if1 = at-copy-at .before in
+    let at-variable = at-if1 .before .before .before in
+    let at-literal-at = at-variable .before in
+    let at-loop-test = at-literal-at .before in
+    let at-loop = at-loop-test .before in
+    let at-start = at-loop .before .before in
+    let a = at-start .args in
+    let l = at-loop .loop in
+    touched-more (a .x .0) (tabled (a .copies .now)) (a .clause .now) (l .i) (l .inv) (at-loop-test .loop-test .taken) (at-variable .variable .ensures ∙ ap variableOf (at-literal-at .literal-at .ensures)) (at-if1 .if1 .left) (sym (at-copy-at .copy-at .ensures) ∙ c .if2 .left)
 
 returns-3 : tie.Need-returns-3 Inv-loop μ-loop
-returns-3 c = let a = c .before .before .before .args in let l = c .before .loop in touched-none (a .x .0) (tabled (a .copies .now)) (a .clause .now) (l .i) (l .inv) (c .loop-test .left)
+returns-3 c =
+    let at-start = c .before .before .before in
+    let a = at-start .args in let l = c .before .loop in touched-none (a .x .0) (tabled (a .copies .now)) (a .clause .now) (l .i) (l .inv) (c .loop-test .left)
 
 pub is-touched-spec : {M : Type 1} → statement M
 is-touched-spec =
-    tie.close
-    (tie.spec
-    Inv-loop
-    μ-loop
-    loop-holds
-    literal-at-requires
-    variable-requires
-    returns
-    copy-at-requires
-    returns-2
-    add-i
-    loop-less
-    loop-again
-    returns-3)
+    tie.close (tie.spec Inv-loop μ-loop loop-holds (λ c κs. search needs) (λ c κs. search needs) returns (λ c κs. search needs) returns-2
+    (λ c. omega arith) (λ c. omega arith) loop-again returns-3)

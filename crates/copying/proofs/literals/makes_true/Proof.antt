@@ -11,17 +11,26 @@ variable-requires : tie.Need-variable-requires
 variable-requires c κs = search needs
 
 returns : tie.Need-returns
-returns c = let a = c .before .before .before .before .args in made-other (a .value) (a .x .0) (a .literal .0) (λ q. c .if1 .taken (c .before .before .before .variable .ensures ∙ q))
+returns c =
+    let at-variable = c .before .before .before in
+    let at-start = at-variable .before in
+    let a = at-start .args in made-other (a .value) (a .x .0) (a .literal .0) (λ q. c .if1 .taken (at-variable .variable .ensures ∙ q))
 
 returns-2 : tie.Need-returns-2
 returns-2 c =
-    let a = c .before .before .before .before .before .before .before .args in
-    made-negative (toZ-ofZ {w = w32} {z = a .literal .0} (record { sfits = c .before .struct-told .given .0 .1 })) (a .value) (a .x .0) (c .if2 .taken) (sym (c .before .before .before .before .before .before .variable .ensures) ∙ c .before .before .before .if1 .left)
+    let at-if1 = c .before .before .before in
+    let at-variable = at-if1 .before .before .before in
+    let at-start = at-variable .before in
+    let a = at-start .args in
+    made-negative (toZ-ofZ {w = w32} {z = a .literal .0} (record { sfits = c .before .struct-told .given .0 .1 })) (a .value) (a .x .0) (c .if2 .taken) (sym (at-variable .variable .ensures) ∙ at-if1 .if1 .left)
 
 returns-3 : tie.Need-returns-3
 returns-3 c =
-    let a = c .before .before .before .before .before .before .before .args in
-    made-positive (toZ-ofZ {w = w32} {z = a .literal .0} (record { sfits = c .before .struct-told .given .0 .1 })) (a .value) (a .x .0) (c .if2 .left) (sym (c .before .before .before .before .before .before .variable .ensures) ∙ c .before .before .before .if1 .left)
+    let at-if1 = c .before .before .before in
+    let at-variable = at-if1 .before .before .before in
+    let at-start = at-variable .before in
+    let a = at-start .args in
+    made-positive (toZ-ofZ {w = w32} {z = a .literal .0} (record { sfits = c .before .struct-told .given .0 .1 })) (a .value) (a .x .0) (c .if2 .left) (sym (at-variable .variable .ensures) ∙ at-if1 .if1 .left)
 
 pub makes-true-spec : {M : Type 1} → statement M
 makes-true-spec = tie.close (tie.spec variable-requires returns returns-2 returns-3)

@@ -11,11 +11,15 @@ rename-requires c κs = search needs
 
 returns : tie.Need-returns
 unfolding named
-returns c = let a = c .before .before .before .args in c .rename .ensures ∙ sym (ap (λ b. named b (tabled (a .copies .now)) (a .literal .0)) (c .before .if1 .taken))
+returns c =
+    let at-start = c .before .before .before in
+    let a = at-start .args in c .rename .ensures ∙ sym (ap (λ b. named b (tabled (a .copies .now)) (a .literal .0)) (c .before .if1 .taken))
 
 returns-2 : tie.Need-returns-2
 unfolding named
-returns-2 c = let a = c .before .before .args in sym (ap (λ b. named b (tabled (a .copies .now)) (a .literal .0)) (c .if1 .left))
+returns-2 c =
+    let at-start = c .before .before in
+    let a = at-start .args in sym (ap (λ b. named b (tabled (a .copies .now)) (a .literal .0)) (c .if1 .left))
 
 pub name-by-spec : {M : Type 1} → statement M
 name-by-spec = tie.close (tie.spec rename-requires returns returns-2)

@@ -19,7 +19,9 @@ new-requires : tie.Need-new-requires
 new-requires c κs = search needs
 
 returns : tie.Need-returns
-returns c = let v = c .before .before .args .v .0 in c .new .ensures ∙ ap (λ (z : ℤ). toZ w32 (ofZ w32 z)) (negated v (c .before .before .pre)) ∙ toZ-ofZ (negated-fits v (c .before .before .pre))
+returns c =
+    let at-start = c .before .before in
+    let v = at-start .args .v .0 in c .new .ensures ∙ ap (λ (z : ℤ). toZ w32 (ofZ w32 z)) (negated v (at-start .pre)) ∙ toZ-ofZ (negated-fits v (at-start .pre))
 
 pub negation-spec : {M : Type 1} → statement M
 negation-spec = tie.close (tie.spec cast-literal sub-new new-requires returns)

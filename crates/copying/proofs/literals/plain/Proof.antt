@@ -14,7 +14,9 @@ new-requires : tie.Need-new-requires
 new-requires c κs = search needs
 
 returns : tie.Need-returns
-returns c = c .new .ensures ∙ toZ-pos w32 {n = c .before .before .args .v .0} (omega (arith, c .before .before .pre))
+returns c =
+    let at-start = c .before .before in
+    c .new .ensures ∙ toZ-pos w32 {n = at-start .args .v .0} (omega (arith, at-start .pre))
 
 pub plain-spec : {M : Type 1} → statement M
 plain-spec = tie.close (tie.spec cast-new new-requires returns)

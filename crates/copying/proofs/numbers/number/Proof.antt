@@ -16,62 +16,62 @@ abbrev μ-loop : tie.MeasureT-loop
 loop-holds : tie.Need-loop-holds Inv-loop μ-loop
 loop-holds c = numbers-none (c .args .n) (c .args .members .now) (c .args .copies .now) (c .pre .1 .0) (c .pre .1 .1)
 
-sub-k : tie.Need-sub-k Inv-loop μ-loop
-sub-k c = omega arith
-
-mul-member : tie.Need-mul-member Inv-loop μ-loop
-mul-member c = search needs
-
 shared-slice-read-member : tie.Need-shared-slice-read-member Inv-loop μ-loop
-shared-slice-read-member c = omega (arith, c .before .before .loop .inv .within)
+shared-slice-read-member c =
+    let at-loop = c .before .before in
+    omega (arith, at-loop .loop .inv .within)
 
 cast-member : tie.Need-cast-member Inv-loop μ-loop
-cast-member c = omega (arith, c .before .before .before .pre .0 .2 (c .before .before .loop .k - 1))
+cast-member c =
+    let at-loop = c .before .before in
+    let at-start = at-loop .before in
+    omega (arith, at-start .pre .0 .2 (at-loop .loop .k - 1))
 
 cast-copies : tie.Need-cast-copies Inv-loop μ-loop
-cast-copies c = omega (arith, c .before .before .loop .inv .within, c .before .before .before .pre .0 .1)
+cast-copies c =
+    let at-loop = c .before .before in
+    let at-start = at-loop .before in
+    omega (arith, at-loop .loop .inv .within, at-start .pre .0 .1)
 
 add-copies : tie.Need-add-copies Inv-loop μ-loop
-add-copies c = omega (arith, c .before .before .loop .inv .within, c .before .before .before .pre .0 .1, c .before .before .before .pre .0 .0)
+add-copies c =
+    let at-loop = c .before .before in
+    let at-start = at-loop .before in
+    omega (arith, at-loop .loop .inv .within, at-start .pre .0 .1, at-start .pre .0 .0)
 
 add-copies-2 : tie.Need-add-copies-2 Inv-loop μ-loop
-add-copies-2 c = omega (arith, c .before .before .loop .inv .within, c .before .before .before .pre .0 .1, c .before .before .before .pre .0 .0)
+add-copies-2 c =
+    let at-loop = c .before .before in
+    let at-start = at-loop .before in
+    omega (arith, at-loop .loop .inv .within, at-start .pre .0 .1, at-start .pre .0 .0)
 
 mul-copies : tie.Need-mul-copies Inv-loop μ-loop
-mul-copies c = omega (arith, c .before .before .before .pre .0 .2 (c .before .before .loop .k - 1))
+mul-copies c =
+    let at-loop = c .before .before in
+    let at-start = at-loop .before in
+    omega (arith, at-start .pre .0 .2 (at-loop .loop .k - 1))
 
 slice-write-copies : tie.Need-slice-write-copies Inv-loop μ-loop
-slice-write-copies c = omega (arith, c .before .before .loop .inv .size, c .before .before .before .pre .0 .2 (c .before .before .loop .k - 1))
-
-loop-less : tie.Need-loop-less Inv-loop μ-loop
-loop-less c = omega arith
+slice-write-copies c =
+    let at-loop = c .before .before in
+    let at-start = at-loop .before in
+    omega (arith, at-loop .loop .inv .size, at-start .pre .0 .2 (at-loop .loop .k - 1))
 
 loop-again : tie.Need-loop-again Inv-loop μ-loop
-loop-again c = numbers-more (c .before .before .loop .inv) (c .before .loop-test .taken) (c .before .before .before .pre .0 .2 (c .before .before .loop .k - 1))
+loop-again c =
+    let at-loop = c .before .before in
+    let at-start = at-loop .before in
+    numbers-more (at-loop .loop .inv) (c .before .loop-test .taken) (at-start .pre .0 .2 (at-loop .loop .k - 1))
 
 same-length : tie.Need-same-length Inv-loop μ-loop
-same-length c = c .before .loop .inv .size ∙ sym (c .before .before .pre .1 .0)
+same-length c =
+    let at-start = c .before .before in
+    c .before .loop .inv .size ∙ sym (at-start .pre .1 .0)
 
 returns : tie.Need-returns Inv-loop μ-loop
 returns c = numbers-all (c .before .loop .inv) (omega (arith, c .loop-test .left))
 
 pub number-spec : {M : Type 1} → statement M
 number-spec =
-    tie.close
-    (tie.spec
-    Inv-loop
-    μ-loop
-    loop-holds
-    sub-k
-    mul-member
-    shared-slice-read-member
-    cast-member
-    cast-copies
-    add-copies
-    add-copies-2
-    mul-copies
-    slice-write-copies
-    loop-less
-    loop-again
-    same-length
-    returns)
+    tie.close (tie.spec Inv-loop μ-loop loop-holds (λ c. omega arith) (λ c. search needs) shared-slice-read-member cast-member cast-copies
+    add-copies add-copies-2 mul-copies slice-write-copies (λ c. omega arith) loop-again same-length returns)

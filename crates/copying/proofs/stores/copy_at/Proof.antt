@@ -24,7 +24,9 @@ returns : tie.Need-returns
 returns c = search needs
 
 returns-2 : tie.Need-returns-2
-returns-2 c = c .new2 .ensures ∙ sym (List·getD-eq-default (c .before .before .before .before .args .copies .now) 0 (c .before .if1 .left))
+returns-2 c =
+    let at-start = c .before .before .before .before in
+    c .new2 .ensures ∙ sym (List·getD-eq-default (at-start .args .copies .now) 0 (c .before .if1 .left))
 
 pub copy-at-spec : {M : Type 1} → statement M
 copy-at-spec =

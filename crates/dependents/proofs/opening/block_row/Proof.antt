@@ -19,12 +19,17 @@ level-at-requires c κs = search needs
 
 returns-2 : tie.Need-returns-2
 returns-2 c =
-    let e = c .before .before .before .before .before .existential-at in
-    let l = c .before .before .before .level-at .ensures in
-    inl (refl, (sym (e .ensures) ∙ not-false (e .result) (c .before .before .before .before .if1 .left), omega (arith, c .if2 .taken)))
+    let at-level-at = c .before .before .before in
+    let at-if1 = at-level-at .before in
+    let at-existential-at = at-if1 .before in
+    let e = at-existential-at .existential-at in
+    let l = at-level-at .level-at .ensures in
+    inl (refl, (sym (e .ensures) ∙ not-false (e .result) (at-if1 .if1 .left), omega (arith, c .if2 .taken)))
 
 returns-3 : tie.Need-returns-3
-returns-3 c = let l = c .before .before .before .level-at .ensures in inr (refl, λ p. let d = p .1 in omega (arith, c .if2 .left))
+returns-3 c =
+    let at-level-at = c .before .before .before in
+    let l = at-level-at .level-at .ensures in inr (refl, λ p. let d = p .1 in omega (arith, c .if2 .left))
 
 pub block-row-spec : {M : Type 1} → statement M
 block-row-spec =

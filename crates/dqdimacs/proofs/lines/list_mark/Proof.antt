@@ -16,7 +16,8 @@ enum-known-stage c = search needs
 
 returns : tie.Need-returns
 returns c =
-    let v = c .before .before .stage .given in
+    let at-stage = c .before .before in
+    let v = at-stage .stage .given in
     λ n m l e x. let same : Body (v .0 .0) (v .0 .1 .0) (v .0 .1 .1 .0) ≡ Body n m 0 = sym (v .1) ∙ e in let none : v .0 .1 .1 .0 ≡ 0 = cc in c .if1 .taken none
 
 letter-at-requires : tie.Need-letter-at-requires
@@ -26,7 +27,10 @@ returns-2 : tie.Need-returns-2
 returns-2 c = λ n m l e x. let same : Opening ≡ Body n m 0 = sym (c .enum-told .given .1) ∙ e in let no : _≡_ {A = ℕ} 0 1 = cc in omega arith
 
 returns-3 : tie.Need-returns-3
-returns-3 c = let v = c .before .before .before .stage .given in let a = c .before .before .before .before .before .before .args in list-mark (a .text .now) (a .at) (v .1 ∙ ap (Body (v .0 .0) (v .0 .1 .0)) (c .before .if1 .left)) (c .letter-at .result) (c .letter-at .ensures)
+returns-3 c =
+    let at-stage = c .before .before .before in
+    let at-start = at-stage .before .before .before in
+    let v = at-stage .stage .given in let a = at-start .args in list-mark (a .text .now) (a .at) (v .1 ∙ ap (Body (v .0 .0) (v .0 .1 .0)) (c .before .if1 .left)) (c .letter-at .result) (c .letter-at .ensures)
 
 pub list-mark-spec : {M : Type 1} → statement M
 list-mark-spec =

@@ -18,14 +18,18 @@ enum-known-n c = search needs
 
 returns : tie.Need-returns
 returns c =
-    let a = c .before .before .before .before .args in
-    let f = subst (λ (r : Reading). FinishIs (a .stage) (a .at) (a .entries) (a .literals) r) (c .before .number .given .1) (c .before .before .before .finish .ensures) in
+    let at-finish = c .before .before .before in
+    let at-start = at-finish .before in
+    let a = at-start .args in
+    let f = subst (λ (r : Reading). FinishIs (a .stage) (a .at) (a .entries) (a .literals) r) (c .before .number .given .1) (at-finish .finish .ensures) in
     (end-fault (f .0), f .1)
 
 returns-2 : tie.Need-returns-2
 returns-2 c =
-    let a = c .before .before .before .before .args in
-    let f = subst (λ (r : Reading). FinishIs (a .stage) (a .at) (a .entries) (a .literals) r) (c .before .n .given .1) (c .before .before .before .finish .ensures) in
+    let at-finish = c .before .before .before in
+    let at-start = at-finish .before in
+    let a = at-start .args in
+    let f = subst (λ (r : Reading). FinishIs (a .stage) (a .at) (a .entries) (a .literals) r) (c .before .n .given .1) (at-finish .finish .ensures) in
     (f .0, refl, refl, refl)
 
 pub finish-spec : {M : Type 1} → statement M

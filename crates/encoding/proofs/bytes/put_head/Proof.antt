@@ -11,15 +11,19 @@ put-number-requires c κs = search needs
 
 put-number-requires-2 : tie.Need-put-number-requires-2
 put-number-requires-2 c κs =
-    let k = c .before .before .before .before .before .before in
-    omega (arith, k .pre, c .before .before .before .put-number .ensures .end, number-length 4 (k .args .size))
+    let at-put-number = c .before .before .before in
+    let at-before = at-put-number .before .before in
+    let k = at-before .before in
+    omega (arith, k .pre, at-put-number .put-number .ensures .end, number-length 4 (k .args .size))
 
 same-length : tie.Need-same-length
 same-length c = search needs
 
 returns : tie.Need-returns
 returns c =
-    wrote-more (c .before .before .before .before .before .before .put-number .ensures) (c .before .before .put-number2 .ensures)
+    let at-put-number2 = c .before .before in
+    let at-put-number = at-put-number2 .before .before .before .before in
+    wrote-more (at-put-number .put-number .ensures) (at-put-number2 .put-number2 .ensures)
 
 pub put-head-spec : {M : Type 1} → statement M
 put-head-spec = tie.close (tie.spec put-number-requires put-number-requires-2 same-length returns)

@@ -24,58 +24,44 @@ abbrev μ-loop : tie.MeasureT-loop
 loop-holds : tie.Need-loop-holds Inv-loop μ-loop
 loop-holds c = let a = c .before .args in (partly-none (literalsBytes (a .clauses .now)) (a .out .now) (a .at), omega arith)
 
-mul-literal-number : tie.Need-mul-literal-number Inv-loop μ-loop
-mul-literal-number c = search needs
-
 shared-slice-copy-out-literal-number :
     tie.Need-shared-slice-copy-out-literal-number Inv-loop μ-loop
 shared-slice-copy-out-literal-number c = search needs
 
-literal-number-requires : tie.Need-literal-number-requires Inv-loop μ-loop
-literal-number-requires c κs = search needs
-
 put-number-requires : tie.Need-put-number-requires Inv-loop μ-loop
 put-number-requires c κs =
-    let k = c .before .before .before .before .before .before in
-    let near = partly-near (c .before .before .before .before .loop .inv .0) in
+    let at-loop = c .before .before .before .before in
+    let at-before = at-loop .before in
+    let k = at-before .before in
+    let near = partly-near (at-loop .loop .inv .0) in
     let most = bytes-most 4 (map literalNumber (k .args .clauses .now)) (omega arith) in
     let many = length-map (k .args .clauses .now) literalNumber in
     omega (arith, near, most, k .pre .0, k .pre .1)
 
-add-i : tie.Need-add-i Inv-loop μ-loop
-add-i c = search needs
-
-loop-less : tie.Need-loop-less Inv-loop μ-loop
-loop-less c = search needs
-
 loop-again : tie.Need-loop-again Inv-loop μ-loop
 loop-again c =
-    let a = c .before .before .before .before .before .before .before .before .before .args in
-    let l = c .before .before .before .before .before .before .before .loop in
-    let h = c .before .before .before .before .before .before .loop-test .taken in
+    let at-put-number = c .before .before in
+    let at-literal-number = at-put-number .before .before in
+    let at-literal-number-arg = at-literal-number .before in
+    let at-loop-test = at-literal-number-arg .before in
+    let at-loop = at-loop-test .before in
+    let at-start = at-loop .before .before in
+    let a = at-start .args in
+    let l = at-loop .loop in
+    let h = at-loop-test .loop-test .taken in
     let z = getD (a .clauses .now) (l .i) (pos 0) in
-    let number = c .before .before .before .before .literal-number .ensures ∙ ap literalNumber (toZ-ofZ {w = w32} {z = z} (record { sfits = c .before .before .before .before .before .literal-number-arg .given })) in
-    (partly-more (l .inv .0) (literals-step (a .clauses .now) (l .i) h) (wrote-as (ap (numberBytes 4) number) (c .before .before .put-number .ensures)), omega arith)
+    let number = at-literal-number .literal-number .ensures ∙ ap literalNumber (toZ-ofZ {w = w32} {z = z} (record { sfits = at-literal-number-arg .literal-number-arg .given })) in
+    (partly-more (l .inv .0) (literals-step (a .clauses .now) (l .i) h) (wrote-as (ap (numberBytes 4) number) (at-put-number .put-number .ensures)), omega arith)
 
 same-length : tie.Need-same-length Inv-loop μ-loop
 same-length c = partly-length (c .before .loop .inv .0)
 
 returns : tie.Need-returns Inv-loop μ-loop
-returns c = let a = c .before .before .before .args in let l = c .before .loop in partly-all (l .inv .0) (literals-over (a .clauses .now) (l .i) (c .loop-test .left))
+returns c =
+    let at-start = c .before .before .before in
+    let a = at-start .args in let l = c .before .loop in partly-all (l .inv .0) (literals-over (a .clauses .now) (l .i) (c .loop-test .left))
 
 pub put-literals-spec : {M : Type 1} → statement M
 put-literals-spec =
-    tie.close
-    (tie.spec
-    Inv-loop
-    μ-loop
-    loop-holds
-    mul-literal-number
-    shared-slice-copy-out-literal-number
-    literal-number-requires
-    put-number-requires
-    add-i
-    loop-less
-    loop-again
-    same-length
-    returns)
+    tie.close (tie.spec Inv-loop μ-loop loop-holds (λ c. search needs) shared-slice-copy-out-literal-number (λ c κs. search needs)
+    put-number-requires (λ c. search needs) (λ c. search needs) loop-again same-length returns)

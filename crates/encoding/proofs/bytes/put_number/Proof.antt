@@ -17,26 +17,22 @@ abbrev μ-loop : tie.MeasureT-loop
 loop-holds : tie.Need-loop-holds Inv-loop μ-loop
 loop-holds c = let a = c .before .args in (partly-none (numberBytes (a .width) (a .number)) (a .out .now) (a .at), omega arith)
 
-cast-put-byte : tie.Need-cast-put-byte Inv-loop μ-loop
-cast-put-byte c = search needs
-
 put-byte-requires : tie.Need-put-byte-requires Inv-loop μ-loop
 put-byte-requires c κs =
-    let k = c .before .before .before .before in
-    let l = c .before .before .loop in
+    let at-loop = c .before .before in
+    let at-before = at-loop .before in
+    let k = at-before .before in
+    let l = at-loop .loop in
     omega (arith, partly-near (l .inv .0), number-length (k .args .width) (k .args .number), k .pre .0, k .pre .1)
-
-sub-left : tie.Need-sub-left Inv-loop μ-loop
-sub-left c = search needs
-
-loop-less : tie.Need-loop-less Inv-loop μ-loop
-loop-less c = search needs
 
 loop-again : tie.Need-loop-again Inv-loop μ-loop
 loop-again c =
-    let l = c .before .before .before .before .before .loop in
-    let o = c .before .before .put-byte in
-    (partly-more (l .inv .0) (number-step (l .left) (l .rest) (c .before .before .before .before .loop-test .taken)) (o .ensures), omega (arith, l .inv .1))
+    let at-put-byte = c .before .before in
+    let at-loop-test = at-put-byte .before .before in
+    let at-loop = at-loop-test .before in
+    let l = at-loop .loop in
+    let o = at-put-byte .put-byte in
+    (partly-more (l .inv .0) (number-step (l .left) (l .rest) (at-loop-test .loop-test .taken)) (o .ensures), omega (arith, l .inv .1))
 
 same-length : tie.Need-same-length Inv-loop μ-loop
 same-length c = partly-length (c .before .loop .inv .0)
@@ -46,15 +42,5 @@ returns c = let l = c .before .loop in partly-all (l .inv .0) (number-over (l .l
 
 pub put-number-spec : {M : Type 1} → statement M
 put-number-spec =
-    tie.close
-    (tie.spec
-    Inv-loop
-    μ-loop
-    loop-holds
-    cast-put-byte
-    put-byte-requires
-    sub-left
-    loop-less
-    loop-again
-    same-length
-    returns)
+    tie.close (tie.spec Inv-loop μ-loop loop-holds (λ c. search needs) put-byte-requires (λ c. search needs) (λ c. search needs) loop-again
+    same-length returns)

@@ -13,54 +13,43 @@ use borrow.Author.Needs.{needs}
 use Rattle.encoding.proofs.parts.put_closing.Statement.{statement}
 use Rattle.encoding.proofs.parts.put_closing.Tie as tie
 
-put-head-requires : tie.Need-put-head-requires
-put-head-requires c κs = search needs
-
 slice-reshare-prefix-sum-words : tie.Need-slice-reshare-prefix-sum-words
-slice-reshare-prefix-sum-words c = omega (arith, head-length 2 65535, c .before .before .put-head .ensures .end, c .before .before .put-head .kept .0, c .before .before .before .before .before .pre .1)
+slice-reshare-prefix-sum-words c =
+    let at-put-head = c .before .before in
+    let at-start = at-put-head .before .before .before in
+    omega (arith, head-length 2 65535, at-put-head .put-head .ensures .end, at-put-head .put-head .kept .0, at-start .pre .1)
 
 slice-aggregate-sum-words : tie.Need-slice-aggregate-sum-words
 slice-aggregate-sum-words c =
-    let o = c .before .before .before .put-head in
-    sym (length-take-le (o .result) (o .last .0) (omega (arith, head-length 2 65535, o .ensures .end, o .kept .0, c .before .before .before .before .before .before .pre .1)))
-
-sum-words-requires : tie.Need-sum-words-requires
-sum-words-requires c κs = search needs
-
-wrapping-sub-u16-requires : tie.Need-wrapping-sub-u16-requires
-wrapping-sub-u16-requires c κs = search needs
-
-cast-put-number : tie.Need-cast-put-number
-cast-put-number c = search needs
+    let at-put-head = c .before .before .before in
+    let at-start = at-put-head .before .before .before in
+    let o = at-put-head .put-head in
+    sym (length-take-le (o .result) (o .last .0) (omega (arith, head-length 2 65535, o .ensures .end, o .kept .0, at-start .pre .1)))
 
 put-number-requires : tie.Need-put-number-requires
-put-number-requires c κs = omega (arith, head-length 2 65535, c .before .before .before .before .before .before .put-head .ensures .end, c .before .before .before .before .before .before .before .before .before .pre .0)
-
-same-length : tie.Need-same-length
-same-length c = search needs
+put-number-requires c κs =
+    let at-put-head = c .before .before .before .before .before .before in
+    let at-start = at-put-head .before .before .before in
+    omega (arith, head-length 2 65535, at-put-head .put-head .ensures .end, at-start .pre .0)
 
 returns : tie.Need-returns
 returns c =
-    let k = c .before .before .before .before .before .before .before .before .before .before .before .before in
+    let at-put-number = c .before .before in
+    let at-wrapping-sub-u16 = at-put-number .before .before in
+    let at-sum-words = at-wrapping-sub-u16 .before in
+    let at-put-head = at-sum-words .before .before .before .before in
+    let at-before = at-put-head .before .before in
+    let k = at-before .before in
     let a = k .args in
-    let head = c .before .before .before .before .before .before .before .before .before .put-head in
+    let head = at-put-head .put-head in
     let front = take (a .at) (a .out .now) in
     let l = head-length 2 65535 in
     let stands = front-stored (head .ensures) (omega (arith, k .pre .1)) in
-    let sum = c .before .before .before .before .before .sum-words .ensures ∙ ap (λ (xs : List ℕ). wordSum xs % 65536) stands in
-    let word = c .before .before .before .before .wrapping-sub-u16 in
-    wrote-as (ap closingRecord (closing-is front _ (word .result) sum (word .ok) (word .ensures))) (closing-wrote (word .result) (head .ensures) (c .before .before .put-number .ensures))
+    let sum = at-sum-words .sum-words .ensures ∙ ap (λ (xs : List ℕ). wordSum xs % 65536) stands in
+    let word = at-wrapping-sub-u16 .wrapping-sub-u16 in
+    wrote-as (ap closingRecord (closing-is front _ (word .result) sum (word .ok) (word .ensures))) (closing-wrote (word .result) (head .ensures) (at-put-number .put-number .ensures))
 
 pub put-closing-spec : {M : Type 1} → statement M
 put-closing-spec =
-    tie.close
-    (tie.spec
-    put-head-requires
-    slice-reshare-prefix-sum-words
-    slice-aggregate-sum-words
-    sum-words-requires
-    wrapping-sub-u16-requires
-    cast-put-number
-    put-number-requires
-    same-length
-    returns)
+    tie.close (tie.spec (λ c κs. search needs) slice-reshare-prefix-sum-words slice-aggregate-sum-words (λ c κs. search needs)
+    (λ c κs. search needs) (λ c. search needs) put-number-requires (λ c. search needs) returns)

@@ -10,43 +10,30 @@ use borrow.Author.Needs.{needs}
 use Rattle.encoding.proofs.parts.put_prefix.Statement.{statement}
 use Rattle.encoding.proofs.parts.put_prefix.Tie as tie
 
-cast-size : tie.Need-cast-size
-cast-size c = search needs
-
-mul-size : tie.Need-mul-size
-mul-size c = search needs
-
-add-size : tie.Need-add-size
-add-size c = search needs
-
-put-head-requires : tie.Need-put-head-requires
-put-head-requires c κs = search needs
-
 put-number-requires : tie.Need-put-number-requires
-put-number-requires c κs = let a = c .before .before .before .before .before .before .before .args in omega (arith, c .before .before .before .put-head .ensures .end, head-length (2 * length (a .prefix .now) + 2) 1)
+put-number-requires c κs =
+    let at-put-head = c .before .before .before in
+    let at-start = at-put-head .before .before .before .before in
+    let a = at-start .args in omega (arith, at-put-head .put-head .ensures .end, head-length (2 * length (a .prefix .now) + 2) 1)
 
 put-numbers-requires : tie.Need-put-numbers-requires
 put-numbers-requires c κs =
-    let k = c .before .before .before .before .before .before .before .before .before .before .before in
-    omega (arith, c .before .before .before .before .before .before .before .put-head .ensures .end, head-length (2 * length (k .args .prefix .now) + 2) 1, c .before .before .before .put-number .ensures .end, number-length 2 (k .args .n), k .pre)
-
-same-length : tie.Need-same-length
-same-length c = search needs
+    let at-put-number = c .before .before .before in
+    let at-put-head = at-put-number .before .before .before .before in
+    let at-before = at-put-head .before .before .before in
+    let k = at-before .before in
+    omega (arith, at-put-head .put-head .ensures .end, head-length (2 * length (k .args .prefix .now) + 2) 1, at-put-number .put-number .ensures .end, number-length 2 (k .args .n), k .pre)
 
 returns : tie.Need-returns
 returns c =
-    let a = c .before .before .before .before .before .before .before .before .before .before .before .before .before .before .args in
-    prefix-wrote (2 * length (a .prefix .now) + 2) (a .n) (a .prefix .now) refl (c .before .before .before .before .before .before .before .before .before .before .put-head .ensures) (c .before .before .before .before .before .before .put-number .ensures) (c .before .before .put-numbers .ensures)
+    let at-put-numbers = c .before .before in
+    let at-put-number = at-put-numbers .before .before .before .before in
+    let at-put-head = at-put-number .before .before .before .before in
+    let at-start = at-put-head .before .before .before .before in
+    let a = at-start .args in
+    prefix-wrote (2 * length (a .prefix .now) + 2) (a .n) (a .prefix .now) refl (at-put-head .put-head .ensures) (at-put-number .put-number .ensures) (at-put-numbers .put-numbers .ensures)
 
 pub put-prefix-spec : {M : Type 1} → statement M
 put-prefix-spec =
-    tie.close
-    (tie.spec
-    cast-size
-    mul-size
-    add-size
-    put-head-requires
-    put-number-requires
-    put-numbers-requires
-    same-length
-    returns)
+    tie.close (tie.spec (λ c. search needs) (λ c. search needs) (λ c. search needs) (λ c κs. search needs) put-number-requires
+    put-numbers-requires (λ c. search needs) returns)

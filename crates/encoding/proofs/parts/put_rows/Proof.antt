@@ -19,8 +19,10 @@ put-head-requires c κs = search needs
 
 put-tables-requires : tie.Need-put-tables-requires
 put-tables-requires c κs =
-    let k = c .before .before .before .before .before .before .before .before .before in
-    let e = c .before .before .before .put-head .ensures .end in
+    let at-put-head = c .before .before .before in
+    let at-before = at-put-head .before .before .before .before .before in
+    let k = at-before .before in
+    let e = at-put-head .put-head .ensures .end in
     let l = head-length (12 * length (k .args .classes .now)) 3 in
     (omega (arith, k .pre .0), k .pre .1, omega (arith, k .pre .1, k .pre .2), omega (arith, k .pre .1, k .pre .3))
 
@@ -29,9 +31,12 @@ same-length c = search needs
 
 returns : tie.Need-returns
 returns c =
-    let k = c .before .before .before .before .before .before .before .before .before .before .before .before in
+    let at-put-tables = c .before .before in
+    let at-put-head = at-put-tables .before .before .before .before in
+    let at-before = at-put-head .before .before .before .before .before in
+    let k = at-before .before in
     let a = k .args in
-    rows-wrote (12 * length (a .classes .now)) (a .classes .now) (a .parents .now) (a .counts .now) (omega (arith, k .pre .2, k .pre .3)) (c .before .before .before .before .before .before .put-head .ensures) (c .before .before .put-tables .ensures)
+    rows-wrote (12 * length (a .classes .now)) (a .classes .now) (a .parents .now) (a .counts .now) (omega (arith, k .pre .2, k .pre .3)) (at-put-head .put-head .ensures) (at-put-tables .put-tables .ensures)
 
 pub put-rows-spec : {M : Type 1} → statement M
 put-rows-spec =

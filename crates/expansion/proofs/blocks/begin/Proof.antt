@@ -6,7 +6,9 @@ use Rattle.expansion.proofs.blocks.begin.Statement.{statement}
 use Rattle.expansion.proofs.blocks.begin.Tie as tie
 
 returns : tie.Need-returns
-returns c = let a = c .before .before .args in begun-already (a .out .now) (a .at) (a .mark) (a .last) (c .if1 .taken)
+returns c =
+    let at-start = c .before .before in
+    let a = at-start .args in begun-already (a .out .now) (a .at) (a .mark) (a .last) (c .if1 .taken)
 
 close-requires : tie.Need-close-requires
 close-requires c κs = search needs
@@ -16,7 +18,8 @@ store-entry-requires c κs = search needs
 
 add-result : tie.Need-add-result
 add-result c =
-    let b = c .before .before .before .before .before .before in
+    let at-before = c .before .before .before .before .before in
+    let b = at-before .before in
     let most = closing-most (b .before .before .before .before .args .last) in
     omega (arith, b .close .ensures .count, b .before .before .before .before .pre)
 
@@ -25,9 +28,11 @@ same-length c = search needs
 
 returns-2 : tie.Need-returns-2
 returns-2 c =
-    let b = c .before .before .before .before .before .before in
+    let at-store-entry = c .before .before in
+    let at-before = at-store-entry .before .before .before in
+    let b = at-before .before in
     let a = b .before .before .before .before .args in
-    begun-new (a .mark) (a .last) (b .before .before .if1 .left) (b .close .ensures) (c .before .before .store-entry .ensures)
+    begun-new (a .mark) (a .last) (b .before .before .if1 .left) (b .close .ensures) (at-store-entry .store-entry .ensures)
 
 pub begin-spec : {M : Type 1} → statement M
 begin-spec =

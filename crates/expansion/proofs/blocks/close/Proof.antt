@@ -5,7 +5,9 @@ use Rattle.expansion.proofs.blocks.close.Statement.{statement}
 use Rattle.expansion.proofs.blocks.close.Tie as tie
 
 returns : tie.Need-returns
-returns c = let a = c .before .before .args in closed-none (a .out .now) (a .at) (a .last) (c .if1 .taken)
+returns c =
+    let at-start = c .before .before in
+    let a = at-start .args in closed-none (a .out .now) (a .at) (a .last) (c .if1 .taken)
 
 store-entry-requires : tie.Need-store-entry-requires
 store-entry-requires c κs = search needs
@@ -18,8 +20,11 @@ same-length c = search needs
 
 returns-2 : tie.Need-returns-2
 returns-2 c =
-    let a = c .before .before .before .before .before .before .args in
-    closed-zero (a .out .now) (a .at) (a .last) (c .before .before .before .before .if1 .left) (c .before .before .store-entry .ensures)
+    let at-store-entry = c .before .before in
+    let at-if1 = at-store-entry .before .before in
+    let at-start = at-if1 .before .before in
+    let a = at-start .args in
+    closed-zero (a .out .now) (a .at) (a .last) (at-if1 .if1 .left) (at-store-entry .store-entry .ensures)
 
 pub close-spec : {M : Type 1} → statement M
 close-spec = tie.close (tie.spec returns store-entry-requires add-result same-length returns-2)

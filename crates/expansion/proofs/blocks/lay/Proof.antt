@@ -17,92 +17,80 @@ abbrev μ-loop : tie.MeasureT-loop
 μ-loop prefix x copies out₀ opens₀ mark₀ last₀ count₀ i₀ out opens mark last count i = length prefix - i
 
 loop-holds : tie.Need-loop-holds Inv-loop μ-loop
-loop-holds c = let a = c .before .before .before .args in laid-none (a .x .0) (tabled (a .copies .now)) (a .prefix .now) (a .out .now)
-
-mul-entry : tie.Need-mul-entry Inv-loop μ-loop
-mul-entry c = search needs
-
-shared-slice-read-entry : tie.Need-shared-slice-read-entry Inv-loop μ-loop
-shared-slice-read-entry c = search needs
-
-add-i : tie.Need-add-i Inv-loop μ-loop
-add-i c = omega arith
-
-loop-less : tie.Need-loop-less Inv-loop μ-loop
-loop-less c = omega arith
+loop-holds c =
+    let at-start = c .before .before .before in
+    let a = at-start .args in laid-none (a .x .0) (tabled (a .copies .now)) (a .prefix .now) (a .out .now)
 
 loop-again : tie.Need-loop-again Inv-loop μ-loop
-loop-again c = laid-mark (c .before .before .before .loop .inv) (c .before .before .loop-test .taken) (c .if1 .taken)
-
-add-i-2 : tie.Need-add-i-2 Inv-loop μ-loop
-add-i-2 c = omega arith
-
-loop-less-2 : tie.Need-loop-less-2 Inv-loop μ-loop
-loop-less-2 c = omega arith
+loop-again c =
+    let at-loop-test = c .before .before in
+    let at-loop = at-loop-test .before in
+    laid-mark (at-loop .loop .inv) (at-loop-test .loop-test .taken) (c .if1 .taken)
 
 loop-again-2 : tie.Need-loop-again-2 Inv-loop μ-loop
-loop-again-2 c = laid-close (c .before .before .before .before .loop .inv) (c .before .before .before .loop-test .taken) (c .before .if1 .left) (c .if2 .taken)
-
-add-i-3 : tie.Need-add-i-3 Inv-loop μ-loop
-add-i-3 c = omega arith
-
-loop-less-3 : tie.Need-loop-less-3 Inv-loop μ-loop
-loop-less-3 c = omega arith
+loop-again-2 c =
+    let at-loop-test = c .before .before .before in
+    let at-loop = at-loop-test .before in
+    laid-close (at-loop .loop .inv) (at-loop-test .loop-test .taken) (c .before .if1 .left) (c .if2 .taken)
 
 loop-again-3 : tie.Need-loop-again-3 Inv-loop μ-loop
-loop-again-3 c = laid-x (c .before .before .before .before .before .before .loop .inv) (c .before .before .before .before .before .loop-test .taken) (c .before .before .before .if1 .left) (c .before .before .if2 .left) (c .if3 .taken)
+loop-again-3 c =
+    let at-if2 = c .before .before in
+    let at-if1 = at-if2 .before in
+    let at-loop-test = at-if1 .before .before in
+    let at-loop = at-loop-test .before in
+    laid-x (at-loop .loop .inv) (at-loop-test .loop-test .taken) (at-if1 .if1 .left) (at-if2 .if2 .left) (c .if3 .taken)
 
 begin-requires : tie.Need-begin-requires Inv-loop μ-loop
-begin-requires c κs = omega (arith, c .before .before .before .before .before .before .before .loop .inv .few, c .before .before .before .before .before .before .before .loop .inv .within, c .before .before .before .before .before .before .before .before .before .before .before .pre .1 .short)
-
-new-requires : tie.Need-new-requires Inv-loop μ-loop
-new-requires c κs = search needs
+begin-requires c κs =
+    let at-loop = c .before .before .before .before .before .before .before in
+    let at-start = at-loop .before .before .before .before in
+    omega (arith, at-loop .loop .inv .few, at-loop .loop .inv .within, at-start .pre .1 .short)
 
 place-requires : tie.Need-place-requires Inv-loop μ-loop
-place-requires c κs = omega (arith, begun-few (c .before .before .before .before .before .before .before .before .before .before .before .before .loop .inv) (c .before .before .before .before .before .before .before .before .before .before .before .loop-test .taken) (c .before .before .before .before .before .before .before .before .before .if1 .left) (c .before .before .before .before .before .before .before .before .if2 .left) (c .before .before .before .before .begin .ensures), c .before .before .before .before .before .before .before .before .before .before .before .before .loop .inv .within, c .before .before .before .before .before .before .before .before .before .before .before .before .before .before .before .before .pre .1 .short)
-
-add-i-4 : tie.Need-add-i-4 Inv-loop μ-loop
-add-i-4 c = omega arith
-
-loop-less-4 : tie.Need-loop-less-4 Inv-loop μ-loop
-loop-less-4 c = omega arith
+place-requires c κs =
+    let at-begin = c .before .before .before .before in
+    let at-if2 = at-begin .before .before .before .before in
+    let at-if1 = at-if2 .before in
+    let at-loop-test = at-if1 .before .before in
+    let at-loop = at-loop-test .before in
+    let at-start = at-loop .before .before .before .before in
+    omega (arith, begun-few (at-loop .loop .inv) (at-loop-test .loop-test .taken) (at-if1 .if1 .left) (at-if2 .if2 .left) (at-begin .begin .ensures), at-loop .loop .inv .within, at-start .pre .1 .short)
 
 loop-again-4 : tie.Need-loop-again-4 Inv-loop μ-loop
-loop-again-4 c = laid-variable-on (c .before .before .before .before .before .before .before .before .before .before .before .before .before .before .before .loop .inv) (c .before .before .before .before .before .before .before .before .before .before .before .before .before .before .loop-test .taken) (c .before .before .before .before .before .before .before .before .before .before .before .before .if1 .left) (c .before .before .before .before .before .before .before .before .before .before .before .if2 .left) (c .before .before .before .before .before .before .before .begin .ensures) (c .before .before .before .before .new .ensures) (c .before .before .before .before .before .before .before .before .before .if3 .left) (c .before .before .place .ensures)
+loop-again-4 c =
+    let at-place = c .before .before in
+    let at-new = at-place .before .before in
+    let at-begin = at-new .before .before .before in
+    let at-if3 = at-begin .before .before in
+    let at-if2 = at-if3 .before .before in
+    let at-if1 = at-if2 .before in
+    let at-loop-test = at-if1 .before .before in
+    let at-loop = at-loop-test .before in
+    laid-variable-on (at-loop .loop .inv) (at-loop-test .loop-test .taken) (at-if1 .if1 .left) (at-if2 .if2 .left) (at-begin .begin .ensures) (at-new .new .ensures) (at-if3 .if3 .left) (at-place .place .ensures)
 
 close-requires : tie.Need-close-requires Inv-loop μ-loop
-close-requires c κs = omega (arith, c .before .before .loop .inv .few, c .before .before .loop .inv .within, c .before .before .before .before .before .before .pre .1 .short)
+close-requires c κs =
+    let at-loop = c .before .before in
+    let at-start = at-loop .before .before .before .before in
+    omega (arith, at-loop .loop .inv .few, at-loop .loop .inv .within, at-start .pre .1 .short)
 
 same-length : tie.Need-same-length Inv-loop μ-loop
-same-length c = c .before .before .close .kept .1 .0 ∙ onward-length (c .before .before .before .before .before .loop .inv .on)
+same-length c =
+    let at-close = c .before .before in
+    let at-loop = at-close .before .before .before in
+    at-close .close .kept .1 .0 ∙ onward-length (at-loop .loop .inv .on)
 
 returns : tie.Need-returns Inv-loop μ-loop
-returns c = laid-all (c .before .before .before .before .before .loop .inv) (c .before .before .before .before .before .before .before .before .before .pre .1) (c .before .before .before .before .loop-test .left) (c .before .before .close .ensures)
+returns c =
+    let at-close = c .before .before in
+    let at-loop-test = at-close .before .before in
+    let at-loop = at-loop-test .before in
+    let at-start = at-loop .before .before .before .before in
+    laid-all (at-loop .loop .inv) (at-start .pre .1) (at-loop-test .loop-test .left) (at-close .close .ensures)
 
 pub lay-spec : {M : Type 1} → statement M
 lay-spec =
-    tie.close
-    (tie.spec
-    Inv-loop
-    μ-loop
-    loop-holds
-    mul-entry
-    shared-slice-read-entry
-    add-i
-    loop-less
-    loop-again
-    add-i-2
-    loop-less-2
-    loop-again-2
-    add-i-3
-    loop-less-3
-    loop-again-3
-    begin-requires
-    new-requires
-    place-requires
-    add-i-4
-    loop-less-4
-    loop-again-4
-    close-requires
-    same-length
-    returns)
+    tie.close (tie.spec Inv-loop μ-loop loop-holds (λ c. search needs) (λ c. search needs) (λ c. omega arith) (λ c. omega arith) loop-again
+    (λ c. omega arith) (λ c. omega arith) loop-again-2 (λ c. omega arith) (λ c. omega arith) loop-again-3 begin-requires
+    (λ c κs. search needs) place-requires (λ c. omega arith) (λ c. omega arith) loop-again-4 close-requires same-length returns)

@@ -11,46 +11,32 @@ use Rattle.formula.proofs.Sound.{sound-check, sound-clauses}
 use Rattle.forest.proofs.entering.enter.Statement.{statement}
 use Rattle.forest.proofs.entering.enter.Tie as tie
 
-check-requires : tie.Need-check-requires
-check-requires c κs = search needs
-
-enum-known-number : tie.Need-enum-known-number
-enum-known-number c = search needs
-
-enum-told : tie.Need-enum-told
-enum-told c = search needs
-
 sound-enter-requires : tie.Need-sound-enter-requires
 sound-enter-requires c κs =
-    let a = c .before .before .before .before .before .before .before .before .before .before .before .args in
-    let none = subst (Judged (checkOrder (a .n) (a .prefix .now) (a .clauses .now))) (c .before .before .enum-told .given .1) (c .before .before .before .before .check .ensures) in
-    (sound-check none, c .before .before .before .before .before .before .before .before .before .before .before .pre .0, c .before .before .before .before .before .before .before .before .before .before .before .pre .1, sound-clauses none)
+    let at-enum-told = c .before .before in
+    let at-check = at-enum-told .before .before in
+    let at-start = at-check .before .before .before .before .before .before .before in
+    let a = at-start .args in
+    let none = subst (Judged (checkOrder (a .n) (a .prefix .now) (a .clauses .now))) (at-enum-told .enum-told .given .1) (at-check .check .ensures) in
+    (sound-check none, at-start .pre .0, at-start .pre .1, sound-clauses none)
 
 returns : tie.Need-returns
 returns c =
-    let a = c .before .before .before .before .before .before .before .before .before .before .args in
-    (refused-first (checkOrder (a .n) (a .prefix .now) (a .clauses .now)) (ForestCause (a .n) (a .prefix .now) (a .classes .now) (a .parents .now) (a .counts .now) ∷ At0 13 (NotUniversal (a .n) (a .prefix .now) (a .x .0)) ∷ []) (c .before .number .given .1) (c .before .before .before .check .ensures), tt)
-
-same-length : tie.Need-same-length
-same-length c = search needs
-
-same-length-2 : tie.Need-same-length-2
-same-length-2 c = search needs
+    let at-check = c .before .before .before in
+    let at-start = at-check .before .before .before .before .before .before .before in
+    let a = at-start .args in
+    (refused-first (checkOrder (a .n) (a .prefix .now) (a .clauses .now)) (ForestCause (a .n) (a .prefix .now) (a .classes .now) (a .parents .now) (a .counts .now) ∷ At0 13 (NotUniversal (a .n) (a .prefix .now) (a .x .0)) ∷ []) (c .before .number .given .1) (at-check .check .ensures), tt)
 
 returns-2 : tie.Need-returns-2
 returns-2 c =
-    let a = c .before .before .before .before .before .before .before .before .before .before .before .before .before .before .before .before .args in
-    (accepted-then (checkOrder (a .n) (a .prefix .now) (a .clauses .now)) (ForestCause (a .n) (a .prefix .now) (a .classes .now) (a .parents .now) (a .counts .now) ∷ At0 13 (NotUniversal (a .n) (a .prefix .now) (a .x .0)) ∷ []) (c .before .before .before .before .sound-enter .result) (c .before .before .before .before .before .before .before .enum-told .given .1) (c .before .before .before .before .before .before .before .before .before .check .ensures) (c .before .before .before .before .sound-enter .ensures .0), c .before .before .before .before .sound-enter .ensures .1)
+    let at-sound-enter = c .before .before .before .before in
+    let at-enum-told = at-sound-enter .before .before .before in
+    let at-check = at-enum-told .before .before in
+    let at-start = at-check .before .before .before .before .before .before .before in
+    let a = at-start .args in
+    (accepted-then (checkOrder (a .n) (a .prefix .now) (a .clauses .now)) (ForestCause (a .n) (a .prefix .now) (a .classes .now) (a .parents .now) (a .counts .now) ∷ At0 13 (NotUniversal (a .n) (a .prefix .now) (a .x .0)) ∷ []) (at-sound-enter .sound-enter .result) (at-enum-told .enum-told .given .1) (at-check .check .ensures) (at-sound-enter .sound-enter .ensures .0), at-sound-enter .sound-enter .ensures .1)
 
 pub enter-spec : {M : Type 1} → statement M
 enter-spec =
-    tie.close
-    (tie.spec
-    check-requires
-    enum-known-number
-    enum-told
-    sound-enter-requires
-    returns
-    same-length
-    same-length-2
-    returns-2)
+    tie.close (tie.spec (λ c κs. search needs) (λ c. search needs) (λ c. search needs) sound-enter-requires returns (λ c. search needs)
+    (λ c. search needs) returns-2)

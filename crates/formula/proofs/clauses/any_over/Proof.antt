@@ -20,42 +20,19 @@ abbrev μ-loop : tie.MeasureT-loop
 loop-holds : tie.Need-loop-holds Inv-loop μ-loop
 loop-holds c = λ q e l. absurd (omega arith)
 
-variable-at-requires : tie.Need-variable-at-requires Inv-loop μ-loop
-variable-at-requires c κs = search needs
-
-add-i : tie.Need-add-i Inv-loop μ-loop
-add-i c = omega arith
-
-loop-less : tie.Need-loop-less Inv-loop μ-loop
-loop-less c = omega arith
-
 loop-again : tie.Need-loop-again Inv-loop μ-loop
 loop-again c = λ q. absurd (clash refl q)
 
-add-i-2 : tie.Need-add-i-2 Inv-loop μ-loop
-add-i-2 c = omega arith
-
-loop-less-2 : tie.Need-loop-less-2 Inv-loop μ-loop
-loop-less-2 c = omega arith
-
 loop-again-2 : tie.Need-loop-again-2 Inv-loop μ-loop
-loop-again-2 c = λ q. below-more _ _ (c .before .before .before .before .loop .inv q) (let is = c .before .before .variable-at .ensures in let low = c .if1 .left in omega arith)
+loop-again-2 c =
+    let at-variable-at = c .before .before in
+    let at-loop = at-variable-at .before .before in
+    λ q. below-more _ _ (at-loop .loop .inv q) (let is = at-variable-at .variable-at .ensures in let low = c .if1 .left in omega arith)
 
 returns : tie.Need-returns Inv-loop μ-loop
 returns c = λ q e l. c .before .loop .inv q e (let done = c .loop-test .left in omega arith)
 
 pub any-over-spec : {M : Type 1} → statement M
 any-over-spec =
-    tie.close
-    (tie.spec
-    Inv-loop
-    μ-loop
-    loop-holds
-    variable-at-requires
-    add-i
-    loop-less
-    loop-again
-    add-i-2
-    loop-less-2
-    loop-again-2
-    returns)
+    tie.close (tie.spec Inv-loop μ-loop loop-holds (λ c κs. search needs) (λ c. omega arith) (λ c. omega arith) loop-again
+    (λ c. omega arith) (λ c. omega arith) loop-again-2 returns)

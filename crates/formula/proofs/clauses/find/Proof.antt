@@ -19,48 +19,40 @@ abbrev μ-loop : tie.MeasureT-loop
 loop-holds : tie.Need-loop-holds Inv-loop μ-loop
 loop-holds c = pass-none (c .args .clauses .now) (c .args .asked)
 
-next-zero-requires : tie.Need-next-zero-requires Inv-loop μ-loop
-next-zero-requires c κs = search needs
-
 returns : tie.Need-returns Inv-loop μ-loop
 returns c =
-    let p = c .before .before .before .loop .inv in
-    stands-nowhere p (clauses-unclosed (c .before .before .before .before .args .clauses .now) (c .before .before .before .loop .start) (c .before .next-zero .result) (c .before .next-zero .ensures) (c .if1 .taken))
+    let at-loop = c .before .before .before in
+    let at-start = at-loop .before in
+    let p = at-loop .loop .inv in
+    stands-nowhere p (clauses-unclosed (at-start .args .clauses .now) (at-loop .loop .start) (c .before .next-zero .result) (c .before .next-zero .ensures) (c .if1 .taken))
 
 returns-2 : tie.Need-returns-2 Inv-loop μ-loop
 returns-2 c =
-    stands-here (c .before .before .before .before .loop .inv) (c .before .before .next-zero .result) (c .before .before .next-zero .ensures) (c .before .if1 .left) (c .if2 .taken)
+    let at-next-zero = c .before .before in
+    let at-loop = at-next-zero .before .before in
+    stands-here (at-loop .loop .inv) (at-next-zero .next-zero .result) (at-next-zero .next-zero .ensures) (c .before .if1 .left) (c .if2 .taken)
 
 sub-left : tie.Need-sub-left Inv-loop μ-loop
 sub-left c = let some = c .if2 .left in omega arith
 
-add-start : tie.Need-add-start Inv-loop μ-loop
-add-start c = omega arith
-
 loop-less : tie.Need-loop-less Inv-loop μ-loop
-loop-less c = let from = c .before .before .next-zero .ensures .from in omega arith
+loop-less c =
+    let at-next-zero = c .before .before in
+    let from = at-next-zero .next-zero .ensures .from in omega arith
 
 loop-again : tie.Need-loop-again Inv-loop μ-loop
 loop-again c =
-    pass-clause (c .before .before .before .before .loop .inv) (c .before .before .next-zero .result) (c .before .before .next-zero .ensures) (c .before .if1 .left) (c .if2 .left)
+    let at-next-zero = c .before .before in
+    let at-loop = at-next-zero .before .before in
+    pass-clause (at-loop .loop .inv) (at-next-zero .next-zero .result) (at-next-zero .next-zero .ensures) (c .before .if1 .left) (c .if2 .left)
 
 returns-3 : tie.Need-returns-3 Inv-loop μ-loop
 unfolding clauses cut
 returns-3 c =
-    stands-nowhere (c .before .loop .inv) (ap clauses (drop-of-length-le (c .before .before .args .clauses .now) (c .loop-test .left)))
+    let at-start = c .before .before in
+    stands-nowhere (c .before .loop .inv) (ap clauses (drop-of-length-le (at-start .args .clauses .now) (c .loop-test .left)))
 
 pub find-spec : {M : Type 1} → statement M
 find-spec =
-    tie.close
-    (tie.spec
-    Inv-loop
-    μ-loop
-    loop-holds
-    next-zero-requires
-    returns
-    returns-2
-    sub-left
-    add-start
-    loop-less
-    loop-again
+    tie.close (tie.spec Inv-loop μ-loop loop-holds (λ c κs. search needs) returns returns-2 sub-left (λ c. omega arith) loop-less loop-again
     returns-3)

@@ -15,49 +15,30 @@ Inv-loop n clauses i₀ i = (i ≤ length clauses) × AllUpto n clauses i
 abbrev μ-loop : tie.MeasureT-loop
 μ-loop n clauses i₀ i = length clauses - i
 
-any-over-requires : tie.Need-any-over-requires Inv-loop μ-loop
-any-over-requires c κs = search needs
-
 returns : tie.Need-returns Inv-loop μ-loop
 returns c = record { within = omega arith; low = c .before .any-over .ensures (not-true (c .before .any-over .result) (c .if1 .taken)); over = λ l. absurd (omega arith) }
 
 loop-holds : tie.Need-loop-holds Inv-loop μ-loop
 loop-holds c = (omega arith, λ e l. absurd (omega arith))
 
-variable-at-requires : tie.Need-variable-at-requires Inv-loop μ-loop
-variable-at-requires c κs = search needs
-
 returns-2 : tie.Need-returns-2 Inv-loop μ-loop
 returns-2 c =
-    let inv = c .before .before .before .before .loop .inv in
-    record { within = inv .0; low = inv .1; over = λ _. let is = c .before .before .variable-at .ensures in let high = c .if2 .taken in omega arith }
-
-add-i : tie.Need-add-i Inv-loop μ-loop
-add-i c = omega arith
-
-loop-less : tie.Need-loop-less Inv-loop μ-loop
-loop-less c = omega arith
+    let at-variable-at = c .before .before in
+    let at-loop = at-variable-at .before .before in
+    let inv = at-loop .loop .inv in
+    record { within = inv .0; low = inv .1; over = λ _. let is = at-variable-at .variable-at .ensures in let high = c .if2 .taken in omega arith }
 
 loop-again : tie.Need-loop-again Inv-loop μ-loop
 loop-again c =
-    let inv = c .before .before .before .before .loop .inv in
-    (omega arith, below-more _ _ (inv .1) (let is = c .before .before .variable-at .ensures in let low = c .if2 .left in omega arith))
+    let at-variable-at = c .before .before in
+    let at-loop = at-variable-at .before .before in
+    let inv = at-loop .loop .inv in
+    (omega arith, below-more _ _ (inv .1) (let is = at-variable-at .variable-at .ensures in let low = c .if2 .left in omega arith))
 
 returns-3 : tie.Need-returns-3 Inv-loop μ-loop
 returns-3 c = record { within = c .before .loop .inv .0; low = c .before .loop .inv .1; over = λ l. absurd (omega arith) }
 
 pub first-over-spec : {M : Type 1} → statement M
 first-over-spec =
-    tie.close
-    (tie.spec
-    Inv-loop
-    μ-loop
-    any-over-requires
-    returns
-    loop-holds
-    variable-at-requires
-    returns-2
-    add-i
-    loop-less
-    loop-again
-    returns-3)
+    tie.close (tie.spec Inv-loop μ-loop (λ c κs. search needs) returns loop-holds (λ c κs. search needs) returns-2 (λ c. omega arith)
+    (λ c. omega arith) loop-again returns-3)

@@ -9,31 +9,16 @@ use borrow.Author.Needs.{needs}
 use Rattle.formula.proofs.clauses.literal_at.Statement.{statement}
 use Rattle.formula.proofs.clauses.literal_at.Tie as tie
 
-mul-new : tie.Need-mul-new
-mul-new c = search needs
-
-shared-slice-copy-out-new : tie.Need-shared-slice-copy-out-new
-shared-slice-copy-out-new c = search needs
-
-new-requires : tie.Need-new-requires
-new-requires c κs = search needs
-
-new-requires-2 : tie.Need-new-requires-2
-new-requires-2 c κs = search needs
-
 returns : tie.Need-returns
-returns c = c .new .ensures ∙ toZ-ofZ {w = w32} {z = literalAt (c .before .before .before .args .clauses .now) (c .before .before .before .args .i)} (record { sfits = c .before .new-arg .given })
+returns c =
+    let at-start = c .before .before .before in
+    c .new .ensures ∙ toZ-ofZ {w = w32} {z = literalAt (at-start .args .clauses .now) (at-start .args .i)} (record { sfits = c .before .new-arg .given })
 
 returns-2 : tie.Need-returns-2
-returns-2 c = c .new2 .ensures ∙ sym (List·getD-eq-default (c .before .before .args .clauses .now) (pos 0) (c .before .if1 .left))
+returns-2 c =
+    let at-start = c .before .before in
+    c .new2 .ensures ∙ sym (List·getD-eq-default (at-start .args .clauses .now) (pos 0) (c .before .if1 .left))
 
 pub literal-at-spec : {M : Type 1} → statement M
 literal-at-spec =
-    tie.close
-    (tie.spec
-    mul-new
-    shared-slice-copy-out-new
-    new-requires
-    new-requires-2
-    returns
-    returns-2)
+    tie.close (tie.spec (λ c. search needs) (λ c. search needs) (λ c κs. search needs) (λ c κs. search needs) returns returns-2)

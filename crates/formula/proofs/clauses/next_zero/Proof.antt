@@ -21,25 +21,20 @@ abbrev μ-loop : tie.MeasureT-loop
 loop-holds : tie.Need-loop-holds Inv-loop μ-loop
 loop-holds c = (omega arith, λ w. w, λ e l s. absurd (omega arith))
 
-variable-at-requires : tie.Need-variable-at-requires Inv-loop μ-loop
-variable-at-requires c κs = search needs
-
 returns : tie.Need-returns Inv-loop μ-loop
 returns c =
-    let inv = c .before .before .before .before .loop .inv in
-    record { from = inv .0; within = inv .1; literals = λ e s l. inv .2 e l s; closes = λ _. sym (c .before .before .variable-at .ensures) ∙ c .if1 .taken }
-
-add-i : tie.Need-add-i Inv-loop μ-loop
-add-i c = omega arith
-
-loop-less : tie.Need-loop-less Inv-loop μ-loop
-loop-less c = omega arith
+    let at-variable-at = c .before .before in
+    let at-loop = at-variable-at .before .before in
+    let inv = at-loop .loop .inv in
+    record { from = inv .0; within = inv .1; literals = λ e s l. inv .2 e l s; closes = λ _. sym (at-variable-at .variable-at .ensures) ∙ c .if1 .taken }
 
 loop-again : tie.Need-loop-again Inv-loop μ-loop
 loop-again c =
-    let inv = c .before .before .before .before .loop .inv in
+    let at-variable-at = c .before .before in
+    let at-loop = at-variable-at .before .before in
+    let inv = at-loop .loop .inv in
     let from = inv .0 in
-    (omega arith, λ w. omega arith, below-more _ _ (inv .2) (λ _ q. c .if1 .left (c .before .before .variable-at .ensures ∙ q)))
+    (omega arith, λ w. omega arith, below-more _ _ (inv .2) (λ _ q. c .if1 .left (at-variable-at .variable-at .ensures ∙ q)))
 
 returns-2 : tie.Need-returns-2 Inv-loop μ-loop
 returns-2 c =
@@ -48,14 +43,5 @@ returns-2 c =
 
 pub next-zero-spec : {M : Type 1} → statement M
 next-zero-spec =
-    tie.close
-    (tie.spec
-    Inv-loop
-    μ-loop
-    loop-holds
-    variable-at-requires
-    returns
-    add-i
-    loop-less
-    loop-again
+    tie.close (tie.spec Inv-loop μ-loop loop-holds (λ c κs. search needs) returns (λ c. omega arith) (λ c. omega arith) loop-again
     returns-2)

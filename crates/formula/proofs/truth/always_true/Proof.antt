@@ -21,65 +21,78 @@ loop-holds c =
     passed-none (c .before .args .clause .now) (c .before .pre .1)
 
 -- src/truth.rt:17:13
-literal-at-requires : tie.Need-literal-at-requires Inv-loop μ-loop
-literal-at-requires c κs = search needs
-
 -- src/truth.rt:18:17
-other-row-requires : tie.Need-other-row-requires Inv-loop μ-loop
-other-row-requires c κs = search needs
-
 -- src/truth.rt:18:12
 mul-if1 : tie.Need-mul-if1 Inv-loop μ-loop
 mul-if1 c =
-    let l = other-below (c .before .before .before .before .before .args .clause .now) (c .before .before .before .before .before .pre .0) (c .before .before .loop-test .taken) (c .before .literal-at .ensures) (c .other-row .ensures) in record { fits = omega arith }
+    let at-loop-test = c .before .before in
+    let at-start = at-loop-test .before .before .before in
+    let l = other-below (at-start .args .clause .now) (at-start .pre .0) (at-loop-test .loop-test .taken) (c .before .literal-at .ensures) (c .other-row .ensures) in record { fits = omega arith }
 
 -- src/truth.rt:18:12
 slice-read-if1 : tie.Need-slice-read-if1 Inv-loop μ-loop
 slice-read-if1 c =
-    let l = other-below (c .before .before .before .before .before .before .args .clause .now) (c .before .before .before .before .before .before .pre .0) (c .before .before .before .loop-test .taken) (c .before .before .literal-at .ensures) (c .before .other-row .ensures) in let size = c .before .before .before .before .loop .inv .stamps .size in omega arith
+    let at-literal-at = c .before .before in
+    let at-loop-test = at-literal-at .before in
+    let at-loop = at-loop-test .before in
+    let at-start = at-loop .before .before in
+    let l = other-below (at-start .args .clause .now) (at-start .pre .0) (at-loop-test .loop-test .taken) (at-literal-at .literal-at .ensures) (c .before .other-row .ensures) in let size = at-loop .loop .inv .stamps .size in omega arith
 
 -- src/truth.rt:19:13
 same-length : tie.Need-same-length Inv-loop μ-loop
-same-length c = c .before .before .before .before .before .loop .inv .stamps .size ∙ sym (c .before .before .before .before .before .before .before .pre .1 .size)
+same-length c =
+    let at-loop = c .before .before .before .before .before in
+    let at-start = at-loop .before .before in
+    at-loop .loop .inv .stamps .size ∙ sym (at-start .pre .1 .size)
 
 -- src/truth.rt:19:13
 returns : tie.Need-returns Inv-loop μ-loop
 returns c =
-    let p = c .before .before .before .before .before .loop .inv in
-    (sym (passed-found (c .before .before .before .before .before .before .before .pre .0) p (c .before .before .before .before .loop-test .taken) (rw (← ap otherRow (c .before .before .before .literal-at .ensures), ← c .before .before .other-row .ensures) (c .if1 .taken))), p .stamps)
+    let at-other-row = c .before .before in
+    let at-literal-at = at-other-row .before in
+    let at-loop-test = at-literal-at .before in
+    let at-loop = at-loop-test .before in
+    let at-start = at-loop .before .before in
+    let p = at-loop .loop .inv in
+    (sym (passed-found (at-start .pre .0) p (at-loop-test .loop-test .taken) (rw (← ap otherRow (at-literal-at .literal-at .ensures), ← at-other-row .other-row .ensures) (c .if1 .taken))), p .stamps)
 
 -- src/truth.rt:21:14
-row-requires : tie.Need-row-requires Inv-loop μ-loop
-row-requires c κs = search needs
-
 -- src/truth.rt:21:9
 mul-seen : tie.Need-mul-seen Inv-loop μ-loop
 mul-seen c =
-    let l = row-below (c .before .before .before .before .before .before .before .before .args .clause .now) (c .before .before .before .before .before .before .before .before .pre .0) (c .before .before .before .before .before .loop-test .taken) (c .before .before .before .before .literal-at .ensures) (c .row .ensures) in record { fits = omega arith }
+    let at-literal-at = c .before .before .before .before in
+    let at-loop-test = at-literal-at .before in
+    let at-start = at-loop-test .before .before .before in
+    let l = row-below (at-start .args .clause .now) (at-start .pre .0) (at-loop-test .loop-test .taken) (at-literal-at .literal-at .ensures) (c .row .ensures) in record { fits = omega arith }
 
 -- src/truth.rt:21:9
 slice-write-seen : tie.Need-slice-write-seen Inv-loop μ-loop
 slice-write-seen c =
-    let l = row-below (c .before .before .before .before .before .before .before .before .args .clause .now) (c .before .before .before .before .before .before .before .before .pre .0) (c .before .before .before .before .before .loop-test .taken) (c .before .before .before .before .literal-at .ensures) (c .row .ensures) in let size = c .before .before .before .before .before .before .loop .inv .stamps .size in omega arith
+    let at-literal-at = c .before .before .before .before in
+    let at-loop-test = at-literal-at .before in
+    let at-loop = at-loop-test .before in
+    let at-start = at-loop .before .before in
+    let l = row-below (at-start .args .clause .now) (at-start .pre .0) (at-loop-test .loop-test .taken) (at-literal-at .literal-at .ensures) (c .row .ensures) in let size = at-loop .loop .inv .stamps .size in omega arith
 
 -- src/truth.rt:22:9
-add-i : tie.Need-add-i Inv-loop μ-loop
-add-i c = search needs
-
 -- src/truth.rt:16:5
-loop-less : tie.Need-loop-less Inv-loop μ-loop
-loop-less c = search needs
-
 -- src/truth.rt:16:5
 loop-again : tie.Need-loop-again Inv-loop μ-loop
 loop-again c =
-    let p = c .before .before .before .before .before .before .loop .inv in
-    let is = c .before .before .before .before .literal-at .ensures in
-    rw (c .row .ensures ∙ ap rowOf is) (passed-more (c .before .before .before .before .before .before .before .before .pre .0) p (c .before .before .before .before .before .loop-test .taken) (rw (← ap otherRow is, ← c .before .before .before .other-row .ensures) (c .before .if1 .left)))
+    let at-other-row = c .before .before .before in
+    let at-literal-at = at-other-row .before in
+    let at-loop-test = at-literal-at .before in
+    let at-loop = at-loop-test .before in
+    let at-start = at-loop .before .before in
+    let p = at-loop .loop .inv in
+    let is = at-literal-at .literal-at .ensures in
+    rw (c .row .ensures ∙ ap rowOf is) (passed-more (at-start .pre .0) p (at-loop-test .loop-test .taken) (rw (← ap otherRow is, ← at-other-row .other-row .ensures) (c .before .if1 .left)))
 
 -- src/truth.rt:11:1
 same-length-2 : tie.Need-same-length-2 Inv-loop μ-loop
-same-length-2 c = c .before .loop .inv .stamps .size ∙ sym (c .before .before .before .pre .1 .size)
+same-length-2 c =
+    let at-start = c .before .before .before in
+    c .before .loop .inv .stamps .size ∙ sym (at-start .pre .1 .size)
 
 -- src/truth.rt:11:1
 returns-2 : tie.Need-returns-2 Inv-loop μ-loop
@@ -88,22 +101,5 @@ returns-2 c =
 
 pub always-true-spec : {M : Type 1} → statement M
 always-true-spec =
-    tie.close
-    (tie.spec
-    Inv-loop
-    μ-loop
-    loop-holds
-    literal-at-requires
-    other-row-requires
-    mul-if1
-    slice-read-if1
-    same-length
-    returns
-    row-requires
-    mul-seen
-    slice-write-seen
-    add-i
-    loop-less
-    loop-again
-    same-length-2
-    returns-2)
+    tie.close (tie.spec Inv-loop μ-loop loop-holds (λ c κs. search needs) (λ c κs. search needs) mul-if1 slice-read-if1 same-length returns
+    (λ c κs. search needs) mul-seen slice-write-seen (λ c. search needs) (λ c. search needs) loop-again same-length-2 returns-2)

@@ -13,7 +13,8 @@ gap-end-requires c κs = search needs
 
 returns : tie.Need-returns
 returns c =
-    let a = c .before .before .before .args in
+    let at-start = c .before .before .before in
+    let a = at-start .args in
     let start = c .before .gap-end .result in
     let over : getD (a .text .now) start 0 ≡ 0 = List·getD-eq-default (a .text .now) 0 (c .if1 .taken) in
     λ _. unmarked (a .text .now) (a .at) start (c .before .gap-end .ensures) (λ e. omega (arith, e, over)) (λ e. omega (arith, e, over))
@@ -29,7 +30,8 @@ returns-3 c = λ e. absurd (true≢false e)
 
 returns-4 : tie.Need-returns-4
 returns-4 c =
-    let g = c .before .before .before .before in
+    let at-before = c .before .before .before in
+    let g = at-before .before in
     let a = g .before .before .args in
     λ _. unmarked (a .text .now) (a .at) (g .gap-end .result) (g .gap-end .ensures) (c .before .if2 .left) (c .if3 .left)
 

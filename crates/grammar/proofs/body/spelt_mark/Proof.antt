@@ -9,46 +9,31 @@ use borrow.Author.Needs.{needs}
 use Rattle.grammar.proofs.body.spelt_mark.Statement.{statement}
 use Rattle.grammar.proofs.body.spelt_mark.Tie as tie
 
-letter-at-requires : tie.Need-letter-at-requires
-letter-at-requires c κs = search needs
-
-enum-known-next : tie.Need-enum-known-next
-enum-known-next c = search needs
-
-enum-told : tie.Need-enum-told
-enum-told c = search needs
-
-letter-at-requires-2 : tie.Need-letter-at-requires-2
-letter-at-requires-2 c κs = search needs
-
-enum-known-next-2 : tie.Need-enum-known-next-2
-enum-known-next-2 c = search needs
-
-enum-told-2 : tie.Need-enum-told-2
-enum-told-2 c = search needs
-
 returns : tie.Need-returns
-returns c = e-mark refl (subst (λ (r : Spelt). SpeltIs (LETTER-E ∷ []) (c .before .before .before .before .before .args .text .now) (c .before .before .before .before .before .args .at) r) (c .before .next .given .1) (c .before .before .before .letter-at .ensures))
+returns c =
+    let at-letter-at = c .before .before .before in
+    let at-start = at-letter-at .before .before in
+    e-mark refl (subst (λ (r : Spelt). SpeltIs (LETTER-E ∷ []) (at-start .args .text .now) (at-start .args .at) r) (c .before .next .given .1) (at-letter-at .letter-at .ensures))
 
 returns-2 : tie.Need-returns-2
-returns-2 c = a-mark refl (subst (λ (r : Spelt). SpeltIs (LETTER-A ∷ []) (c .before .before .before .before .before .before .before .before .args .text .now) (c .before .before .before .before .before .before .before .before .args .at) r) (c .before .next2 .given .1) (c .before .before .before .letter-at2 .ensures))
+returns-2 c =
+    let at-letter-at2 = c .before .before .before in
+    let at-start = at-letter-at2 .before .before .before .before .before in
+    a-mark refl (subst (λ (r : Spelt). SpeltIs (LETTER-A ∷ []) (at-start .args .text .now) (at-start .args .at) r) (c .before .next2 .given .1) (at-letter-at2 .letter-at2 .ensures))
 
 returns-3 : tie.Need-returns-3
-returns-3 c = (
-  subst (λ (r : Spelt). SpeltIs (LETTER-E ∷ []) (c .before .before .before .before .before .before .before .args .text .now) (c .before .before .before .before .before .before .before .args .at) r) (c .before .before .before .enum-told .given .1) (c .before .before .before .before .before .letter-at .ensures),
-  subst (λ (r : Spelt). SpeltIs (LETTER-A ∷ []) (c .before .before .before .before .before .before .before .args .text .now) (c .before .before .before .before .before .before .before .args .at) r) (c .enum-told2 .given .1) (c .before .before .letter-at2 .ensures),
-)
+returns-3 c =
+    let at-letter-at2 = c .before .before in
+    let at-enum-told = at-letter-at2 .before in
+    let at-letter-at = at-enum-told .before .before in
+    let at-start = at-letter-at .before .before in
+    let at = at-start .args .at in
+    let text = at-start .args .text .now in (
+      subst (λ (r : Spelt). SpeltIs (LETTER-E ∷ []) text at r) (at-enum-told .enum-told .given .1) (at-letter-at .letter-at .ensures),
+      subst (λ (r : Spelt). SpeltIs (LETTER-A ∷ []) text at r) (c .enum-told2 .given .1) (at-letter-at2 .letter-at2 .ensures),
+    )
 
 pub spelt-mark-spec : {M : Type 1} → statement M
 spelt-mark-spec =
-    tie.close
-    (tie.spec
-    letter-at-requires
-    enum-known-next
-    enum-told
-    letter-at-requires-2
-    enum-known-next-2
-    enum-told-2
-    returns
-    returns-2
-    returns-3)
+    tie.close (tie.spec (λ c κs. search needs) (λ c. search needs) (λ c. search needs) (λ c κs. search needs) (λ c. search needs)
+    (λ c. search needs) returns returns-2 returns-3)

@@ -17,13 +17,15 @@ add-t7 c = search needs
 
 returns : tie.Need-returns
 returns c =
-    let a = c .before .before .before .args in
+    let at-start = c .before .before .before in
+    let a = at-start .args in
     let e = c .before .line-end .ensures in
-    (c .before .before .before .pre, subst (λ (stop : ℕ). Passed (a .text .now) (a .at) (stop + 1)) (sym e) (passed-line (a .text .now) (a .at) (omega arith)))
+    (at-start .pre, subst (λ (stop : ℕ). Passed (a .text .now) (a .at) (stop + 1)) (sym e) (passed-line (a .text .now) (a .at) (omega arith)))
 
 returns-2 : tie.Need-returns-2
 returns-2 c =
-    let a = c .before .before .before .args in
+    let at-start = c .before .before .before in
+    let a = at-start .args in
     let e = c .before .line-end .ensures in
     endless-line (unpassed-line (a .text .now) (a .at) (omega arith))
 

@@ -8,10 +8,14 @@ shared-slice-read-if1 : tie.Need-shared-slice-read-if1
 shared-slice-read-if1 c = search needs
 
 comment-at-requires : tie.Need-comment-at-requires
-comment-at-requires c κs = comment-line (c .before .before .before .args .text .now) (c .before .before .before .args .at) (c .before .before .before .pre) (c .if1 .taken)
+comment-at-requires c κs =
+    let at-start = c .before .before .before in
+    comment-line (at-start .args .text .now) (at-start .args .at) (at-start .pre) (c .if1 .taken)
 
 problem-at-requires : tie.Need-problem-at-requires
-problem-at-requires c κs = no-comment-line (c .before .before .before .args .text .now) (c .before .before .before .args .at) (c .before .before .before .pre) (c .if1 .left)
+problem-at-requires c κs =
+    let at-start = c .before .before .before in
+    no-comment-line (at-start .args .text .now) (at-start .args .at) (at-start .pre) (c .if1 .left)
 
 returns : tie.Need-returns
 returns c = search needs

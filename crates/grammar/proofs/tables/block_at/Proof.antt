@@ -18,8 +18,11 @@ same-length c = search needs
 
 returns : tie.Need-returns
 returns c =
-    let a = c .before .before .before .before .before .before .before .before .before .before .args in
-    block-row (a .mark) (a .text .now) (a .at) (a .from) (a .prefix .now) (c .before .before .before .before .before .before .store-entry .last .0) (c .before .before .variables-at .last .1 .1 .0) (c .before .before .variables-at .result) (c .before .before .before .before .before .before .store-entry .ensures) (c .before .before .variables-at .ensures)
+    let at-variables-at = c .before .before in
+    let at-store-entry = at-variables-at .before .before .before .before in
+    let at-start = at-store-entry .before .before .before .before in
+    let a = at-start .args in
+    block-row (a .mark) (a .text .now) (a .at) (a .from) (a .prefix .now) (at-store-entry .store-entry .last .0) (at-variables-at .variables-at .last .1 .1 .0) (at-variables-at .variables-at .result) (at-store-entry .store-entry .ensures) (at-variables-at .variables-at .ensures)
 
 pub block-at-spec : {M : Type 1} → statement M
 block-at-spec =

@@ -37,89 +37,85 @@ signed-entry false value more later = refl
 
 -- at a literal and at the closing 0, what stands next in the line
 literal-known : (c : tie.After-store-literal-arg2 Inv-loop μ-loop) → Taken (cond (c .before .before .value .given .0 .1 .0) (Negated (c .before .before .value .given .0 .0)) (Plain (c .before .before .value .given .0 .0))) (c .before .before .before .before .before .before .before .args .text .now) (c .before .before .before .before .before .loop .i) (c .before .before .value .given .0 .1 .1 .0)
-literal-known c = subst (λ (r : Signed). SignedIs (c .before .before .before .before .before .before .before .args .text .now) (c .before .before .before .before .before .loop .i) r) (c .before .before .value .given .1) (c .before .before .before .before .signed-at .ensures)
+literal-known c =
+    let at-value = c .before .before in
+    let at-signed-at = at-value .before .before in
+    let at-loop = at-signed-at .before in
+    let at-start = at-loop .before .before in
+    subst (λ (r : Signed). SignedIs (at-start .args .text .now) (at-loop .loop .i) r) (at-value .value .given .1) (at-signed-at .signed-at .ensures)
 
 close-known : (c : tie.After-clauses Inv-loop μ-loop) → Closes (c .before .before .before .before .before .before .before .before .before .args .text .now) (c .before .before .before .before .before .before .before .loop .i) (c .before .before .before .before .next .given .0 .0)
-close-known c = subst (λ (r : Signed). SignedIs (c .before .before .before .before .before .before .before .before .before .args .text .now) (c .before .before .before .before .before .before .before .loop .i) r) (c .before .before .before .before .next .given .1) (c .before .before .before .before .before .before .signed-at .ensures)
+close-known c =
+    let at-next = c .before .before .before .before in
+    let at-signed-at = at-next .before .before in
+    let at-loop = at-signed-at .before in
+    let at-start = at-loop .before .before in
+    subst (λ (r : Signed). SignedIs (at-start .args .text .now) (at-loop .loop .i) r) (at-next .next .given .1) (at-signed-at .signed-at .ensures)
 
 loop-holds : tie.Need-loop-holds Inv-loop μ-loop
 loop-holds c = let a = c .before .args in partly-none literals (a .text .now) (a .at) (a .from) (a .clauses .now) (c .before .pre)
 
-signed-at-requires : tie.Need-signed-at-requires Inv-loop μ-loop
-signed-at-requires c κs = search needs
-
-enum-told : tie.Need-enum-told Inv-loop μ-loop
-enum-told c = search needs
-
 same-length : tie.Need-same-length Inv-loop μ-loop
 same-length c =
-    partly-length (c .before .before .before .loop .inv)
+    let at-loop = c .before .before .before in
+    partly-length (at-loop .loop .inv)
 
 returns : tie.Need-returns Inv-loop μ-loop
 returns c =
-    let a = c .before .before .before .before .before .args in
-    let l = c .before .before .before .loop in
+    let at-signed-at = c .before .before in
+    let at-loop = at-signed-at .before in
+    let at-start = at-loop .before .before in
+    let a = at-start .args in
+    let l = at-loop .loop in
     partly-broken (l .inv)
-    (subst (λ (r : Signed). SignedIs (a .text .now) (l .i) r) (c .enum-told .given .1) (c .before .before .signed-at .ensures))
-
-enum-known-next : tie.Need-enum-known-next Inv-loop μ-loop
-enum-known-next c = search needs
-
-store-literal-requires : tie.Need-store-literal-requires Inv-loop μ-loop
-store-literal-requires c κs = search needs
+    (subst (λ (r : Signed). SignedIs (a .text .now) (l .i) r) (c .enum-told .given .1) (at-signed-at .signed-at .ensures))
 
 add-t15 : tie.Need-add-t15 Inv-loop μ-loop
-add-t15 c = let t = close-known c in let l = c .before .before .before .before .before .before .before .loop in omega (arith, t .on, t .passed .within, l .inv .few, c .before .before .before .before .before .before .before .before .before .good)
+add-t15 c =
+    let at-loop = c .before .before .before .before .before .before .before in
+    let at-start = at-loop .before .before in
+    let t = close-known c in let l = at-loop .loop in omega (arith, t .on, t .passed .within, l .inv .few, at-start .good)
 
 same-length-2 : tie.Need-same-length-2 Inv-loop μ-loop
 same-length-2 c =
-    c .before .store-literal .kept .0 ∙ partly-length (c .before .before .before .before .before .before .before .loop .inv)
+    let at-loop = c .before .before .before .before .before .before .before in
+    c .before .store-literal .kept .0 ∙ partly-length (at-loop .loop .inv)
 
 returns-2 : tie.Need-returns-2 Inv-loop μ-loop
-returns-2 c = partly-whole (c .before .before .before .before .before .before .before .loop .inv) (close-known c) (c .before .store-literal .last .0) (c .before .store-literal .ensures)
-
-enum-known-value : tie.Need-enum-known-value Inv-loop μ-loop
-enum-known-value c = search needs
+returns-2 c =
+    let at-loop = c .before .before .before .before .before .before .before in
+    partly-whole (at-loop .loop .inv) (close-known c) (c .before .store-literal .last .0) (c .before .store-literal .ensures)
 
 literal-of-requires : tie.Need-literal-of-requires Inv-loop μ-loop
-literal-of-requires c κs = let t = literal-known c in signed-most (c .before .before .value .given .0 .1 .0) (c .before .before .value .given .0 .0) (t .word) (t .is)
-
-store-literal-requires-2 : tie.Need-store-literal-requires-2 Inv-loop μ-loop
-store-literal-requires-2 c κs = search needs
+literal-of-requires c κs =
+    let at-value = c .before .before in
+    let t = literal-known c in signed-most (at-value .value .given .0 .1 .0) (at-value .value .given .0 .0) (t .word) (t .is)
 
 add-row : tie.Need-add-row Inv-loop μ-loop
-add-row c = let t = literal-known (c .before .before .before) in let l = c .before .before .before .before .before .before .before .before .loop in omega (arith, t .on, t .within, l .inv .few, c .before .before .before .before .before .before .before .before .before .before .good)
+add-row c =
+    let at-before = c .before .before in
+    let at-loop = at-before .before .before .before .before .before .before in
+    let at-start = at-loop .before .before in
+    let t = literal-known (at-before .before) in let l = at-loop .loop in omega (arith, t .on, t .within, l .inv .few, at-start .good)
 
 loop-less : tie.Need-loop-less Inv-loop μ-loop
-loop-less c = let t = literal-known (c .before .before .before) in omega (arith, t .on, t .within)
+loop-less c =
+    let at-before = c .before .before in
+    let t = literal-known (at-before .before) in omega (arith, t .on, t .within)
 
 loop-again : tie.Need-loop-again Inv-loop μ-loop
 loop-again c =
-    let l = c .before .before .before .before .before .before .before .before .loop in
-    let z = c .before .before .literal-of in
-    let w = c .before .before .before .before .before .value .given .0 in
-    partly-more (l .inv) (literal-known (c .before .before .before)) (cond (w .1 .0) (negℤ (pos (w .0))) (pos (w .0))) (signed-entry (w .1 .0) (w .0)) (c .before .store-literal2 .last .0)
+    let at-literal-of = c .before .before in
+    let at-value = at-literal-of .before .before .before in
+    let at-loop = at-value .before .before .before in
+    let l = at-loop .loop in
+    let z = at-literal-of .literal-of in
+    let w = at-value .value .given .0 in
+    partly-more (l .inv) (literal-known (at-literal-of .before)) (cond (w .1 .0) (negℤ (pos (w .0))) (pos (w .0))) (signed-entry (w .1 .0) (w .0)) (c .before .store-literal2 .last .0)
     (c .before .store-literal2 .ensures ∙ literal-put (l .clauses) (l .row) (z .result) (record { sfits = z .ok }) (z .ensures))
 
 pub literals-at-spec : {M : Type 1} → statement M
 literals-at-spec =
-    tie.close
-    (tie.spec
-    Inv-loop
-    μ-loop
-    loop-holds
-    signed-at-requires
-    enum-told
-    same-length
-    returns
-    enum-known-next
-    store-literal-requires
-    add-t15
-    same-length-2
-    returns-2
-    enum-known-value
-    literal-of-requires
-    store-literal-requires-2
-    add-row
-    loop-less
+    tie.close (tie.spec Inv-loop μ-loop loop-holds (λ c κs. search needs) (λ c. search needs) same-length returns (λ c. search needs)
+    (λ c κs. search needs) add-t15 same-length-2 returns-2 (λ c. search needs) literal-of-requires (λ c κs. search needs) add-row loop-less
     loop-again)

@@ -21,99 +21,94 @@ abbrev μ-loop : tie.MeasureT-loop
 
 -- at the closing 0, and at a number, what stands next in the line
 close-known : (c : tie.After-slice-known2 Inv-loop μ-loop) → Closes (c .before .before .before .before .before .before .before .before .before .before .before .args .text .now) (c .before .before .before .before .before .before .before .before .loop .i) (c .before .before .before .before .before .next .given .0 .0)
-close-known c = subst (λ (r : Entry). EntryIs (c .before .before .before .before .before .before .before .before .before .before .before .args .text .now) (c .before .before .before .before .before .before .before .before .loop .i) r) (c .before .before .before .before .before .next .given .1) (c .before .before .before .before .before .before .before .entry-at .ensures)
+close-known c =
+    let at-next = c .before .before .before .before .before in
+    let at-entry-at = at-next .before .before in
+    let at-loop = at-entry-at .before in
+    let at-start = at-loop .before .before .before in
+    subst (λ (r : Entry). EntryIs (at-start .args .text .now) (at-loop .loop .i) r) (at-next .next .given .1) (at-entry-at .entry-at .ensures)
 
 take-known : (c : tie.After-slice-known3 Inv-loop μ-loop) → Taken (Plain (c .before .before .before .before .before .value .given .0 .0)) (c .before .before .before .before .before .before .before .before .before .before .before .args .text .now) (c .before .before .before .before .before .before .before .before .loop .i) (c .before .before .before .before .before .value .given .0 .1 .0)
-take-known c = subst (λ (r : Entry). EntryIs (c .before .before .before .before .before .before .before .before .before .before .before .args .text .now) (c .before .before .before .before .before .before .before .before .loop .i) r) (c .before .before .before .before .before .value .given .1) (c .before .before .before .before .before .before .before .entry-at .ensures)
+take-known c =
+    let at-value = c .before .before .before .before .before in
+    let at-entry-at = at-value .before .before in
+    let at-loop = at-entry-at .before in
+    let at-start = at-loop .before .before .before in
+    subst (λ (r : Entry). EntryIs (at-start .args .text .now) (at-loop .loop .i) r) (at-value .value .given .1) (at-entry-at .entry-at .ensures)
 
 loop-holds : tie.Need-loop-holds Inv-loop μ-loop
-loop-holds c = let a = c .before .before .args in partly-none variables (a .text .now) (a .at) (a .from) (a .prefix .now) (c .before .before .pre)
-
-entry-at-requires : tie.Need-entry-at-requires Inv-loop μ-loop
-entry-at-requires c κs = search needs
-
-enum-told : tie.Need-enum-told Inv-loop μ-loop
-enum-told c = search needs
+loop-holds c =
+    let at-start = c .before .before in
+    let a = at-start .args in partly-none variables (a .text .now) (a .at) (a .from) (a .prefix .now) (at-start .pre)
 
 same-length : tie.Need-same-length Inv-loop μ-loop
 same-length c =
-    partly-length (c .before .before .before .loop .inv)
+    let at-loop = c .before .before .before in
+    partly-length (at-loop .loop .inv)
 
 returns : tie.Need-returns Inv-loop μ-loop
 returns c =
-    let a = c .before .before .before .before .before .before .args in
-    let l = c .before .before .before .loop in
+    let at-entry-at = c .before .before in
+    let at-loop = at-entry-at .before in
+    let at-start = at-loop .before .before .before in
+    let a = at-start .args in
+    let l = at-loop .loop in
     partly-broken (l .inv)
-    (subst (λ (r : Entry). EntryIs (a .text .now) (l .i) r) (c .enum-told .given .1) (c .before .before .entry-at .ensures))
-
-enum-told-2 : tie.Need-enum-told-2 Inv-loop μ-loop
-enum-told-2 c = search needs
+    (subst (λ (r : Entry). EntryIs (a .text .now) (l .i) r) (c .enum-told .given .1) (at-entry-at .entry-at .ensures))
 
 same-length-2 : tie.Need-same-length-2 Inv-loop μ-loop
 same-length-2 c =
-    partly-length (c .before .before .before .loop .inv)
+    let at-loop = c .before .before .before in
+    partly-length (at-loop .loop .inv)
 
 returns-2 : tie.Need-returns-2 Inv-loop μ-loop
 unfolding entry prepend
 returns-2 c =
-    let a = c .before .before .before .before .before .before .args in
-    let l = c .before .before .before .loop in
+    let at-entry-at = c .before .before in
+    let at-loop = at-entry-at .before in
+    let at-start = at-loop .before .before .before in
+    let a = at-start .args in
+    let l = at-loop .loop in
     partly-barred (l .inv)
-    (subst (λ (r : Entry). EntryIs (a .text .now) (l .i) r) (c .enum-told2 .given .1) (c .before .before .entry-at .ensures)) (λ more later. refl)
-
-enum-known-next : tie.Need-enum-known-next Inv-loop μ-loop
-enum-known-next c = search needs
-
-store-entry-requires : tie.Need-store-entry-requires Inv-loop μ-loop
-store-entry-requires c κs = search needs
+    (subst (λ (r : Entry). EntryIs (a .text .now) (l .i) r) (c .enum-told2 .given .1) (at-entry-at .entry-at .ensures)) (λ more later. refl)
 
 add-t14 : tie.Need-add-t14 Inv-loop μ-loop
-add-t14 c = let t = close-known c in let l = c .before .before .before .before .before .before .before .before .loop in omega (arith, t .on, t .passed .within, l .inv .few, c .before .before .before .before .before .before .before .before .before .before .before .good)
+add-t14 c =
+    let at-loop = c .before .before .before .before .before .before .before .before in
+    let at-start = at-loop .before .before .before in
+    let t = close-known c in let l = at-loop .loop in omega (arith, t .on, t .passed .within, l .inv .few, at-start .good)
 
 same-length-3 : tie.Need-same-length-3 Inv-loop μ-loop
 same-length-3 c =
-    c .before .before .store-entry .kept .0 ∙ partly-length (c .before .before .before .before .before .before .before .before .loop .inv)
+    let at-store-entry = c .before .before in
+    let at-loop = at-store-entry .before .before .before .before .before .before in
+    at-store-entry .store-entry .kept .0 ∙ partly-length (at-loop .loop .inv)
 
 returns-3 : tie.Need-returns-3 Inv-loop μ-loop
-returns-3 c = partly-whole (c .before .before .before .before .before .before .before .before .loop .inv) (close-known c) (c .before .before .store-entry .last .0) (c .before .before .store-entry .ensures)
-
-enum-known-value : tie.Need-enum-known-value Inv-loop μ-loop
-enum-known-value c = search needs
-
-store-entry-requires-2 : tie.Need-store-entry-requires-2 Inv-loop μ-loop
-store-entry-requires-2 c κs = search needs
+returns-3 c =
+    let at-store-entry = c .before .before in
+    let at-loop = at-store-entry .before .before .before .before .before .before in
+    partly-whole (at-loop .loop .inv) (close-known c) (at-store-entry .store-entry .last .0) (at-store-entry .store-entry .ensures)
 
 add-row : tie.Need-add-row Inv-loop μ-loop
-add-row c = let t = take-known c in let l = c .before .before .before .before .before .before .before .before .loop in omega (arith, t .on, t .within, l .inv .few, c .before .before .before .before .before .before .before .before .before .before .before .good)
+add-row c =
+    let at-loop = c .before .before .before .before .before .before .before .before in
+    let at-start = at-loop .before .before .before in
+    let t = take-known c in let l = at-loop .loop in omega (arith, t .on, t .within, l .inv .few, at-start .good)
 
 loop-less : tie.Need-loop-less Inv-loop μ-loop
 loop-less c = let t = take-known c in omega (arith, t .on, t .within)
 
 loop-again : tie.Need-loop-again Inv-loop μ-loop
 unfolding entry
-loop-again c = partly-more (c .before .before .before .before .before .before .before .before .loop .inv) (take-known c) (c .before .before .before .before .before .value .given .0 .0) (λ more later. refl) (c .before .before .store-entry2 .last .0) (c .before .before .store-entry2 .ensures)
+loop-again c =
+    let at-store-entry2 = c .before .before in
+    let at-value = at-store-entry2 .before .before .before in
+    let at-loop = at-value .before .before .before in
+    partly-more (at-loop .loop .inv) (take-known c) (at-value .value .given .0 .0) (λ more later. refl) (at-store-entry2 .store-entry2 .last .0) (at-store-entry2 .store-entry2 .ensures)
 
 pub variables-at-spec : {M : Type 1} → statement M
 variables-at-spec =
-    tie.close
-    (tie.spec
-    Inv-loop
-    μ-loop
-    loop-holds
-    entry-at-requires
-    enum-told
-    same-length
-    returns
-    enum-told-2
-    same-length-2
-    returns-2
-    enum-known-next
-    store-entry-requires
-    add-t14
-    same-length-3
-    returns-3
-    enum-known-value
-    store-entry-requires-2
-    add-row
-    loop-less
-    loop-again)
+    tie.close (tie.spec Inv-loop μ-loop loop-holds (λ c κs. search needs) (λ c. search needs) same-length returns (λ c. search needs)
+    same-length-2 returns-2 (λ c. search needs) (λ c κs. search needs) add-t14 same-length-3 returns-3 (λ c. search needs)
+    (λ c κs. search needs) add-row loop-less loop-again)

@@ -14,72 +14,40 @@ use borrow.Author.Needs.{needs}
 use Rattle.growth.proofs.adding.add_sound.Statement.{statement}
 use Rattle.growth.proofs.adding.add_sound.Tie as tie
 
-tables-verdict-requires : tie.Need-tables-verdict-requires
-tables-verdict-requires c κs = search needs
-
-enum-known-number : tie.Need-enum-known-number
-enum-known-number c = search needs
-
-refused-requires : tie.Need-refused-requires
-refused-requires c κs = search needs
-
-enum-told : tie.Need-enum-told
-enum-told c = search needs
-
 add-formed-requires : tie.Need-add-formed-requires
 add-formed-requires c κs =
-    let a = c .before .before .before .before .before .before .before .before .before .before .before .before .before .args in
-    let pre = c .before .before .before .before .before .before .before .before .before .before .before .before .before .pre in
-    let none = subst (Judged (ForestCause (a .n) (a .prefix .now) (a .classes .now) (a .parents .now) (a .counts .now) ∷ [])) (c .before .before .before .enum-told .given .1) (c .before .before .before .before .before .tables-verdict .ensures) .0 in
+    let at-enum-told = c .before .before .before in
+    let at-tables-verdict = at-enum-told .before .before in
+    let at-start = at-tables-verdict .before .before .before .before .before .before .before .before in
+    let a = at-start .args in
+    let pre = at-start .pre in
+    let none = subst (Judged (ForestCause (a .n) (a .prefix .now) (a .classes .now) (a .parents .now) (a .counts .now) ∷ [])) (at-enum-told .enum-told .given .1) (at-tables-verdict .tables-verdict .ensures) .0 in
     (pre .0, pre .1, long-enough none, none-formed none)
-
-same-length : tie.Need-same-length
-same-length c = search needs
-
-same-length-2 : tie.Need-same-length-2
-same-length-2 c = search needs
-
-same-length-3 : tie.Need-same-length-3
-same-length-3 c = search needs
 
 returns : tie.Need-returns
 returns c =
-    let a = c .before .before .before .before .before .before .before .before .before .before .before .before .args in
+    let at-number = c .before .before in
+    let at-tables-verdict = at-number .before .before in
+    let at-start = at-tables-verdict .before .before .before .before .before .before .before .before in
+    let a = at-start .args in
     let X = variables (a .n) (a .prefix .now) in
     let s = standing (a .classes .now) (a .parents .now) (a .counts .now) (a .tally) in
-    refusal ((ForestCause (a .n) (a .prefix .now) (a .classes .now) (a .parents .now) (a .counts .now) ∷ []) ++ (TallyCause X s ∷ [])) X (Extended X (tableOf X s) (a .clause .now)) (Took X s) (a .classes .now) (a .parents .now) (a .counts .now) _ _ (refused-first (ForestCause (a .n) (a .prefix .now) (a .classes .now) (a .parents .now) (a .counts .now) ∷ []) (TallyCause X s ∷ []) (c .before .before .number .given .1) (c .before .before .before .before .tables-verdict .ensures)) (c .refused .ensures)
-
-same-length-4 : tie.Need-same-length-4
-same-length-4 c = search needs
-
-same-length-5 : tie.Need-same-length-5
-same-length-5 c = search needs
-
-same-length-6 : tie.Need-same-length-6
-same-length-6 c = search needs
+    refusal ((ForestCause (a .n) (a .prefix .now) (a .classes .now) (a .parents .now) (a .counts .now) ∷ []) ++ (TallyCause X s ∷ [])) X (Extended X (tableOf X s) (a .clause .now)) (Took X s) (a .classes .now) (a .parents .now) (a .counts .now) _ _ (refused-first (ForestCause (a .n) (a .prefix .now) (a .classes .now) (a .parents .now) (a .counts .now) ∷ []) (TallyCause X s ∷ []) (at-number .number .given .1) (at-tables-verdict .tables-verdict .ensures)) (c .refused .ensures)
 
 returns-2 : tie.Need-returns-2
 returns-2 c =
-    let a = c .before .before .before .before .before .before .before .before .before .before .before .before .before .before .before .before .before .before .before .before .args in
+    let at-add-formed = c .before .before .before .before .before .before in
+    let at-enum-told = at-add-formed .before .before .before .before in
+    let at-tables-verdict = at-enum-told .before .before in
+    let at-start = at-tables-verdict .before .before .before .before .before .before .before .before in
+    let a = at-start .args in
     let X = variables (a .n) (a .prefix .now) in
     let s = standing (a .classes .now) (a .parents .now) (a .counts .now) (a .tally) in
-    let done = c .before .before .before .before .before .before .add-formed in
-    (accepted-then (ForestCause (a .n) (a .prefix .now) (a .classes .now) (a .parents .now) (a .counts .now) ∷ []) (TallyCause X s ∷ []) (verdictOf (done .result .answer)) (c .before .before .before .before .before .before .before .before .before .before .enum-told .given .1) (c .before .before .before .before .before .before .before .before .before .before .before .before .tables-verdict .ensures) (done .ensures .0), done .ensures .1)
+    let done = at-add-formed .add-formed in
+    (accepted-then (ForestCause (a .n) (a .prefix .now) (a .classes .now) (a .parents .now) (a .counts .now) ∷ []) (TallyCause X s ∷ []) (verdictOf (done .result .answer)) (at-enum-told .enum-told .given .1) (at-tables-verdict .tables-verdict .ensures) (done .ensures .0), done .ensures .1)
 
 pub add-sound-spec : {M : Type 1} → statement M
 add-sound-spec =
-    tie.close
-    (tie.spec
-    tables-verdict-requires
-    enum-known-number
-    refused-requires
-    enum-told
-    add-formed-requires
-    same-length
-    same-length-2
-    same-length-3
-    returns
-    same-length-4
-    same-length-5
-    same-length-6
+    tie.close (tie.spec (λ c κs. search needs) (λ c. search needs) (λ c κs. search needs) (λ c. search needs) add-formed-requires
+    (λ c. search needs) (λ c. search needs) (λ c. search needs) returns (λ c. search needs) (λ c. search needs) (λ c. search needs)
     returns-2)

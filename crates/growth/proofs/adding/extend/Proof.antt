@@ -4,41 +4,24 @@ use borrow.Author.Needs.{needs}
 use Rattle.growth.proofs.adding.extend.Statement.{statement}
 use Rattle.growth.proofs.adding.extend.Tie as tie
 
-put-in-requires : tie.Need-put-in-requires
-put-in-requires c κs = search needs
-
 recount-requires : tie.Need-recount-requires
 recount-requires c κs =
-    let a = c .before .before .before .before .before .before .before .before .before .before .before .before .before .before .args in
-    let pre = c .before .before .before .before .before .before .before .before .before .before .before .before .before .before .pre in
-    (pre .0, rowed-formed (a .n) (a .prefix .now) (c .before .before .before .before .before .before .before .put-in .ensures), pre .2 .2)
-
-take-census-requires : tie.Need-take-census-requires
-take-census-requires c κs = search needs
-
-same-length : tie.Need-same-length
-same-length c = search needs
-
-same-length-2 : tie.Need-same-length-2
-same-length-2 c = search needs
-
-same-length-3 : tie.Need-same-length-3
-same-length-3 c = search needs
+    let at-put-in = c .before .before .before .before .before .before .before in
+    let at-start = at-put-in .before .before .before .before .before .before .before in
+    let a = at-start .args in
+    let pre = at-start .pre in
+    (pre .0, rowed-formed (a .n) (a .prefix .now) (at-put-in .put-in .ensures), pre .2 .2)
 
 returns : tie.Need-returns
 returns c =
-    let a = c .before .before .before .before .before .before .before .before .before .before .before .before .before .before .before .before .before .before .before .args in
-    let rows = c .before .before .before .before .before .before .before .before .before .before .before .before .put-in .ensures in
-    (rows, (c .before .before .before .before .recount .ensures, c .take-census .ensures .right (a .prefix .now) _ (rowed-formed (a .n) (a .prefix .now) rows) .1))
+    let at-recount = c .before .before .before .before in
+    let at-put-in = at-recount .before .before .before .before .before .before .before .before in
+    let at-start = at-put-in .before .before .before .before .before .before .before in
+    let a = at-start .args in
+    let rows = at-put-in .put-in .ensures in
+    (rows, (at-recount .recount .ensures, c .take-census .ensures .right (a .prefix .now) _ (rowed-formed (a .n) (a .prefix .now) rows) .1))
 
 pub extend-spec : {M : Type 1} → statement M
 extend-spec =
-    tie.close
-    (tie.spec
-    put-in-requires
-    recount-requires
-    take-census-requires
-    same-length
-    same-length-2
-    same-length-3
-    returns)
+    tie.close (tie.spec (λ c κs. search needs) recount-requires (λ c κs. search needs) (λ c. search needs) (λ c. search needs)
+    (λ c. search needs) returns)

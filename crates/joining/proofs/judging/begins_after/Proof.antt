@@ -23,56 +23,30 @@ module _ (es : List ℕ) (i last : ℕ) where
   next-is : at es (i + 1) ≡ at es (suc i)
   next-is = ap (at es) (add-one i)
 
-add-next : tie.Need-add-next
-add-next c = search needs
-
-mul-if2 : tie.Need-mul-if2
-mul-if2 c = search needs
-
-shared-slice-read-if2 : tie.Need-shared-slice-read-if2
-shared-slice-read-if2 c = search needs
-
-mul-result : tie.Need-mul-result
-mul-result c = search needs
-
-shared-slice-read-result : tie.Need-shared-slice-read-result
-shared-slice-read-result c = search needs
-
-mul-result-2 : tie.Need-mul-result-2
-mul-result-2 c = search needs
-
-shared-slice-read-result-2 : tie.Need-shared-slice-read-result-2
-shared-slice-read-result-2 c = search needs
-
 returns : tie.Need-returns
 returns c =
-    let a = c .before .before .before .args in
-    let l : suc (a .i) < length (a .prefix .now) = omega (arith, c .before .before .if1 .taken) in
+    let at-if1 = c .before .before in
+    let at-start = at-if1 .before in
+    let a = at-start .args in
+    let l : suc (a .i) < length (a .prefix .now) = omega (arith, at-if1 .if1 .taken) in
     begins-by (a .prefix .now) (a .i) (a .last) true true (lt-ltb _ _ l) (eq-eqb _ 0 (sym (next-is (a .prefix .now) (a .i) (a .last)) ∙ c .if2 .taken))
 
 returns-2 : tie.Need-returns-2
 returns-2 c =
-    let a = c .before .before .before .before .args in
-    let l : suc (a .i) < length (a .prefix .now) = omega (arith, c .before .before .before .if1 .taken) in
+    let at-if1 = c .before .before .before in
+    let at-start = at-if1 .before in
+    let a = at-start .args in
+    let l : suc (a .i) < length (a .prefix .now) = omega (arith, at-if1 .if1 .taken) in
     begins-by (a .prefix .now) (a .i) (a .last) true false (lt-ltb _ _ l) (ne-eqb _ 0 (λ z. c .before .if2 .left (next-is (a .prefix .now) (a .i) (a .last) ∙ z)))
 
 returns-3 : tie.Need-returns-3
 returns-3 c =
-    let a = c .before .before .args in
+    let at-start = c .before .before in
+    let a = at-start .args in
     let l : length (a .prefix .now) ≤ suc (a .i) = omega (arith, c .before .if1 .left) in
     begins-by (a .prefix .now) (a .i) (a .last) false _ (le-ltb _ _ l) refl
 
 pub begins-after-spec : {M : Type 1} → statement M
 begins-after-spec =
-    tie.close
-    (tie.spec
-    add-next
-    mul-if2
-    shared-slice-read-if2
-    mul-result
-    shared-slice-read-result
-    mul-result-2
-    shared-slice-read-result-2
-    returns
-    returns-2
-    returns-3)
+    tie.close (tie.spec (λ c. search needs) (λ c. search needs) (λ c. search needs) (λ c. search needs) (λ c. search needs)
+    (λ c. search needs) (λ c. search needs) returns returns-2 returns-3)

@@ -15,22 +15,20 @@ abbrev μ-loop : tie.MeasureT-loop
 μ-loop prefix out₀ opens₀ last₀ count₀ i₀ out opens last count i = length prefix - i
 
 loop-holds : tie.Need-loop-holds Inv-loop μ-loop
-loop-holds c = write-none (c .before .before .pre .0 .1) (c .before .before .args .out .now) (c .before .before .pre .1)
-
-mul-entry : tie.Need-mul-entry Inv-loop μ-loop
-mul-entry c = search needs
-
-shared-slice-read-entry : tie.Need-shared-slice-read-entry Inv-loop μ-loop
-shared-slice-read-entry c = search needs
-
-begins-after-requires : tie.Need-begins-after-requires Inv-loop μ-loop
-begins-after-requires c κs = search needs
+loop-holds c =
+    let at-start = c .before .before in
+    write-none (at-start .pre .0 .1) (at-start .args .out .now) (at-start .pre .1)
 
 close-requires : tie.Need-close-requires Inv-loop μ-loop
 close-requires c κs =
-    let s = c .before .before .before .before .before .before .loop .inv in
-    let none = c .before .before .before .before .before .before .before .before .before .pre .0 .1 in
-    let room = mark-room none s (c .before .before .before .before .before .loop-test .taken) (c .before .before .before .if1 .taken) (sym (c .before .if2 .taken) ∙ c .before .before .begins-after .ensures) in
+    let at-begins-after = c .before .before in
+    let at-if1 = at-begins-after .before in
+    let at-loop-test = at-if1 .before .before in
+    let at-loop = at-loop-test .before in
+    let at-start = at-loop .before .before .before in
+    let s = at-loop .loop .inv in
+    let none = at-start .pre .0 .1 in
+    let room = mark-room none s (at-loop-test .loop-test .taken) (at-if1 .if1 .taken) (sym (c .before .if2 .taken) ∙ at-begins-after .begins-after .ensures) in
     let size = s .size in
     (λ some. omega arith, omega arith)
 
@@ -64,12 +62,6 @@ add-count c =
     let low = closed-room none s (b .before .before .before .before .before .before .loop-test .taken) (b .before .before .before .before .if1 .taken) (b .close .ensures) in
     omega arith
 
-add-i : tie.Need-add-i Inv-loop μ-loop
-add-i c = omega arith
-
-loop-less : tie.Need-loop-less Inv-loop μ-loop
-loop-less c = omega arith
-
 loop-again : tie.Need-loop-again Inv-loop μ-loop
 loop-again c =
     let b = c .before .before in
@@ -78,12 +70,6 @@ loop-again c =
     let none = m .before .before .before .before .before .before .pre .0 .1 in
     write-mark none inv (m .before .before .loop-test .taken) (m .if1 .taken) (b .close .ensures) (sym (b .before .before .if2 .taken) ∙ b .before .before .before .begins-after .ensures)
 
-add-i-2 : tie.Need-add-i-2 Inv-loop μ-loop
-add-i-2 c = omega arith
-
-loop-less-2 : tie.Need-loop-less-2 Inv-loop μ-loop
-loop-less-2 c = omega arith
-
 loop-again-2 : tie.Need-loop-again-2 Inv-loop μ-loop
 loop-again-2 c =
     let m = c .before .before in
@@ -91,21 +77,12 @@ loop-again-2 c =
     let none = m .before .before .before .before .before .before .pre .0 .1 in
     write-no-mark none inv (m .before .before .loop-test .taken) (m .if1 .taken) (sym (c .if2 .left) ∙ c .before .begins-after .ensures)
 
-add-i-3 : tie.Need-add-i-3 Inv-loop μ-loop
-add-i-3 c = omega arith
-
-loop-less-3 : tie.Need-loop-less-3 Inv-loop μ-loop
-loop-less-3 c = omega arith
-
 loop-again-3 : tie.Need-loop-again-3 Inv-loop μ-loop
 loop-again-3 c =
     let m = c .before in
     let inv = m .before .before .before .loop .inv in
     let none = m .before .before .before .before .before .before .pre .0 .1 in
     write-close none inv (m .before .before .loop-test .taken) (m .if1 .left) (c .if3 .taken)
-
-mul-out-2 : tie.Need-mul-out-2 Inv-loop μ-loop
-mul-out-2 c = search needs
 
 slice-write-out-2 : tie.Need-slice-write-out-2 Inv-loop μ-loop
 slice-write-out-2 c =
@@ -117,13 +94,9 @@ slice-write-out-2 c =
     omega arith
 
 add-count-2 : tie.Need-add-count-2 Inv-loop μ-loop
-add-count-2 c = let room = c .before .before .before .before .loop .inv .room in omega arith
-
-add-i-4 : tie.Need-add-i-4 Inv-loop μ-loop
-add-i-4 c = omega arith
-
-loop-less-4 : tie.Need-loop-less-4 Inv-loop μ-loop
-loop-less-4 c = omega arith
+add-count-2 c =
+    let at-loop = c .before .before .before .before in
+    let room = at-loop .loop .inv .room in omega arith
 
 loop-again-4 : tie.Need-loop-again-4 Inv-loop μ-loop
 loop-again-4 c =
@@ -134,14 +107,19 @@ loop-again-4 c =
 
 close-requires-2 : tie.Need-close-requires-2 Inv-loop μ-loop
 close-requires-2 c κs =
-    let s = c .before .before .loop .inv in
-    let none = c .before .before .before .before .before .pre .0 .1 in
+    let at-loop = c .before .before in
+    let at-start = at-loop .before .before .before in
+    let s = at-loop .loop .inv in
+    let none = at-start .pre .0 .1 in
     let fits = s .fits in
     let size = s .size in
     (last-room none s (c .before .loop-test .left), omega arith)
 
 same-length : tie.Need-same-length Inv-loop μ-loop
-same-length c = c .before .before .close2 .ensures .size ∙ c .before .before .before .before .before .loop .inv .size
+same-length c =
+    let at-close2 = c .before .before in
+    let at-loop = at-close2 .before .before .before in
+    at-close2 .close2 .ensures .size ∙ at-loop .loop .inv .size
 
 returns : tie.Need-returns Inv-loop μ-loop
 returns c =
@@ -150,33 +128,7 @@ returns c =
 
 pub lay-out-spec : {M : Type 1} → statement M
 lay-out-spec =
-    tie.close
-    (tie.spec
-    Inv-loop
-    μ-loop
-    loop-holds
-    mul-entry
-    shared-slice-read-entry
-    begins-after-requires
-    close-requires
-    mul-out
-    slice-write-out
-    add-count
-    add-i
-    loop-less
-    loop-again
-    add-i-2
-    loop-less-2
-    loop-again-2
-    add-i-3
-    loop-less-3
-    loop-again-3
-    mul-out-2
-    slice-write-out-2
-    add-count-2
-    add-i-4
-    loop-less-4
-    loop-again-4
-    close-requires-2
-    same-length
-    returns)
+    tie.close (tie.spec Inv-loop μ-loop loop-holds (λ c. search needs) (λ c. search needs) (λ c κs. search needs) close-requires mul-out
+    slice-write-out add-count (λ c. omega arith) (λ c. omega arith) loop-again (λ c. omega arith) (λ c. omega arith) loop-again-2
+    (λ c. omega arith) (λ c. omega arith) loop-again-3 (λ c. search needs) slice-write-out-2 add-count-2 (λ c. omega arith)
+    (λ c. omega arith) loop-again-4 close-requires-2 same-length returns)

@@ -17,30 +17,29 @@ abbrev μ-loop : tie.MeasureT-loop
 
 loop-holds : tie.Need-loop-holds Inv-loop μ-loop
 loop-holds c =
-    let a = c .before .before .args in
-    (going-none (a .width) (a .from) (a .many), storing-none (λ (x : ℕ). x) (a .width) (a .file .now) (a .from) (a .many) (a .table .now) (c .before .before .pre .2))
+    let at-start = c .before .before in
+    let a = at-start .args in
+    (going-none (a .width) (a .from) (a .many), storing-none (λ (x : ℕ). x) (a .width) (a .file .now) (a .from) (a .many) (a .table .now) (at-start .pre .2))
 
 number-in-requires : tie.Need-number-in-requires Inv-loop μ-loop
 number-in-requires c κs =
-    let pre = c .before .before .before .before .pre in
+    let at-start = c .before .before .before .before in
+    let pre = at-start .pre in
     let small = going-small (c .before .loop .inv .0) (c .loop-test .taken) 4294967294 (pre .1) in
     (pre .0, omega arith)
 
-mul-table : tie.Need-mul-table Inv-loop μ-loop
-mul-table c = search needs
-
 slice-write-table : tie.Need-slice-write-table Inv-loop μ-loop
 slice-write-table c =
-    let room = c .before .before .loop .inv .1 .room in
+    let at-loop = c .before .before in
+    let room = at-loop .loop .inv .1 .room in
     let l = c .before .loop-test .taken in
     omega arith
 
-add-i : tie.Need-add-i Inv-loop μ-loop
-add-i c = search needs
-
 add-at : tie.Need-add-at Inv-loop μ-loop
 add-at c =
-    let small = going-small (c .before .before .loop .inv .0) (c .before .loop-test .taken) 4294967294 (c .before .before .before .before .before .pre .1) in
+    let at-loop = c .before .before in
+    let at-start = at-loop .before .before .before in
+    let small = going-small (at-loop .loop .inv .0) (c .before .loop-test .taken) 4294967294 (at-start .pre .1) in
     omega arith
 
 loop-less : tie.Need-loop-less Inv-loop μ-loop
@@ -48,8 +47,10 @@ loop-less c = let l = c .before .loop-test .taken in omega arith
 
 loop-again : tie.Need-loop-again Inv-loop μ-loop
 loop-again c =
-    let a = c .before .before .before .before .before .args in
-    let l = c .before .before .loop in
+    let at-loop = c .before .before in
+    let at-start = at-loop .before .before .before in
+    let a = at-start .args in
+    let l = at-loop .loop in
     (going-more (l .inv .0) (c .before .loop-test .taken), storing-more (λ (x : ℕ). x) (a .width) (a .file .now) (a .from) (a .many) (a .table .now) (l .inv .1) (c .before .loop-test .taken) (c .number-in .result) (c .number-in .ensures))
 
 same-length : tie.Need-same-length Inv-loop μ-loop
@@ -57,23 +58,12 @@ same-length c = c .before .loop .inv .1 .same
 
 returns : tie.Need-returns Inv-loop μ-loop
 returns c =
-    let a = c .before .before .before .before .args in
+    let at-start = c .before .before .before .before in
+    let a = at-start .args in
     storing-all (λ (x : ℕ). x) (a .width) (a .file .now) (a .from) (a .many) (a .table .now) (c .before .loop .inv .1) (c .loop-test .left)
     ∙ ap (sets (a .table .now) 0) (map-same (numbersAt (a .width) (a .file .now) (a .from) (a .many)))
 
 pub fill-numbers-spec : {M : Type 1} → statement M
 fill-numbers-spec =
-    tie.close
-    (tie.spec
-    Inv-loop
-    μ-loop
-    loop-holds
-    number-in-requires
-    mul-table
-    slice-write-table
-    add-i
-    add-at
-    loop-less
-    loop-again
-    same-length
-    returns)
+    tie.close (tie.spec Inv-loop μ-loop loop-holds number-in-requires (λ c. search needs) slice-write-table (λ c. search needs) add-at
+    loop-less loop-again same-length returns)

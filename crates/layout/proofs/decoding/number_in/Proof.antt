@@ -15,13 +15,15 @@ four-at-requires c κs = search needs
 
 returns : tie.Need-returns
 returns c =
-    let a = c .before .before .before .args in
+    let at-start = c .before .before .before in
+    let a = at-start .args in
     c .two-at .ensures .0 ∙ sym (ap (λ (w : ℕ). numberAt w (a .file .now) (a .at)) (c .before .if1 .taken))
 
 returns-2 : tie.Need-returns-2
 returns-2 c =
-    let a = c .before .before .before .args in
-    let four = ⊎-elim (λ two. absurd (c .before .if1 .left two)) (λ e. e) (c .before .before .before .pre .0) in
+    let at-start = c .before .before .before in
+    let a = at-start .args in
+    let four = ⊎-elim (λ two. absurd (c .before .if1 .left two)) (λ e. e) (at-start .pre .0) in
     c .four-at .ensures ∙ sym (ap (λ (w : ℕ). numberAt w (a .file .now) (a .at)) four)
 
 pub number-in-spec : {M : Type 1} → statement M

@@ -13,7 +13,8 @@ second-at-requires c κs = search needs
 
 four-at-requires : tie.Need-four-at-requires
 four-at-requires c κs =
-    let ends = laid-ends (c .before .before .args .file .now) (c .before .before .pre) in
+    let at-start = c .before .before in
+    let ends = laid-ends (at-start .args .file .now) (at-start .pre) in
     let is = c .second-at .ensures in
     omega (arith, ends .second, ends .third, ends .fourth)
 
@@ -22,7 +23,8 @@ cast-size c = search needs
 
 returns : tie.Need-returns
 returns c =
-    let file = c .before .before .before .args .file .now in
+    let at-start = c .before .before .before in
+    let file = at-start .args .file .now in
     let size = size-read file (c .before .second-at .result) (c .four-at .ensures) ∙ ap (sizeAt file) (c .before .second-at .ensures) in
     let many = clauses-length file in
     omega arith

@@ -15,19 +15,22 @@ fourth-at-requires c κs = search needs
 
 add-two-at : tie.Need-add-two-at
 add-two-at c =
-    let ends = laid-ends (c .before .before .args .file .now) (c .before .before .pre) in
+    let at-start = c .before .before in
+    let ends = laid-ends (at-start .args .file .now) (at-start .pre) in
     let is = c .fourth-at .ensures in
     omega (arith, ends .fourth)
 
 two-at-requires : tie.Need-two-at-requires
 two-at-requires c κs =
-    let ends = laid-ends (c .before .before .args .file .now) (c .before .before .pre) in
+    let at-start = c .before .before in
+    let ends = laid-ends (at-start .args .file .now) (at-start .pre) in
     let is = c .fourth-at .ensures in
     omega (arith, ends .fourth)
 
 returns : tie.Need-returns
 returns c =
-    let file = c .before .before .before .args .file .now in
+    let at-start = c .before .before .before in
+    let file = at-start .args .file .now in
     let kind = kind-read file (c .before .fourth-at .result) (c .two-at .ensures .0) ∙ ap (kindAt file) (c .before .fourth-at .ensures) in
     ap (λ (k : ℕ). eqb k 4) kind ∙ sym (sets-read file)
 

@@ -19,7 +19,8 @@ add-result-2 c = search needs
 
 returns : tie.Need-returns
 returns c =
-    let a = c .before .before .args in
+    let at-start = c .before .before in
+    let a = at-start .args in
     let next = next-read (a .file .now) (a .at) in
     let size = size-read (a .file .now) (a .at) (c .four-at .ensures) in
     omega arith

@@ -14,13 +14,15 @@ cast-size c = search needs
 
 sub-result : tie.Need-sub-result
 sub-result c =
-    let size = size-read (c .before .before .args .file .now) 0 (c .four-at .ensures) in
-    let low = c .before .before .pre .counted in
+    let at-start = c .before .before in
+    let size = size-read (at-start .args .file .now) 0 (c .four-at .ensures) in
+    let low = at-start .pre .counted in
     omega arith
 
 returns : tie.Need-returns
 returns c =
-    let file = c .before .before .args .file .now in
+    let at-start = c .before .before in
+    let file = at-start .args .file .now in
     let size = size-read file 0 (c .four-at .ensures) in
     let many = prefix-length file in
     omega arith

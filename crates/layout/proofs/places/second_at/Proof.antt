@@ -9,7 +9,9 @@ next-at-requires : tie.Need-next-at-requires
 next-at-requires c κs = search needs
 
 returns : tie.Need-returns
-returns c = c .next-at .ensures ∙ sym (second-is (c .before .before .args .file .now))
+returns c =
+    let at-start = c .before .before in
+    c .next-at .ensures ∙ sym (second-is (at-start .args .file .now))
 
 pub second-at-spec : {M : Type 1} → statement M
 second-at-spec = tie.close (tie.spec next-at-requires returns)

@@ -17,73 +17,53 @@ abbrev μ-loop : tie.MeasureT-loop
 loop-holds : tie.Need-loop-holds Inv-loop μ-loop
 loop-holds c = place-none (c .args .prefix .now) (c .args .placed .now) (c .pre .1) (c .pre .2)
 
-mul-entry : tie.Need-mul-entry Inv-loop μ-loop
-mul-entry c = search needs
-
-shared-slice-read-entry : tie.Need-shared-slice-read-entry Inv-loop μ-loop
-shared-slice-read-entry c = search needs
-
-add-i : tie.Need-add-i Inv-loop μ-loop
-add-i c = omega arith
-
-loop-less : tie.Need-loop-less Inv-loop μ-loop
-loop-less c = omega arith
-
 loop-again : tie.Need-loop-again Inv-loop μ-loop
-loop-again c = place-mark (c .before .before .before .before .pre .0 .1) (c .before .before .before .loop .inv) (c .before .before .loop-test .taken) (c .if1 .taken)
-
-add-i-2 : tie.Need-add-i-2 Inv-loop μ-loop
-add-i-2 c = omega arith
-
-loop-less-2 : tie.Need-loop-less-2 Inv-loop μ-loop
-loop-less-2 c = omega arith
+loop-again c =
+    let at-loop-test = c .before .before in
+    let at-loop = at-loop-test .before in
+    let at-start = at-loop .before in
+    place-mark (at-start .pre .0 .1) (at-loop .loop .inv) (at-loop-test .loop-test .taken) (c .if1 .taken)
 
 loop-again-2 : tie.Need-loop-again-2 Inv-loop μ-loop
-loop-again-2 c = place-close (c .before .before .before .before .before .pre .0 .1) (c .before .before .before .before .loop .inv) (c .before .before .before .loop-test .taken) (c .before .if1 .left) (c .if2 .taken)
+loop-again-2 c =
+    let at-loop-test = c .before .before .before in
+    let at-loop = at-loop-test .before in
+    let at-start = at-loop .before in
+    place-close (at-start .pre .0 .1) (at-loop .loop .inv) (at-loop-test .loop-test .taken) (c .before .if1 .left) (c .if2 .taken)
 
 cast-placed : tie.Need-cast-placed Inv-loop μ-loop
-cast-placed c = let l = place-small (c .before .before .before .before .before .pre .0 .1) (c .before .before .before .before .loop .inv) (c .before .before .before .loop-test .taken) (c .before .if1 .left) (c .if2 .left) in omega arith
+cast-placed c =
+    let at-loop-test = c .before .before .before in
+    let at-loop = at-loop-test .before in
+    let at-start = at-loop .before in
+    let l = place-small (at-start .pre .0 .1) (at-loop .loop .inv) (at-loop-test .loop-test .taken) (c .before .if1 .left) (c .if2 .left) in omega arith
 
 slice-write-placed : tie.Need-slice-write-placed Inv-loop μ-loop
 slice-write-placed c =
-    let l = place-small (c .before .before .before .before .before .pre .0 .1) (c .before .before .before .before .loop .inv) (c .before .before .before .loop-test .taken) (c .before .if1 .left) (c .if2 .left) in
-    let size = c .before .before .before .before .loop .inv .size in
+    let at-loop-test = c .before .before .before in
+    let at-loop = at-loop-test .before in
+    let at-start = at-loop .before in
+    let l = place-small (at-start .pre .0 .1) (at-loop .loop .inv) (at-loop-test .loop-test .taken) (c .before .if1 .left) (c .if2 .left) in
+    let size = at-loop .loop .inv .size in
     omega arith
 
-add-i-3 : tie.Need-add-i-3 Inv-loop μ-loop
-add-i-3 c = omega arith
-
-loop-less-3 : tie.Need-loop-less-3 Inv-loop μ-loop
-loop-less-3 c = omega arith
-
 loop-again-3 : tie.Need-loop-again-3 Inv-loop μ-loop
-loop-again-3 c = place-variable (c .before .before .before .before .before .pre .0 .1) (c .before .before .before .before .loop .inv) (c .before .before .before .loop-test .taken) (c .before .if1 .left) (c .if2 .left)
+loop-again-3 c =
+    let at-loop-test = c .before .before .before in
+    let at-loop = at-loop-test .before in
+    let at-start = at-loop .before in
+    place-variable (at-start .pre .0 .1) (at-loop .loop .inv) (at-loop-test .loop-test .taken) (c .before .if1 .left) (c .if2 .left)
 
 same-length : tie.Need-same-length Inv-loop μ-loop
-same-length c = c .before .loop .inv .size ∙ sym (c .before .before .pre .1)
+same-length c =
+    let at-start = c .before .before in
+    c .before .loop .inv .size ∙ sym (at-start .pre .1)
 
 returns : tie.Need-returns Inv-loop μ-loop
 returns c = place-all (c .before .loop .inv) (c .loop-test .left)
 
 pub place-blocks-spec : {M : Type 1} → statement M
 place-blocks-spec =
-    tie.close
-    (tie.spec
-    Inv-loop
-    μ-loop
-    loop-holds
-    mul-entry
-    shared-slice-read-entry
-    add-i
-    loop-less
-    loop-again
-    add-i-2
-    loop-less-2
-    loop-again-2
-    cast-placed
-    slice-write-placed
-    add-i-3
-    loop-less-3
-    loop-again-3
-    same-length
-    returns)
+    tie.close (tie.spec Inv-loop μ-loop loop-holds (λ c. search needs) (λ c. search needs) (λ c. omega arith) (λ c. omega arith) loop-again
+    (λ c. omega arith) (λ c. omega arith) loop-again-2 cast-placed slice-write-placed (λ c. omega arith) (λ c. omega arith) loop-again-3
+    same-length returns)

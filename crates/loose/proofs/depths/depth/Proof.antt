@@ -14,10 +14,14 @@ add-result : tie.Need-add-result
 add-result c = search needs
 
 returns-3 : tie.Need-returns-3
-returns-3 c = simp (le-leb _ _ (c .before .before .if1 .left), le-leb _ _ (c .before .if2 .left), c .if3 .taken)
+returns-3 c =
+    let at-if1 = c .before .before in
+    simp (le-leb _ _ (at-if1 .if1 .left), le-leb _ _ (c .before .if2 .left), c .if3 .taken)
 
 returns-4 : tie.Need-returns-4
-returns-4 c = simp (le-leb _ _ (c .before .before .if1 .left), le-leb _ _ (c .before .if2 .left), c .if3 .left)
+returns-4 c =
+    let at-if1 = c .before .before in
+    simp (le-leb _ _ (at-if1 .if1 .left), le-leb _ _ (c .before .if2 .left), c .if3 .left)
 
 pub depth-spec : {M : Type 1} → statement M
 depth-spec = tie.close (tie.spec returns returns-2 add-result returns-3 returns-4)

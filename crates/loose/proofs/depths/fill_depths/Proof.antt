@@ -5,39 +5,20 @@ use borrow.Author.Needs.{needs}
 use Rattle.loose.proofs.depths.fill_depths.Statement.{statement}
 use Rattle.loose.proofs.depths.fill_depths.Tie as tie
 
-slice-aggregate-fill-levels : tie.Need-slice-aggregate-fill-levels
-slice-aggregate-fill-levels c = search needs
-
-slice-aggregate-fill-levels-2 : tie.Need-slice-aggregate-fill-levels-2
-slice-aggregate-fill-levels-2 c = search needs
-
-fill-levels-requires : tie.Need-fill-levels-requires
-fill-levels-requires c κs = search needs
-
-slice-aggregate-rank : tie.Need-slice-aggregate-rank
-slice-aggregate-rank c = search needs
-
-slice-aggregate-rank-2 : tie.Need-slice-aggregate-rank-2
-slice-aggregate-rank-2 c = search needs
-
 rank-requires : tie.Need-rank-requires
-rank-requires c κs = (c .before .before .before .before .before .fill-levels .ensures .sizes .0, c .before .before .before .before .before .fill-levels .ensures .sizes .1, c .before .before .before .before .before .before .before .before .before .before .pre .1, levels-most (c .before .before .before .before .before .before .before .before .before .before .pre .0) (c .before .before .before .before .before .fill-levels .ensures))
-
-same-length : tie.Need-same-length
-same-length c = search needs
+rank-requires c κs =
+    let at-fill-levels = c .before .before .before .before .before in
+    let at-start = at-fill-levels .before .before .before .before .before in
+    (at-fill-levels .fill-levels .ensures .sizes .0, at-fill-levels .fill-levels .ensures .sizes .1, at-start .pre .1, levels-most (at-start .pre .0) (at-fill-levels .fill-levels .ensures))
 
 returns : tie.Need-returns
-returns c = depths-are (c .before .before .before .before .before .before .before .before .before .before .before .before .before .pre .0) (c .before .before .before .before .before .before .before .before .fill-levels .ensures) (c .before .before .rank .kept .1 .1 .1 .0 ∙ c .before .before .before .before .before .before .before .before .before .before .before .before .before .pre .1 .size) (c .before .before .rank .ensures)
+returns c =
+    let at-rank = c .before .before in
+    let at-fill-levels = at-rank .before .before .before .before .before .before in
+    let at-start = at-fill-levels .before .before .before .before .before in
+    depths-are (at-start .pre .0) (at-fill-levels .fill-levels .ensures) (at-rank .rank .kept .1 .1 .1 .0 ∙ at-start .pre .1 .size) (at-rank .rank .ensures)
 
 pub fill-depths-spec : {M : Type 1} → statement M
 fill-depths-spec =
-    tie.close
-    (tie.spec
-    slice-aggregate-fill-levels
-    slice-aggregate-fill-levels-2
-    fill-levels-requires
-    slice-aggregate-rank
-    slice-aggregate-rank-2
-    rank-requires
-    same-length
-    returns)
+    tie.close (tie.spec (λ c. search needs) (λ c. search needs) (λ c κs. search needs) (λ c. search needs) (λ c. search needs) rank-requires
+    (λ c. search needs) returns)

@@ -16,60 +16,48 @@ abbrev μ-loop : tie.MeasureT-loop
 μ-loop n levels universals depths₀ v₀ depths v = (n + 1) - v
 
 loop-holds : tie.Need-loop-holds Inv-loop μ-loop
-loop-holds c = fill-none (c .before .before .before .pre .2)
-
-cast-at : tie.Need-cast-at Inv-loop μ-loop
-cast-at c = omega arith
-
-mul-level : tie.Need-mul-level Inv-loop μ-loop
-mul-level c = omega arith
+loop-holds c =
+    let at-start = c .before .before .before in
+    fill-none (at-start .pre .2)
 
 shared-slice-read-level : tie.Need-shared-slice-read-level Inv-loop μ-loop
-shared-slice-read-level c = omega (arith, c .before .before .before .before .before .before .pre .0)
+shared-slice-read-level c =
+    let at-start = c .before .before .before .before .before .before in
+    omega (arith, at-start .pre .0)
 
 shared-slice-read-universal : tie.Need-shared-slice-read-universal Inv-loop μ-loop
-shared-slice-read-universal c = omega (arith, c .before .before .before .before .before .before .before .pre .1)
+shared-slice-read-universal c =
+    let at-start = c .before .before .before .before .before .before .before in
+    omega (arith, at-start .pre .1)
 
 depth-requires : tie.Need-depth-requires Inv-loop μ-loop
-depth-requires c κs = c .before .before .before .before .before .before .before .pre .3 (c .before .before .before .loop .v)
-
-mul-depths : tie.Need-mul-depths Inv-loop μ-loop
-mul-depths c = omega arith
+depth-requires c κs =
+    let at-loop = c .before .before .before in
+    let at-start = at-loop .before .before .before .before in
+    at-start .pre .3 (at-loop .loop .v)
 
 slice-write-depths : tie.Need-slice-write-depths Inv-loop μ-loop
-slice-write-depths c = omega (arith, c .before .before .before .before .loop .inv .ends .size)
-
-add-v : tie.Need-add-v Inv-loop μ-loop
-add-v c = omega arith
-
-loop-less : tie.Need-loop-less Inv-loop μ-loop
-loop-less c = omega arith
+slice-write-depths c =
+    let at-loop = c .before .before .before .before in
+    omega (arith, at-loop .loop .inv .ends .size)
 
 loop-again : tie.Need-loop-again Inv-loop μ-loop
-loop-again c = fill-one (c .depth .result) (c .before .before .before .before .loop .inv) (c .before .before .before .loop-test .taken) (c .depth .ensures)
+loop-again c =
+    let at-loop-test = c .before .before .before in
+    let at-loop = at-loop-test .before in
+    fill-one (c .depth .result) (at-loop .loop .inv) (at-loop-test .loop-test .taken) (c .depth .ensures)
 
 same-length : tie.Need-same-length Inv-loop μ-loop
-same-length c = c .before .loop .inv .ends .size ∙ sym (c .before .before .before .before .before .pre .2 .size)
+same-length c =
+    let at-start = c .before .before .before .before .before in
+    c .before .loop .inv .ends .size ∙ sym (at-start .pre .2 .size)
 
 returns : tie.Need-returns Inv-loop μ-loop
-returns c = let a = c .before .before .before .before .before .args in λ v l. fill-all (depth-past (a .n) (a .levels .now) (a .universals .now)) (c .before .loop .inv) (c .loop-test .left) v
+returns c =
+    let at-start = c .before .before .before .before .before in
+    let a = at-start .args in λ v l. fill-all (depth-past (a .n) (a .levels .now) (a .universals .now)) (c .before .loop .inv) (c .loop-test .left) v
 
 pub rank-spec : {M : Type 1} → statement M
 rank-spec =
-    tie.close
-    (tie.spec
-    Inv-loop
-    μ-loop
-    loop-holds
-    cast-at
-    mul-level
-    shared-slice-read-level
-    shared-slice-read-universal
-    depth-requires
-    mul-depths
-    slice-write-depths
-    add-v
-    loop-less
-    loop-again
-    same-length
-    returns)
+    tie.close (tie.spec Inv-loop μ-loop loop-holds (λ c. omega arith) (λ c. omega arith) shared-slice-read-level shared-slice-read-universal
+    depth-requires (λ c. omega arith) slice-write-depths (λ c. omega arith) (λ c. omega arith) loop-again same-length returns)

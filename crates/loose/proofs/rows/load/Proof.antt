@@ -16,54 +16,32 @@ abbrev μ-loop : tie.MeasureT-loop
 μ-loop n rows table₀ v₀ table v = (n + 1) - v
 
 loop-holds : tie.Need-loop-holds Inv-loop μ-loop
-loop-holds c = fill-none (c .before .before .pre)
-
-cast-at : tie.Need-cast-at Inv-loop μ-loop
-cast-at c = omega arith
-
-new-requires : tie.Need-new-requires Inv-loop μ-loop
-new-requires c κs = search needs
-
-row-of-requires : tie.Need-row-of-requires Inv-loop μ-loop
-row-of-requires c κs = search needs
-
-mul-table : tie.Need-mul-table Inv-loop μ-loop
-mul-table c = omega arith
+loop-holds c =
+    let at-start = c .before .before in
+    fill-none (at-start .pre)
 
 slice-write-table : tie.Need-slice-write-table Inv-loop μ-loop
-slice-write-table c = omega (arith, c .before .before .before .loop .inv .ends .size)
-
-add-v : tie.Need-add-v Inv-loop μ-loop
-add-v c = omega arith
-
-loop-less : tie.Need-loop-less Inv-loop μ-loop
-loop-less c = omega arith
+slice-write-table c =
+    let at-loop = c .before .before .before in
+    omega (arith, at-loop .loop .inv .ends .size)
 
 loop-again : tie.Need-loop-again Inv-loop μ-loop
 loop-again c =
-    let a = c .before .before .before .before .before .before .args in
-    fill-one (c .row-of .result .0) (c .before .before .before .loop .inv) (c .before .before .loop-test .taken) (c .row-of .ensures ∙ ap (row (a .n) (a .rows .now)) (c .before .new .ensures))
+    let at-loop-test = c .before .before in
+    let at-loop = at-loop-test .before in
+    let at-start = at-loop .before .before .before in
+    let a = at-start .args in
+    fill-one (c .row-of .result .0) (at-loop .loop .inv) (at-loop-test .loop-test .taken) (c .row-of .ensures ∙ ap (row (a .n) (a .rows .now)) (c .before .new .ensures))
 
 same-length : tie.Need-same-length Inv-loop μ-loop
-same-length c = c .before .loop .inv .ends .size ∙ sym (c .before .before .before .before .pre .size)
+same-length c =
+    let at-start = c .before .before .before .before in
+    c .before .loop .inv .ends .size ∙ sym (at-start .pre .size)
 
 returns : tie.Need-returns Inv-loop μ-loop
 returns c = fill-all (λ u h. row-out _ u _ (λ _. h)) (c .before .loop .inv) (c .loop-test .left)
 
 pub load-spec : {M : Type 1} → statement M
 load-spec =
-    tie.close
-    (tie.spec
-    Inv-loop
-    μ-loop
-    loop-holds
-    cast-at
-    new-requires
-    row-of-requires
-    mul-table
-    slice-write-table
-    add-v
-    loop-less
-    loop-again
-    same-length
-    returns)
+    tie.close (tie.spec Inv-loop μ-loop loop-holds (λ c. omega arith) (λ c κs. search needs) (λ c κs. search needs) (λ c. omega arith)
+    slice-write-table (λ c. omega arith) (λ c. omega arith) loop-again same-length returns)

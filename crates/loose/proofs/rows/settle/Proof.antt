@@ -15,58 +15,46 @@ abbrev μ-loop : tie.MeasureT-loop
 loop-holds : tie.Need-loop-holds Inv-loop μ-loop
 loop-holds c = settle-none (c .pre .0) (c .pre .1)
 
-mul-up : tie.Need-mul-up Inv-loop μ-loop
-mul-up c = omega arith
-
 slice-read-up : tie.Need-slice-read-up Inv-loop μ-loop
-slice-read-up c = omega (arith, c .before .before .loop .inv .ends .size)
+slice-read-up c =
+    let at-loop = c .before .before in
+    omega (arith, at-loop .loop .inv .ends .size)
 
 cast-classes : tie.Need-cast-classes Inv-loop μ-loop
-cast-classes c = omega (arith, c .before .before .loop .inv .falls (c .before .before .loop .v))
+cast-classes c =
+    let at-loop = c .before .before in
+    omega (arith, at-loop .loop .inv .falls (at-loop .loop .v))
 
 mul-classes : tie.Need-mul-classes Inv-loop μ-loop
-mul-classes c = omega (arith, c .before .before .loop .inv .falls (c .before .before .loop .v))
+mul-classes c =
+    let at-loop = c .before .before in
+    omega (arith, at-loop .loop .inv .falls (at-loop .loop .v))
 
 slice-read-classes : tie.Need-slice-read-classes Inv-loop μ-loop
-slice-read-classes c = omega (arith, c .before .before .before .loop .inv .falls (c .before .before .before .loop .v), c .before .before .before .loop .inv .ends .size)
-
-mul-classes-2 : tie.Need-mul-classes-2 Inv-loop μ-loop
-mul-classes-2 c = omega arith
+slice-read-classes c =
+    let at-loop = c .before .before .before in
+    omega (arith, at-loop .loop .inv .falls (at-loop .loop .v), at-loop .loop .inv .ends .size)
 
 slice-write-classes : tie.Need-slice-write-classes Inv-loop μ-loop
-slice-write-classes c = omega (arith, c .before .before .before .loop .inv .ends .size)
-
-add-v : tie.Need-add-v Inv-loop μ-loop
-add-v c = omega arith
-
-loop-less : tie.Need-loop-less Inv-loop μ-loop
-loop-less c = omega arith
+slice-write-classes c =
+    let at-loop = c .before .before .before in
+    omega (arith, at-loop .loop .inv .ends .size)
 
 loop-again : tie.Need-loop-again Inv-loop μ-loop
-loop-again c = settle-one (c .before .before .before .loop .inv) (c .before .before .loop-test .taken)
+loop-again c =
+    let at-loop-test = c .before .before in
+    let at-loop = at-loop-test .before in
+    settle-one (at-loop .loop .inv) (at-loop-test .loop-test .taken)
 
 same-length : tie.Need-same-length Inv-loop μ-loop
-same-length c = c .before .loop .inv .ends .size ∙ sym (c .before .before .pre .0 .size)
+same-length c =
+    let at-start = c .before .before in
+    c .before .loop .inv .ends .size ∙ sym (at-start .pre .0 .size)
 
 returns : tie.Need-returns Inv-loop μ-loop
 returns c = settled (c .before .loop .inv) (c .loop-test .left)
 
 pub settle-spec : {M : Type 1} → statement M
 settle-spec =
-    tie.close
-    (tie.spec
-    Inv-loop
-    μ-loop
-    loop-holds
-    mul-up
-    slice-read-up
-    cast-classes
-    mul-classes
-    slice-read-classes
-    mul-classes-2
-    slice-write-classes
-    add-v
-    loop-less
-    loop-again
-    same-length
-    returns)
+    tie.close (tie.spec Inv-loop μ-loop loop-holds (λ c. omega arith) slice-read-up cast-classes mul-classes slice-read-classes
+    (λ c. omega arith) slice-write-classes (λ c. omega arith) (λ c. omega arith) loop-again same-length returns)

@@ -22,67 +22,74 @@ abbrev μ-loop : tie.MeasureT-loop
 loop-holds : tie.Need-loop-holds Inv-loop μ-loop
 loop-holds c = (fill-none (c .before .args .clauses .now) (c .before .args .begins .now) (c .before .pre .1), stamps-none)
 
-next-zero-requires : tie.Need-next-zero-requires Inv-loop μ-loop
-next-zero-requires c κs = search needs
-
 same-length : tie.Need-same-length Inv-loop μ-loop
-same-length c = c .before .before .before .loop .inv .0 .size ∙ sym (c .before .before .before .before .before .pre .1)
+same-length c =
+    let at-loop = c .before .before .before in
+    let at-start = at-loop .before .before in
+    at-loop .loop .inv .0 .size ∙ sym (at-start .pre .1)
 
 returns : tie.Need-returns Inv-loop μ-loop
 returns c =
-    let loop = c .before .before .before .loop in
-    fill-all (loop .inv .0) (c .before .before .before .before .before .pre .0 .short) (clauses-unclosed (c .before .before .before .before .before .args .clauses .now) (loop .start) (c .before .next-zero .result) (c .before .next-zero .ensures) (c .if1 .taken))
-
-slice-aggregate-row-of : tie.Need-slice-aggregate-row-of Inv-loop μ-loop
-slice-aggregate-row-of c = search needs
+    let at-loop = c .before .before .before in
+    let at-start = at-loop .before .before in
+    let loop = at-loop .loop in
+    fill-all (loop .inv .0) (at-start .pre .0 .short) (clauses-unclosed (at-start .args .clauses .now) (loop .start) (c .before .next-zero .result) (c .before .next-zero .ensures) (c .if1 .taken))
 
 row-of-requires : tie.Need-row-of-requires Inv-loop μ-loop
-row-of-requires c κs = (c .before .before .before .before .before .before .pre .0, c .before .before .next-zero .ensures, c .before .if1 .left, c .before .before .before .before .loop .inv .1)
+row-of-requires c κs =
+    let at-next-zero = c .before .before in
+    let at-loop = at-next-zero .before .before in
+    let at-start = at-loop .before .before in
+    (at-start .pre .0, at-next-zero .next-zero .ensures, c .before .if1 .left, at-loop .loop .inv .1)
 
 mul-begins : tie.Need-mul-begins Inv-loop μ-loop
-mul-begins c = let few = c .before .before .before .before .before .before .loop .inv .0 .few in let short = c .before .before .before .before .before .before .before .before .pre .0 .short in let less = c .before .before .before .before .before .loop-test .taken in record { fits = omega arith }
+mul-begins c =
+    let at-loop-test = c .before .before .before .before .before in
+    let at-loop = at-loop-test .before in
+    let at-start = at-loop .before .before in
+    let few = at-loop .loop .inv .0 .few in let short = at-start .pre .0 .short in let less = at-loop-test .loop-test .taken in record { fits = omega arith }
 
 slice-write-begins : tie.Need-slice-write-begins Inv-loop μ-loop
-slice-write-begins c = let few = c .before .before .before .before .before .before .loop .inv .0 .few in let short = c .before .before .before .before .before .before .before .before .pre .0 .short in let less = c .before .before .before .before .before .loop-test .taken in let size = c .before .before .before .before .before .before .loop .inv .0 .size in omega arith
+slice-write-begins c =
+    let at-loop-test = c .before .before .before .before .before in
+    let at-loop = at-loop-test .before in
+    let at-start = at-loop .before .before in
+    let few = at-loop .loop .inv .0 .few in let short = at-start .pre .0 .short in let less = at-loop-test .loop-test .taken in let size = at-loop .loop .inv .0 .size in omega arith
 
 add-count : tie.Need-add-count Inv-loop μ-loop
-add-count c = let few = c .before .before .before .before .before .before .loop .inv .0 .few in let short = c .before .before .before .before .before .before .before .before .pre .0 .short in let less = c .before .before .before .before .before .loop-test .taken in record { fits = omega arith }
-
-add-start : tie.Need-add-start Inv-loop μ-loop
-add-start c = omega arith
+add-count c =
+    let at-loop-test = c .before .before .before .before .before in
+    let at-loop = at-loop-test .before in
+    let at-start = at-loop .before .before in
+    let few = at-loop .loop .inv .0 .few in let short = at-start .pre .0 .short in let less = at-loop-test .loop-test .taken in record { fits = omega arith }
 
 loop-less : tie.Need-loop-less Inv-loop μ-loop
-loop-less c = let from = c .before .before .before .before .next-zero .ensures .from in let less = c .before .before .before .if1 .left in omega arith
+loop-less c =
+    let at-if1 = c .before .before .before in
+    let at-next-zero = at-if1 .before in
+    let from = at-next-zero .next-zero .ensures .from in let less = at-if1 .if1 .left in omega arith
 
 loop-again : tie.Need-loop-again Inv-loop μ-loop
 loop-again c =
+    let at-if1 = c .before .before .before in
+    let at-next-zero = at-if1 .before in
+    let at-loop = at-next-zero .before .before in
+    let at-start = at-loop .before .before in
     let row = c .before .row-of in
-    (fill-more (c .before .before .before .before .before .before .loop .inv .0) (c .before .before .before .before .before .before .before .before .pre .0 .short) (c .before .before .before .before .next-zero .result) (row .result) (c .before .before .before .before .next-zero .ensures) (c .before .before .before .if1 .left) (row .ensures .0), row .ensures .1)
+    (fill-more (at-loop .loop .inv .0) (at-start .pre .0 .short) (at-next-zero .next-zero .result) (row .result) (at-next-zero .next-zero .ensures) (at-if1 .if1 .left) (row .ensures .0), row .ensures .1)
 
 same-length-2 : tie.Need-same-length-2 Inv-loop μ-loop
-same-length-2 c = c .before .loop .inv .0 .size ∙ sym (c .before .before .before .pre .1)
+same-length-2 c =
+    let at-start = c .before .before .before in
+    c .before .loop .inv .0 .size ∙ sym (at-start .pre .1)
 
 returns-2 : tie.Need-returns-2 Inv-loop μ-loop
 unfolding clauses cut
-returns-2 c = fill-all (c .before .loop .inv .0) (c .before .before .before .pre .0 .short) (ap clauses (drop-of-length-le (c .before .before .before .args .clauses .now) (c .loop-test .left)))
+returns-2 c =
+    let at-start = c .before .before .before in
+    fill-all (c .before .loop .inv .0) (at-start .pre .0 .short) (ap clauses (drop-of-length-le (at-start .args .clauses .now) (c .loop-test .left)))
 
 pub fill-begins-spec : {M : Type 1} → statement M
 fill-begins-spec =
-    tie.close
-    (tie.spec
-    Inv-loop
-    μ-loop
-    loop-holds
-    next-zero-requires
-    same-length
-    returns
-    slice-aggregate-row-of
-    row-of-requires
-    mul-begins
-    slice-write-begins
-    add-count
-    add-start
-    loop-less
-    loop-again
-    same-length-2
-    returns-2)
+    tie.close (tie.spec Inv-loop μ-loop loop-holds (λ c κs. search needs) same-length returns (λ c. search needs) row-of-requires mul-begins
+    slice-write-begins add-count (λ c. omega arith) loop-less loop-again same-length-2 returns-2)

@@ -25,50 +25,45 @@ returns c = inl (fails-first (λ e l. absurd (omega arith)) (empty refl refl (c 
 loop-holds : tie.Need-loop-holds Inv-loop μ-loop
 loop-holds c = (walk-none, λ e l. absurd (omega arith))
 
-slice-aggregate-fails-at : tie.Need-slice-aggregate-fails-at Inv-loop μ-loop
-slice-aggregate-fails-at c = search needs
-
 fails-at-requires : tie.Need-fails-at-requires Inv-loop μ-loop
-fails-at-requires c κs = (c .before .before .before .before .before .before .before .before .pre .1, c .before .before .loop .inv .0, c .before .loop-test .taken)
+fails-at-requires c κs =
+    let at-loop = c .before .before in
+    let at-start = at-loop .before .before .before .before .before .before in
+    (at-start .pre .1, at-loop .loop .inv .0, c .before .loop-test .taken)
 
 returns-2 : tie.Need-returns-2 Inv-loop μ-loop
-returns-2 c = inl (fails-first (c .before .before .before .before .loop .inv .1) (told (c .before .fails-at .result) (c .if2 .taken) (c .before .fails-at .ensures)))
-
-slice-aggregate-stamp-clause : tie.Need-slice-aggregate-stamp-clause Inv-loop μ-loop
-slice-aggregate-stamp-clause c = search needs
+returns-2 c =
+    let at-loop = c .before .before .before .before in
+    inl (fails-first (at-loop .loop .inv .1) (told (c .before .fails-at .result) (c .if2 .taken) (c .before .fails-at .ensures)))
 
 stamp-clause-requires : tie.Need-stamp-clause-requires Inv-loop μ-loop
 stamp-clause-requires c κs =
-    let pre = c .before .before .before .before .before .before .before .before .before .before .before .pre in
-    let less = c .before .before .before .before .loop-test .taken in
-    ((pre .0, pre .1, c .before .before .before .before .before .loop .inv .0), (less, plain-clause less (told-not (c .before .before .fails-at .result) (c .before .if2 .left) (c .before .before .fails-at .ensures))))
-
-add-i : tie.Need-add-i Inv-loop μ-loop
-add-i c = omega arith
+    let at-fails-at = c .before .before in
+    let at-loop-test = at-fails-at .before .before in
+    let at-loop = at-loop-test .before in
+    let at-start = at-loop .before .before .before .before .before .before in
+    let pre = at-start .pre in
+    let less = at-loop-test .loop-test .taken in
+    ((pre .0, pre .1, at-loop .loop .inv .0), (less, plain-clause less (told-not (at-fails-at .fails-at .result) (c .before .if2 .left) (at-fails-at .fails-at .ensures))))
 
 loop-less : tie.Need-loop-less Inv-loop μ-loop
-loop-less c = let less = c .before .before .before .before .before .before .loop-test .taken in omega arith
+loop-less c =
+    let at-loop-test = c .before .before .before .before .before .before in
+    let less = at-loop-test .loop-test .taken in omega arith
 
 loop-again : tie.Need-loop-again Inv-loop μ-loop
-loop-again c = (c .before .stamp-clause .ensures, clean-more (c .before .before .before .before .before .before .before .loop .inv .1) (told-not (c .before .before .before .before .fails-at .result) (c .before .before .before .if2 .left) (c .before .before .before .before .fails-at .ensures)))
+loop-again c =
+    let at-if2 = c .before .before .before in
+    let at-fails-at = at-if2 .before in
+    let at-loop = at-fails-at .before .before .before in
+    (c .before .stamp-clause .ensures, clean-more (at-loop .loop .inv .1) (told-not (at-fails-at .fails-at .result) (at-if2 .if2 .left) (at-fails-at .fails-at .ensures)))
 
 returns-3 : tie.Need-returns-3 Inv-loop μ-loop
-returns-3 c = (fails-never (c .before .loop .inv .1) (c .before .before .if1 .left) (λ l. let done = c .loop-test .left in omega arith), tt)
+returns-3 c =
+    let at-if1 = c .before .before in
+    (fails-never (c .before .loop .inv .1) (at-if1 .if1 .left) (λ l. let done = c .loop-test .left in omega arith), tt)
 
 pub follow-spec : {M : Type 1} → statement M
 follow-spec =
-    tie.close
-    (tie.spec
-    Inv-loop
-    μ-loop
-    returns
-    loop-holds
-    slice-aggregate-fails-at
-    fails-at-requires
-    returns-2
-    slice-aggregate-stamp-clause
-    stamp-clause-requires
-    add-i
-    loop-less
-    loop-again
-    returns-3)
+    tie.close (tie.spec Inv-loop μ-loop returns loop-holds (λ c. search needs) fails-at-requires returns-2 (λ c. search needs)
+    stamp-clause-requires (λ c. omega arith) loop-less loop-again returns-3)

@@ -8,51 +8,34 @@ use Rattle.paths.proofs.Following.{joins-first, joins-next}
 use Rattle.paths.proofs.walk.goes_on.Statement.{statement}
 use Rattle.paths.proofs.walk.goes_on.Tie as tie
 
-has-variable-requires : tie.Need-has-variable-requires
-has-variable-requires c κs = search needs
-
 returns : tie.Need-returns
 returns c =
-    let a = c .before .before .before .before .before .before .args in
-    let pre = c .before .before .before .before .before .before .pre in
+    let at-start = c .before .before .before .before .before .before in
+    let a = at-start .args in
+    let pre = at-start .pre in
     let (end, f) = pre .0 .0 in
     joins-first (pre .0 .1) f (tabled (a .n) (a .levels .now) (a .universals .now)) (a .x .0) (c .has-variable .result) (c .before .if1 .taken) (c .has-variable .ensures end (f .next))
 
-sub-before : tie.Need-sub-before
-sub-before c = search needs
-
-mul-before : tie.Need-mul-before
-mul-before c = search needs
-
-shared-slice-read-before : tie.Need-shared-slice-read-before
-shared-slice-read-before c = search needs
-
 add-before : tie.Need-add-before
-add-before c = let some = c .before .if1 .left in let pre = c .before .before .before .before .before .before .pre in let l = pre .1 .1 in record { fits = omega (arith, pre .1 .0 (c .before .before .before .before .before .before .args .i - 1) (omega arith)) }
+add-before c =
+    let at-start = c .before .before .before .before .before .before in
+    let some = c .before .if1 .left in let pre = at-start .pre in let l = pre .1 .1 in record { fits = omega (arith, pre .1 .0 (at-start .args .i - 1) (omega arith)) }
 
 cast-before : tie.Need-cast-before
-cast-before c = let some = c .before .if1 .left in let pre = c .before .before .before .before .before .before .pre in let l = pre .1 .1 in record { fits = omega (arith, pre .1 .0 (c .before .before .before .before .before .before .args .i - 1) (omega arith)) }
-
-meets-requires : tie.Need-meets-requires
-meets-requires c κs = search needs
+cast-before c =
+    let at-start = c .before .before .before .before .before .before in
+    let some = c .before .if1 .left in let pre = at-start .pre in let l = pre .1 .1 in record { fits = omega (arith, pre .1 .0 (at-start .args .i - 1) (omega arith)) }
 
 returns-2 : tie.Need-returns-2
 returns-2 c =
-    let a = c .before .before .before .before .before .before .before .args in
-    let pre = c .before .before .before .before .before .before .before .pre in
+    let at-if1 = c .before .before in
+    let at-start = at-if1 .before .before .before .before .before in
+    let a = at-start .args in
+    let pre = at-start .pre in
     let (end, f) = pre .0 .0 in
-    joins-next (pre .0 .1) f (tabled (a .n) (a .levels .now) (a .universals .now)) (a .x .0) (c .meets .result) (c .before .before .if1 .left) refl (c .meets .ensures end (f .next))
+    joins-next (pre .0 .1) f (tabled (a .n) (a .levels .now) (a .universals .now)) (a .x .0) (c .meets .result) (at-if1 .if1 .left) refl (c .meets .ensures end (f .next))
 
 pub goes-on-spec : {M : Type 1} → statement M
 goes-on-spec =
-    tie.close
-    (tie.spec
-    has-variable-requires
-    returns
-    sub-before
-    mul-before
-    shared-slice-read-before
-    add-before
-    cast-before
-    meets-requires
-    returns-2)
+    tie.close (tie.spec (λ c κs. search needs) returns (λ c. search needs) (λ c. search needs) (λ c. search needs) add-before cast-before
+    (λ c κs. search needs) returns-2)

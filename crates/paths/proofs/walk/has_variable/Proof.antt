@@ -19,39 +19,34 @@ abbrev μ-loop : tie.MeasureT-loop
 loop-holds : tie.Need-loop-holds Inv-loop μ-loop
 loop-holds c = pass-none (c .args .clauses .now) (c .args .start)
 
-variable-at-requires : tie.Need-variable-at-requires Inv-loop μ-loop
-variable-at-requires c κs = search needs
-
 returns : tie.Need-returns Inv-loop μ-loop
-returns c = λ end next h. passed-all (c .before .before .before .before .loop .inv) next (sym (c .before .before .variable-at .ensures) ∙ c .if1 .taken) (c .before .before .before .before .before .args .v .0) h refl
+returns c =
+    let at-variable-at = c .before .before in
+    let at-loop = at-variable-at .before .before in
+    let at-start = at-loop .before in
+    λ end next h. passed-all (at-loop .loop .inv) next (sym (at-variable-at .variable-at .ensures) ∙ c .if1 .taken) (at-start .args .v .0) h refl
 
 returns-2 : tie.Need-returns-2 Inv-loop μ-loop
 returns-2 c =
-    λ end next. subst (Has (c .before .before .before .before .before .before .before .before .args .clauses .now) (c .before .before .before .before .before .before .before .before .args .start) end) (c .if2 .taken) (passed-one (c .before .before .before .before .before .before .before .loop .inv) next (c .before .before .before .before .before .variable-at .result .0) (c .before .before .before .before .before .variable-at .ensures) (c .before .before .before .if1 .left))
-
-add-i : tie.Need-add-i Inv-loop μ-loop
-add-i c = omega arith
-
-loop-less : tie.Need-loop-less Inv-loop μ-loop
-loop-less c = omega arith
+    let at-if1 = c .before .before .before in
+    let at-variable-at = at-if1 .before .before in
+    let at-loop = at-variable-at .before .before in
+    let at-start = at-loop .before in
+    λ end next. subst (Has (at-start .args .clauses .now) (at-start .args .start) end) (c .if2 .taken) (passed-one (at-loop .loop .inv) next (at-variable-at .variable-at .result .0) (at-variable-at .variable-at .ensures) (at-if1 .if1 .left))
 
 loop-again : tie.Need-loop-again Inv-loop μ-loop
-loop-again c = pass-more (c .before .before .before .before .before .before .before .loop .inv) (c .before .before .before .before .before .variable-at .result .0) (c .before .before .before .before .before .variable-at .ensures) (c .before .before .before .if1 .left) (c .if2 .left)
+loop-again c =
+    let at-if1 = c .before .before .before in
+    let at-variable-at = at-if1 .before .before in
+    let at-loop = at-variable-at .before .before in
+    pass-more (at-loop .loop .inv) (at-variable-at .variable-at .result .0) (at-variable-at .variable-at .ensures) (at-if1 .if1 .left) (c .if2 .left)
 
 returns-3 : tie.Need-returns-3 Inv-loop μ-loop
-returns-3 c = λ end next h. passed-all (c .before .loop .inv) next (literal-past (c .before .before .args .clauses .now) (c .before .loop .i) (c .loop-test .left)) (c .before .before .args .v .0) h refl
+returns-3 c =
+    let at-start = c .before .before in
+    λ end next h. passed-all (c .before .loop .inv) next (literal-past (at-start .args .clauses .now) (c .before .loop .i) (c .loop-test .left)) (at-start .args .v .0) h refl
 
 pub has-variable-spec : {M : Type 1} → statement M
 has-variable-spec =
-    tie.close
-    (tie.spec
-    Inv-loop
-    μ-loop
-    loop-holds
-    variable-at-requires
-    returns
-    returns-2
-    add-i
-    loop-less
-    loop-again
+    tie.close (tie.spec Inv-loop μ-loop loop-holds (λ c κs. search needs) returns returns-2 (λ c. omega arith) (λ c. omega arith) loop-again
     returns-3)

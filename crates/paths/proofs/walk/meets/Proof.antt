@@ -19,48 +19,39 @@ abbrev μ-loop : tie.MeasureT-loop
 μ-loop n levels universals clauses start x stamps stamp i₀ i = length clauses - i
 
 loop-holds : tie.Need-loop-holds Inv-loop μ-loop
-loop-holds c = pass-none (c .before .before .before .args .clauses .now) (c .before .before .before .args .start)
-
-variable-at-requires : tie.Need-variable-at-requires Inv-loop μ-loop
-variable-at-requires c κs = search needs
+loop-holds c =
+    let at-start = c .before .before .before in
+    pass-none (at-start .args .clauses .now) (at-start .args .start)
 
 returns : tie.Need-returns Inv-loop μ-loop
-returns c = λ end next m. passed-all (c .before .before .before .before .loop .inv) next (sym (c .before .before .variable-at .ensures) ∙ c .if1 .taken) (m .variable) (m .here) (m .deep, m .stamped)
-
-is-met-requires : tie.Need-is-met-requires Inv-loop μ-loop
-is-met-requires c κs = search needs
+returns c =
+    let at-variable-at = c .before .before in
+    let at-loop = at-variable-at .before .before in
+    λ end next m. passed-all (at-loop .loop .inv) next (sym (at-variable-at .variable-at .ensures) ∙ c .if1 .taken) (m .variable) (m .here) (m .deep, m .stamped)
 
 returns-2 : tie.Need-returns-2 Inv-loop μ-loop
 returns-2 c =
+    let at-if1 = c .before .before in
+    let at-variable-at = at-if1 .before .before in
+    let at-loop = at-variable-at .before .before in
     λ end next.
-    let v = c .before .before .before .before .variable-at in
+    let v = at-variable-at .variable-at in
     let met = told (c .before .is-met .result) (c .if2 .taken) (c .before .is-met .ensures) in
-    record { variable = v .result .0; here = passed-one (c .before .before .before .before .before .before .loop .inv) next (v .result .0) (v .ensures) (c .before .before .if1 .left); deep = met .0; stamped = met .1 }
-
-add-i : tie.Need-add-i Inv-loop μ-loop
-add-i c = omega arith
-
-loop-less : tie.Need-loop-less Inv-loop μ-loop
-loop-less c = omega arith
+    record { variable = v .result .0; here = passed-one (at-loop .loop .inv) next (v .result .0) (v .ensures) (at-if1 .if1 .left); deep = met .0; stamped = met .1 }
 
 loop-again : tie.Need-loop-again Inv-loop μ-loop
-loop-again c = pass-more (c .before .before .before .before .before .before .loop .inv) (c .before .before .before .before .variable-at .result .0) (c .before .before .before .before .variable-at .ensures) (c .before .before .if1 .left) (told-not (c .before .is-met .result) (c .if2 .left) (c .before .is-met .ensures))
+loop-again c =
+    let at-if1 = c .before .before in
+    let at-variable-at = at-if1 .before .before in
+    let at-loop = at-variable-at .before .before in
+    pass-more (at-loop .loop .inv) (at-variable-at .variable-at .result .0) (at-variable-at .variable-at .ensures) (at-if1 .if1 .left) (told-not (c .before .is-met .result) (c .if2 .left) (c .before .is-met .ensures))
 
 returns-3 : tie.Need-returns-3 Inv-loop μ-loop
-returns-3 c = λ end next m. passed-all (c .before .loop .inv) next (literal-past (c .before .before .before .before .before .args .clauses .now) (c .before .loop .i) (c .loop-test .left)) (m .variable) (m .here) (m .deep, m .stamped)
+returns-3 c =
+    let at-start = c .before .before .before .before .before in
+    λ end next m. passed-all (c .before .loop .inv) next (literal-past (at-start .args .clauses .now) (c .before .loop .i) (c .loop-test .left)) (m .variable) (m .here) (m .deep, m .stamped)
 
 pub meets-spec : {M : Type 1} → statement M
 meets-spec =
-    tie.close
-    (tie.spec
-    Inv-loop
-    μ-loop
-    loop-holds
-    variable-at-requires
-    returns
-    is-met-requires
-    returns-2
-    add-i
-    loop-less
-    loop-again
-    returns-3)
+    tie.close (tie.spec Inv-loop μ-loop loop-holds (λ c κs. search needs) returns (λ c κs. search needs) returns-2 (λ c. omega arith)
+    (λ c. omega arith) loop-again returns-3)

@@ -5,27 +5,11 @@ use lib.ListN.{List·getD-eq-default}
 use Rattle.paths.proofs.walk.stamp_at.Statement.{statement}
 use Rattle.paths.proofs.walk.stamp_at.Tie as tie
 
-cast-at : tie.Need-cast-at
-cast-at c = search needs
-
-mul-result : tie.Need-mul-result
-mul-result c = search needs
-
-shared-slice-read-result : tie.Need-shared-slice-read-result
-shared-slice-read-result c = search needs
-
-returns : tie.Need-returns
-returns c = search needs
-
 returns-2 : tie.Need-returns-2
-returns-2 c = sym (List·getD-eq-default (c .before .before .args .stamps .now) 0 (c .if1 .left))
+returns-2 c =
+    let at-start = c .before .before in
+    sym (List·getD-eq-default (at-start .args .stamps .now) 0 (c .if1 .left))
 
 pub stamp-at-spec : {M : Type 1} → statement M
 stamp-at-spec =
-    tie.close
-    (tie.spec
-    cast-at
-    mul-result
-    shared-slice-read-result
-    returns
-    returns-2)
+    tie.close (tie.spec (λ c. search needs) (λ c. search needs) (λ c. search needs) (λ c. search needs) returns-2)

@@ -8,59 +8,51 @@ use Rattle.paths.proofs.Following.{walk-more}
 use Rattle.paths.proofs.walk.stamp_clause.Statement.{statement}
 use Rattle.paths.proofs.walk.stamp_clause.Tie as tie
 
-mul-number : tie.Need-mul-number
-mul-number c = search needs
-
-shared-slice-read-number : tie.Need-shared-slice-read-number
-shared-slice-read-number c = search needs
-
 cast-row : tie.Need-cast-row
-cast-row c = let small = known-small (c .before .before .before .before .pre .0 .1) (c .before .before .before .before .args .i) (c .before .before .before .before .pre .1 .0) in record { fits = omega arith }
+cast-row c =
+    let at-start = c .before .before .before .before in
+    let small = known-small (at-start .pre .0 .1) (at-start .args .i) (at-start .pre .1 .0) in record { fits = omega arith }
 
 mul-row : tie.Need-mul-row
-mul-row c = let small = known-small (c .before .before .before .before .pre .0 .1) (c .before .before .before .before .args .i) (c .before .before .before .before .pre .1 .0) in record { fits = omega arith }
+mul-row c =
+    let at-start = c .before .before .before .before in
+    let small = known-small (at-start .pre .0 .1) (at-start .args .i) (at-start .pre .1 .0) in record { fits = omega arith }
 
 shared-slice-read-row : tie.Need-shared-slice-read-row
-shared-slice-read-row c = known-within (c .before .before .before .before .before .pre .0 .1) (c .before .before .before .before .before .pre .1 .0)
+shared-slice-read-row c =
+    let at-start = c .before .before .before .before .before in
+    known-within (at-start .pre .0 .1) (at-start .pre .1 .0)
 
 sub-start : tie.Need-sub-start
-sub-start c = let some = begin-plain (known-begin (c .before .before .before .before .before .pre .0 .1) (c .before .before .before .before .before .pre .1 .0)) (c .before .before .before .before .before .pre .1 .1) in omega arith
+sub-start c =
+    let at-start = c .before .before .before .before .before in
+    let some = begin-plain (known-begin (at-start .pre .0 .1) (at-start .pre .1 .0)) (at-start .pre .1 .1) in omega arith
 
 cast-start : tie.Need-cast-start
-cast-start c = record { fits = omega (arith, c .shared-slice-known4 .given (at (c .before .before .before .before .before .args .path .now) (c .before .before .before .before .before .args .i))) }
+cast-start c =
+    let at-start = c .before .before .before .before .before in
+    record { fits = omega (arith, c .shared-slice-known4 .given (at (at-start .args .path .now) (at-start .args .i))) }
 
 add-stamp-entries : tie.Need-add-stamp-entries
-add-stamp-entries c = let small = known-small (c .before .before .before .before .before .pre .0 .1) (c .before .before .before .before .before .args .i) (c .before .before .before .before .before .pre .1 .0) in record { fits = omega arith }
+add-stamp-entries c =
+    let at-start = c .before .before .before .before .before in
+    let small = known-small (at-start .pre .0 .1) (at-start .args .i) (at-start .pre .1 .0) in record { fits = omega arith }
 
 cast-stamp-entries : tie.Need-cast-stamp-entries
-cast-stamp-entries c = let small = known-small (c .before .before .before .before .before .pre .0 .1) (c .before .before .before .before .before .args .i) (c .before .before .before .before .before .pre .1 .0) in record { fits = omega arith }
-
-stamp-entries-requires : tie.Need-stamp-entries-requires
-stamp-entries-requires c κs = search needs
-
-same-length : tie.Need-same-length
-same-length c = search needs
+cast-stamp-entries c =
+    let at-start = c .before .before .before .before .before in
+    let small = known-small (at-start .pre .0 .1) (at-start .args .i) (at-start .pre .1 .0) in record { fits = omega arith }
 
 returns : tie.Need-returns
 returns c =
-    let pre = c .before .before .before .before .before .before .before .before .before .pre in
+    let at-stamp-entries = c .before .before in
+    let at-start = at-stamp-entries .before .before .before .before .before .before .before in
+    let pre = at-start .pre in
     let row = known-begin (pre .0 .1) (pre .1 .0) in
     let (end, f) = begin-from row (begin-plain row (pre .1 .1)) in
-    walk-more (pre .0 .2) f refl (c .before .before .stamp-entries .ensures end (f .next))
+    walk-more (pre .0 .2) f refl (at-stamp-entries .stamp-entries .ensures end (f .next))
 
 pub stamp-clause-spec : {M : Type 1} → statement M
 stamp-clause-spec =
-    tie.close
-    (tie.spec
-    mul-number
-    shared-slice-read-number
-    cast-row
-    mul-row
-    shared-slice-read-row
-    sub-start
-    cast-start
-    add-stamp-entries
-    cast-stamp-entries
-    stamp-entries-requires
-    same-length
-    returns)
+    tie.close (tie.spec (λ c. search needs) (λ c. search needs) cast-row mul-row shared-slice-read-row sub-start cast-start
+    add-stamp-entries cast-stamp-entries (λ c κs. search needs) (λ c. search needs) returns)

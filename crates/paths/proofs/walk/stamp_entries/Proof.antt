@@ -20,40 +20,47 @@ abbrev μ-loop : tie.MeasureT-loop
 loop-holds : tie.Need-loop-holds Inv-loop μ-loop
 loop-holds c = let a = c .before .args in (pass-none (a .clauses .now) (a .start), stamped-none (a .clauses .now) (a .start) (a .stamp) (a .stamps .now))
 
-variable-at-requires : tie.Need-variable-at-requires Inv-loop μ-loop
-variable-at-requires c κs = search needs
-
 same-length : tie.Need-same-length Inv-loop μ-loop
-same-length c = c .before .before .before .before .loop .inv .1 .size
+same-length c =
+    let at-loop = c .before .before .before .before in
+    at-loop .loop .inv .1 .size
 
 returns : tie.Need-returns Inv-loop μ-loop
 returns c =
-    λ end next. let a = c .before .before .before .before .before .before .args in let loop = c .before .before .before .before .loop in
-    subst (λ e. Stamped (Has (a .clauses .now) (a .start) e) (a .stamp) (a .stamps .now) (loop .stamps)) (ends-here (loop .inv .0) next (sym (c .before .before .variable-at .ensures) ∙ c .if1 .taken)) (loop .inv .1)
-
-cast-stamps : tie.Need-cast-stamps Inv-loop μ-loop
-cast-stamps c = search needs
+    let at-variable-at = c .before .before in
+    let at-loop = at-variable-at .before .before in
+    let at-start = at-loop .before .before in
+    λ end next. let a = at-start .args in let loop = at-loop .loop in
+    subst (λ e. Stamped (Has (a .clauses .now) (a .start) e) (a .stamp) (a .stamps .now) (loop .stamps)) (ends-here (loop .inv .0) next (sym (at-variable-at .variable-at .ensures) ∙ c .if1 .taken)) (loop .inv .1)
 
 mul-stamps : tie.Need-mul-stamps Inv-loop μ-loop
-mul-stamps c = let row = c .before .before .before .before .before .before .before .pre .0 .rows (c .before .before .before .before .before .loop .i) (c .before .before .before .before .loop-test .taken) in let is = c .before .before .before .variable-at .ensures in record { fits = omega arith }
+mul-stamps c =
+    let at-variable-at = c .before .before .before in
+    let at-loop-test = at-variable-at .before in
+    let at-loop = at-loop-test .before in
+    let at-start = at-loop .before .before in
+    let row = at-start .pre .0 .rows (at-loop .loop .i) (at-loop-test .loop-test .taken) in let is = at-variable-at .variable-at .ensures in record { fits = omega arith }
 
 slice-write-stamps : tie.Need-slice-write-stamps Inv-loop μ-loop
-slice-write-stamps c = let row = c .before .before .before .before .before .before .before .pre .0 .rows (c .before .before .before .before .before .loop .i) (c .before .before .before .before .loop-test .taken) in let is = c .before .before .before .variable-at .ensures in let size = c .before .before .before .before .before .loop .inv .1 .size in let all = c .before .before .before .before .before .before .before .pre .1 in omega arith
-
-add-i : tie.Need-add-i Inv-loop μ-loop
-add-i c = omega arith
-
-loop-less : tie.Need-loop-less Inv-loop μ-loop
-loop-less c = omega arith
+slice-write-stamps c =
+    let at-variable-at = c .before .before .before in
+    let at-loop-test = at-variable-at .before in
+    let at-loop = at-loop-test .before in
+    let at-start = at-loop .before .before in
+    let row = at-start .pre .0 .rows (at-loop .loop .i) (at-loop-test .loop-test .taken) in let is = at-variable-at .variable-at .ensures in let size = at-loop .loop .inv .1 .size in let all = at-start .pre .1 in omega arith
 
 loop-again : tie.Need-loop-again Inv-loop μ-loop
 loop-again c =
-    let inv = c .before .before .before .before .before .loop .inv in
-    let v = c .before .before .before .variable-at in
-    let row = c .before .before .before .before .before .before .before .pre .0 .rows (c .before .before .before .before .before .loop .i) (c .before .before .before .before .loop-test .taken) in
+    let at-variable-at = c .before .before .before in
+    let at-loop-test = at-variable-at .before in
+    let at-loop = at-loop-test .before in
+    let at-start = at-loop .before .before in
+    let inv = at-loop .loop .inv in
+    let v = at-variable-at .variable-at in
+    let row = at-start .pre .0 .rows (at-loop .loop .i) (at-loop-test .loop-test .taken) in
     let is = v .ensures in
     let size = inv .1 .size in
-    let all = c .before .before .before .before .before .before .before .pre .1 in
+    let all = at-start .pre .1 in
     (pass-more (inv .0) (v .result .0) (v .ensures) (c .before .if1 .left) (λ no′. no′), stamped-more (v .result .0) (inv .0 .from) (v .ensures) (omega arith) (inv .1))
 
 same-length-2 : tie.Need-same-length-2 Inv-loop μ-loop
@@ -61,24 +68,11 @@ same-length-2 c = c .before .loop .inv .1 .size
 
 returns-2 : tie.Need-returns-2 Inv-loop μ-loop
 returns-2 c =
-    λ end next. let a = c .before .before .before .args in let loop = c .before .loop in
+    let at-start = c .before .before .before in
+    λ end next. let a = at-start .args in let loop = c .before .loop in
     subst (λ e. Stamped (Has (a .clauses .now) (a .start) e) (a .stamp) (a .stamps .now) (loop .stamps)) (ends-here (loop .inv .0) next (literal-past (a .clauses .now) (loop .i) (c .loop-test .left))) (loop .inv .1)
 
 pub stamp-entries-spec : {M : Type 1} → statement M
 stamp-entries-spec =
-    tie.close
-    (tie.spec
-    Inv-loop
-    μ-loop
-    loop-holds
-    variable-at-requires
-    same-length
-    returns
-    cast-stamps
-    mul-stamps
-    slice-write-stamps
-    add-i
-    loop-less
-    loop-again
-    same-length-2
-    returns-2)
+    tie.close (tie.spec Inv-loop μ-loop loop-holds (λ c κs. search needs) same-length returns (λ c. search needs) mul-stamps
+    slice-write-stamps (λ c. omega arith) (λ c. omega arith) loop-again same-length-2 returns-2)

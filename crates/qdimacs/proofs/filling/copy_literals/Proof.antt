@@ -21,32 +21,19 @@ abbrev μ-loop : tie.MeasureT-loop
 loop-holds : tie.Need-loop-holds Inv-loop μ-loop
 loop-holds c = (omega arith, refl, refl)
 
-mul-to : tie.Need-mul-to Inv-loop μ-loop
-mul-to c = omega arith
-
-shared-slice-copy-out-to : tie.Need-shared-slice-copy-out-to Inv-loop μ-loop
-shared-slice-copy-out-to c = omega arith
-
-mul-t9 : tie.Need-mul-t9 Inv-loop μ-loop
-mul-t9 c = omega arith
-
-slice-set-from-to : tie.Need-slice-set-from-to Inv-loop μ-loop
-slice-set-from-to c = omega arith
-
-add-i : tie.Need-add-i Inv-loop μ-loop
-add-i c = omega arith
-
-loop-less : tie.Need-loop-less Inv-loop μ-loop
-loop-less c = omega arith
-
 -- an entry is read back from its bits
 bits : (c : tie.After-to Inv-loop μ-loop) → toZ w32 (ofZ w32 (getD (c .before .before .before .args .from .now) (c .before .before .loop .i) (pos 0))) ≡ getD (c .before .before .before .args .from .now) (c .before .before .loop .i) (pos 0)
-bits c = toZ-ofZ {w = w32} {z = getD (c .before .before .before .args .from .now) (c .before .before .loop .i) (pos 0)} (record { sfits = c .to .given })
+bits c =
+    let at-loop = c .before .before in
+    let at-start = at-loop .before in
+    toZ-ofZ {w = w32} {z = getD (at-start .args .from .now) (at-loop .loop .i) (pos 0)} (record { sfits = c .to .given })
 
 loop-again : tie.Need-loop-again Inv-loop μ-loop
 loop-again c =
-    let a = c .before .before .before .args in
-    let l = c .before .before .loop in (
+    let at-loop = c .before .before in
+    let at-start = at-loop .before in
+    let a = at-start .args in
+    let l = at-loop .loop in (
       omega arith,
       ap (λ (z : ℤ). set (l .to) (l .i) z) (bits c) ∙ copy-one (pos 0) (a .from .now) (a .to .now) (l .to) (l .i) (omega arith) (l .inv .1),
       length-set (l .to) (l .i) (toZ w32 (ofZ w32 (getD (a .from .now) (l .i) (pos 0)))) ∙ l .inv .2,
@@ -57,24 +44,13 @@ same-length c = c .before .loop .inv .2
 
 returns : tie.Need-returns Inv-loop μ-loop
 returns c =
-    let a = c .before .before .args in
+    let at-start = c .before .before in
+    let a = at-start .args in
     let l = c .before .loop in
     let done : l .i ≡ a .count = omega arith in
     l .inv .1 ∙ ap (λ (k : ℕ). sets (a .to .now) 0 (take k (a .from .now))) done
 
 pub copy-literals-spec : {M : Type 1} → statement M
 copy-literals-spec =
-    tie.close
-    (tie.spec
-    Inv-loop
-    μ-loop
-    loop-holds
-    mul-to
-    shared-slice-copy-out-to
-    mul-t9
-    slice-set-from-to
-    add-i
-    loop-less
-    loop-again
-    same-length
-    returns)
+    tie.close (tie.spec Inv-loop μ-loop loop-holds (λ c. omega arith) (λ c. omega arith) (λ c. omega arith) (λ c. omega arith)
+    (λ c. omega arith) (λ c. omega arith) loop-again same-length returns)

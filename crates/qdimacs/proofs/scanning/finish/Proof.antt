@@ -19,19 +19,25 @@ enum-known-stage : tie.Need-enum-known-stage
 enum-known-stage c = search needs
 
 returns : tie.Need-returns
-returns c = let a = c .before .before .args in subst (λ (s : Stage). FinishIs s (a .at) (a .entries) (a .literals) (Refused 16 (a .at))) (sym (c .enum-told .given .1)) (no-problem, refl)
+returns c =
+    let at-start = c .before .before in
+    let a = at-start .args in subst (λ (s : Stage). FinishIs s (a .at) (a .entries) (a .literals) (Refused 16 (a .at))) (sym (c .enum-told .given .1)) (no-problem, refl)
 
 returns-2 : tie.Need-returns-2
 returns-2 c =
-    let a = c .before .before .before .before .args in
-    let v = c .before .before .stage .given in
+    let at-stage = c .before .before in
+    let at-start = at-stage .before .before in
+    let a = at-start .args in
+    let v = at-stage .stage .given in
     subst (λ (s : Stage). FinishIs s (a .at) (a .entries) (a .literals) (Refused 17 (a .at))) (sym (v .1)) (few (c .if1 .taken), refl)
 
 returns-3 : tie.Need-returns-3
 returns-3 c =
-    let a = c .before .before .before .before .args in
-    let v = c .before .before .stage .given in
-    let sound : v .0 .1 .1 .0 ≤ v .0 .1 .0 = subst Sound (v .1) (c .before .before .before .before .pre) in
+    let at-stage = c .before .before in
+    let at-start = at-stage .before .before in
+    let a = at-start .args in
+    let v = at-stage .stage .given in
+    let sound : v .0 .1 .1 .0 ≤ v .0 .1 .0 = subst Sound (v .1) (at-start .pre) in
     let all : v .0 .1 .1 .0 ≡ v .0 .1 .0 = omega (arith, c .if1 .left) in
     subst (λ (s : Stage). FinishIs s (a .at) (a .entries) (a .literals) (Read (v .0 .0) (a .entries) (a .literals))) (sym (v .1)) (ap (Body (v .0 .0) (v .0 .1 .0)) all, refl, refl)
 

@@ -16,7 +16,9 @@ returns : tie.Need-returns
 returns c = search needs
 
 returns-2 : tie.Need-returns-2
-returns-2 c = (sym (List·getD-eq-default (c .before .before .args .file .now) 0 (c .if1 .left)), omega arith)
+returns-2 c =
+    let at-start = c .before .before in
+    (sym (List·getD-eq-default (at-start .args .file .now) 0 (c .if1 .left)), omega arith)
 
 pub byte-at-spec : {M : Type 1} → statement M
 byte-at-spec = tie.close (tie.spec shared-slice-read-wide wide-requires returns returns-2)

@@ -22,7 +22,8 @@ add-result c = search needs
 
 returns : tie.Need-returns
 returns c =
-    let a = c .before .before .before .args in
+    let at-start = c .before .before .before in
+    let a = at-start .args in
     let e = two-is (a .file .now) (a .at) in
     let low = c .before .byte-at .ensures in
     let high = c .byte-at2 .ensures in

@@ -24,10 +24,14 @@ returns-2 c = search needs
 
 returns-3 : tie.Need-returns-3
 returns-3 c =
+    let at-level-at2 = c .before .before .before in
+    let at-level-at = at-level-at2 .before in
+    let at-if1 = at-level-at .before in
+    let at-existential-at = at-if1 .before in
     let l = c .if2 .left in
-    let own = c .before .before .before .before .level-at .ensures in
-    let floor = c .before .before .before .level-at2 .ensures in
-    record { existential = sym (c .before .before .before .before .before .before .existential-at .ensures) ∙ not-false _ (c .before .before .before .before .before .if1 .left); deep = omega arith }
+    let own = at-level-at .level-at .ensures in
+    let floor = at-level-at2 .level-at2 .ensures in
+    record { existential = sym (at-existential-at .existential-at .ensures) ∙ not-false _ (at-if1 .if1 .left); deep = omega arith }
 
 pub is-deeper-spec : {M : Type 1} → statement M
 is-deeper-spec = tie.close (tie.spec existential-at-requires returns level-at-requires level-at-requires-2 returns-2 returns-3)

@@ -10,14 +10,20 @@ bar-requires c κs = search needs
 
 literal-step-requires : tie.Need-literal-step-requires
 literal-step-requires c κs =
-    let pre = c .before .before .before .before .before .before .before .before .before .before .pre in
-    (pre .2, rowed (c .before .before .before .bar .last .1 .1 .1 .1 .0) (pre .0) (pre .1) (c .before .before .before .bar .kept .1 .1 .1 .1 .0 ∙ pre .4), pre .3)
+    let at-bar = c .before .before .before in
+    let at-start = at-bar .before .before .before .before .before .before .before in
+    let pre = at-start .pre in
+    (pre .2, rowed (at-bar .bar .last .1 .1 .1 .1 .0) (pre .0) (pre .1) (at-bar .bar .kept .1 .1 .1 .1 .0 ∙ pre .4), pre .3)
 
 same-length : tie.Need-same-length
 same-length c = search needs
 
 returns : tie.Need-returns
-returns c = ends-are (c .before .before .before .before .before .before .before .before .before .before .before .before .before .pre .1) refl (c .before .before .before .before .before .before .bar .ensures) (c .before .before .literal-step .ensures)
+returns c =
+    let at-literal-step = c .before .before in
+    let at-bar = at-literal-step .before .before .before .before in
+    let at-start = at-bar .before .before .before .before .before .before .before in
+    ends-are (at-start .pre .1) refl (at-bar .bar .ensures) (at-literal-step .literal-step .ensures)
 
 pub mark-ends-spec : {M : Type 1} → statement M
 mark-ends-spec = tie.close (tie.spec bar-requires literal-step-requires same-length returns)

@@ -31,7 +31,9 @@ new-requires c κs = search needs
 
 returns : tie.Need-returns
 unfolding signed
-returns c = let x = c .before .before .args .x .0 in let l = c .before .before .pre in c .new .ensures ∙ ap (λ (z : ℤ). toZ w32 (ofZ w32 z)) (negated x l) ∙ toZ-ofZ (negated-fits x l)
+returns c =
+    let at-start = c .before .before in
+    let x = at-start .args .x .0 in let l = at-start .pre in c .new .ensures ∙ ap (λ (z : ℤ). toZ w32 (ofZ w32 z)) (negated x l) ∙ toZ-ofZ (negated-fits x l)
 
 pub negation-spec : {M : Type 1} → statement M
 negation-spec = tie.close (tie.spec cast-literal sub-new new-requires returns)

@@ -22,56 +22,60 @@ abbrev μ-loop : tie.MeasureT-loop
 μ-loop n levels universals x ends others flags₀ v₀ flags v = n - v
 
 loop-holds : tie.Need-loop-holds Inv-loop μ-loop
-loop-holds c = (omega arith, c .before .before .before .before .before .pre .3, λ w low high. absurd (omega arith))
+loop-holds c =
+    let at-start = c .before .before .before .before .before in
+    (omega arith, at-start .pre .3, λ w low high. absurd (omega arith))
 
 add-v : tie.Need-add-v Inv-loop μ-loop
-add-v c = let few = c .before .before .before .before .before .before .before .pre .0 in omega arith
-
-new-requires : tie.Need-new-requires Inv-loop μ-loop
-new-requires c κs = search needs
+add-v c =
+    let at-start = c .before .before .before .before .before .before .before in
+    let few = at-start .pre .0 in omega arith
 
 depends-requires : tie.Need-depends-requires Inv-loop μ-loop
-depends-requires c κs = let pre = c .before .before .before .before .before .before .before .before .pre in let few = pre .0 in let less = c .before .loop-test .taken in let is = c .new .ensures in (omega arith, pre .1, pre .2)
+depends-requires c κs =
+    let at-start = c .before .before .before .before .before .before .before .before in
+    let pre = at-start .pre in let few = pre .0 in let less = c .before .loop-test .taken in let is = c .new .ensures in (omega arith, pre .1, pre .2)
 
 cast-flags : tie.Need-cast-flags Inv-loop μ-loop
-cast-flags c = let few = c .before .before .before .before .before .before .before .before .before .pre .0 in omega arith
+cast-flags c =
+    let at-start = c .before .before .before .before .before .before .before .before .before in
+    let few = at-start .pre .0 in omega arith
 
 slice-write-flags : tie.Need-slice-write-flags Inv-loop μ-loop
-slice-write-flags c = let few = c .before .before .before .before .before .before .before .before .before .pre .0 in let less = c .before .before .loop-test .taken in let size = c .before .before .before .loop .inv .1 in omega arith
+slice-write-flags c =
+    let at-loop-test = c .before .before in
+    let at-loop = at-loop-test .before in
+    let at-start = at-loop .before .before .before .before .before .before in
+    let few = at-start .pre .0 in let less = at-loop-test .loop-test .taken in let size = at-loop .loop .inv .1 in omega arith
 
 loop-less : tie.Need-loop-less Inv-loop μ-loop
-loop-less c = let less = c .before .before .loop-test .taken in omega arith
+loop-less c =
+    let at-loop-test = c .before .before in
+    let less = at-loop-test .loop-test .taken in omega arith
 
 loop-again : tie.Need-loop-again Inv-loop μ-loop
 loop-again c =
-    let a = c .before .before .before .before .before .before .before .before .before .args in
-    let l = c .before .before .before .loop in
-    let few = c .before .before .before .before .before .before .before .before .before .pre .0 in
-    let less = c .before .before .loop-test .taken in
+    let at-loop-test = c .before .before in
+    let at-loop = at-loop-test .before in
+    let at-start = at-loop .before .before .before .before .before .before in
+    let a = at-start .args in
+    let l = at-loop .loop in
+    let few = at-start .pre .0 in
+    let less = at-loop-test .loop-test .taken in
     let size = l .inv .1 in
     let r = c .depends .result in
     let told = subst (λ w. Tells r (Deeper (tabled (a .n) (a .levels .now) (a .universals .now)) (a .x .0) w × Pairs (a .ends .now) (a .others .now) w)) (c .before .new .ensures) (c .depends .ensures) in
     (omega arith, length-set (l .flags) (l .v + 1) r ∙ size, flag-more (λ w. Deeper (tabled (a .n) (a .levels .now) (a .universals .now)) (a .x .0) w × Pairs (a .ends .now) (a .others .now) w) (l .flags) (l .v) r (omega arith) told (l .inv .2))
 
 same-length : tie.Need-same-length Inv-loop μ-loop
-same-length c = c .before .loop .inv .1 ∙ sym (c .before .before .before .before .before .before .before .pre .3)
+same-length c =
+    let at-start = c .before .before .before .before .before .before .before in
+    c .before .loop .inv .1 ∙ sym (at-start .pre .3)
 
 returns : tie.Need-returns Inv-loop μ-loop
 returns c = let l = c .before .loop in let left = c .loop-test .left in λ w low high. l .inv .2 w low (omega arith)
 
 pub pair-ends-spec : {M : Type 1} → statement M
 pair-ends-spec =
-    tie.close
-    (tie.spec
-    Inv-loop
-    μ-loop
-    loop-holds
-    add-v
-    new-requires
-    depends-requires
-    cast-flags
-    slice-write-flags
-    loop-less
-    loop-again
-    same-length
-    returns)
+    tie.close (tie.spec Inv-loop μ-loop loop-holds add-v (λ c κs. search needs) depends-requires cast-flags slice-write-flags loop-less
+    loop-again same-length returns)

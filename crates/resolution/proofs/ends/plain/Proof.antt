@@ -17,7 +17,9 @@ new-requires c κs = search needs
 
 returns : tie.Need-returns
 unfolding signed
-returns c = let l = c .before .before .pre in let p : c .before .before .args .x .0 < 2147483648 = omega arith in c .new .ensures ∙ toZ-pos w32 p
+returns c =
+    let at-start = c .before .before in
+    let l = at-start .pre in let p : at-start .args .x .0 < 2147483648 = omega arith in c .new .ensures ∙ toZ-pos w32 p
 
 pub plain-spec : {M : Type 1} → statement M
 plain-spec = tie.close (tie.spec cast-new new-requires returns)

@@ -8,75 +8,40 @@ use Rattle.ruled.proofs.Shapes.{lists-one, lists-two, lists-refused}
 use Rattle.ruled.proofs.asking.set_by.Statement.{statement}
 use Rattle.ruled.proofs.asking.set_by.Tie as tie
 
-set-by-requires : tie.Need-set-by-requires
-set-by-requires c κs = search needs
-
-same-length : tie.Need-same-length
-same-length c = search needs
-
 returns : tie.Need-returns
 returns c =
-    let a = c .before .before .before .before .before .before .before .before .before .before .args in
-    lists-one (a .rule) (a .n) (a .prefix .now) (a .clauses .now) (a .classes .now) (a .parents .now) (a .counts .now) (a .x .0) (λ read. MembersBy (a .scheme) (a .n) read (a .clauses .now) (a .classes .now) (a .parents .now) (a .x .0)) (a .out .now) _ (c .before .before .set-by .result) (c .before .before .before .before .if1 .taken) (c .before .before .set-by .ensures)
-
-slice-aggregate-join : tie.Need-slice-aggregate-join
-slice-aggregate-join c = search needs
-
-join-requires : tie.Need-join-requires
-join-requires c κs = search needs
-
-enum-known-number : tie.Need-enum-known-number
-enum-known-number c = search needs
-
-enum-known-count : tie.Need-enum-known-count
-enum-known-count c = search needs
-
-cast-end : tie.Need-cast-end
-cast-end c = search needs
-
-sub-set-by : tie.Need-sub-set-by
-sub-set-by c = search needs
-
-part-set-by-start : tie.Need-part-set-by-start
-part-set-by-start c = search needs
+    let at-set-by = c .before .before in
+    let at-if1 = at-set-by .before .before in
+    let at-start = at-if1 .before .before .before .before .before .before in
+    let a = at-start .args in
+    lists-one (a .rule) (a .n) (a .prefix .now) (a .clauses .now) (a .classes .now) (a .parents .now) (a .counts .now) (a .x .0) (λ read. MembersBy (a .scheme) (a .n) read (a .clauses .now) (a .classes .now) (a .parents .now) (a .x .0)) (a .out .now) _ (at-set-by .set-by .result) (at-if1 .if1 .taken) (at-set-by .set-by .ensures)
 
 part-set-by-end : tie.Need-part-set-by-end
 part-set-by-end c =
-    let a = c .before .before .before .before .before .before .before .before .before .before .before .before .before .args in
-    omega (arith, joined-room (a .rule) (a .n) (a .prefix .now) (length (a .clauses .now)) _ _ (c .before .before .count .given .1) (c .before .before .before .before .before .join .ensures))
-
-set-by-requires-2 : tie.Need-set-by-requires-2
-set-by-requires-2 c κs = search needs
+    let at-count = c .before .before in
+    let at-join = at-count .before .before .before in
+    let at-start = at-join .before .before .before .before .before .before .before .before in
+    let a = at-start .args in
+    omega (arith, joined-room (a .rule) (a .n) (a .prefix .now) (length (a .clauses .now)) _ _ (at-count .count .given .1) (at-join .join .ensures))
 
 returns-2 : tie.Need-returns-2
 returns-2 c =
-    let a = c .before .before .before .before .before .before .before .before .before .before .before .before .args in
-    lists-refused (a .rule) (a .n) (a .prefix .now) (a .clauses .now) (a .classes .now) (a .parents .now) (a .counts .now) (a .x .0) (λ read. MembersBy (a .scheme) (a .n) read (a .clauses .now) (a .classes .now) (a .parents .now) (a .x .0)) (a .out .now) _ _ _ (c .before .number .given .1) (c .before .before .before .before .join .ensures)
-
-same-length-2 : tie.Need-same-length-2
-same-length-2 c = search needs
+    let at-join = c .before .before .before .before in
+    let at-start = at-join .before .before .before .before .before .before .before .before in
+    let a = at-start .args in
+    lists-refused (a .rule) (a .n) (a .prefix .now) (a .clauses .now) (a .classes .now) (a .parents .now) (a .counts .now) (a .x .0) (λ read. MembersBy (a .scheme) (a .n) read (a .clauses .now) (a .classes .now) (a .parents .now) (a .x .0)) (a .out .now) _ _ _ (c .before .number .given .1) (at-join .join .ensures)
 
 returns-3 : tie.Need-returns-3
 returns-3 c =
-    let a = c .before .before .before .before .before .before .before .before .before .before .before .before .before .before .before .before .before .before .args in
-    lists-two (a .rule) (a .n) (a .prefix .now) (a .clauses .now) (a .classes .now) (a .parents .now) (a .counts .now) (a .x .0) (λ read. MembersBy (a .scheme) (a .n) read (a .clauses .now) (a .classes .now) (a .parents .now) (a .x .0)) (a .out .now) _ (c .before .before .set-by2 .result) _ _ (c .before .before .before .before .before .before .before .count .given .1) (c .before .before .before .before .before .before .before .before .before .before .join .ensures) (c .before .before .set-by2 .ensures)
+    let at-set-by2 = c .before .before in
+    let at-count = at-set-by2 .before .before .before .before .before in
+    let at-join = at-count .before .before .before in
+    let at-start = at-join .before .before .before .before .before .before .before .before in
+    let a = at-start .args in
+    lists-two (a .rule) (a .n) (a .prefix .now) (a .clauses .now) (a .classes .now) (a .parents .now) (a .counts .now) (a .x .0) (λ read. MembersBy (a .scheme) (a .n) read (a .clauses .now) (a .classes .now) (a .parents .now) (a .x .0)) (a .out .now) _ (at-set-by2 .set-by2 .result) _ _ (at-count .count .given .1) (at-join .join .ensures) (at-set-by2 .set-by2 .ensures)
 
 pub set-by-spec : {M : Type 1} → statement M
 set-by-spec =
-    tie.close
-    (tie.spec
-    set-by-requires
-    same-length
-    returns
-    slice-aggregate-join
-    join-requires
-    enum-known-number
-    enum-known-count
-    cast-end
-    sub-set-by
-    part-set-by-start
-    part-set-by-end
-    set-by-requires-2
-    returns-2
-    same-length-2
-    returns-3)
+    tie.close (tie.spec (λ c κs. search needs) (λ c. search needs) returns (λ c. search needs) (λ c κs. search needs) (λ c. search needs)
+    (λ c. search needs) (λ c. search needs) (λ c. search needs) (λ c. search needs) part-set-by-end (λ c κs. search needs) returns-2
+    (λ c. search needs) returns-3)

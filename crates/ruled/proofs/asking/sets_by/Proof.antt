@@ -7,75 +7,40 @@ use Rattle.ruled.proofs.Shapes.{all-one, all-two, all-refused}
 use Rattle.ruled.proofs.asking.sets_by.Statement.{statement}
 use Rattle.ruled.proofs.asking.sets_by.Tie as tie
 
-sets-by-requires : tie.Need-sets-by-requires
-sets-by-requires c κs = search needs
-
-same-length : tie.Need-same-length
-same-length c = search needs
-
 returns : tie.Need-returns
 returns c =
-    let a = c .before .before .before .before .before .before .before .before .before .before .args in
-    all-one (a .rule) (a .scheme) (a .n) (a .prefix .now) (a .clauses .now) (a .classes .now) (a .parents .now) (a .counts .now) (a .out .now) _ (c .before .before .sets-by .result) (c .before .before .before .before .if1 .taken) (c .before .before .sets-by .ensures)
-
-slice-aggregate-join : tie.Need-slice-aggregate-join
-slice-aggregate-join c = search needs
-
-join-requires : tie.Need-join-requires
-join-requires c κs = search needs
-
-enum-known-number : tie.Need-enum-known-number
-enum-known-number c = search needs
-
-enum-known-count : tie.Need-enum-known-count
-enum-known-count c = search needs
-
-cast-end : tie.Need-cast-end
-cast-end c = search needs
-
-sub-sets-by : tie.Need-sub-sets-by
-sub-sets-by c = search needs
-
-part-sets-by-start : tie.Need-part-sets-by-start
-part-sets-by-start c = search needs
+    let at-sets-by = c .before .before in
+    let at-if1 = at-sets-by .before .before in
+    let at-start = at-if1 .before .before .before .before .before .before in
+    let a = at-start .args in
+    all-one (a .rule) (a .scheme) (a .n) (a .prefix .now) (a .clauses .now) (a .classes .now) (a .parents .now) (a .counts .now) (a .out .now) _ (at-sets-by .sets-by .result) (at-if1 .if1 .taken) (at-sets-by .sets-by .ensures)
 
 part-sets-by-end : tie.Need-part-sets-by-end
 part-sets-by-end c =
-    let a = c .before .before .before .before .before .before .before .before .before .before .before .before .before .args in
-    omega (arith, joined-room (a .rule) (a .n) (a .prefix .now) (length (a .clauses .now)) _ _ (c .before .before .count .given .1) (c .before .before .before .before .before .join .ensures))
-
-sets-by-requires-2 : tie.Need-sets-by-requires-2
-sets-by-requires-2 c κs = search needs
+    let at-count = c .before .before in
+    let at-join = at-count .before .before .before in
+    let at-start = at-join .before .before .before .before .before .before .before .before in
+    let a = at-start .args in
+    omega (arith, joined-room (a .rule) (a .n) (a .prefix .now) (length (a .clauses .now)) _ _ (at-count .count .given .1) (at-join .join .ensures))
 
 returns-2 : tie.Need-returns-2
 returns-2 c =
-    let a = c .before .before .before .before .before .before .before .before .before .before .before .before .args in
-    all-refused (a .rule) (a .scheme) (a .n) (a .prefix .now) (a .clauses .now) (a .classes .now) (a .parents .now) (a .counts .now) (a .out .now) _ _ _ (c .before .number .given .1) (c .before .before .before .before .join .ensures)
-
-same-length-2 : tie.Need-same-length-2
-same-length-2 c = search needs
+    let at-join = c .before .before .before .before in
+    let at-start = at-join .before .before .before .before .before .before .before .before in
+    let a = at-start .args in
+    all-refused (a .rule) (a .scheme) (a .n) (a .prefix .now) (a .clauses .now) (a .classes .now) (a .parents .now) (a .counts .now) (a .out .now) _ _ _ (c .before .number .given .1) (at-join .join .ensures)
 
 returns-3 : tie.Need-returns-3
 returns-3 c =
-    let a = c .before .before .before .before .before .before .before .before .before .before .before .before .before .before .before .before .before .before .args in
-    all-two (a .rule) (a .scheme) (a .n) (a .prefix .now) (a .clauses .now) (a .classes .now) (a .parents .now) (a .counts .now) (a .out .now) _ (c .before .before .sets-by2 .result) _ _ (c .before .before .before .before .before .before .before .count .given .1) (c .before .before .before .before .before .before .before .before .before .before .join .ensures) (c .before .before .sets-by2 .ensures)
+    let at-sets-by2 = c .before .before in
+    let at-count = at-sets-by2 .before .before .before .before .before in
+    let at-join = at-count .before .before .before in
+    let at-start = at-join .before .before .before .before .before .before .before .before in
+    let a = at-start .args in
+    all-two (a .rule) (a .scheme) (a .n) (a .prefix .now) (a .clauses .now) (a .classes .now) (a .parents .now) (a .counts .now) (a .out .now) _ (at-sets-by2 .sets-by2 .result) _ _ (at-count .count .given .1) (at-join .join .ensures) (at-sets-by2 .sets-by2 .ensures)
 
 pub sets-by-spec : {M : Type 1} → statement M
 sets-by-spec =
-    tie.close
-    (tie.spec
-    sets-by-requires
-    same-length
-    returns
-    slice-aggregate-join
-    join-requires
-    enum-known-number
-    enum-known-count
-    cast-end
-    sub-sets-by
-    part-sets-by-start
-    part-sets-by-end
-    sets-by-requires-2
-    returns-2
-    same-length-2
-    returns-3)
+    tie.close (tie.spec (λ c κs. search needs) (λ c. search needs) returns (λ c. search needs) (λ c κs. search needs) (λ c. search needs)
+    (λ c. search needs) (λ c. search needs) (λ c. search needs) (λ c. search needs) part-sets-by-end (λ c κs. search needs) returns-2
+    (λ c. search needs) returns-3)

@@ -17,28 +17,41 @@ loop-holds : tie.Need-loop-holds Inv-loop μ-loop
 loop-holds c = copy-none _ _ _
 
 add-rows : tie.Need-add-rows Inv-loop μ-loop
-add-rows c = omega (arith, c .before .before .pre .0)
+add-rows c =
+    let at-start = c .before .before in
+    omega (arith, at-start .pre .0)
 
 mul-rows : tie.Need-mul-rows Inv-loop μ-loop
-mul-rows c = omega (arith, c .before .before .pre .0)
+mul-rows c =
+    let at-start = c .before .before in
+    omega (arith, at-start .pre .0)
 
 shared-slice-read-rows : tie.Need-shared-slice-read-rows Inv-loop μ-loop
-shared-slice-read-rows c = omega (arith, c .before .before .before .pre .0, c .before .before .before .pre .1)
+shared-slice-read-rows c =
+    let at-start = c .before .before .before in
+    omega (arith, at-start .pre .0, at-start .pre .1)
 
 mul-rows-2 : tie.Need-mul-rows-2 Inv-loop μ-loop
-mul-rows-2 c = omega (arith, c .before .before .before .pre .0)
+mul-rows-2 c =
+    let at-start = c .before .before .before in
+    omega (arith, at-start .pre .0)
 
 slice-write-rows : tie.Need-slice-write-rows Inv-loop μ-loop
-slice-write-rows c = omega (arith, c .before .before .before .pre .2, c .before .before .loop .inv .past .size)
+slice-write-rows c =
+    let at-loop = c .before .before in
+    let at-start = at-loop .before in
+    omega (arith, at-start .pre .2, at-loop .loop .inv .past .size)
 
 add-at : tie.Need-add-at Inv-loop μ-loop
-add-at c = omega (arith, c .before .before .before .pre .0)
-
-loop-less : tie.Need-loop-less Inv-loop μ-loop
-loop-less c = omega arith
+add-at c =
+    let at-start = c .before .before .before in
+    omega (arith, at-start .pre .0)
 
 loop-again : tie.Need-loop-again Inv-loop μ-loop
-loop-again c = copy-one _ (c .before .before .loop .inv) (c .before .loop-test .taken) (c .before .before .before .pre .2) refl
+loop-again c =
+    let at-loop = c .before .before in
+    let at-start = at-loop .before in
+    copy-one _ (at-loop .loop .inv) (c .before .loop-test .taken) (at-start .pre .2) refl
 
 same-length : tie.Need-same-length Inv-loop μ-loop
 same-length c = c .before .loop .inv .past .size
@@ -48,18 +61,5 @@ returns c = copied (c .before .loop .inv) (c .loop-test .left)
 
 pub copy-out-spec : {M : Type 1} → statement M
 copy-out-spec =
-    tie.close
-    (tie.spec
-    Inv-loop
-    μ-loop
-    loop-holds
-    add-rows
-    mul-rows
-    shared-slice-read-rows
-    mul-rows-2
-    slice-write-rows
-    add-at
-    loop-less
-    loop-again
-    same-length
-    returns)
+    tie.close (tie.spec Inv-loop μ-loop loop-holds add-rows mul-rows shared-slice-read-rows mul-rows-2 slice-write-rows add-at
+    (λ c. omega arith) loop-again same-length returns)

@@ -66,9 +66,12 @@ put-digits-returns : (t : ℕ) → put-digits-lts.Need-returns (
   put-digits.Post,
 ) (put-digits-at t) put-digits.Post
 put-digits-returns t c =
-    let a = c .before .before .before .before .before .before .args in
-    let o = c .before .before .put-byte in
-    subst (λ (xs : List ℕ). Wrote xs (a .out .now) (o .last .0) (a .at) (o .result)) (sym (decimal-small (a .value) (omega (arith, c .before .before .before .before .if1 .taken)))) (o .ensures)
+    let at-put-byte = c .before .before in
+    let at-if1 = at-put-byte .before .before in
+    let at-start = at-if1 .before .before in
+    let a = at-start .args in
+    let o = at-put-byte .put-byte in
+    subst (λ (xs : List ℕ). Wrote xs (a .out .now) (o .last .0) (a .at) (o .result)) (sym (decimal-small (a .value) (omega (arith, at-if1 .if1 .taken)))) (o .ensures)
 
 put-digits-put-digits-requires : (t : ℕ) → put-digits-lts.Need-put-digits-requires (
   put-byte-reads.Asked,
@@ -101,10 +104,12 @@ put-digits-put-byte-requires-2 : (t : ℕ) → put-digits-lts.Need-put-byte-requ
   put-digits.Post,
 ) (put-digits-at t) put-digits.Post
 put-digits-put-byte-requires-2 t c κs =
-    let a = c .before .before .before .before .before .before .before .args in
-    let pre = c .before .before .before .before .before .before .before .pre .1 in
+    let at-put-digits = c .before .before .before in
+    let at-start = at-put-digits .before .before .before .before in
+    let a = at-start .args in
+    let pre = at-start .pre .1 in
     let d = digits-most (a .value / 10) 4 (omega (arith, pre .1)) in
-    omega (arith, pre .0, c .before .before .before .put-digits .ensures .end, d)
+    omega (arith, pre .0, at-put-digits .put-digits .ensures .end, d)
 
 put-digits-same-length-2 : (t : ℕ) → put-digits-lts.Need-same-length-2 (
   put-byte-reads.Asked,
@@ -121,10 +126,14 @@ put-digits-returns-2 : (t : ℕ) → put-digits-lts.Need-returns-2 (
   put-digits.Post,
 ) (put-digits-at t) put-digits.Post
 put-digits-returns-2 t c =
-    let a = c .before .before .before .before .before .before .before .before .before .before .args in
-    let o = c .before .before .put-byte2 in
-    subst (λ (xs : List ℕ). Wrote xs (a .out .now) (o .last .0) (a .at) (o .result)) (sym (decimal-large (a .value) (omega (arith, c .before .before .before .before .before .before .before .before .if1 .left))))
-    (wrote-more (c .before .before .before .before .before .before .put-digits .ensures) (o .ensures))
+    let at-put-byte2 = c .before .before in
+    let at-put-digits = at-put-byte2 .before .before .before .before in
+    let at-if1 = at-put-digits .before .before in
+    let at-start = at-if1 .before .before in
+    let a = at-start .args in
+    let o = at-put-byte2 .put-byte2 in
+    subst (λ (xs : List ℕ). Wrote xs (a .out .now) (o .last .0) (a .at) (o .result)) (sym (decimal-large (a .value) (omega (arith, at-if1 .if1 .left))))
+    (wrote-more (at-put-digits .put-digits .ensures) (o .ensures))
 
 pub +put-digits-spec : {M : Type 1} → statement M
 +put-digits-spec = close μ-put-digits λ t. put-digits-lts.spec (

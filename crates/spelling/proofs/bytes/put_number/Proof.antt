@@ -21,12 +21,15 @@ width-requires c κs = search needs
 
 add-result : tie.Need-add-result
 add-result c =
-    let a = c .before .before .before .args in
-    let most = digits-most (a .value) 4 (omega (arith, c .before .before .before .pre .1)) in
-    omega (arith, c .before .before .before .pre .0, c .width .ensures, most)
+    let at-start = c .before .before .before in
+    let a = at-start .args in
+    let most = digits-most (a .value) 4 (omega (arith, at-start .pre .1)) in
+    omega (arith, at-start .pre .0, c .width .ensures, most)
 
 returns-2 : tie.Need-returns-2
-returns-2 c = let a = c .before .before .before .args in wrote-out (decimal (a .value)) (a .out .now) (a .at) (c .width .ensures) (c .before .if1 .left)
+returns-2 c =
+    let at-start = c .before .before .before in
+    let a = at-start .args in wrote-out (decimal (a .value)) (a .out .now) (a .at) (c .width .ensures) (c .before .if1 .left)
 
 pub put-number-spec : {M : Type 1} → statement M
 put-number-spec =

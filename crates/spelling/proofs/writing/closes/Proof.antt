@@ -15,7 +15,9 @@ variable-requires : tie.Need-variable-requires
 variable-requires c κs = search needs
 
 returns : tie.Need-returns
-returns c = ap (λ (v : ℕ). eqb v 0) (c .variable .ensures ∙ ap natAbs (c .before .new .ensures ∙ toZ-ofZ (c .before .before .fits .literal)))
+returns c =
+    let at-fits = c .before .before in
+    ap (λ (v : ℕ). eqb v 0) (c .variable .ensures ∙ ap natAbs (c .before .new .ensures ∙ toZ-ofZ (at-fits .fits .literal)))
 
 pub closes-spec : {M : Type 1} → statement M
 closes-spec = tie.close (tie.spec new-requires variable-requires returns)

@@ -21,28 +21,16 @@ abbrev μ-loop : tie.MeasureT-loop
 loop-holds : tie.Need-loop-holds Inv-loop μ-loop
 loop-holds c = (omega arith, omega arith, zero-add (clauseCount (c .args .clauses .now)))
 
-mul-count-more : tie.Need-mul-count-more Inv-loop μ-loop
-mul-count-more c = search needs
-
-shared-slice-copy-out-count-more : tie.Need-shared-slice-copy-out-count-more Inv-loop μ-loop
-shared-slice-copy-out-count-more c = search needs
-
-count-more-requires : tie.Need-count-more-requires Inv-loop μ-loop
-count-more-requires c κs = search needs
-
-add-i : tie.Need-add-i Inv-loop μ-loop
-add-i c = search needs
-
-loop-less : tie.Need-loop-less Inv-loop μ-loop
-loop-less c = search needs
-
 loop-again : tie.Need-loop-again Inv-loop μ-loop
 loop-again c =
-    let a = c .before .before .before .before .args in
-    let l = c .before .before .before .loop in
+    let at-loop-test = c .before .before in
+    let at-loop = at-loop-test .before in
+    let at-start = at-loop .before in
+    let a = at-start .args in
+    let l = at-loop .loop in
     let z = getD (a .clauses .now) (l .i) (pos 0) in
-    let h = c .before .before .loop-test .taken in
-    let same = ap (λ (x : ℤ). clauseCount (x ∷ [])) (small-bits z (c .before .before .before .before .pre .1 (l .i) h)) in
+    let h = at-loop-test .loop-test .taken in
+    let same = ap (λ (x : ℤ). clauseCount (x ∷ [])) (small-bits z (at-start .pre .1 (l .i) h)) in
     let more = c .count-more .ensures in
     let one = count-one z in
     let count = count-more (a .clauses .now) (l .i) (l .count) h in
@@ -50,19 +38,11 @@ loop-again c =
     (omega arith, omega arith, omega arith)
 
 returns : tie.Need-returns Inv-loop μ-loop
-returns c = let l = c .before .loop in omega (arith, l .inv .2, count-all (c .before .before .args .clauses .now) (l .i) (c .loop-test .left))
+returns c =
+    let at-start = c .before .before in
+    let l = c .before .loop in omega (arith, l .inv .2, count-all (at-start .args .clauses .now) (l .i) (c .loop-test .left))
 
 pub count-clauses-spec : {M : Type 1} → statement M
 count-clauses-spec =
-    tie.close
-    (tie.spec
-    Inv-loop
-    μ-loop
-    loop-holds
-    mul-count-more
-    shared-slice-copy-out-count-more
-    count-more-requires
-    add-i
-    loop-less
-    loop-again
-    returns)
+    tie.close (tie.spec Inv-loop μ-loop loop-holds (λ c. search needs) (λ c. search needs) (λ c κs. search needs) (λ c. search needs)
+    (λ c. search needs) loop-again returns)

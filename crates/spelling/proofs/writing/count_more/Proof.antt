@@ -20,15 +20,17 @@ add-result c = search needs
 
 returns : tie.Need-returns
 returns c =
-    let a = c .before .before .args in
-    let same = ap (λ (z : ℤ). clauseCount (z ∷ [])) (toZ-ofZ (c .before .before .fits .literal)) in
+    let at-start = c .before .before in
+    let a = at-start .args in
+    let same = ap (λ (z : ℤ). clauseCount (z ∷ [])) (toZ-ofZ (at-start .fits .literal)) in
     let e = count-closes (toZ w32 (ofZ w32 (a .literal))) (sym (c .before .closes .ensures) ∙ c .if1 .taken) in
     omega arith
 
 returns-2 : tie.Need-returns-2
 returns-2 c =
-    let a = c .before .before .args in
-    let same = ap (λ (z : ℤ). clauseCount (z ∷ [])) (toZ-ofZ (c .before .before .fits .literal)) in
+    let at-start = c .before .before in
+    let a = at-start .args in
+    let same = ap (λ (z : ℤ). clauseCount (z ∷ [])) (toZ-ofZ (at-start .fits .literal)) in
     let e = count-goes-on (toZ w32 (ofZ w32 (a .literal))) (sym (c .before .closes .ensures) ∙ c .if1 .left) in
     omega arith
 

@@ -22,38 +22,30 @@ abbrev μ-loop : tie.MeasureT-loop
 loop-holds : tie.Need-loop-holds Inv-loop μ-loop
 loop-holds c = let a = c .before .args in upto-none (pos 0) clauseText literalBytes nextClause clause-split (a .clauses .now) (a .out .now) (a .at)
 
-mul-literal : tie.Need-mul-literal Inv-loop μ-loop
-mul-literal c = search needs
-
-shared-slice-copy-out-literal : tie.Need-shared-slice-copy-out-literal Inv-loop μ-loop
-shared-slice-copy-out-literal c = search needs
-
 put-clause-entry-requires : tie.Need-put-clause-entry-requires Inv-loop μ-loop
 put-clause-entry-requires c κs =
-    let k = c .before .before .before .before .before in
-    let l = c .before .before .before .loop in
-    let h = c .before .before .loop-test .taken in
+    let at-loop-test = c .before .before in
+    let at-loop = at-loop-test .before in
+    let at-before = at-loop .before in
+    let k = at-before .before in
+    let l = at-loop .loop in
+    let h = at-loop-test .loop-test .taken in
     let z = getD (k .args .clauses .now) (l .i) (pos 0) in
     let small = k .pre .2 (l .i) h in
     let same = ap natAbs (small-bits z small) in
     omega (arith, l .inv .few, k .pre .0, k .pre .1)
 
-closes-requires : tie.Need-closes-requires Inv-loop μ-loop
-closes-requires c κs = search needs
-
-add-i : tie.Need-add-i Inv-loop μ-loop
-add-i c = search needs
-
-loop-less : tie.Need-loop-less Inv-loop μ-loop
-loop-less c = search needs
-
 loop-again : tie.Need-loop-again Inv-loop μ-loop
 loop-again c =
-    let k = c .before .before .before .before .before .before .before .before .before in
+    let at-put-clause-entry = c .before .before .before in
+    let at-loop-test = at-put-clause-entry .before .before .before in
+    let at-loop = at-loop-test .before in
+    let at-before = at-loop .before in
+    let k = at-before .before in
     let a = k .args in
-    let l = c .before .before .before .before .before .before .before .loop in
-    let o = c .before .before .before .put-clause-entry in
-    let h = c .before .before .before .before .before .before .loop-test .taken in
+    let l = at-loop .loop in
+    let o = at-put-clause-entry .put-clause-entry in
+    let h = at-loop-test .loop-test .taken in
     let z = getD (a .clauses .now) (l .i) (pos 0) in
     let small = k .pre .2 (l .i) h in
     let same = small-bits z small in
@@ -63,29 +55,19 @@ loop-again c =
 
 same-length : tie.Need-same-length Inv-loop μ-loop
 same-length c =
-    let a = c .before .before .before .args in
+    let at-start = c .before .before .before in
+    let a = at-start .args in
     let l = c .before .loop in
     wrote-length (l .inv .bytes) (a .out .now) (l .out) (a .at) (l .next) (l .inv .wrote)
 
 returns : tie.Need-returns Inv-loop μ-loop
 returns c =
-    let a = c .before .before .before .args in
+    let at-start = c .before .before .before in
+    let a = at-start .args in
     let l = c .before .loop in
     upto-all (pos 0) clauseText literalBytes nextClause clause-split (a .clauses .now) (a .out .now) (l .out) (a .at) (l .i) (l .next) (l .first) no-clauses (l .inv) (c .loop-test .left)
 
 pub put-clauses-spec : {M : Type 1} → statement M
 put-clauses-spec =
-    tie.close
-    (tie.spec
-    Inv-loop
-    μ-loop
-    loop-holds
-    mul-literal
-    shared-slice-copy-out-literal
-    put-clause-entry-requires
-    closes-requires
-    add-i
-    loop-less
-    loop-again
-    same-length
-    returns)
+    tie.close (tie.spec Inv-loop μ-loop loop-holds (λ c. search needs) (λ c. search needs) put-clause-entry-requires (λ c κs. search needs)
+    (λ c. search needs) (λ c. search needs) loop-again same-length returns)

@@ -4,41 +4,18 @@ use borrow.Author.Needs.{needs}
 use Rattle.spelling.proofs.writing.put_cnf.Statement.{statement}
 use Rattle.spelling.proofs.writing.put_cnf.Tie as tie
 
-put-byte-requires : tie.Need-put-byte-requires
-put-byte-requires c κs = search needs
-
-put-byte-requires-2 : tie.Need-put-byte-requires-2
-put-byte-requires-2 c κs = search needs
-
-put-byte-requires-3 : tie.Need-put-byte-requires-3
-put-byte-requires-3 c κs = search needs
-
-put-byte-requires-4 : tie.Need-put-byte-requires-4
-put-byte-requires-4 c κs = search needs
-
-put-byte-requires-5 : tie.Need-put-byte-requires-5
-put-byte-requires-5 c κs = search needs
-
-put-byte-requires-6 : tie.Need-put-byte-requires-6
-put-byte-requires-6 c κs = search needs
-
-same-length : tie.Need-same-length
-same-length c = search needs
-
 returns : tie.Need-returns
 returns c =
-    wrote-more (c .before .before .before .before .before .before .before .before .before .before .before .before .before .before .before .before .before .before .before .before .before .before .put-byte .ensures) (wrote-more (c .before .before .before .before .before .before .before .before .before .before .before .before .before .before .before .before .before .before .put-byte2 .ensures) (wrote-more (c .before .before .before .before .before .before .before .before .before .before .before .before .before .before .put-byte3 .ensures)
-    (wrote-more (c .before .before .before .before .before .before .before .before .before .before .put-byte4 .ensures) (wrote-more (c .before .before .before .before .before .before .put-byte5 .ensures) (c .before .before .put-byte6 .ensures)))))
+    let at-put-byte6 = c .before .before in
+    let at-put-byte5 = at-put-byte6 .before .before .before .before in
+    let at-put-byte4 = at-put-byte5 .before .before .before .before in
+    let at-put-byte3 = at-put-byte4 .before .before .before .before in
+    let at-put-byte2 = at-put-byte3 .before .before .before .before in
+    let at-put-byte = at-put-byte2 .before .before .before .before in
+    wrote-more (at-put-byte .put-byte .ensures) (wrote-more (at-put-byte2 .put-byte2 .ensures) (wrote-more (at-put-byte3 .put-byte3 .ensures)
+    (wrote-more (at-put-byte4 .put-byte4 .ensures) (wrote-more (at-put-byte5 .put-byte5 .ensures) (at-put-byte6 .put-byte6 .ensures)))))
 
 pub put-cnf-spec : {M : Type 1} → statement M
 put-cnf-spec =
-    tie.close
-    (tie.spec
-    put-byte-requires
-    put-byte-requires-2
-    put-byte-requires-3
-    put-byte-requires-4
-    put-byte-requires-5
-    put-byte-requires-6
-    same-length
-    returns)
+    tie.close (tie.spec (λ c κs. search needs) (λ c κs. search needs) (λ c κs. search needs) (λ c κs. search needs) (λ c κs. search needs)
+    (λ c κs. search needs) (λ c. search needs) returns)

@@ -18,61 +18,46 @@ abbrev μ-loop : tie.MeasureT-loop
 μ-loop out₀ at prefix i₀ next₀ first₀ out i next first = length prefix - i
 
 loop-holds : tie.Need-loop-holds Inv-loop μ-loop
-loop-holds c = let a = c .before .before .args in upto-none 0 prefixText entryBytes nextFirst prefix-split (a .prefix .now) (a .out .now) (a .at)
-
-mul-entry : tie.Need-mul-entry Inv-loop μ-loop
-mul-entry c = search needs
-
-shared-slice-read-entry : tie.Need-shared-slice-read-entry Inv-loop μ-loop
-shared-slice-read-entry c = search needs
+loop-holds c =
+    let at-start = c .before .before in
+    let a = at-start .args in upto-none 0 prefixText entryBytes nextFirst prefix-split (a .prefix .now) (a .out .now) (a .at)
 
 put-entry-requires : tie.Need-put-entry-requires Inv-loop μ-loop
-put-entry-requires c κs = let k = c .before .before .before .before .before .before in let l = c .before .before .before .loop in omega (arith, l .inv .few, k .pre .0, k .pre .1, c .before .before .loop-test .taken, k .pre .2 (l .i) (c .before .before .loop-test .taken))
-
-starts-requires : tie.Need-starts-requires Inv-loop μ-loop
-starts-requires c κs = search needs
-
-add-i : tie.Need-add-i Inv-loop μ-loop
-add-i c = search needs
-
-loop-less : tie.Need-loop-less Inv-loop μ-loop
-loop-less c = search needs
+put-entry-requires c κs =
+    let at-loop-test = c .before .before in
+    let at-loop = at-loop-test .before in
+    let at-before = at-loop .before .before in
+    let k = at-before .before in let l = at-loop .loop in omega (arith, l .inv .few, k .pre .0, k .pre .1, at-loop-test .loop-test .taken, k .pre .2 (l .i) (at-loop-test .loop-test .taken))
 
 loop-again : tie.Need-loop-again Inv-loop μ-loop
 loop-again c =
-    let k = c .before .before .before .before .before .before .before .before .before .before in
+    let at-put-entry = c .before .before .before in
+    let at-loop-test = at-put-entry .before .before .before in
+    let at-loop = at-loop-test .before in
+    let at-before = at-loop .before .before in
+    let k = at-before .before in
     let a = k .args in
-    let l = c .before .before .before .before .before .before .before .loop in
-    let o = c .before .before .before .put-entry in
-    let h = c .before .before .before .before .before .before .loop-test .taken in
+    let l = at-loop .loop in
+    let o = at-put-entry .put-entry in
+    let h = at-loop-test .loop-test .taken in
     subst (λ (f : Bool). Upto 0 prefixText entryBytes nextFirst prefix-split (a .prefix .now) (a .out .now) (o .last .0) (a .at) (l .i + 1) (o .result) f) (sym (c .starts .ensures))
     (upto-more 0 prefixText entryBytes nextFirst prefix-split (a .prefix .now) (a .out .now) (l .out) (o .last .0) (a .at) (l .i) (l .next) (o .result) (l .first) (l .inv) h (o .ensures) (entry-most (l .first) (getD (a .prefix .now) (l .i) 0) (k .pre .2 (l .i) h)))
 
 same-length : tie.Need-same-length Inv-loop μ-loop
 same-length c =
-    let a = c .before .before .before .before .args in
+    let at-start = c .before .before .before .before in
+    let a = at-start .args in
     let l = c .before .loop in
     wrote-length (l .inv .bytes) (a .out .now) (l .out) (a .at) (l .next) (l .inv .wrote)
 
 returns : tie.Need-returns Inv-loop μ-loop
 returns c =
-    let a = c .before .before .before .before .args in
+    let at-start = c .before .before .before .before in
+    let a = at-start .args in
     let l = c .before .loop in
     upto-all 0 prefixText entryBytes nextFirst prefix-split (a .prefix .now) (a .out .now) (l .out) (a .at) (l .i) (l .next) (l .first) no-prefix (l .inv) (c .loop-test .left)
 
 pub put-prefix-spec : {M : Type 1} → statement M
 put-prefix-spec =
-    tie.close
-    (tie.spec
-    Inv-loop
-    μ-loop
-    loop-holds
-    mul-entry
-    shared-slice-read-entry
-    put-entry-requires
-    starts-requires
-    add-i
-    loop-less
-    loop-again
-    same-length
-    returns)
+    tie.close (tie.spec Inv-loop μ-loop loop-holds (λ c. search needs) (λ c. search needs) put-entry-requires (λ c κs. search needs)
+    (λ c. search needs) (λ c. search needs) loop-again same-length returns)

@@ -12,7 +12,8 @@ use Rattle.spelling.proofs.writing.put_space.Tie as tie
 returns : tie.Need-returns
 unfolding spaced
 returns c =
-    let a = c .before .before .args in
+    let at-start = c .before .before in
+    let a = at-start .args in
     subst (λ (t : Bool). Wrote (spaced t []) (a .out .now) (a .out .now) (a .at) (a .at)) (sym (c .if1 .taken)) (wrote-none (a .out .now) (a .at))
 
 put-byte-requires : tie.Need-put-byte-requires
@@ -24,9 +25,12 @@ same-length c = search needs
 returns-2 : tie.Need-returns-2
 unfolding spaced
 returns-2 c =
-    let a = c .before .before .before .before .before .before .args in
-    let o = c .before .before .put-byte in
-    subst (λ (t : Bool). Wrote (spaced t []) (a .out .now) (o .last .0) (a .at) (o .result)) (sym (c .before .before .before .before .if1 .left)) (o .ensures)
+    let at-put-byte = c .before .before in
+    let at-if1 = at-put-byte .before .before in
+    let at-start = at-if1 .before .before in
+    let a = at-start .args in
+    let o = at-put-byte .put-byte in
+    subst (λ (t : Bool). Wrote (spaced t []) (a .out .now) (o .last .0) (a .at) (o .result)) (sym (at-if1 .if1 .left)) (o .ensures)
 
 pub put-space-spec : {M : Type 1} → statement M
 put-space-spec = tie.close (tie.spec returns put-byte-requires same-length returns-2)

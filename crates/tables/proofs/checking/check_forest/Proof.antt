@@ -14,8 +14,9 @@ use Rattle.tables.proofs.checking.check_forest.Tie as tie
 -- where no row is bad the tables are well formed
 formed : (c : tie.Else4) → FormedBy (c .before .before .before .before .before .before .before .before .before .before .before .args .n) (c .before .before .before .before .before .before .before .before .before .before .before .args .prefix .now) (c .before .before .before .before .before .before .before .before .before .before .before .args .classes .now) (c .before .before .before .before .before .before .before .before .before .before .before .args .parents .now)
 formed c =
-    let a = c .before .before .before .before .before .before .before .before .before .before .before .args in
-    let (sound, table) = c .before .before .before .before .before .before .before .before .before .before .before .pre in
+    let at-start = c .before .before .before .before .before .before .before .before .before .before .before in
+    let a = at-start .args in
+    let (sound, table) = at-start .pre in
     fine-rows sound table (a .classes .now) (a .parents .now) (subst (FirstBad (Row (tabled (a .n) (a .levels .now) (a .universals .now)) (rowsOf (a .n) (a .classes .now) (a .parents .now))) (a .n)) (c .if4 .left) (c .before .first-bad .ensures))
 
 returns : tie.Need-returns
@@ -27,43 +28,38 @@ returns-2 c = inl (forest-short (inr (inl (c .if2 .taken))))
 returns-3 : tie.Need-returns-3
 returns-3 c = inl (forest-short (inr (inr (c .if3 .taken))))
 
-first-bad-requires : tie.Need-first-bad-requires
-first-bad-requires c κs = search needs
-
-cast-t13 : tie.Need-cast-t13
-cast-t13 c = search needs
-
 returns-4 : tie.Need-returns-4
 returns-4 c =
-    let a = c .before .before .before .before .before .before .before .before .before .before .before .args in
-    let (sound, table) = c .before .before .before .before .before .before .before .before .before .before .before .pre in
-    inl (forest-bad (c .before .before .before .before .if1 .left) (c .before .before .before .if2 .left) (c .before .before .if3 .left) (c .before .first-bad .result) (c .if4 .taken) (bad-rows sound table (a .classes .now) (a .parents .now) (c .before .first-bad .ensures)))
+    let at-if3 = c .before .before in
+    let at-if2 = at-if3 .before in
+    let at-if1 = at-if2 .before in
+    let at-start = at-if1 .before .before .before .before .before .before .before in
+    let a = at-start .args in
+    let (sound, table) = at-start .pre in
+    inl (forest-bad (at-if1 .if1 .left) (at-if2 .if2 .left) (at-if3 .if3 .left) (c .before .first-bad .result) (c .if4 .taken) (bad-rows sound table (a .classes .now) (a .parents .now) (c .before .first-bad .ensures)))
 
 first-miscounted-requires : tie.Need-first-miscounted-requires
-first-miscounted-requires c κs = (c .before .before .before .before .before .before .before .before .before .before .before .pre .0, formed c)
-
-cast-t14 : tie.Need-cast-t14
-cast-t14 c = search needs
+first-miscounted-requires c κs =
+    let at-start = c .before .before .before .before .before .before .before .before .before .before .before in
+    (at-start .pre .0, formed c)
 
 returns-5 : tie.Need-returns-5
-returns-5 c = inl (forest-miscounted (c .before .before .before .before .before .before .if1 .left) (c .before .before .before .before .before .if2 .left) (c .before .before .before .before .if3 .left) (formed (c .before .before)) (c .before .first-miscounted .result) (c .if5 .taken) (c .before .first-miscounted .ensures))
+returns-5 c =
+    let at-if3 = c .before .before .before .before in
+    let at-if2 = at-if3 .before in
+    let at-if1 = at-if2 .before in
+    inl (forest-miscounted (at-if1 .if1 .left) (at-if2 .if2 .left) (at-if3 .if3 .left) (formed (c .before .before)) (c .before .first-miscounted .result) (c .if5 .taken) (c .before .first-miscounted .ensures))
 
 returns-6 : tie.Need-returns-6
 returns-6 c =
-    let a = c .before .before .before .before .before .before .before .before .before .before .before .before .before .args in
-    (forest-fine (c .before .before .before .before .before .before .if1 .left) (c .before .before .before .before .before .if2 .left) (c .before .before .before .before .if3 .left) (formed (c .before .before)) (subst (FirstBad _ (a .n)) (c .if5 .left) (c .before .first-miscounted .ensures)), tt)
+    let at-if3 = c .before .before .before .before in
+    let at-if2 = at-if3 .before in
+    let at-if1 = at-if2 .before in
+    let at-start = at-if1 .before .before .before .before .before .before .before in
+    let a = at-start .args in
+    (forest-fine (at-if1 .if1 .left) (at-if2 .if2 .left) (at-if3 .if3 .left) (formed (c .before .before)) (subst (FirstBad _ (a .n)) (c .if5 .left) (c .before .first-miscounted .ensures)), tt)
 
 pub check-forest-spec : {M : Type 1} → statement M
 check-forest-spec =
-    tie.close
-    (tie.spec
-    returns
-    returns-2
-    returns-3
-    first-bad-requires
-    cast-t13
-    returns-4
-    first-miscounted-requires
-    cast-t14
-    returns-5
-    returns-6)
+    tie.close (tie.spec returns returns-2 returns-3 (λ c κs. search needs) (λ c. search needs) returns-4 first-miscounted-requires
+    (λ c. search needs) returns-5 returns-6)

@@ -10,31 +10,26 @@ use borrow.Author.Needs.{needs}
 use Rattle.tables.proofs.checking.first_miscounted.Statement.{statement}
 use Rattle.tables.proofs.checking.first_miscounted.Tie as tie
 
-slice-aggregate-fill-counts : tie.Need-slice-aggregate-fill-counts
-slice-aggregate-fill-counts c = search needs
-
 fill-counts-requires : tie.Need-fill-counts-requires
-fill-counts-requires c κs = (c .before .before .before .before .before .pre .0, c .before .before .before .before .before .pre .1, length-replicate {A = ℕ} 4097 0, new-zero 4097)
-
-slice-aggregate-first-other : tie.Need-slice-aggregate-first-other
-slice-aggregate-first-other c = search needs
+fill-counts-requires c κs =
+    let at-start = c .before .before .before .before .before in
+    (at-start .pre .0, at-start .pre .1, length-replicate {A = ℕ} 4097 0, new-zero 4097)
 
 first-other-requires : tie.Need-first-other-requires
-first-other-requires c κs = let few = c .before .before .before .before .before .before .before .before .pre .0 .few in let size = c .before .before .fill-counts .ensures .size in omega arith
+first-other-requires c κs =
+    let at-fill-counts = c .before .before in
+    let at-start = at-fill-counts .before .before .before .before .before .before in
+    let few = at-start .pre .0 .few in let size = at-fill-counts .fill-counts .ensures .size in omega arith
 
 returns : tie.Need-returns
 returns c =
-    let a = c .before .before .before .before .before .before .before .before .before .args in
-    let formed = c .before .before .before .before .before .before .before .before .before .pre .1 in
-    let counted = c .before .before .before .fill-counts .ensures .counted in
+    let at-fill-counts = c .before .before .before in
+    let at-start = at-fill-counts .before .before .before .before .before .before in
+    let a = at-start .args in
+    let formed = at-start .pre .1 in
+    let counted = at-fill-counts .fill-counts .ensures .counted in
     bad-same (λ v. let is = row-is formed {counts = row (a .n) (a .counts .now)} {v = v} counted in (is .1, is .0)) (c .first-other .ensures)
 
 pub first-miscounted-spec : {M : Type 1} → statement M
 first-miscounted-spec =
-    tie.close
-    (tie.spec
-    slice-aggregate-fill-counts
-    fill-counts-requires
-    slice-aggregate-first-other
-    first-other-requires
-    returns)
+    tie.close (tie.spec (λ c. search needs) fill-counts-requires (λ c. search needs) first-other-requires returns)

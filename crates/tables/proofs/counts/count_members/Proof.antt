@@ -20,92 +20,105 @@ abbrev μ-loop : tie.MeasureT-loop
 
 loop-holds : tie.Need-loop-holds Inv-loop μ-loop
 loop-holds c =
-    let a = c .before .before .args in
-    let p = c .before .before .pre in
+    let at-start = c .before .before in
+    let a = at-start .args in
+    let p = at-start .pre in
     (omega arith, p .1, λ es parents formed. members-none (a .n) es (a .classes .now) parents formed (p .1) (p .2))
 
 add-v : tie.Need-add-v Inv-loop μ-loop
-add-v c = let few = c .before .before .before .before .pre .0 in omega arith
-
-new-requires : tie.Need-new-requires Inv-loop μ-loop
-new-requires c κs = search needs
-
-row-of-requires : tie.Need-row-of-requires Inv-loop μ-loop
-row-of-requires c κs = search needs
-
-loop-less : tie.Need-loop-less Inv-loop μ-loop
-loop-less c = omega arith
+add-v c =
+    let at-start = c .before .before .before .before in
+    let few = at-start .pre .0 in omega arith
 
 -- what was read is the class row of the next variable
 read : (c : tie.After-row-of Inv-loop μ-loop) → c .row-of .result .0 ≡ row (c .before .before .before .before .before .before .args .n) (c .before .before .before .before .before .before .args .classes .now) (c .before .before .before .loop .passed + 1)
-read c = c .row-of .ensures ∙ ap (row (c .before .before .before .before .before .before .args .n) (c .before .before .before .before .before .before .args .classes .now)) (c .before .new .ensures)
+read c =
+    let at-start = c .before .before .before .before .before .before in
+    c .row-of .ensures ∙ ap (row (at-start .args .n) (at-start .args .classes .now)) (c .before .new .ensures)
 
 loop-again : tie.Need-loop-again Inv-loop μ-loop
 loop-again c =
-    let a = c .before .before .before .before .before .before .before .before .args in
-    let inv = c .before .before .before .before .before .loop .inv in
-    let none : row (a .n) (a .classes .now) (c .before .before .before .before .before .loop .passed + 1) ≡ 0 = sym (read (c .before .before)) ∙ c .if1 .taken in
+    let at-loop = c .before .before .before .before .before in
+    let at-start = at-loop .before .before .before in
+    let a = at-start .args in
+    let inv = at-loop .loop .inv in
+    let none : row (a .n) (a .classes .now) (at-loop .loop .passed + 1) ≡ 0 = sym (read (c .before .before)) ∙ c .if1 .taken in
     (omega arith, inv .1, λ es parents formed. members-over (a .n) es (a .classes .now) parents formed none (inv .2 es parents formed))
 
 -- the class that was read has a row
 small : (c : tie.After-struct-known2 Inv-loop μ-loop) → row (c .before .before .before .before .before .before .before .before .before .args .n) (c .before .before .before .before .before .before .before .before .before .args .classes .now) (c .before .before .before .before .before .before .loop .passed + 1) < 4097
 small c =
-    let a = c .before .before .before .before .before .before .before .before .before .args in
-    let (few, size, zeros, w) = c .before .before .before .before .before .before .before .before .before .pre in
+    let at-loop = c .before .before .before .before .before .before in
+    let at-start = at-loop .before .before .before in
+    let a = at-start .args in
+    let (few, size, zeros, w) = at-start .pre in
     let (es, parents, formed) = w in
-    class-small (a .n) es (a .classes .now) parents formed (c .before .before .before .before .before .before .loop .passed + 1) few
-
-cast-at : tie.Need-cast-at Inv-loop μ-loop
-cast-at c = search needs
+    class-small (a .n) es (a .classes .now) parents formed (at-loop .loop .passed + 1) few
 
 mul-counts : tie.Need-mul-counts Inv-loop μ-loop
-mul-counts c = let l = small c in let is = read (c .before .before .before) in omega arith
+mul-counts c =
+    let at-before = c .before .before in
+    let l = small c in let is = read (at-before .before) in omega arith
 
 slice-read-counts : tie.Need-slice-read-counts Inv-loop μ-loop
 slice-read-counts c =
+    let at-before = c .before .before .before in
+    let at-loop = at-before .before .before .before .before in
     let l = small (c .before) in
-    let is = read (c .before .before .before .before) in
-    let size = c .before .before .before .before .before .before .before .loop .inv .1 in
+    let is = read (at-before .before) in
+    let size = at-loop .loop .inv .1 in
     omega arith
 
 add-counts : tie.Need-add-counts Inv-loop μ-loop
 add-counts c =
-    let a = c .before .before .before .before .before .before .before .before .before .before .args in
-    let (few, size, zeros, w) = c .before .before .before .before .before .before .before .before .before .before .pre in
+    let at-row-of = c .before .before .before .before in
+    let at-loop = at-row-of .before .before .before in
+    let at-start = at-loop .before .before .before in
+    let a = at-start .args in
+    let (few, size, zeros, w) = at-start .pre in
     let (es, parents, formed) = w in
-    let most = members-most (a .n) es (a .classes .now) parents formed (c .before .before .before .before .before .before .before .loop .inv .2 es parents formed) (c .before .before .before .before .row-of .result .0) in
+    let most = members-most (a .n) es (a .classes .now) parents formed (at-loop .loop .inv .2 es parents formed) (at-row-of .row-of .result .0) in
     omega arith
 
 mul-counts-2 : tie.Need-mul-counts-2 Inv-loop μ-loop
-mul-counts-2 c = let l = small (c .before) in let is = read (c .before .before .before .before) in omega arith
+mul-counts-2 c =
+    let at-before = c .before .before .before in
+    let l = small (c .before) in let is = read (at-before .before) in omega arith
 
 slice-write-counts : tie.Need-slice-write-counts Inv-loop μ-loop
 slice-write-counts c =
+    let at-before = c .before .before .before in
+    let at-loop = at-before .before .before .before .before in
     let l = small (c .before) in
-    let is = read (c .before .before .before .before) in
-    let size = c .before .before .before .before .before .before .before .loop .inv .1 in
+    let is = read (at-before .before) in
+    let size = at-loop .loop .inv .1 in
     omega arith
-
-loop-less-2 : tie.Need-loop-less-2 Inv-loop μ-loop
-loop-less-2 c = omega arith
 
 loop-again-2 : tie.Need-loop-again-2 Inv-loop μ-loop
 loop-again-2 c =
-    let a = c .before .before .before .before .before .before .before .before .before .before .args in
-    let (few, size, zeros, w) = c .before .before .before .before .before .before .before .before .before .before .pre in
+    let at-if1 = c .before .before in
+    let at-before = at-if1 .before in
+    let at-row-of = at-before .before in
+    let at-loop = at-row-of .before .before .before in
+    let at-start = at-loop .before .before .before in
+    let a = at-start .args in
+    let (few, size, zeros, w) = at-start .pre in
     let (es₀, parents₀, formed₀) = w in
-    let inv = c .before .before .before .before .before .before .before .loop .inv in
-    let class = c .before .before .before .before .row-of .result .0 in
-    let table = set (c .before .before .before .before .before .before .before .loop .counts) class (getD (c .before .before .before .before .before .before .before .loop .counts) class 0 + 1) in
-    let k : ForClasses (a .n) (a .classes .now) (λ es parents. Counting (Placed (variables (a .n) es) (lent (variables (a .n) es) (a .classes .now) parents) (c .before .before .before .before .before .before .before .loop .passed + 1)) table) = λ es parents formed. members-more (a .n) es (a .classes .now) parents formed few (read (c .before .before .before .before)) (c .before .before .if1 .left) (inv .2 es parents formed) in
+    let inv = at-loop .loop .inv in
+    let class = at-row-of .row-of .result .0 in
+    let table = set (at-loop .loop .counts) class (getD (at-loop .loop .counts) class 0 + 1) in
+    let k : ForClasses (a .n) (a .classes .now) (λ es parents. Counting (Placed (variables (a .n) es) (lent (variables (a .n) es) (a .classes .now) parents) (at-loop .loop .passed + 1)) table) = λ es parents formed. members-more (a .n) es (a .classes .now) parents formed few (read (at-before .before)) (at-if1 .if1 .left) (inv .2 es parents formed) in
     (omega arith, k es₀ parents₀ formed₀ .size, k)
 
 same-length : tie.Need-same-length Inv-loop μ-loop
-same-length c = let size = c .before .loop .inv .1 in let size₀ = c .before .before .before .before .pre .1 in omega arith
+same-length c =
+    let at-start = c .before .before .before .before in
+    let size = c .before .loop .inv .1 in let size₀ = at-start .pre .1 in omega arith
 
 returns : tie.Need-returns Inv-loop μ-loop
 returns c =
-    let a = c .before .before .before .before .args in
+    let at-start = c .before .before .before .before in
+    let a = at-start .args in
     let inv = c .before .loop .inv in
     let most = inv .0 in
     let all : c .before .loop .passed ≡ a .n = omega (arith, c .loop-test .left) in
@@ -113,23 +126,6 @@ returns c =
 
 pub count-members-spec : {M : Type 1} → statement M
 count-members-spec =
-    tie.close
-    (tie.spec
-    Inv-loop
-    μ-loop
-    loop-holds
-    add-v
-    new-requires
-    row-of-requires
-    loop-less
-    loop-again
-    cast-at
-    mul-counts
-    slice-read-counts
-    add-counts
-    mul-counts-2
-    slice-write-counts
-    loop-less-2
-    loop-again-2
-    same-length
+    tie.close (tie.spec Inv-loop μ-loop loop-holds add-v (λ c κs. search needs) (λ c κs. search needs) (λ c. omega arith) loop-again
+    (λ c. search needs) mul-counts slice-read-counts add-counts mul-counts-2 slice-write-counts (λ c. omega arith) loop-again-2 same-length
     returns)

@@ -8,18 +8,23 @@ count-members-requires c κs = search needs
 
 pass-all-up-requires : tie.Need-pass-all-up-requires
 pass-all-up-requires c κs =
-    let a = c .before .before .before .before .before .before .before .before .before .args in
-    let (sound, formed, size, zeros) = c .before .before .before .before .before .before .before .before .before .pre in
-    (sound, (a .classes .now, formed, c .before .before .before .count-members .ensures (a .prefix .now) (a .parents .now) formed))
+    let at-count-members = c .before .before .before in
+    let at-start = at-count-members .before .before .before .before .before .before in
+    let a = at-start .args in
+    let (sound, formed, size, zeros) = at-start .pre in
+    (sound, (a .classes .now, formed, at-count-members .count-members .ensures (a .prefix .now) (a .parents .now) formed))
 
 same-length : tie.Need-same-length
 same-length c = search needs
 
 returns : tie.Need-returns
 returns c =
-    let a = c .before .before .before .before .before .before .before .before .before .before .before .before .args in
-    let (sound, formed, size, zeros) = c .before .before .before .before .before .before .before .before .before .before .before .before .pre in
-    c .before .before .pass-all-up .ensures (a .classes .now) formed (c .before .before .before .before .before .before .count-members .ensures (a .prefix .now) (a .parents .now) formed)
+    let at-pass-all-up = c .before .before in
+    let at-count-members = at-pass-all-up .before .before .before .before in
+    let at-start = at-count-members .before .before .before .before .before .before in
+    let a = at-start .args in
+    let (sound, formed, size, zeros) = at-start .pre in
+    at-pass-all-up .pass-all-up .ensures (a .classes .now) formed (at-count-members .count-members .ensures (a .prefix .now) (a .parents .now) formed)
 
 pub fill-counts-spec : {M : Type 1} → statement M
 fill-counts-spec =

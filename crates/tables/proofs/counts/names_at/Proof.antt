@@ -7,47 +7,27 @@ use borrow.Author.Needs.{needs}
 use Rattle.tables.proofs.counts.names_at.Statement.{statement}
 use Rattle.tables.proofs.counts.names_at.Tie as tie
 
-mul-if1 : tie.Need-mul-if1
-mul-if1 c = search needs
-
-shared-slice-read-if1 : tie.Need-shared-slice-read-if1
-shared-slice-read-if1 c = search needs
-
-returns : tie.Need-returns
-returns c = search needs
-
 returns-2 : tie.Need-returns-2
-returns-2 c = names-first (c .before .before .before .args .prefix .now) (c .before .before .before .args .i) (c .if2 .taken)
-
-sub-if3 : tie.Need-sub-if3
-sub-if3 c = search needs
-
-mul-if3 : tie.Need-mul-if3
-mul-if3 c = search needs
-
-shared-slice-read-if3 : tie.Need-shared-slice-read-if3
-shared-slice-read-if3 c = search needs
+returns-2 c =
+    let at-start = c .before .before .before in
+    names-first (at-start .args .prefix .now) (at-start .args .i) (c .if2 .taken)
 
 returns-3 : tie.Need-returns-3
 returns-3 c =
-    let a = c .before .before .before .before .before .args in
-    λ there. true≢false (sym (names-behind (a .prefix .now) (a .i) (c .before .before .if2 .left) ∙ eq-eqb _ 0 (c .if3 .taken)) ∙ there .1)
+    let at-if2 = c .before .before in
+    let at-start = at-if2 .before .before .before in
+    let a = at-start .args in
+    λ there. true≢false (sym (names-behind (a .prefix .now) (a .i) (at-if2 .if2 .left) ∙ eq-eqb _ 0 (c .if3 .taken)) ∙ there .1)
 
 returns-4 : tie.Need-returns-4
 returns-4 c =
-    let a = c .before .before .before .before .before .args in
-    (c .before .before .before .before .before .pre, names-behind (a .prefix .now) (a .i) (c .before .before .if2 .left) ∙ ne-eqb _ 0 (c .if3 .left), c .before .before .before .if1 .left)
+    let at-if2 = c .before .before in
+    let at-if1 = at-if2 .before in
+    let at-start = at-if1 .before .before in
+    let a = at-start .args in
+    (at-start .pre, names-behind (a .prefix .now) (a .i) (at-if2 .if2 .left) ∙ ne-eqb _ 0 (c .if3 .left), at-if1 .if1 .left)
 
 pub names-at-spec : {M : Type 1} → statement M
 names-at-spec =
-    tie.close
-    (tie.spec
-    mul-if1
-    shared-slice-read-if1
-    returns
-    returns-2
-    sub-if3
-    mul-if3
-    shared-slice-read-if3
-    returns-3
-    returns-4)
+    tie.close (tie.spec (λ c. search needs) (λ c. search needs) (λ c. search needs) returns-2 (λ c. search needs) (λ c. search needs)
+    (λ c. search needs) returns-3 returns-4)

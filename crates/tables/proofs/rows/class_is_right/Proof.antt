@@ -8,48 +8,43 @@ use Rattle.tables.proofs.Formed.{class-right, class-most, class-name, c
 use Rattle.tables.proofs.rows.class_is_right.Statement.{statement}
 use Rattle.tables.proofs.rows.class_is_right.Tie as tie
 
-row-of-requires : tie.Need-row-of-requires
-row-of-requires c κs = search needs
-
 returns : tie.Need-returns
 returns c =
-    let a = c .before .before .before .before .before .before .before .args in
-    λ r. let most = class-most (a .n) (a .levels .now) (a .universals .now) (a .classes .now) [] (a .v .0) (c .before .before .before .row-of .result .0) (c .before .before .before .row-of .ensures) r in let over = c .if1 .taken in omega arith
-
-names-class-requires : tie.Need-names-class-requires
-names-class-requires c κs = search needs
+    let at-row-of = c .before .before .before in
+    let at-start = at-row-of .before .before .before .before in
+    let a = at-start .args in
+    λ r. let most = class-most (a .n) (a .levels .now) (a .universals .now) (a .classes .now) [] (a .v .0) (at-row-of .row-of .result .0) (at-row-of .row-of .ensures) r in let over = c .if1 .taken in omega arith
 
 returns-2 : tie.Need-returns-2
 returns-2 c =
-    let a = c .before .before .before .before .before .before .before .before .before .args in
-    λ r. told-not (c .before .names-class .result) (not-true (c .before .names-class .result) (c .if2 .taken)) (c .before .names-class .ensures) (class-name (a .n) (a .levels .now) (a .universals .now) (a .classes .now) [] (a .v .0) (c .before .before .before .before .before .row-of .result .0) (c .before .before .before .before .before .row-of .ensures) r)
-
-level-at-requires : tie.Need-level-at-requires
-level-at-requires c κs = search needs
-
-level-at-requires-2 : tie.Need-level-at-requires-2
-level-at-requires-2 c κs = search needs
+    let at-row-of = c .before .before .before .before .before in
+    let at-start = at-row-of .before .before .before .before in
+    let a = at-start .args in
+    λ r. told-not (c .before .names-class .result) (not-true (c .before .names-class .result) (c .if2 .taken)) (c .before .names-class .ensures) (class-name (a .n) (a .levels .now) (a .universals .now) (a .classes .now) [] (a .v .0) (at-row-of .row-of .result .0) (at-row-of .row-of .ensures) r)
 
 returns-3 : tie.Need-returns-3
 returns-3 c =
-    let a = c .before .before .before .before .before .before .before .before .before .before .before .before .before .before .args in
-    λ r. c .if3 .taken (class-block (a .n) (a .levels .now) (a .universals .now) (a .classes .now) [] (a .v .0) (c .before .before .before .before .before .before .before .before .before .before .row-of .result .0) (c .before .before .before .before .level-at .result .0) (c .before .before .before .level-at2 .result .0) (c .before .before .before .before .before .before .before .before .before .before .row-of .ensures) (c .before .before .before .before .level-at .ensures) (c .before .before .before .level-at2 .ensures) r)
+    let at-level-at2 = c .before .before .before in
+    let at-level-at = at-level-at2 .before in
+    let at-row-of = at-level-at .before .before .before .before .before .before in
+    let at-start = at-row-of .before .before .before .before in
+    let a = at-start .args in
+    λ r. c .if3 .taken (class-block (a .n) (a .levels .now) (a .universals .now) (a .classes .now) [] (a .v .0) (at-row-of .row-of .result .0) (at-level-at .level-at .result .0) (at-level-at2 .level-at2 .result .0) (at-row-of .row-of .ensures) (at-level-at .level-at .ensures) (at-level-at2 .level-at2 .ensures) r)
 
 returns-4 : tie.Need-returns-4
 returns-4 c =
-    let a = c .before .before .before .before .before .before .before .before .before .before .before .before .before .before .args in
-    class-right (a .n) (a .levels .now) (a .universals .now) (a .classes .now) [] (a .v .0) (c .before .before .before .before .before .before .before .before .before .before .row-of .result .0) (c .before .before .before .before .level-at .result .0) (c .before .before .before .level-at2 .result .0) (c .before .before .before .before .before .before .before .before .before .before .row-of .ensures) (c .before .before .before .before .before .before .before .if1 .left)
-    (told (c .before .before .before .before .before .before .names-class .result) (not-false (c .before .before .before .before .before .before .names-class .result) (c .before .before .before .before .before .if2 .left)) (c .before .before .before .before .before .before .names-class .ensures)) (c .before .before .before .before .level-at .ensures) (c .before .before .before .level-at2 .ensures) (c .if3 .left)
+    let at-level-at2 = c .before .before .before in
+    let at-level-at = at-level-at2 .before in
+    let at-if2 = at-level-at .before in
+    let at-names-class = at-if2 .before in
+    let at-if1 = at-names-class .before in
+    let at-row-of = at-if1 .before .before .before in
+    let at-start = at-row-of .before .before .before .before in
+    let a = at-start .args in
+    class-right (a .n) (a .levels .now) (a .universals .now) (a .classes .now) [] (a .v .0) (at-row-of .row-of .result .0) (at-level-at .level-at .result .0) (at-level-at2 .level-at2 .result .0) (at-row-of .row-of .ensures) (at-if1 .if1 .left)
+    (told (at-names-class .names-class .result) (not-false (at-names-class .names-class .result) (at-if2 .if2 .left)) (at-names-class .names-class .ensures)) (at-level-at .level-at .ensures) (at-level-at2 .level-at2 .ensures) (c .if3 .left)
 
 pub class-is-right-spec : {M : Type 1} → statement M
 class-is-right-spec =
-    tie.close
-    (tie.spec
-    row-of-requires
-    returns
-    names-class-requires
-    returns-2
-    level-at-requires
-    level-at-requires-2
-    returns-3
-    returns-4)
+    tie.close (tie.spec (λ c κs. search needs) returns (λ c κs. search needs) returns-2 (λ c κs. search needs) (λ c κs. search needs)
+    returns-3 returns-4)

@@ -21,48 +21,35 @@ abbrev μ-loop : tie.MeasureT-loop
 loop-holds : tie.Need-loop-holds Inv-loop μ-loop
 loop-holds c = right-none _ _
 
-add-v : tie.Need-add-v Inv-loop μ-loop
-add-v c = search needs
-
-new-requires : tie.Need-new-requires Inv-loop μ-loop
-new-requires c κs = search needs
-
-row-is-right-requires : tie.Need-row-is-right-requires Inv-loop μ-loop
-row-is-right-requires c κs = search needs
-
 returns : tie.Need-returns Inv-loop μ-loop
 returns c =
-    let a = c .before .before .before .before .before .before .before .before .before .args in
-    bad-here (Row (tabled (a .n) (a .levels .now) (a .universals .now)) (rowsOf (a .n) (a .classes .now) (a .parents .now))) (a .n) (c .before .before .before .before .loop .inv) (c .before .before .before .loop-test .taken)
-    (subst (λ v. Row (tabled (a .n) (a .levels .now) (a .universals .now)) (rowsOf (a .n) (a .classes .now) (a .parents .now)) v → ⊥) (c .before .before .new .ensures)
+    let at-new = c .before .before in
+    let at-loop-test = at-new .before in
+    let at-loop = at-loop-test .before in
+    let at-start = at-loop .before .before .before .before .before in
+    let a = at-start .args in
+    bad-here (Row (tabled (a .n) (a .levels .now) (a .universals .now)) (rowsOf (a .n) (a .classes .now) (a .parents .now))) (a .n) (at-loop .loop .inv) (at-loop-test .loop-test .taken)
+    (subst (λ v. Row (tabled (a .n) (a .levels .now) (a .universals .now)) (rowsOf (a .n) (a .classes .now) (a .parents .now)) v → ⊥) (at-new .new .ensures)
     (told-not (c .before .row-is-right .result) (not-true (c .before .row-is-right .result) (c .if1 .taken)) (c .before .row-is-right .ensures)))
-
-loop-less : tie.Need-loop-less Inv-loop μ-loop
-loop-less c = omega arith
 
 loop-again : tie.Need-loop-again Inv-loop μ-loop
 loop-again c =
-    let a = c .before .before .before .before .before .before .before .before .before .args in
-    right-more (Row (tabled (a .n) (a .levels .now) (a .universals .now)) (rowsOf (a .n) (a .classes .now) (a .parents .now))) (a .n) (c .before .before .before .before .loop .inv) (c .before .before .before .loop-test .taken)
-    (subst (Row (tabled (a .n) (a .levels .now) (a .universals .now)) (rowsOf (a .n) (a .classes .now) (a .parents .now))) (c .before .before .new .ensures)
+    let at-new = c .before .before in
+    let at-loop-test = at-new .before in
+    let at-loop = at-loop-test .before in
+    let at-start = at-loop .before .before .before .before .before in
+    let a = at-start .args in
+    right-more (Row (tabled (a .n) (a .levels .now) (a .universals .now)) (rowsOf (a .n) (a .classes .now) (a .parents .now))) (a .n) (at-loop .loop .inv) (at-loop-test .loop-test .taken)
+    (subst (Row (tabled (a .n) (a .levels .now) (a .universals .now)) (rowsOf (a .n) (a .classes .now) (a .parents .now))) (at-new .new .ensures)
     (told (c .before .row-is-right .result) (not-false (c .before .row-is-right .result) (c .if1 .left)) (c .before .row-is-right .ensures)))
 
 returns-2 : tie.Need-returns-2 Inv-loop μ-loop
 returns-2 c =
-    let a = c .before .before .before .before .before .before .args in
+    let at-start = c .before .before .before .before .before .before in
+    let a = at-start .args in
     bad-none (Row (tabled (a .n) (a .levels .now) (a .universals .now)) (rowsOf (a .n) (a .classes .now) (a .parents .now))) (a .n) (c .before .loop .inv) (c .loop-test .left)
 
 pub first-bad-spec : {M : Type 1} → statement M
 first-bad-spec =
-    tie.close
-    (tie.spec
-    Inv-loop
-    μ-loop
-    loop-holds
-    add-v
-    new-requires
-    row-is-right-requires
-    returns
-    loop-less
-    loop-again
-    returns-2)
+    tie.close (tie.spec Inv-loop μ-loop loop-holds (λ c. search needs) (λ c κs. search needs) (λ c κs. search needs) returns
+    (λ c. omega arith) loop-again returns-2)

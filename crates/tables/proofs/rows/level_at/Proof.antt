@@ -25,7 +25,8 @@ returns c = search needs
 
 returns-2 : tie.Need-returns-2
 returns-2 c =
-    let a = c .before .before .before .before .args in
+    let at-start = c .before .before .before .before in
+    let a = at-start .args in
     c .new2 .ensures ∙ sym (List·getD-eq-default (a .levels .now) 0 (c .before .if1 .left))
 
 pub level-at-spec : {M : Type 1} → statement M

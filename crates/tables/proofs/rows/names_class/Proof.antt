@@ -16,11 +16,16 @@ row-of-requires : tie.Need-row-of-requires
 row-of-requires c κs = search needs
 
 returns-2 : tie.Need-returns-2
-returns-2 c = λ named. c .if2 .taken (c .before .before .before .row-of .ensures ∙ named .1)
+returns-2 c =
+    let at-row-of = c .before .before .before in
+    λ named. c .if2 .taken (at-row-of .row-of .ensures ∙ named .1)
 
 returns-3 : tie.Need-returns-3
 returns-3 c =
-    (sym (c .before .before .before .before .before .existential-at .ensures) ∙ not-false (c .before .before .before .before .before .existential-at .result) (c .before .before .before .before .if1 .left), sym (c .before .before .before .row-of .ensures) ∙ c .if2 .left)
+    let at-row-of = c .before .before .before in
+    let at-if1 = at-row-of .before in
+    let at-existential-at = at-if1 .before in
+    (sym (at-existential-at .existential-at .ensures) ∙ not-false (at-existential-at .existential-at .result) (at-if1 .if1 .left), sym (at-row-of .row-of .ensures) ∙ c .if2 .left)
 
 pub names-class-spec : {M : Type 1} → statement M
 names-class-spec =

@@ -28,11 +28,19 @@ add-result-3 c = search needs
 
 -- src/lib.rt:57:5
 returns : tie.Need-returns
-returns c = row-negative (toZ-ofZ {w = w32} {z = c .before .before .before .before .before .args .self .0} (record { sfits = c .before .before .before .before .struct-told .given .0 .1 })) (c .before .before .before .magnitude .result) (c .before .before .before .magnitude .ensures) (c .if1 .taken) .0
+returns c =
+    let at-magnitude = c .before .before .before in
+    let at-struct-told = at-magnitude .before in
+    let at-start = at-struct-told .before in
+    row-negative (toZ-ofZ {w = w32} {z = at-start .args .self .0} (record { sfits = at-struct-told .struct-told .given .0 .1 })) (at-magnitude .magnitude .result) (at-magnitude .magnitude .ensures) (c .if1 .taken) .0
 
 -- src/lib.rt:57:5
 returns-2 : tie.Need-returns-2
-returns-2 c = row-positive (toZ-ofZ {w = w32} {z = c .before .before .before .before .before .args .self .0} (record { sfits = c .before .before .before .before .struct-told .given .0 .1 })) (c .before .before .before .magnitude .result) (c .before .before .before .magnitude .ensures) (c .if1 .left) .0
+returns-2 c =
+    let at-magnitude = c .before .before .before in
+    let at-struct-told = at-magnitude .before in
+    let at-start = at-struct-told .before in
+    row-positive (toZ-ofZ {w = w32} {z = at-start .args .self .0} (record { sfits = at-struct-told .struct-told .given .0 .1 })) (at-magnitude .magnitude .result) (at-magnitude .magnitude .ensures) (c .if1 .left) .0
 
 pub row-spec : {M : Type 1} → statement M
 row-spec =

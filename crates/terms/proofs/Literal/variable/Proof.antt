@@ -11,7 +11,9 @@ magnitude-requires : tie.Need-magnitude-requires
 magnitude-requires c κs = search needs
 
 returns : tie.Need-returns
-returns c = c .magnitude .ensures ∙ ap variableOf (toZ-ofZ {w = w32} {z = c .before .before .args .self .0} (record { sfits = c .before .struct-told .given .0 .1 }))
+returns c =
+    let at-start = c .before .before in
+    c .magnitude .ensures ∙ ap variableOf (toZ-ofZ {w = w32} {z = at-start .args .self .0} (record { sfits = c .before .struct-told .given .0 .1 }))
 
 pub variable-spec : {M : Type 1} → statement M
 variable-spec = tie.close (tie.spec magnitude-requires returns)

@@ -15,21 +15,14 @@ use Rattle.tokens.proofs.expected.cnf_at.Tie as tie
 -- where a word was found, what it says of the line
 found-at : (c : tie.After-known-told) → FoundIs (c .before .before .before .before .before .args .text .now) (c .before .before .before .before .before .args .at) (c .before .start .given .0 .0) (c .before .start .given .0 .1 .0)
 found-at c =
-    let a = c .before .before .before .before .before .args in
+    let at-word-in = c .before .before .before in
+    let at-start = at-word-in .before .before in
+    let a = at-start .args in
     let w = c .before .start .given in
-    found-of (a .text .now) (a .at) (w .0 .0) (w .0 .1 .0) (w .0 .1 .1 .0) (w .0 .1 .1 .1 .0) (sym (c .before .before .before .word-in .ensures) ∙ w .1)
+    found-of (a .text .now) (a .at) (w .0 .0) (w .0 .1 .0) (w .0 .1 .1 .0) (w .0 .1 .1 .1 .0) (sym (at-word-in .word-in .ensures) ∙ w .1)
 
 abbrev cnf : List ℕ
 cnf = LETTER-C ∷ LETTER-N ∷ LETTER-F ∷ []
-
-word-in-requires : tie.Need-word-in-requires
-word-in-requires c κs = search needs
-
-enum-told : tie.Need-enum-told
-enum-told c = search needs
-
-enum-known-start : tie.Need-enum-known-start
-enum-known-start c = search needs
 
 sub-if1 : tie.Need-sub-if1
 sub-if1 c = let f = found-at c in omega (arith, f .some)
@@ -46,66 +39,57 @@ shared-slice-read-if2 c = let f = found-at (c .before .before) in omega (arith, 
 
 returns-2 : tie.Need-returns-2
 returns-2 c =
-    let k = c .before .before .before in
+    let at-before = c .before .before in
+    let k = at-before .before in
     let a = k .before .before .before .before .before .args in
     let w = k .before .start .given .0 in
     spelt-other (found-at k) cnf 0 (let f = found-at k in omega (arith, f .some)) (λ e. c .if2 .taken (sym (ap (λ (n : ℕ). getD (a .text .now) n 0) (add-zero (w .0))) ∙ e))
 
-add-if3 : tie.Need-add-if3
-add-if3 c = search needs
-
 shared-slice-read-if3 : tie.Need-shared-slice-read-if3
-shared-slice-read-if3 c = let f = found-at (c .before .before .before .before) in omega (arith, f .some, f .within, c .before .before .before .if1 .left)
+shared-slice-read-if3 c =
+    let at-before = c .before .before .before in
+    let f = found-at (at-before .before) in omega (arith, f .some, f .within, at-before .if1 .left)
 
 returns-3 : tie.Need-returns-3
 returns-3 c =
-    let k = c .before .before .before .before .before in
+    let at-before = c .before .before .before .before in
+    let k = at-before .before in
     let a = k .before .before .before .before .before .args in
     let w = k .before .start .given .0 in
-    spelt-other (found-at k) cnf 1 (let f = found-at k in omega (arith, f .some, c .before .before .before .before .if1 .left)) (c .if3 .taken)
-
-add-if4 : tie.Need-add-if4
-add-if4 c = search needs
+    spelt-other (found-at k) cnf 1 (let f = found-at k in omega (arith, f .some, at-before .if1 .left)) (c .if3 .taken)
 
 shared-slice-read-if4 : tie.Need-shared-slice-read-if4
-shared-slice-read-if4 c = let f = found-at (c .before .before .before .before .before .before) in omega (arith, f .some, f .within, c .before .before .before .before .before .if1 .left)
+shared-slice-read-if4 c =
+    let at-before = c .before .before .before .before .before in
+    let f = found-at (at-before .before) in omega (arith, f .some, f .within, at-before .if1 .left)
 
 returns-4 : tie.Need-returns-4
 returns-4 c =
-    let k = c .before .before .before .before .before .before .before in
+    let at-before = c .before .before .before .before .before .before in
+    let k = at-before .before in
     let a = k .before .before .before .before .before .args in
     let w = k .before .start .given .0 in
-    spelt-other (found-at k) cnf 2 (let f = found-at k in omega (arith, f .some, c .before .before .before .before .before .before .if1 .left)) (c .if4 .taken)
+    spelt-other (found-at k) cnf 2 (let f = found-at k in omega (arith, f .some, at-before .if1 .left)) (c .if4 .taken)
 
 returns-5 : tie.Need-returns-5
 returns-5 c =
-    let a = c .before .before .before .before .args in
+    let at-word-in = c .before .before in
+    let at-start = at-word-in .before .before in
+    let a = at-start .args in
     let w = c .enum-told .given in
-    spelt-end (end-of (a .text .now) (a .at) (w .0 .0) (sym (c .before .before .word-in .ensures) ∙ w .1)) cnf
+    spelt-end (end-of (a .text .now) (a .at) (w .0 .0) (sym (at-word-in .word-in .ensures) ∙ w .1)) cnf
 
 returns-6 : tie.Need-returns-6
 returns-6 c =
-    let k = c .before .before .before .before .before .before .before in
+    let at-if3 = c .before .before in
+    let at-if2 = at-if3 .before .before in
+    let at-before = at-if2 .before .before in
+    let k = at-before .before in
     let a = k .before .before .before .before .before .args in
     let w = k .before .start .given .0 in
-    goes (found-at k) cnf (spelt-three (found-at k) LETTER-C LETTER-N LETTER-F (c .before .before .before .before .before .before .if1 .left) (c .before .before .before .before .if2 .left) (c .before .before .if3 .left) (c .if4 .left))
+    goes (found-at k) cnf (spelt-three (found-at k) LETTER-C LETTER-N LETTER-F (at-before .if1 .left) (at-if2 .if2 .left) (at-if3 .if3 .left) (c .if4 .left))
 
 pub cnf-at-spec : {M : Type 1} → statement M
 cnf-at-spec =
-    tie.close
-    (tie.spec
-    word-in-requires
-    enum-told
-    enum-known-start
-    sub-if1
-    returns
-    shared-slice-read-if2
-    returns-2
-    add-if3
-    shared-slice-read-if3
-    returns-3
-    add-if4
-    shared-slice-read-if4
-    returns-4
-    returns-5
-    returns-6)
+    tie.close (tie.spec (λ c κs. search needs) (λ c. search needs) (λ c. search needs) sub-if1 returns shared-slice-read-if2 returns-2
+    (λ c. search needs) shared-slice-read-if3 returns-3 (λ c. search needs) shared-slice-read-if4 returns-4 returns-5 returns-6)

@@ -14,18 +14,11 @@ use Rattle.tokens.proofs.expected.letter_at.Tie as tie
 -- where a word was found, what it says of the line
 found-at : (c : tie.After-known-told) → FoundIs (c .before .before .before .before .before .args .text .now) (c .before .before .before .before .before .args .at) (c .before .start .given .0 .0) (c .before .start .given .0 .1 .0)
 found-at c =
-    let a = c .before .before .before .before .before .args in
+    let at-word-in = c .before .before .before in
+    let at-start = at-word-in .before .before in
+    let a = at-start .args in
     let w = c .before .start .given in
-    found-of (a .text .now) (a .at) (w .0 .0) (w .0 .1 .0) (w .0 .1 .1 .0) (w .0 .1 .1 .1 .0) (sym (c .before .before .before .word-in .ensures) ∙ w .1)
-
-word-in-requires : tie.Need-word-in-requires
-word-in-requires c κs = search needs
-
-enum-told : tie.Need-enum-told
-enum-told c = search needs
-
-enum-known-start : tie.Need-enum-known-start
-enum-known-start c = search needs
+    found-of (a .text .now) (a .at) (w .0 .0) (w .0 .1 .0) (w .0 .1 .1 .0) (w .0 .1 .1 .1 .0) (sym (at-word-in .word-in .ensures) ∙ w .1)
 
 sub-if1 : tie.Need-sub-if1
 sub-if1 c = let f = found-at c in omega (arith, f .some)
@@ -42,34 +35,29 @@ shared-slice-read-if2 c = let f = found-at (c .before .before) in omega (arith, 
 
 returns-2 : tie.Need-returns-2
 returns-2 c =
-    let k = c .before .before .before in
+    let at-before = c .before .before in
+    let k = at-before .before in
     let a = k .before .before .before .before .before .args in
     let w = k .before .start .given .0 in
     spelt-other (found-at k) (a .letter ∷ []) 0 (let f = found-at k in omega (arith, f .some)) (λ e. c .if2 .taken (sym (ap (λ (n : ℕ). getD (a .text .now) n 0) (add-zero (w .0))) ∙ e))
 
 returns-3 : tie.Need-returns-3
 returns-3 c =
-    let a = c .before .before .before .before .args in
+    let at-word-in = c .before .before in
+    let at-start = at-word-in .before .before in
+    let a = at-start .args in
     let w = c .enum-told .given in
-    spelt-end (end-of (a .text .now) (a .at) (w .0 .0) (sym (c .before .before .word-in .ensures) ∙ w .1)) (a .letter ∷ [])
+    spelt-end (end-of (a .text .now) (a .at) (w .0 .0) (sym (at-word-in .word-in .ensures) ∙ w .1)) (a .letter ∷ [])
 
 returns-4 : tie.Need-returns-4
 returns-4 c =
-    let k = c .before .before .before in
+    let at-before = c .before .before in
+    let k = at-before .before in
     let a = k .before .before .before .before .before .args in
     let w = k .before .start .given .0 in
-    goes (found-at k) (a .letter ∷ []) (spelt-one (found-at k) (a .letter) (c .before .before .if1 .left) (c .if2 .left))
+    goes (found-at k) (a .letter ∷ []) (spelt-one (found-at k) (a .letter) (at-before .if1 .left) (c .if2 .left))
 
 pub letter-at-spec : {M : Type 1} → statement M
 letter-at-spec =
-    tie.close
-    (tie.spec
-    word-in-requires
-    enum-told
-    enum-known-start
-    sub-if1
-    returns
-    shared-slice-read-if2
-    returns-2
-    returns-3
-    returns-4)
+    tie.close (tie.spec (λ c κs. search needs) (λ c. search needs) (λ c. search needs) sub-if1 returns shared-slice-read-if2 returns-2
+    returns-3 returns-4)

@@ -20,20 +20,28 @@ add-t9 c = search needs
 
 returns : tie.Need-returns
 returns c =
-    let a = c .before .before .before .before .args in
+    let at-word-in = c .before .before in
+    let at-start = at-word-in .before .before in
+    let a = at-start .args in
     let w = c .enum-told .given .0 in
-    words-left (found-of (a .text .now) (a .at) (w .0) (w .1 .0) (w .1 .1 .0) (w .1 .1 .1 .0) (sym (c .before .before .word-in .ensures) ∙ c .enum-told .given .1) .first)
+    words-left (found-of (a .text .now) (a .at) (w .0) (w .1 .0) (w .1 .1 .0) (w .1 .1 .1 .0) (sym (at-word-in .word-in .ensures) ∙ c .enum-told .given .1) .first)
 
 returns-2 : tie.Need-returns-2
 returns-2 c =
-    let a = c .before .before .before .before .before .before .args in
-    let e = end-of (a .text .now) (a .at) (c .before .before .stop .given .0 .0) (sym (c .before .before .before .before .word-in .ensures) ∙ c .before .before .stop .given .1) in
+    let at-stop = c .before .before in
+    let at-word-in = at-stop .before .before in
+    let at-start = at-word-in .before .before in
+    let a = at-start .args in
+    let e = end-of (a .text .now) (a .at) (at-stop .stop .given .0 .0) (sym (at-word-in .word-in .ensures) ∙ at-stop .stop .given .1) in
     (e .none, e .fed (c .if1 .taken))
 
 returns-3 : tie.Need-returns-3
 returns-3 c =
-    let a = c .before .before .before .before .before .before .args in
-    let e = end-of (a .text .now) (a .at) (c .before .before .stop .given .0 .0) (sym (c .before .before .before .before .word-in .ensures) ∙ c .before .before .stop .given .1) in
+    let at-stop = c .before .before in
+    let at-word-in = at-stop .before .before in
+    let at-start = at-word-in .before .before in
+    let a = at-start .args in
+    let e = end-of (a .text .now) (a .at) (at-stop .stop .given .0 .0) (sym (at-word-in .word-in .ensures) ∙ at-stop .stop .given .1) in
     no-feed (e .over (c .if1 .left))
 
 pub line-ended-spec : {M : Type 1} → statement M

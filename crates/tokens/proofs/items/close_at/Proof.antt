@@ -16,12 +16,17 @@ enum-known-next : tie.Need-enum-known-next
 enum-known-next c = search needs
 
 returns : tie.Need-returns
-returns c = let a = c .before .before .before .before .args in subst (λ (r : Ended). EndedIs (a .text .now) (a .at) r) (c .enum-told .given .1) (c .before .before .line-ended .ensures)
+returns c =
+    let at-line-ended = c .before .before in
+    let at-start = at-line-ended .before .before in
+    let a = at-start .args in subst (λ (r : Ended). EndedIs (a .text .now) (a .at) r) (c .enum-told .given .1) (at-line-ended .line-ended .ensures)
 
 returns-2 : tie.Need-returns-2
 returns-2 c =
-    let a = c .before .before .before .before .before .args in
-    subst (λ (r : Ended). EndedIs (a .text .now) (a .at) r) (c .before .next .given .1) (c .before .before .before .line-ended .ensures)
+    let at-line-ended = c .before .before .before in
+    let at-start = at-line-ended .before .before in
+    let a = at-start .args in
+    subst (λ (r : Ended). EndedIs (a .text .now) (a .at) r) (c .before .next .given .1) (at-line-ended .line-ended .ensures)
 
 pub close-at-spec : {M : Type 1} → statement M
 close-at-spec =

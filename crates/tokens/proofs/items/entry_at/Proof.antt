@@ -13,39 +13,27 @@ use Rattle.tokens.proofs.items.entry_at.Tie as tie
 -- where a word was found, what it says of the line, and which item it is
 found-at : (c : tie.After-known-told) → FoundIs (c .before .before .before .before .before .args .text .now) (c .before .before .before .before .before .args .at) (c .before .end .given .0 .0) (c .before .end .given .0 .1 .0)
 found-at c =
-    let a = c .before .before .before .before .before .args in
+    let at-word-in = c .before .before .before in
+    let at-start = at-word-in .before .before in
+    let a = at-start .args in
     let w = c .before .end .given in
-    found-of (a .text .now) (a .at) (w .0 .0) (w .0 .1 .0) (w .0 .1 .1 .0) (w .0 .1 .1 .1 .0) (sym (c .before .before .before .word-in .ensures) ∙ w .1)
+    found-of (a .text .now) (a .at) (w .0 .0) (w .0 .1 .0) (w .0 .1 .1 .0) (w .0 .1 .1 .1 .0) (sym (at-word-in .word-in .ensures) ∙ w .1)
 
 item-at : (c : tie.After-known-told) → itemOf (slice (c .before .end .given .0 .0) (c .before .end .given .0 .1 .0) (c .before .before .before .before .before .args .text .now)) ≡ signedItem (c .before .end .given .0 .1 .1 .1 .0) (c .before .end .given .0 .1 .1 .0)
 item-at c =
-    let a = c .before .before .before .before .before .args in
+    let at-word-in = c .before .before .before in
+    let at-start = at-word-in .before .before in
+    let a = at-start .args in
     let w = c .before .end .given in
-    found-item (a .text .now) (a .at) (w .0 .0) (w .0 .1 .0) (w .0 .1 .1 .0) (w .0 .1 .1 .1 .0) (sym (c .before .before .before .word-in .ensures) ∙ w .1)
-
-word-in-requires : tie.Need-word-in-requires
-word-in-requires c κs = search needs
-
-enum-told : tie.Need-enum-told
-enum-told c = search needs
-
-enum-known-end : tie.Need-enum-known-end
-enum-known-end c = search needs
-
-enum-told-2 : tie.Need-enum-told-2
-enum-told-2 c = search needs
-
-enum-known-number : tie.Need-enum-known-number
-enum-known-number c = search needs
-
-numbered-requires : tie.Need-numbered-requires
-numbered-requires c κs = search needs
+    found-item (a .text .now) (a .at) (w .0 .0) (w .0 .1 .0) (w .0 .1 .1 .0) (w .0 .1 .1 .1 .0) (sym (at-word-in .word-in .ensures) ∙ w .1)
 
 returns : tie.Need-returns
 returns c =
-    let a = c .before .before .before .before .args in
+    let at-word-in = c .before .before in
+    let at-start = at-word-in .before .before in
+    let a = at-start .args in
     let w = c .enum-told .given in
-    wordless (end-of (a .text .now) (a .at) (w .0 .0) (sym (c .before .before .word-in .ensures) ∙ w .1) .none)
+    wordless (end-of (a .text .now) (a .at) (w .0 .0) (sym (at-word-in .word-in .ensures) ∙ w .1) .none)
 
 returns-2 : tie.Need-returns-2
 returns-2 c =
@@ -55,21 +43,14 @@ returns-2 c =
 
 returns-3 : tie.Need-returns-3
 returns-3 c =
-    let k = c .before .before .before .before in
+    let at-number = c .before .before in
+    let at-before = at-number .before in
+    let k = at-before .before in
     let negative = k .before .end .given .0 .1 .1 .1 .0 in
-    let number = c .before .before .number .given in
+    let number = at-number .number .given in
     found-entry (found-at k) (signedItem negative (Is (number .0 .0))) (item-at k ∙ ap (signedItem negative) (number .1)) (c .numbered .result) (c .numbered .ensures)
 
 pub entry-at-spec : {M : Type 1} → statement M
 entry-at-spec =
-    tie.close
-    (tie.spec
-    word-in-requires
-    enum-told
-    enum-known-end
-    enum-told-2
-    enum-known-number
-    numbered-requires
-    returns
-    returns-2
-    returns-3)
+    tie.close (tie.spec (λ c κs. search needs) (λ c. search needs) (λ c. search needs) (λ c. search needs) (λ c. search needs)
+    (λ c κs. search needs) returns returns-2 returns-3)

@@ -20,7 +20,9 @@ add-result : tie.Need-add-result
 add-result c = search needs
 
 returns-2 : tie.Need-returns-2
-returns-2 c = minus (c .before .before .if1 .left) (c .if2 .taken) refl
+returns-2 c =
+    let at-if1 = c .before .before in
+    minus (at-if1 .if1 .left) (c .if2 .taken) refl
 
 returns-3 : tie.Need-returns-3
 returns-3 c = unsigned (c .if2 .left) refl

@@ -13,25 +13,29 @@ run-end-requires c κs = search needs
 
 number-in-requires : tie.Need-number-in-requires
 number-in-requires c κs =
-    let a = c .before .before .before .args in
+    let at-start = c .before .before .before in
+    let a = at-start .args in
     let r = c .before .run-end in
     let stop = r .ensures in
     let some = c .if1 .taken in
     let within = past-within inWord (a .text .now) (a .start) (omega arith) in
-    (sign-on (a .text .now) (a .start) (a .from) (r .result) (c .before .before .before .pre) some, omega arith)
+    (sign-on (a .text .now) (a .start) (a .from) (r .result) (at-start .pre) some, omega arith)
 
 returns : tie.Need-returns
 returns c =
-    let a = c .before .before .before .before .args in
-    let r = c .before .before .run-end in
+    let at-run-end = c .before .before in
+    let at-start = at-run-end .before .before in
+    let a = at-start .args in
+    let r = at-run-end .run-end in
     let stop = r .ensures in
     let some = c .before .if1 .taken in
     let within = past-within inWord (a .text .now) (a .start) (omega arith) in
-    signed-word (a .text .now) (a .start) (a .from) (r .result) (c .before .before .before .before .pre) (c .number-in .result) stop some (omega arith) (c .number-in .ensures)
+    signed-word (a .text .now) (a .start) (a .from) (r .result) (at-start .pre) (c .number-in .result) stop some (omega arith) (c .number-in .ensures)
 
 returns-2 : tie.Need-returns-2
 returns-2 c =
-    let a = c .before .before .before .args in
+    let at-start = c .before .before .before in
+    let a = at-start .args in
     let r = c .before .run-end in
     sym (from-none (a .text .now) (a .start) (r .result) (r .ensures) (c .if1 .left))
 

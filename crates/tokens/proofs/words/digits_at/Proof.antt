@@ -23,67 +23,54 @@ number-to-requires : tie.Need-number-to-requires Inv-loop μ-loop
 number-to-requires c κs = tt
 
 returns : tie.Need-returns Inv-loop μ-loop
-returns c = digits-stop (c .before .before .before .before .loop .inv) (c .before .before .before .loop-test .taken) (c .number-to .result) (c .number-to .ensures)
+returns c =
+    let at-loop-test = c .before .before .before in
+    let at-loop = at-loop-test .before in
+    digits-stop (at-loop .loop .inv) (at-loop-test .loop-test .taken) (c .number-to .result) (c .number-to .ensures)
 
 returns-2 : tie.Need-returns-2 Inv-loop μ-loop
 returns-2 c = tt
 
 sub-if3 : tie.Need-sub-if3 Inv-loop μ-loop
-sub-if3 c = c .before .before .before .before .loop .inv .on
+sub-if3 c =
+    let at-loop = c .before .before .before .before in
+    at-loop .loop .inv .on
 
 returns-3 : tie.Need-returns-3 Inv-loop μ-loop
 returns-3 c = tt
 
 mul-value : tie.Need-mul-value Inv-loop μ-loop
 mul-value c =
-    let a = c .before .before .before .before .before .before .before .args in
-    let l = c .before .before .before .before .before .loop in
+    let at-loop = c .before .before .before .before .before in
+    let at-start = at-loop .before .before in
+    let a = at-start .args in
+    let l = at-loop .loop in
     let below = l .inv .below in
     let most = power-most {k = l .i - a .from} (omega arith) in
     omega arith
-
-cast-value : tie.Need-cast-value Inv-loop μ-loop
-cast-value c = omega arith
 
 add-value : tie.Need-add-value Inv-loop μ-loop
 add-value c =
-    let a = c .before .before .before .before .before .before .before .args in
-    let l = c .before .before .before .before .before .loop in
+    let at-loop = c .before .before .before .before .before in
+    let at-start = at-loop .before .before in
+    let a = at-start .args in
+    let l = at-loop .loop in
     let below = l .inv .below in
     let most = power-most {k = l .i - a .from} (omega arith) in
     omega arith
 
-add-i : tie.Need-add-i Inv-loop μ-loop
-add-i c = omega arith
-
-loop-less : tie.Need-loop-less Inv-loop μ-loop
-loop-less c = omega arith
-
 loop-again : tie.Need-loop-again Inv-loop μ-loop
 loop-again c =
-    digits-more (c .before .before .before .before .before .loop .inv) (c .before .before .before .before .loop-test .taken)
-    (c .before .before .if1 .left) (c .before .if2 .left) (c .if3 .left)
+    let at-if1 = c .before .before in
+    let at-loop-test = at-if1 .before .before in
+    let at-loop = at-loop-test .before in
+    digits-more (at-loop .loop .inv) (at-loop-test .loop-test .taken)
+    (at-if1 .if1 .left) (c .before .if2 .left) (c .if3 .left)
 
 returns-4 : tie.Need-returns-4 Inv-loop μ-loop
 returns-4 c = tt
 
 pub digits-at-spec : {M : Type 1} → statement M
 digits-at-spec =
-    tie.close
-    (tie.spec
-    Inv-loop
-    μ-loop
-    loop-holds
-    shared-slice-read-byte
-    number-to-requires
-    returns
-    returns-2
-    sub-if3
-    returns-3
-    mul-value
-    cast-value
-    add-value
-    add-i
-    loop-less
-    loop-again
-    returns-4)
+    tie.close (tie.spec Inv-loop μ-loop loop-holds shared-slice-read-byte number-to-requires returns returns-2 sub-if3 returns-3 mul-value
+    (λ c. omega arith) add-value (λ c. omega arith) (λ c. omega arith) loop-again returns-4)

@@ -25,50 +25,48 @@ loop-holds c =
     let one : 0 < 10 ^ (start - start) = rw (sub-self start) (lit< tt) in
     (omega arith, omega arith, one, refl)
 
-shared-slice-read-byte : tie.Need-shared-slice-read-byte Inv-loop μ-loop
-shared-slice-read-byte c = omega arith
-
 returns : tie.Need-returns Inv-loop μ-loop
 returns c =
-    let a = c .before .before .before .before .args in
-    let l = c .before .before .before .loop in
+    let at-loop = c .before .before .before in
+    let at-start = at-loop .before in
+    let a = at-start .args in
+    let l = at-loop .loop in
     let b = getD (a .text .now) (l .i) 0 in
     sym (spelt-other (l .value) (l .i) (a .end) (a .text .now) (omega arith) (omega arith) (rw (lt-leb ZERO b (c .if1 .taken)))) ∙ l .inv .3
 
 returns-2 : tie.Need-returns-2 Inv-loop μ-loop
 returns-2 c =
-    let a = c .before .before .before .before .before .args in
-    let l = c .before .before .before .before .loop in
+    let at-loop = c .before .before .before .before in
+    let at-start = at-loop .before in
+    let a = at-start .args in
+    let l = at-loop .loop in
     let b = getD (a .text .now) (l .i) 0 in
     sym (spelt-other (l .value) (l .i) (a .end) (a .text .now) (omega arith) (omega arith) (rw (le-leb ZERO b (c .before .if1 .left), lt-leb b NINE (c .if2 .taken)))) ∙ l .inv .3
 
 mul-value : tie.Need-mul-value Inv-loop μ-loop
 mul-value c =
-    let a = c .before .before .before .before .before .args in
-    let l = c .before .before .before .before .loop in
+    let at-loop = c .before .before .before .before in
+    let at-start = at-loop .before in
+    let a = at-start .args in
+    let l = at-loop .loop in
     let most = power-most {k = l .i - a .start} (omega arith) in
     omega arith
-
-cast-value : tie.Need-cast-value Inv-loop μ-loop
-cast-value c = omega arith
 
 add-value : tie.Need-add-value Inv-loop μ-loop
 add-value c =
-    let a = c .before .before .before .before .before .args in
-    let l = c .before .before .before .before .loop in
+    let at-loop = c .before .before .before .before in
+    let at-start = at-loop .before in
+    let a = at-start .args in
+    let l = at-loop .loop in
     let most = power-most {k = l .i - a .start} (omega arith) in
     omega arith
 
-add-i : tie.Need-add-i Inv-loop μ-loop
-add-i c = omega arith
-
-loop-less : tie.Need-loop-less Inv-loop μ-loop
-loop-less c = omega arith
-
 loop-again : tie.Need-loop-again Inv-loop μ-loop
 loop-again c =
-    let a = c .before .before .before .before .before .args in
-    let l = c .before .before .before .before .loop in
+    let at-loop = c .before .before .before .before in
+    let at-start = at-loop .before in
+    let a = at-start .args in
+    let l = at-loop .loop in
     let b = getD (a .text .now) (l .i) 0 in
     let low : ZERO ≤ b = omega arith in
     let high : b ≤ NINE = omega arith in
@@ -81,25 +79,13 @@ loop-again c =
 
 returns-3 : tie.Need-returns-3 Inv-loop μ-loop
 returns-3 c =
-    let a = c .before .before .args in
+    let at-start = c .before .before in
+    let a = at-start .args in
     let l = c .before .loop in
     let done : l .i ≡ a .end = omega arith in
     sym (spelt-none (l .value) (a .end) (a .text .now)) ∙ sym (ap (λ (k : ℕ). speltOf (l .value) (slice k (a .end) (a .text .now))) done) ∙ l .inv .3
 
 pub digits-in-spec : {M : Type 1} → statement M
 digits-in-spec =
-    tie.close
-    (tie.spec
-    Inv-loop
-    μ-loop
-    loop-holds
-    shared-slice-read-byte
-    returns
-    returns-2
-    mul-value
-    cast-value
-    add-value
-    add-i
-    loop-less
-    loop-again
-    returns-3)
+    tie.close (tie.spec Inv-loop μ-loop loop-holds (λ c. omega arith) returns returns-2 mul-value (λ c. omega arith) add-value
+    (λ c. omega arith) (λ c. omega arith) loop-again returns-3)

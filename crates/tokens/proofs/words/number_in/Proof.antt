@@ -7,39 +7,30 @@ use borrow.Author.Needs.{needs}
 use Rattle.tokens.proofs.words.number_in.Statement.{statement}
 use Rattle.tokens.proofs.words.number_in.Tie as tie
 
-sub-size : tie.Need-sub-size
-sub-size c = search needs
-
 returns : tie.Need-returns
 returns c =
-    let a = c .before .before .args in
+    let at-start = c .before .before in
+    let a = at-start .args in
     let word = slice (a .start) (a .end) (a .text .now) in
-    let size = length-slice (a .start) (a .end) (a .text .now) (c .before .before .pre .1) in
+    let size = length-slice (a .start) (a .end) (a .text .now) (at-start .pre .1) in
     sym (number-short word (omega arith))
 
 returns-2 : tie.Need-returns-2
 returns-2 c =
-    let a = c .before .before .before .args in
+    let at-start = c .before .before .before in
+    let a = at-start .args in
     let word = slice (a .start) (a .end) (a .text .now) in
-    let size = length-slice (a .start) (a .end) (a .text .now) (c .before .before .before .pre .1) in
+    let size = length-slice (a .start) (a .end) (a .text .now) (at-start .pre .1) in
     sym (number-long word (omega arith))
-
-digits-in-requires : tie.Need-digits-in-requires
-digits-in-requires c κs = search needs
 
 returns-3 : tie.Need-returns-3
 returns-3 c =
-    let a = c .before .before .before .before .args in
+    let at-start = c .before .before .before .before in
+    let a = at-start .args in
     let word = slice (a .start) (a .end) (a .text .now) in
-    let size = length-slice (a .start) (a .end) (a .text .now) (c .before .before .before .before .pre .1) in
+    let size = length-slice (a .start) (a .end) (a .text .now) (at-start .pre .1) in
     c .digits-in .ensures ∙ sym (number-spelt word (omega arith) (omega arith))
 
 pub number-in-spec : {M : Type 1} → statement M
 number-in-spec =
-    tie.close
-    (tie.spec
-    sub-size
-    returns
-    returns-2
-    digits-in-requires
-    returns-3)
+    tie.close (tie.spec (λ c. search needs) returns returns-2 (λ c κs. search needs) returns-3)

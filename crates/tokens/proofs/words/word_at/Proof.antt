@@ -8,27 +8,10 @@ use borrow.Author.Needs.{needs}
 use Rattle.tokens.proofs.words.word_at.Statement.{statement}
 use Rattle.tokens.proofs.words.word_at.Tie as tie
 
-gap-end-requires : tie.Need-gap-end-requires
-gap-end-requires c κs = search needs
-
-after-sign-requires : tie.Need-after-sign-requires
-after-sign-requires c κs = search needs
-
-digits-at-requires : tie.Need-digits-at-requires
-digits-at-requires c κs = search needs
-
-enum-known-value : tie.Need-enum-known-value
-enum-known-value c = search needs
-
-enum-told : tie.Need-enum-told
-enum-told c = search needs
-
-any-word-requires : tie.Need-any-word-requires
-any-word-requires c κs = search needs
-
 returns : tie.Need-returns
 returns c =
-    let k = c .before .before .before in
+    let at-before = c .before .before in
+    let k = at-before .before in
     let a = k .before .before .before .before .args in
     let text = a .text .now in
     let gap = k .before .before .gap-end in
@@ -39,19 +22,13 @@ returns c =
 
 returns-2 : tie.Need-returns-2
 returns-2 c =
-    let gap = c .before .before .before .before .before .gap-end in
-    let a = c .before .before .before .before .before .before .before .args in
+    let at-gap-end = c .before .before .before .before .before in
+    let at-start = at-gap-end .before .before in
+    let gap = at-gap-end .gap-end in
+    let a = at-start .args in
     c .any-word .ensures ∙ from-word (a .text .now) (a .at) (gap .result) (gap .ensures)
 
 pub word-at-spec : {M : Type 1} → statement M
 word-at-spec =
-    tie.close
-    (tie.spec
-    gap-end-requires
-    after-sign-requires
-    digits-at-requires
-    enum-known-value
-    enum-told
-    any-word-requires
-    returns
-    returns-2)
+    tie.close (tie.spec (λ c κs. search needs) (λ c κs. search needs) (λ c κs. search needs) (λ c. search needs) (λ c. search needs)
+    (λ c κs. search needs) returns returns-2)

@@ -18,14 +18,22 @@ enum-told c = search needs
 
 forest-verdict-requires : tie.Need-forest-verdict-requires
 forest-verdict-requires c κs =
-    let a = c .before .before .before .before .before .args in
-    (c .before .before .before .before .before .pre .0, c .before .before .before .before .before .pre .1, subst (Judged (checkOrderUnder (a .rule) (a .n) (a .prefix .now) (a .clauses .now))) (c .enum-told .given .1) (c .before .before .check .ensures))
+    let at-check = c .before .before in
+    let at-start = at-check .before .before .before in
+    let a = at-start .args in
+    (at-start .pre .0, at-start .pre .1, subst (Judged (checkOrderUnder (a .rule) (a .n) (a .prefix .now) (a .clauses .now))) (c .enum-told .given .1) (at-check .check .ensures))
 
 returns : tie.Need-returns
-returns c = formula-refused (c .before .before .before .before .before .before .args .rule) (c .before .before .before .before .before .before .pre .1) (c .before .before .before .check .result) (c .before .before .before .check .ensures) (c .before .number .given .1)
+returns c =
+    let at-check = c .before .before .before in
+    let at-start = at-check .before .before .before in
+    formula-refused (at-start .args .rule) (at-start .pre .1) (at-check .check .result) (at-check .check .ensures) (c .before .number .given .1)
 
 returns-2 : tie.Need-returns-2
-returns-2 c = formula-then (c .before .before .before .before .before .before .args .rule) (c .before .before .before .before .before .before .pre .1) (c .before .before .before .check .result) (c .before .before .before .check .ensures) (c .forest-verdict .result) (c .before .enum-told .given .1) (c .forest-verdict .ensures)
+returns-2 c =
+    let at-check = c .before .before .before in
+    let at-start = at-check .before .before .before in
+    formula-then (at-start .args .rule) (at-start .pre .1) (at-check .check .result) (at-check .check .ensures) (c .forest-verdict .result) (c .before .enum-told .given .1) (c .forest-verdict .ensures)
 
 pub formula-verdict-spec : {M : Type 1} → statement M
 formula-verdict-spec =

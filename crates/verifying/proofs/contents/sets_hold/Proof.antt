@@ -9,7 +9,9 @@ slice-aggregate-listed-hold : tie.Need-slice-aggregate-listed-hold
 slice-aggregate-listed-hold c = search needs
 
 listed-hold-requires : tie.Need-listed-hold-requires
-listed-hold-requires c κs = let pre = c .before .before .before .before .before .before .pre in (pre .0, (pre .1, length-replicate {A = ℕ} 131072 0))
+listed-hold-requires c κs =
+    let at-start = c .before .before .before .before .before .before in
+    let pre = at-start .pre in (pre .0, (pre .1, length-replicate {A = ℕ} 131072 0))
 
 returns : tie.Need-returns
 returns c = c .before .listed-hold .ensures
