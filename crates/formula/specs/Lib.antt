@@ -1,3 +1,4 @@
+pub mod Lent
 pub mod Tables
 pub mod Meaning
 pub mod Causes

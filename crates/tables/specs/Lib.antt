@@ -1,4 +1,5 @@
 pub mod Formula
+pub mod Lent
 pub mod Causes
 pub mod Rows
 pub mod Counting

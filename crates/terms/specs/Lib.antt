@@ -1,4 +1,5 @@
 pub mod Answers
 pub mod Limits
 pub mod Literals
+pub mod Pairs
 pub mod Refusals

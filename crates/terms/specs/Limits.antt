@@ -16,3 +16,15 @@ prefixEntries = 8192
 -- the most entries of a clause table, and of an added clause
 abbrev pub clauseEntries : ℕ
 clauseEntries = 16384
+
+-- the rows of a table with one for each number from 0 to the largest variable count
+abbrev pub variableRows : ℕ
+variableRows = 4097
+
+-- the rows of a table with two for each of these, one for each literal
+abbrev pub literalRows : ℕ
+literalRows = 8194
+
+-- the most entries of a prefix whose neighbouring blocks are joined: all variables, and a mark and a 0 for each block
+abbrev pub joinedEntries : ℕ
+joinedEntries = 4224

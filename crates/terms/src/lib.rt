@@ -1,5 +1,7 @@
 // The words of the library: variables, levels and literals, kept apart at compile time, with the limits of each, and the verdict of a call.
 
+pub mod pairs;
+
 ghost use mathlib.Core.Path.{_≡_};
 ghost use Rattle.terms.specs.Literals.{variableOf, rowOf, otherRow};
 
@@ -15,6 +17,8 @@ pub struct Literal(pub i32);
 impl Variable {
     // The largest variable count that a formula may have.
     pub const MOST: u32 = 4096;
+    // The rows of a table with one for each number from 0 to that: row v is for variable v.
+    pub const ROWS: usize = 4097;
 
     pub fn new(number: u32) -> Variable
         ensures { λ r. ⌜ r .0 ≡ number ⌝ }
@@ -28,6 +32,8 @@ impl Level {
     pub const MOST: u32 = 64;
     // The most entries that the table of the levels, the prefix, may have.
     pub const ENTRIES: usize = 8192;
+    // The most that it may have once neighbouring blocks are joined: all variables, and a mark and a 0 for each block.
+    pub const JOINED: usize = 4224;
 
     pub fn new(number: u32) -> Level
         ensures { λ r. ⌜ r .0 ≡ number ⌝ }
@@ -39,6 +45,8 @@ impl Level {
 impl Literal {
     // The most entries that a table of literals, the clause table or an added clause, may have.
     pub const ENTRIES: usize = 16384;
+    // The rows of a table with two for each number from 0 to the largest variable count, one for each literal.
+    pub const ROWS: usize = 8194;
 
     pub fn new(number: i32) -> Literal
         ensures { λ r. ⌜ r .0 ≡ number ⌝ }
