@@ -1,4 +1,4 @@
-/* What the benchmark calls of the C library beyond capi/bare, for the kit's clang, which comes with no headers. x86-64 Linux. */
+/* What the benchmark calls of the C library beyond tools/include, for the kit's clang, which comes with no headers. x86-64 Linux. */
 #ifndef SYSTEM_H
 #define SYSTEM_H
 

@@ -10,7 +10,7 @@
  * and no allocation: all tables are the caller's, lent for the time of the
  * call.
  *
- * Link target/staticlib/libcapi.a, which `rt staticlib capi` writes. It is
+ * Link the archive that tests/run proves, and names in its last line. It is
  * for x86-64 Linux, and calls nothing but memset and memcpy. A call keeps its
  * own tables on the stack, some 255 KiB at most (snow_sets), but
  * snow_resolution_set some 350 KiB, and snow_load some 920 KiB.

@@ -1,0 +1,10 @@
+/* What include/snowcoddle.h needs of <stdint.h>, for the kit's clang, which comes with no headers. */
+#ifndef KIT_STDINT_H
+#define KIT_STDINT_H
+
+typedef __UINT8_TYPE__ uint8_t;
+typedef __INT32_TYPE__ int32_t;
+typedef __UINT32_TYPE__ uint32_t;
+typedef __UINT64_TYPE__ uint64_t;
+
+#endif
