@@ -1,1 +1,2 @@
-pub mod Named
+-- The laws of an added clause.
+pub mod Ranged

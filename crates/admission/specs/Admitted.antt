@@ -1,14 +1,12 @@
--- What add refuses of the clause and of the tally that it is given.
+-- To be believed: what add refuses of the clause and of the tally that it is given.
 use Prim.Native.Nat.{ℕ, _+_, _≤_, _<_}
 use mathlib.Core.Path.{_≡_}
-use mathlib.Core.List.{List, [], _∷_, _++_}
+use mathlib.Core.List.{List}
 use mathlib.Core.Logic.{_⊎_, _≢_}
 use lib.IntN.{ℤ}
 use lib.ListN.{length}
 use Rattle.terms.specs.Literals.{variableOf}
-use Rattle.terms.specs.Refusals.{Causes}
 use Rattle.terms.specs.declared.Tally.{Tally}
-use Rattle.formula.specs.Causes.{prefixOrder}
 use Rattle.formula.specs.Tables.{literalAt}
 
 -- 10, for an added clause: a literal's variable outside 1 to n, or 0
@@ -19,10 +17,7 @@ pub data AddedCause (n : ℕ) (ls : List ℤ) (number e : ℕ) : Type 0 where
 abbrev pub tallyClauses : ℕ
 tallyClauses = 65535
 
--- 18: tally at 65,535 clauses or more, or its classes left aren't the tables' number of class names, or its merges and classes left don't sum to the existentials
+-- 18: the tally is at 65,535 clauses or more, or its classes left are not as many as the tables' class names, or its merges and classes left do not sum
+-- to the existentials
 abbrev pub WrongTally : Tally → ℕ → ℕ → Type 0
 WrongTally t class-names exs = (tallyClauses ≤ t .clauses) ⊎ ((t .classes ≢ class-names) ⊎ (t .merges + t .classes ≢ exs))
-
--- what add looks at first: 1, 2, prefix from the left, the clause's literals from the left
-abbrev pub clauseFirst : ℕ → List ℕ → List ℤ → List Causes
-clauseFirst n es ls = prefixOrder n es (length ls) ++ (AddedCause n ls ∷ [])

@@ -1,25 +1,14 @@
-// What is looked at of an added clause and its prefix before any table: refusals 1 to 9, and 10.
+// What is looked at of an added clause: refusal 10.
 
-use checks::prefix::prefix_verdict;
 use formula::clauses::variable_at;
 use terms::Verdict;
 ghost use mathlib.Core.List.{[], _∷_};
 ghost use Rattle.terms.specs.Refusals.{Judged};
-ghost use Rattle.admission.specs.Admitted.{AddedCause, clauseFirst};
-
-// The first cause of refusals 1 to 10 for a clause that is to be added.
-pub fn added_verdict(n: u32, prefix: &[u32], clause: &[i32]) -> Verdict
-    ensures { λ r. ⌜ Judged (clauseFirst n (now (prefix .entry)) (now (clause .entry))) r ⌝ }
-{
-    match prefix_verdict(n, prefix, clause.len()) {
-        Verdict::Refused(number, place) => Verdict::Refused(number, place),
-        Verdict::Accepted => check_added(n, clause),
-    }
-}
+ghost use Rattle.admission.specs.Admitted.{AddedCause};
 
 // The first literal of an added clause whose variable is outside 1 to n.
-fn check_added(n: u32, clause: &[i32]) -> Verdict
-    ensures { λ r. ⌜ Judged (AddedCause n (now (clause .entry)) ∷ []) r ⌝ }
+pub fn check_added(n: u32, clause: &[i32]) -> Verdict
+    ensures judged { λ r. ⌜ Judged (AddedCause n (now (clause .entry)) ∷ []) r ⌝ }
 {
     let mut i = 0;
     while i < clause.len() {

@@ -3,13 +3,14 @@
 use terms::Tally;
 ghost use Prim.Native.Nat.{_+_, _-_, _≤_, _<_};
 ghost use mathlib.Core.Path.{_≡_};
+ghost use Rattle.terms.specs.Limits.{mostVariables};
 ghost use Rattle.tables.specs.Rows.{Tells};
 ghost use Rattle.admission.specs.Admitted.{tallyClauses, WrongTally};
 
-// Whether a tally is refused as 18. Its sum is never made, since it might not fit.
+// Whether a tally is refused as 18. Its merges and classes are never added up, since their sum might not fit.
 pub fn disagrees(tally: Tally, names: u32, existentials: u32) -> bool
-    requires { ⌜ names ≤ existentials ⌝ }
-    ensures { λ r. ⌜ Tells r (WrongTally tally names existentials) ⌝ }
+    requires fewer { ⌜ names ≤ existentials ⌝ }
+    ensures told { λ r. ⌜ Tells r (WrongTally tally names existentials) ⌝ }
 {
     if Tally::CLAUSES <= tally.clauses {
         return true;
@@ -23,10 +24,10 @@ pub fn disagrees(tally: Tally, names: u32, existentials: u32) -> bool
     false
 }
 
-// The tally with one clause more, which left so many classes.
+// The tally with one clause more, which left so many classes: every class that is gone was merged into another.
 pub fn take(tally: Tally, left: u32) -> Tally
-    requires { ⌜ (tally .clauses < tallyClauses) × (left ≤ tally .classes) × (tally .merges + tally .classes ≤ 4096) ⌝ }
-    ensures { λ r. ⌜ (r .clauses ≡ tally .clauses + 1) × (r .merges ≡ tally .merges + (tally .classes - left)) × (r .classes ≡ left) ⌝ }
+    requires agrees { ⌜ (tally .clauses < tallyClauses) × (left ≤ tally .classes) × (tally .merges + tally .classes ≤ mostVariables) ⌝ }
+    ensures took { λ r. ⌜ (r .clauses ≡ tally .clauses + 1) × (r .merges ≡ tally .merges + (tally .classes - left)) × (r .classes ≡ left) ⌝ }
 {
     Tally {
         clauses: tally.clauses + 1,

@@ -12,9 +12,9 @@ use Rattle.grammar.specs.declared.Stage.{Stage}
 use Rattle.tokens.specs.Words.{words}
 use Rattle.grammar.specs.Grammar.{placeAfter}
 use Rattle.spelling.specs.Texts.{Overlong, overlong}
-use Rattle.dqdimacs.specs.declared.Reading.{Reading}
+use Rattle.terms.specs.declared.ListedReading.{ListedReading}
 use Rattle.dqdimacs.specs.Grammar.{ListLine, d-line, ListedLine, a-line, a-list, ListedLines, no-line, one-more, ListedText, ListedFault, outside, unended, no-problem, many, few, ListedFaultIn}
-use Rattle.dqdimacs.specs.Reading.{Tables, NoRoom, no-room-prefix, no-room-clauses, no-room-lists, readOrder, Filled, ReadInto, ReadIs}
+use Rattle.dqdimacs.specs.Reading.{Tables, NoRoom, no-room-prefix, no-room-clauses, no-room-lists, readOrder, FrontFilled, ReadInto, ReadIs}
 use Rattle.cells.specs.Cells.{Fits, Laid}
 use Rattle.cells.specs.Formulas.{ThreeInCells, listedSaid}
 use Rattle.capi.specs.Told.{Told}
@@ -69,7 +69,8 @@ small-read text before =
     (λ _. small-within (NoRoom text before) 0 (omega arith) (λ k p cause. no-room-place cause)))
 
 -- the counts of what was read
-counts-few : (n entries literals rows : ℕ) (text : List ℕ) (before after : Tables) → NoneOf (readOrder text before) → ReadInto n entries literals rows text before after → (entries ≤ 65536) × (literals ≤ 65536) × (rows ≤ 65536)
+counts-few : (n entries literals rows : ℕ) (text : List ℕ) (before after : Tables) → NoneOf (readOrder text before)
+    → ReadInto n entries literals rows text before after → (entries ≤ 65536) × (literals ≤ 65536) × (rows ≤ 65536)
 counts-few n entries literals rows text before after clean r =
     let long : ¬ (65536 < length text) = λ l. clean .0 15 65536 (overlong l) in
     let p = counted (r .prefix-filled) in
@@ -78,7 +79,7 @@ counts-few n entries literals rows text before after clean r =
     let l = text-few (r .text-of) in
     (omega arith, omega arith, omega arith)
   where
-    counted : {A : Type 0} {count : ℕ} {before′ after′ : List A} → Filled count before′ after′ → length (take count after′) ≡ count
+    counted : {A : Type 0} {count : ℕ} {before′ after′ : List A} → FrontFilled count before′ after′ → length (take count after′) ≡ count
     counted {count = count} {after′ = after′} f = let room = f .room in let size = f .same-length in length-take-le count after′ (omega arith)
 
 -- What reading gives is told: n and the counts, with the tables.
@@ -89,11 +90,11 @@ module _ (text : List ℕ) (before after : Tables) where
   abbrev Stay : Type 0
   Stay = (after .0 ≡ before .0) × (after .1 ≡ before .1) × (after .2 ≡ before .2)
 
-  read-known : (answer : Reading) → ReadIs text before after answer → Known (readOrder text before) Into Stay (listedSaid answer)
-  read-known (Reading.Read n entries literals rows) said = said
-  read-known (Reading.Refused number at) said = (said .0, (said .1, said .2, said .3))
+  read-known : (answer : ListedReading) → ReadIs text before after answer → Known (readOrder text before) Into Stay (listedSaid answer)
+  read-known (ListedReading.Read n entries literals rows) said = said
+  read-known (ListedReading.Refused number at) said = (said .0, (said .1, said .2, said .3))
 
-  pub fits-read : (answer : Reading) → ReadIs text before after answer → Fits ThreeInCells (listedSaid answer)
+  pub fits-read : (answer : ListedReading) → ReadIs text before after answer → Fits ThreeInCells (listedSaid answer)
   fits-read answer said =
       fits-known (readOrder text before) Into Stay ThreeInCells (listedSaid answer) (small-read text before)
       (λ cells clean r.
@@ -104,7 +105,8 @@ module _ (text : List ℕ) (before after : Tables) where
       (omega arith, omega arith, omega arith))
       (read-known answer said)
 
-  pub tell-read : (answer : Reading) {n entries literals rows n′ entries′ literals′ rows′ place place′ returned : ℕ} → Laid (listedSaid answer) (n, entries, literals, rows) (n′, entries′, literals′, rows′) place place′ returned
+  pub tell-read : (answer : ListedReading) {n entries literals rows n′ entries′ literals′ rows′ place place′ returned : ℕ}
+      → Laid (listedSaid answer) (n, entries, literals, rows) (n′, entries′, literals′, rows′) place place′ returned
       → ReadIs text before after answer
       → Told (readOrder text before) (ReadInto n′ entries′ literals′ rows′ text before after)
       ((n′ ≡ n) × (entries′ ≡ entries) × (literals′ ≡ literals) × (rows′ ≡ rows) × (after .0 ≡ before .0) × (after .1 ≡ before .1) × (after .2 ≡ before .2)) returned place place′

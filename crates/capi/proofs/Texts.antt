@@ -10,12 +10,11 @@ use lib.IntN.{ℤ}
 use lib.ListN.{length, length-append}
 use lib.Seq.{length-take-le}
 use Rattle.terms.specs.Refusals.{NoneOf}
-use Rattle.qdimacs.specs.declared.Reading.{Reading}
+use Rattle.terms.specs.declared.Reading.{Reading}
 use Rattle.grammar.specs.declared.Stage.{Stage}
-use Rattle.tokens.specs.declared.Item.{Item}
-use Rattle.tokens.specs.declared.Item.the-variants.{Closing, Plain, Negated, Other}
-use Rattle.tokens.specs.Words.{LF, SPACE, pieces, onto, filled, words, itemOf, Kind, prepend, closed, entry, entriesOf}
-use Rattle.grammar.specs.Grammar.{QuantifierLine, e-line, a-line, ClauseLine, literals-line, Line, a-comment, the-problem, a-block, a-clause, Lines, no-line, one-more, TextOf, Fault, outside, unended, no-problem, many, few, placeAfter, FaultIn}
+use Rattle.tokens.specs.Words.{Item, Closing, Plain, Negated, Other, LF, SPACE, pieces, onto, filled, words, itemOf, Kind, prepend, closed, entry, entriesOf}
+use Rattle.grammar.specs.Grammar.{QuantifierLine, e-line, a-line, ClauseLine, literals-line, Line, a-comment, the-problem, a-block, a-clause, Lines}
+use Rattle.grammar.specs.Grammar.{no-line, one-more, TextOf, Fault, outside, unended, no-problem, many, few, placeAfter, FaultIn}
 use Rattle.grammar.proofs.Places.{pieces-place, place-few, fault-place}
 use Rattle.qdimacs.specs.Reading.{Overlong, overlong, NoRoom, no-room-prefix, no-room-clauses, readOrder, ReadInto, ReadIs}
 use Rattle.cells.specs.Cells.{Fits, Laid}
@@ -109,7 +108,8 @@ small-read text prefix clauses =
     (λ _. small-within (NoRoom text prefix clauses) 0 (omega arith) (λ k p cause. no-room-place cause)))
 
 -- the counts of what was read
-counts-few : (n entries literals : ℕ) (text prefix prefix′ : List ℕ) (clauses clauses′ : List ℤ) → NoneOf (readOrder text prefix clauses) → ReadInto n entries literals text prefix prefix′ clauses clauses′ → (entries ≤ 65536) × (literals ≤ 65536)
+counts-few : (n entries literals : ℕ) (text prefix prefix′ : List ℕ) (clauses clauses′ : List ℤ) → NoneOf (readOrder text prefix clauses)
+    → ReadInto n entries literals text prefix prefix′ clauses clauses′ → (entries ≤ 65536) × (literals ≤ 65536)
 counts-few n entries literals text prefix prefix′ clauses clauses′ clean r =
     let long : ¬ (65536 < length text) = λ l. clean .0 15 65536 (overlong l) in
     let room = r .prefix-room in
@@ -133,11 +133,14 @@ module _ (text prefix prefix′ : List ℕ) (clauses clauses′ : List ℤ) wher
   pub fits-read : (answer : Reading) → ReadIs text prefix prefix′ clauses clauses′ answer → Fits TwoInCells (readingSaid answer)
   fits-read answer said =
       fits-known (readOrder text prefix clauses) Into ((prefix′ ≡ prefix) × (clauses′ ≡ clauses)) TwoInCells (readingSaid answer) (small-read text prefix clauses)
-      (λ cells clean r. let few = counts-few (cells .0) (cells .1) (cells .2) text prefix prefix′ clauses clauses′ clean r in let a = few .0 in let b = few .1 in (omega arith, omega arith)) (read-known answer said)
+      (λ cells clean r. let few = counts-few (cells .0) (cells .1) (cells .2) text prefix prefix′ clauses clauses′ clean r in let a = few .0 in
+      let b = few .1 in (omega arith, omega arith)) (read-known answer said)
 
-  pub tell-read : (answer : Reading) {n entries literals n′ entries′ literals′ place place′ returned : ℕ} → Laid (readingSaid answer) (n, entries, literals) (n′, entries′, literals′) place place′ returned
+  pub tell-read : (answer : Reading) {n entries literals n′ entries′ literals′ place place′ returned : ℕ}
+      → Laid (readingSaid answer) (n, entries, literals) (n′, entries′, literals′) place place′ returned
       → ReadIs text prefix prefix′ clauses clauses′ answer
-      → Told (readOrder text prefix clauses) (ReadInto n′ entries′ literals′ text prefix prefix′ clauses clauses′) ((n′ ≡ n) × (entries′ ≡ entries) × (literals′ ≡ literals) × (prefix′ ≡ prefix) × (clauses′ ≡ clauses)) returned place place′
+      → Told (readOrder text prefix clauses) (ReadInto n′ entries′ literals′ text prefix prefix′ clauses clauses′)
+      ((n′ ≡ n) × (entries′ ≡ entries) × (literals′ ≡ literals) × (prefix′ ≡ prefix) × (clauses′ ≡ clauses)) returned place place′
   tell-read answer laid said =
       tell-known (readOrder text prefix clauses) Into ((prefix′ ≡ prefix) × (clauses′ ≡ clauses)) laid (read-known answer said)
       (λ q k. (ap (λ (t : ℕ × ℕ × ℕ). t .0) q, ap (λ (t : ℕ × ℕ × ℕ). t .1) q, ap (λ (t : ℕ × ℕ × ℕ). t .2) q, k .0, k .1))

@@ -3,15 +3,16 @@ use Prim.Native.Nat.{ℕ}
 use mathlib.Core.Path.{_≡_}
 use mathlib.Core.List.{List}
 use lib.ListN.{length}
-use Rattle.records.specs.Places.{countIn, prefixIn, clausesIn, hasSets}
+use Rattle.joining.specs.Rules.{readBy}
+use Rattle.records.specs.Places.{formulaHeld, hasSets}
 use Rattle.records.specs.Causes.{Lent}
 use Rattle.records.specs.Promises.{FilledFrom}
 use Rattle.cells.specs.Codes.{tellsSets}
 
 -- n, how many entries prefix and clauses have, and whether sets were there, as the file has them; with the lent tables filled
 pub record Given (rule : ℕ) (file : List ℕ) (lent lent′ : Lent) (n entries literals with-sets : ℕ) : Type 0 where
-  pub count : n ≡ countIn file
-  pub prefix-count : entries ≡ length (prefixIn file)
-  pub clauses-count : literals ≡ length (clausesIn file)
+  pub count : n ≡ formulaHeld file .n
+  pub prefix-count : entries ≡ length (formulaHeld file .prefix)
+  pub clauses-count : literals ≡ length (formulaHeld file .clauses)
   pub sets-told : with-sets ≡ tellsSets (hasSets file)
-  pub filled : FilledFrom rule file lent lent′
+  pub filled : FilledFrom (readBy rule (formulaHeld file)) file lent lent′

@@ -1,2 +1,3 @@
 pub mod Told
 pub mod Filed
+pub mod Promises

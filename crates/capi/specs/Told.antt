@@ -7,9 +7,9 @@ use lib.ListN.{length, getD}
 use lib.Seq.{sets}
 use Rattle.terms.specs.Refusals.{Causes, FirstOf, NoneOf}
 use Rattle.formula.specs.Meaning.{clauses}
-use Rattle.formula.specs.Lookup.{beginOf}
-use Rattle.connection.specs.Listed.{Listed}
+use Rattle.formula.specs.Clause.{beginOf}
 use Rattle.terms.specs.declared.Tally.{Tally}
+use Rattle.tables.specs.Lent.{Rows}
 use Rattle.growth.specs.Grown.{Standing, standing}
 use Rattle.cells.specs.Codes.{cellsOf}
 
@@ -27,10 +27,6 @@ Clause ls asked start len = (start ≡ beginOf (clauses ls) asked) × (len ≡ l
 abbrev pub Front : (List ℕ → Type 0) → List ℕ → List ℕ → ℕ → Type 0
 Front L out out′ count = (list : List ℕ) × L list × (count ≡ length list) × (out′ ≡ sets out 0 list)
 
--- the same for the ascending list of the numbers of which P holds
-abbrev pub Written : (ℕ → Type 0) → List ℕ → List ℕ → ℕ → Type 0
-Written P = Front (Listed P)
-
 -- forest tables and a tally afterwards, of which S holds, with the tally in its cells
-abbrev pub Left : (Standing → Type 0) → List ℕ → List ℕ → List ℕ → List ℕ → List ℕ → Type 0
-Left S classes parents counts cells cells′ = (tally : Tally) × S (standing classes parents counts tally) × (cells′ ≡ sets cells 0 (cellsOf tally))
+abbrev pub Left : (Standing → Type 0) → Rows → List ℕ → List ℕ → Type 0
+Left S r cells cells′ = (tally : Tally) × S (standing r tally) × (cells′ ≡ sets cells 0 (cellsOf tally))

@@ -4,12 +4,9 @@ use cells::lay;
 use cells::lay_verdict;
 use cells::scheme_in;
 use terms::Variable;
-ghost use mathlib.Core.Path.{_≡_};
-ghost use Rattle.joining.specs.Rules.{readAs};
-ghost use Rattle.lists.specs.Lists.{DependsOnBy};
-ghost use Rattle.lists.specs.Causes.{checkListsOrder, setOrder};
+ghost use Rattle.formula.specs.Lent.{formulaIn};
 ghost use Rattle.cells.specs.Codes.{schemeOf};
-ghost use Rattle.capi.specs.Told.{Told, Written};
+ghost use Rattle.capi.specs.Promises.{CheckListsTold, ListedSetTold};
 
 // Check with lists: whether a formula and its dependency lists keep every rule.
 #[no_mangle]
@@ -21,7 +18,7 @@ pub extern "C" fn snow_check_lists(
     lists: &[u32],
     place: &mut u32,
 ) -> u32
-    ensures { λ r. ⌜ Told (checkListsOrder rule n (now (prefix .entry)) (now (clauses .entry)) (now (lists .entry))) (Unit {0}) (Unit {0}) r (now (place .entry)) (now (place .exit)) ⌝ }
+    ensures told { λ r. ⌜ CheckListsTold rule (formulaIn n prefix clauses) (now (lists .entry)) place r ⌝ }
 {
     lay_verdict(lists::check(rule, n, prefix, clauses, lists), place)
 }
@@ -40,9 +37,9 @@ pub extern "C" fn snow_listed_set_by(
     count: &mut u32,
     place: &mut u32,
 ) -> u32
-    ensures { λ r. ⌜ Told (setOrder rule n (now (prefix .entry)) (now (clauses .entry)) (now (lists .entry)) x (DependsOnBy (schemeOf scheme) n (readAs rule (now (prefix .entry))) (now (clauses .entry)) (now (lists .entry)) x) (now (out .entry))) (Written (DependsOnBy (schemeOf scheme) n (readAs rule (now (prefix .entry))) (now (clauses .entry)) (now (lists .entry)) x) (now (out .entry)) (now (out .exit)) (now (count .exit))) ((now (count .exit) ≡ now (count .entry)) × (now (out .exit) ≡ now (out .entry))) r (now (place .entry)) (now (place .exit)) ⌝ }
+    ensures told { λ r. ⌜ ListedSetTold rule (schemeOf scheme) (formulaIn n prefix clauses) (now (lists .entry)) x out count place r ⌝ }
 {
-    let answer = dependents::set_by(
+    let answer = dependents::set_of(
         rule,
         scheme_in(scheme),
         n,

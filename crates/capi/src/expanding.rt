@@ -2,10 +2,8 @@
 
 use cells::formulas::lay_expanded;
 use terms::Variable;
-ghost use mathlib.Core.Path.{_≡_};
-ghost use Rattle.joining.specs.Rules.{readAs};
-ghost use Rattle.expansion.specs.Promise.{WithSet, Leaves, expandOrderUnder};
-ghost use Rattle.capi.specs.Told.{Told};
+ghost use Rattle.formula.specs.Lent.{formulaIn};
+ghost use Rattle.capi.specs.Promises.{ExpandTold};
 
 // Expand: the formula with the universal x removed, its variable count, and the counts of the entries of both its tables.
 #[no_mangle]
@@ -22,7 +20,7 @@ pub extern "C" fn snow_expand(
     clauses_count: &mut u32,
     place: &mut u32,
 ) -> u32
-    ensures { λ r. ⌜ Told (expandOrderUnder rule n (now (prefix .entry)) (now (clauses .entry)) x (now («out_prefix» .entry)) (now («out_clauses» .entry))) (WithSet n (readAs rule (now (prefix .entry))) (now (clauses .entry)) x (Leaves n (readAs rule (now (prefix .entry))) (now (clauses .entry)) x (now («out_prefix» .entry)) (now («out_prefix» .exit)) (now («out_clauses» .entry)) (now («out_clauses» .exit)) (now («out_n» .exit)) (now («prefix_count» .exit)) (now («clauses_count» .exit)))) ((now («out_n» .exit) ≡ now («out_n» .entry)) × (now («prefix_count» .exit) ≡ now («prefix_count» .entry)) × (now («clauses_count» .exit) ≡ now («clauses_count» .entry)) × (now («out_prefix» .exit) ≡ now («out_prefix» .entry)) × (now («out_clauses» .exit) ≡ now («out_clauses» .entry))) r (now (place .entry)) (now (place .exit)) ⌝ }
+    ensures told { λ r. ⌜ ExpandTold rule (formulaIn n prefix clauses) x «out_n» «out_prefix» «prefix_count» «out_clauses» «clauses_count» place r ⌝ }
 {
     let answer = expansion::expand(
         rule,

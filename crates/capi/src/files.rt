@@ -2,11 +2,9 @@
 
 use cells::formulas::lay_loaded;
 use cells::lay;
-ghost use mathlib.Core.Path.{_≡_};
-ghost use Rattle.records.specs.Layout.{FileOf};
-ghost use Rattle.records.specs.Causes.{lentTables, loadOrder, storeOrder};
-ghost use Rattle.capi.specs.Told.{Told, Front};
-ghost use Rattle.capi.specs.Filed.{Given};
+ghost use Rattle.formula.specs.Lent.{formulaIn};
+ghost use Rattle.records.specs.Causes.{lentIn, lentOut};
+ghost use Rattle.capi.specs.Promises.{StoreTold, LoadTold};
 
 // Store: the file of a formula and its forest, with the count of its bytes.
 #[no_mangle]
@@ -19,7 +17,7 @@ pub extern "C" fn snow_store(
     count: &mut u32,
     place: &mut u32,
 ) -> u32
-    ensures { λ r. ⌜ Told (storeOrder rule n (now (prefix .entry)) (now (clauses .entry)) (now (file .entry))) (Front (FileOf rule n (now (prefix .entry)) (now (clauses .entry))) (now (file .entry)) (now (file .exit)) (now (count .exit))) ((now (count .exit) ≡ now (count .entry)) × (now (file .exit) ≡ now (file .entry))) r (now (place .entry)) (now (place .exit)) ⌝ }
+    ensures told { λ r. ⌜ StoreTold rule (formulaIn n prefix clauses) file count place r ⌝ }
 {
     let answer = storing::store(rule, n, prefix, clauses, file);
     lay(answer, count, place)
@@ -41,7 +39,8 @@ pub extern "C" fn snow_load(
     with_sets: &mut u32,
     place: &mut u32,
 ) -> u32
-    ensures { λ r. ⌜ Told (loadOrder rule (now (file .entry)) (lentTables (now (prefix .entry)) (now (clauses .entry)) (now (classes .entry)) (now (parents .entry)) (now (counts .entry)))) (Given rule (now (file .entry)) (lentTables (now (prefix .entry)) (now (clauses .entry)) (now (classes .entry)) (now (parents .entry)) (now (counts .entry))) (lentTables (now (prefix .exit)) (now (clauses .exit)) (now (classes .exit)) (now (parents .exit)) (now (counts .exit))) (now (n .exit)) (now («prefix_count» .exit)) (now («clauses_count» .exit)) (now («with_sets» .exit))) ((now (n .exit) ≡ now (n .entry)) × (now («prefix_count» .exit) ≡ now («prefix_count» .entry)) × (now («clauses_count» .exit) ≡ now («clauses_count» .entry)) × (now («with_sets» .exit) ≡ now («with_sets» .entry)) × (lentTables (now (prefix .exit)) (now (clauses .exit)) (now (classes .exit)) (now (parents .exit)) (now (counts .exit)) ≡ lentTables (now (prefix .entry)) (now (clauses .entry)) (now (classes .entry)) (now (parents .entry)) (now (counts .entry)))) r (now (place .entry)) (now (place .exit)) ⌝ }
+    ensures told { λ r. ⌜ LoadTold rule (now (file .entry)) (lentIn prefix clauses classes parents counts)
+        (lentOut prefix clauses classes parents counts) n «prefix_count» «clauses_count» «with_sets» place r ⌝ }
 {
     let answer = loading::load(rule, file, prefix, clauses, classes, parents, counts);
     lay_loaded(answer, n, prefix_count, clauses_count, with_sets, place)

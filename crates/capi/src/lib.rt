@@ -1,5 +1,6 @@
-// The calls of the library for C, as include/snowcoddle.h has them: each calls the library, by a reading rule where it takes a prefix, and lays its answer out. A slice is a pointer and
-// a length there, a `&mut` to a number is a cell, and that to the three numbers of a tally is a pointer to its struct.
+// The calls of the library for C, as include/snowcoddle.h has them: each calls the library, by a reading rule where it takes a prefix, and lays its
+// answer out. A slice is a pointer and a length there, a `&mut` to a number is a cell, and that to the three numbers of a tally is a pointer to its
+// struct.
 
 pub mod dependent;
 pub mod expanding;
@@ -11,30 +12,21 @@ pub mod resolving;
 use cells::formulas::lay_reading;
 use cells::lay;
 use cells::lay_entry;
-use cells::lay_output;
 use cells::lay_verdict;
 use cells::scheme_in;
 use cells::tallies::TallyCells;
 use cells::tallies::lay_added;
 use cells::tallies::lay_built;
 use cells::tallies::tally_in;
-use formula::clauses::Found;
+use formula::clauses::Span;
 use terms::Variable;
 use terms::Verdict;
-ghost use mathlib.Core.Path.{_≡_};
-ghost use Rattle.formula.specs.Causes.{clauseOrder};
-ghost use Rattle.forest.specs.Answers.{Entry, Entries, EntriesBy, Members, MembersBy, Size, SizeBy};
-ghost use Rattle.tables.specs.Formula.{variables, Shares};
 ghost use Rattle.terms.specs.declared.Scheme.the-variants.{Strict};
-ghost use Rattle.sets.specs.Sets.{AllSetsBy};
-ghost use Rattle.growth.specs.Grown.{standing, tableOf, many, Extended, Grown, TallyOf, Took};
-ghost use Rattle.qdimacs.specs.Reading.{ReadInto, readOrder};
-ghost use Rattle.spelling.specs.Stored.{Stored};
-ghost use Rattle.spelling.specs.Writing.{textOf};
-ghost use Rattle.joining.specs.Rules.{readAs, checkOrderUnder};
-ghost use Rattle.ruled.specs.Calls.{entryOrderUnder, readOrderUnder, listOrderUnder, setsOrderUnder, buildOrderUnder, addOrderUnder, writeOrderUnder};
-ghost use Rattle.cells.specs.Codes.{schemeOf, tallyIn};
-ghost use Rattle.capi.specs.Told.{Told, Clause, Front, Written, Left};
+ghost use Rattle.formula.specs.Lent.{formulaIn, prefixIn};
+ghost use Rattle.tables.specs.Lent.{rowsIn};
+ghost use Rattle.cells.specs.Codes.{schemeOf};
+ghost use Rattle.capi.specs.Promises.{CheckTold, ClauseTold, BuildTold, AddTold, EntryTold, EntriesTold, SetTold, SizeTold, SetsTold, ReadTold};
+ghost use Rattle.capi.specs.Promises.{WriteTold};
 
 // The number by which C asks for the strict scheme, which the calls mean that take none.
 const STRICT: u32 = 2;
@@ -48,9 +40,9 @@ pub extern "C" fn snow_check(
     clauses: &[i32],
     place: &mut u32,
 ) -> u32
-    ensures { λ r. ⌜ Told (checkOrderUnder rule n (now (prefix .entry)) (now (clauses .entry))) (Unit {0}) (Unit {0}) r (now (place .entry)) (now (place .exit)) ⌝ }
+    ensures told { λ r. ⌜ CheckTold rule (formulaIn n prefix clauses) place r ⌝ }
 {
-    lay_verdict(ruled::check(rule, n, prefix, clauses), place)
+    lay_verdict(joining::check(rule, n, prefix, clauses), place)
 }
 
 // The clause with a given number: where it stands in the lent table, and how many literals it has.
@@ -63,7 +55,7 @@ pub extern "C" fn snow_clause(
     len: &mut u32,
     place: &mut u32,
 ) -> u32
-    ensures { λ r. ⌜ Told (clauseOrder n (now (clauses .entry)) asked) (Clause (now (clauses .entry)) asked (now (start .exit)) (now (len .exit))) ((now (start .exit) ≡ now (start .entry)) × (now (len .exit) ≡ now (len .entry))) r (now (place .entry)) (now (place .exit)) ⌝ }
+    ensures told { λ r. ⌜ ClauseTold n (now (clauses .entry)) asked start len place r ⌝ }
 {
     match checks::clause_verdict(n, clauses, asked) {
         Verdict::Refused(number, at) => {
@@ -71,12 +63,12 @@ pub extern "C" fn snow_clause(
             number
         }
         Verdict::Accepted => match formula::clauses::find(clauses, asked) {
-            Found::At { start: from, end } => {
+            Span::At { start: from, end } => {
                 *start = from as u32;
                 *len = (end - from) as u32;
                 0
             }
-            Found::Nowhere => 13,
+            Span::Nowhere => 13,
         },
     }
 }
@@ -95,19 +87,10 @@ pub extern "C" fn snow_build(
     count: &mut u32,
     place: &mut u32,
 ) -> u32
-    ensures { λ r. ⌜ Told (buildOrderUnder rule n (now (prefix .entry)) (now (clauses .entry)) (standing (now (classes .entry)) (now (parents .entry)) (now (counts .entry)) (tallyIn (now (tally .entry))))) ((now (count .exit) ≡ n) × Left (λ s. Grown (variables n (readAs rule (now (prefix .entry)))) (Shares (now (clauses .entry))) (standing (now (classes .entry)) (now (parents .entry)) (now (counts .entry)) (tallyIn (now (tally .entry)))) s × TallyOf (variables n (readAs rule (now (prefix .entry)))) (many (now (clauses .entry))) s) (now (classes .exit)) (now (parents .exit)) (now (counts .exit)) (now (tally .entry)) (now (tally .exit))) ((now (count .exit) ≡ now (count .entry)) × (now (classes .exit) ≡ now (classes .entry)) × (now (parents .exit) ≡ now (parents .entry)) × (now (counts .exit) ≡ now (counts .entry)) × (now (tally .exit) ≡ now (tally .entry))) r (now (place .entry)) (now (place .exit)) ⌝ }
+    ensures told { λ r. ⌜ BuildTold rule (formulaIn n prefix clauses) classes parents counts tally count place r ⌝ }
 {
     let lent = tally_in(tally);
-    let told = ruled::building::build_tallied(
-        rule,
-        n,
-        prefix,
-        clauses,
-        classes,
-        parents,
-        counts,
-        lent,
-    );
+    let told = growth::build(rule, n, prefix, clauses, classes, parents, counts, lent);
     lay_built(told, tally, count, place)
 }
 
@@ -126,9 +109,9 @@ pub extern "C" fn snow_entry_point(
     rises: &mut u32,
     place: &mut u32,
 ) -> u32
-    ensures { λ r. ⌜ Told (entryOrderUnder rule n (now (prefix .entry)) (now (classes .entry)) (now (parents .entry)) (now (counts .entry)) x y) (Entry n (readAs rule (now (prefix .entry))) (now (classes .entry)) (now (parents .entry)) x y (now (entry .exit)) (now (rises .exit))) ((now (entry .exit) ≡ now (entry .entry)) × (now (rises .exit) ≡ now (rises .entry))) r (now (place .entry)) (now (place .exit)) ⌝ }
+    ensures told { λ r. ⌜ EntryTold rule (prefixIn n prefix) (rowsIn classes parents counts) x y entry rises place r ⌝ }
 {
-    let answer = ruled::asking::entry_point(
+    let answer = forest::entry_point(
         rule,
         n,
         prefix,
@@ -156,7 +139,7 @@ pub extern "C" fn snow_entry_points(
     count: &mut u32,
     place: &mut u32,
 ) -> u32
-    ensures { λ r. ⌜ Told (listOrderUnder rule n (now (prefix .entry)) (now (clauses .entry)) (now (classes .entry)) (now (parents .entry)) (now (counts .entry)) x (Entries n (readAs rule (now (prefix .entry))) (now (clauses .entry)) (now (classes .entry)) (now (parents .entry)) x) (now (out .entry))) (Written (Entries n (readAs rule (now (prefix .entry))) (now (clauses .entry)) (now (classes .entry)) (now (parents .entry)) x) (now (out .entry)) (now (out .exit)) (now (count .exit))) ((now (count .exit) ≡ now (count .entry)) × (now (out .exit) ≡ now (out .entry))) r (now (place .entry)) (now (place .exit)) ⌝ }
+    ensures told { λ r. ⌜ EntriesTold rule Strict (formulaIn n prefix clauses) (rowsIn classes parents counts) x out count place r ⌝ }
 {
     snow_entry_points_by(
         rule,
@@ -189,7 +172,7 @@ pub extern "C" fn snow_set(
     count: &mut u32,
     place: &mut u32,
 ) -> u32
-    ensures { λ r. ⌜ Told (listOrderUnder rule n (now (prefix .entry)) (now (clauses .entry)) (now (classes .entry)) (now (parents .entry)) (now (counts .entry)) x (Members n (readAs rule (now (prefix .entry))) (now (clauses .entry)) (now (classes .entry)) (now (parents .entry)) x) (now (out .entry))) (Written (Members n (readAs rule (now (prefix .entry))) (now (clauses .entry)) (now (classes .entry)) (now (parents .entry)) x) (now (out .entry)) (now (out .exit)) (now (count .exit))) ((now (count .exit) ≡ now (count .entry)) × (now (out .exit) ≡ now (out .entry))) r (now (place .entry)) (now (place .exit)) ⌝ }
+    ensures told { λ r. ⌜ SetTold rule Strict (formulaIn n prefix clauses) (rowsIn classes parents counts) x out count place r ⌝ }
 {
     snow_set_by(
         rule,
@@ -221,7 +204,7 @@ pub extern "C" fn snow_size(
     size: &mut u32,
     place: &mut u32,
 ) -> u32
-    ensures { λ r. ⌜ Told (readOrderUnder rule n (now (prefix .entry)) (now (clauses .entry)) (now (classes .entry)) (now (parents .entry)) (now (counts .entry)) x) (Size n (readAs rule (now (prefix .entry))) (now (clauses .entry)) (now (classes .entry)) (now (parents .entry)) (now (counts .entry)) x (now (size .exit))) (now (size .exit) ≡ now (size .entry)) r (now (place .entry)) (now (place .exit)) ⌝ }
+    ensures told { λ r. ⌜ SizeTold rule Strict (formulaIn n prefix clauses) (rowsIn classes parents counts) x size place r ⌝ }
 {
     snow_size_by(
         rule,
@@ -254,9 +237,9 @@ pub extern "C" fn snow_entry_points_by(
     count: &mut u32,
     place: &mut u32,
 ) -> u32
-    ensures { λ r. ⌜ Told (listOrderUnder rule n (now (prefix .entry)) (now (clauses .entry)) (now (classes .entry)) (now (parents .entry)) (now (counts .entry)) x (EntriesBy (schemeOf scheme) n (readAs rule (now (prefix .entry))) (now (clauses .entry)) (now (classes .entry)) (now (parents .entry)) x) (now (out .entry))) (Written (EntriesBy (schemeOf scheme) n (readAs rule (now (prefix .entry))) (now (clauses .entry)) (now (classes .entry)) (now (parents .entry)) x) (now (out .entry)) (now (out .exit)) (now (count .exit))) ((now (count .exit) ≡ now (count .entry)) × (now (out .exit) ≡ now (out .entry))) r (now (place .entry)) (now (place .exit)) ⌝ }
+    ensures told { λ r. ⌜ EntriesTold rule (schemeOf scheme) (formulaIn n prefix clauses) (rowsIn classes parents counts) x out count place r ⌝ }
 {
-    let answer = ruled::asking::entry_points_by(
+    let answer = forest::entry_points(
         rule,
         scheme_in(scheme),
         n,
@@ -287,9 +270,9 @@ pub extern "C" fn snow_set_by(
     count: &mut u32,
     place: &mut u32,
 ) -> u32
-    ensures { λ r. ⌜ Told (listOrderUnder rule n (now (prefix .entry)) (now (clauses .entry)) (now (classes .entry)) (now (parents .entry)) (now (counts .entry)) x (MembersBy (schemeOf scheme) n (readAs rule (now (prefix .entry))) (now (clauses .entry)) (now (classes .entry)) (now (parents .entry)) x) (now (out .entry))) (Written (MembersBy (schemeOf scheme) n (readAs rule (now (prefix .entry))) (now (clauses .entry)) (now (classes .entry)) (now (parents .entry)) x) (now (out .entry)) (now (out .exit)) (now (count .exit))) ((now (count .exit) ≡ now (count .entry)) × (now (out .exit) ≡ now (out .entry))) r (now (place .entry)) (now (place .exit)) ⌝ }
+    ensures told { λ r. ⌜ SetTold rule (schemeOf scheme) (formulaIn n prefix clauses) (rowsIn classes parents counts) x out count place r ⌝ }
 {
-    let answer = ruled::asking::set_by(
+    let answer = forest::set_of(
         rule,
         scheme_in(scheme),
         n,
@@ -319,9 +302,9 @@ pub extern "C" fn snow_size_by(
     size: &mut u32,
     place: &mut u32,
 ) -> u32
-    ensures { λ r. ⌜ Told (readOrderUnder rule n (now (prefix .entry)) (now (clauses .entry)) (now (classes .entry)) (now (parents .entry)) (now (counts .entry)) x) (SizeBy (schemeOf scheme) n (readAs rule (now (prefix .entry))) (now (clauses .entry)) (now (classes .entry)) (now (parents .entry)) (now (counts .entry)) x (now (size .exit))) (now (size .exit) ≡ now (size .entry)) r (now (place .entry)) (now (place .exit)) ⌝ }
+    ensures told { λ r. ⌜ SizeTold rule (schemeOf scheme) (formulaIn n prefix clauses) (rowsIn classes parents counts) x size place r ⌝ }
 {
-    let answer = ruled::asking::size_by(
+    let answer = forest::set_size(
         rule,
         scheme_in(scheme),
         n,
@@ -350,7 +333,7 @@ pub extern "C" fn snow_sets(
     count: &mut u32,
     place: &mut u32,
 ) -> u32
-    ensures { λ r. ⌜ Told (setsOrderUnder rule Strict n (now (prefix .entry)) (now (clauses .entry)) (now (classes .entry)) (now (parents .entry)) (now (counts .entry)) (now (out .entry))) (Front (AllSetsBy Strict n (readAs rule (now (prefix .entry))) (now (clauses .entry)) (now (classes .entry)) (now (parents .entry))) (now (out .entry)) (now (out .exit)) (now (count .exit))) ((now (count .exit) ≡ now (count .entry)) × (now (out .exit) ≡ now (out .entry))) r (now (place .entry)) (now (place .exit)) ⌝ }
+    ensures told { λ r. ⌜ SetsTold rule Strict (formulaIn n prefix clauses) (rowsIn classes parents counts) out count place r ⌝ }
 {
     snow_sets_by(
         rule,
@@ -382,9 +365,9 @@ pub extern "C" fn snow_sets_by(
     count: &mut u32,
     place: &mut u32,
 ) -> u32
-    ensures { λ r. ⌜ Told (setsOrderUnder rule (schemeOf scheme) n (now (prefix .entry)) (now (clauses .entry)) (now (classes .entry)) (now (parents .entry)) (now (counts .entry)) (now (out .entry))) (Front (AllSetsBy (schemeOf scheme) n (readAs rule (now (prefix .entry))) (now (clauses .entry)) (now (classes .entry)) (now (parents .entry))) (now (out .entry)) (now (out .exit)) (now (count .exit))) ((now (count .exit) ≡ now (count .entry)) × (now (out .exit) ≡ now (out .entry))) r (now (place .entry)) (now (place .exit)) ⌝ }
+    ensures told { λ r. ⌜ SetsTold rule (schemeOf scheme) (formulaIn n prefix clauses) (rowsIn classes parents counts) out count place r ⌝ }
 {
-    let answer = ruled::asking::sets_by(
+    let answer = sets::sets(
         rule,
         scheme_in(scheme),
         n,
@@ -411,19 +394,10 @@ pub extern "C" fn snow_add(
     clause: &[i32],
     place: &mut u32,
 ) -> u32
-    ensures { λ r. ⌜ Told (addOrderUnder rule n (now (prefix .entry)) (standing (now (classes .entry)) (now (parents .entry)) (now (counts .entry)) (tallyIn (now (tally .entry)))) (now (clause .entry))) (Left (λ s. Grown (variables n (readAs rule (now (prefix .entry)))) (Extended (variables n (readAs rule (now (prefix .entry)))) (tableOf (variables n (readAs rule (now (prefix .entry)))) (standing (now (classes .entry)) (now (parents .entry)) (now (counts .entry)) (tallyIn (now (tally .entry))))) (now (clause .entry))) (standing (now (classes .entry)) (now (parents .entry)) (now (counts .entry)) (tallyIn (now (tally .entry)))) s × Took (variables n (readAs rule (now (prefix .entry)))) (standing (now (classes .entry)) (now (parents .entry)) (now (counts .entry)) (tallyIn (now (tally .entry)))) s) (now (classes .exit)) (now (parents .exit)) (now (counts .exit)) (now (tally .entry)) (now (tally .exit))) ((now (classes .exit) ≡ now (classes .entry)) × (now (parents .exit) ≡ now (parents .entry)) × (now (counts .exit) ≡ now (counts .entry)) × (now (tally .exit) ≡ now (tally .entry))) r (now (place .entry)) (now (place .exit)) ⌝ }
+    ensures told { λ r. ⌜ AddTold rule n (now (prefix .entry)) classes parents counts tally (now (clause .entry)) place r ⌝ }
 {
     let lent = tally_in(tally);
-    let told = ruled::building::add_tallied(
-        rule,
-        n,
-        prefix,
-        classes,
-        parents,
-        counts,
-        lent,
-        clause,
-    );
+    let told = growth::add(rule, n, prefix, classes, parents, counts, lent, clause);
     lay_added(told, tally, place)
 }
 
@@ -438,7 +412,7 @@ pub extern "C" fn snow_read(
     clauses_count: &mut u32,
     place: &mut u32,
 ) -> u32
-    ensures { λ r. ⌜ Told (readOrder (now (text .entry)) (now (prefix .entry)) (now (clauses .entry))) (ReadInto (now (n .exit)) (now («prefix_count» .exit)) (now («clauses_count» .exit)) (now (text .entry)) (now (prefix .entry)) (now (prefix .exit)) (now (clauses .entry)) (now (clauses .exit))) ((now (n .exit) ≡ now (n .entry)) × (now («prefix_count» .exit) ≡ now («prefix_count» .entry)) × (now («clauses_count» .exit) ≡ now («clauses_count» .entry)) × (now (prefix .exit) ≡ now (prefix .entry)) × (now (clauses .exit) ≡ now (clauses .entry))) r (now (place .entry)) (now (place .exit)) ⌝ }
+    ensures told { λ r. ⌜ ReadTold (now (text .entry)) n prefix «prefix_count» clauses «clauses_count» place r ⌝ }
 {
     let answer = qdimacs::read(text, prefix, clauses);
     lay_reading(answer, n, prefix_count, clauses_count, place)
@@ -455,8 +429,8 @@ pub extern "C" fn snow_write(
     count: &mut u32,
     place: &mut u32,
 ) -> u32
-    ensures { λ r. ⌜ Told (writeOrderUnder rule n (now (prefix .entry)) (now (clauses .entry)) (now (text .entry))) (Stored (textOf n (now (prefix .entry)) (now (clauses .entry))) (now (text .entry)) (now (text .exit)) (now (count .exit))) ((now (count .exit) ≡ now (count .entry)) × (now (text .exit) ≡ now (text .entry))) r (now (place .entry)) (now (place .exit)) ⌝ }
+    ensures told { λ r. ⌜ WriteTold rule (formulaIn n prefix clauses) text count place r ⌝ }
 {
-    let output = ruled::write(rule, n, prefix, clauses, text);
-    lay_output(output, count, place)
+    let answer = qdimacs::write(rule, n, prefix, clauses, text);
+    lay(answer, count, place)
 }

@@ -1,14 +1,9 @@
 // The calls for C that read and write text with dependency lists, the second under a reading rule.
 
 use cells::formulas::lay_listed;
-use cells::lay_output;
-ghost use mathlib.Core.Path.{_≡_};
-ghost use Rattle.spelling.specs.Stored.{Stored, writeOrder};
-ghost use mathlib.Core.List.{_++_};
-ghost use Rattle.lists.specs.Causes.{checkListsOrder};
-ghost use Rattle.dqdimacs.specs.Reading.{readOrder, ReadInto};
-ghost use Rattle.dqspelling.specs.Writing.{listedTextOf};
-ghost use Rattle.capi.specs.Told.{Told};
+use cells::lay;
+ghost use Rattle.formula.specs.Lent.{formulaIn};
+ghost use Rattle.capi.specs.Promises.{ReadListsTold, WriteListsTold};
 
 // Read a text with lists: n, and the three tables with the counts of their entries.
 #[no_mangle]
@@ -23,7 +18,7 @@ pub extern "C" fn snow_read_lists(
     lists_count: &mut u32,
     place: &mut u32,
 ) -> u32
-    ensures { λ r. ⌜ Told (readOrder (now (text .entry)) (now (prefix .entry), now (clauses .entry), now (lists .entry))) (ReadInto (now (n .exit)) (now («prefix_count» .exit)) (now («clauses_count» .exit)) (now («lists_count» .exit)) (now (text .entry)) (now (prefix .entry), now (clauses .entry), now (lists .entry)) (now (prefix .exit), now (clauses .exit), now (lists .exit))) ((now (n .exit) ≡ now (n .entry)) × (now («prefix_count» .exit) ≡ now («prefix_count» .entry)) × (now («clauses_count» .exit) ≡ now («clauses_count» .entry)) × (now («lists_count» .exit) ≡ now («lists_count» .entry)) × (now (prefix .exit) ≡ now (prefix .entry)) × (now (clauses .exit) ≡ now (clauses .entry)) × (now (lists .exit) ≡ now (lists .entry))) r (now (place .entry)) (now (place .exit)) ⌝ }
+    ensures told { λ r. ⌜ ReadListsTold (now (text .entry)) n prefix «prefix_count» clauses «clauses_count» lists «lists_count» place r ⌝ }
 {
     let answer = dqdimacs::read(text, prefix, clauses, lists);
     lay_listed(answer, n, prefix_count, clauses_count, lists_count, place)
@@ -41,8 +36,8 @@ pub extern "C" fn snow_write_lists(
     count: &mut u32,
     place: &mut u32,
 ) -> u32
-    ensures { λ r. ⌜ Told (checkListsOrder rule n (now (prefix .entry)) (now (clauses .entry)) (now (lists .entry)) ++ writeOrder (listedTextOf n (now (prefix .entry)) (now (clauses .entry)) (now (lists .entry))) (now (text .entry))) (Stored (listedTextOf n (now (prefix .entry)) (now (clauses .entry)) (now (lists .entry))) (now (text .entry)) (now (text .exit)) (now (count .exit))) ((now (count .exit) ≡ now (count .entry)) × (now (text .exit) ≡ now (text .entry))) r (now (place .entry)) (now (place .exit)) ⌝ }
+    ensures told { λ r. ⌜ WriteListsTold rule (formulaIn n prefix clauses) (now (lists .entry)) text count place r ⌝ }
 {
-    let output = dqdimacs::write(rule, n, prefix, clauses, lists, text);
-    lay_output(output, count, place)
+    let answer = dqdimacs::write(rule, n, prefix, clauses, lists, text);
+    lay(answer, count, place)
 }

@@ -2,8 +2,8 @@
 
 use terms::Variable;
 use terms::Verdict;
-ghost use Rattle.paths.specs.Causes.{pathOrderUnder};
-ghost use Rattle.capi.specs.Told.{Told};
+ghost use Rattle.formula.specs.Lent.{formulaIn};
+ghost use Rattle.capi.specs.Promises.{PathTold};
 
 // The path check: whether a path of clause numbers is acceptable for the pair (x, y). The cell `place` is as wide as a length, since a path may
 // be of any length.
@@ -18,7 +18,7 @@ pub extern "C" fn snow_path(
     path: &[u32],
     place: &mut usize,
 ) -> u32
-    ensures { λ r. ⌜ Told (pathOrderUnder rule n (now (prefix .entry)) (now (clauses .entry)) x y (now (path .entry))) (Unit {0}) (Unit {0}) r (now (place .entry)) (now (place .exit)) ⌝ }
+    ensures told { λ r. ⌜ PathTold rule (formulaIn n prefix clauses) x y (now (path .entry)) place r ⌝ }
 {
     let verdict = paths::path_verdict(rule, n, prefix, clauses, Variable(x), Variable(y), path);
     if let Verdict::Refused(number, at) = verdict {

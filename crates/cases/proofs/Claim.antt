@@ -7,11 +7,11 @@ use lib.Dec.{lit≤}
 use lib.IntN.{ℤ}
 use lib.ListN.{length}
 use Rattle.terms.specs.Refusals.{NoneOf}
-use Rattle.formula.specs.Causes.{checkOrder}
+use Rattle.joining.specs.Rules.{readAs, checkOrder}
 use Rattle.connection.specs.Search.{set-of}
 use Rattle.tables.specs.Formula.{universal, joined}
 use Rattle.growth.specs.Grown.{Standing, withLast}
-use Rattle.cases.specs.FormulaA.{prefixA, clausesA, standA, clause79, clause58, clause12}
+use Rattle.cases.specs.FormulaA.{prefixA, clausesA, withClauses, standA, clause79, clause58, clause12}
 use Rattle.cases.specs.Cases.{longer, AddLeaves, SetIs, EntryIs, Cases}
 use Rattle.cases.proofs.Computed.{A, ForestRows, accepted, forests, sets-A, Climbs, climb-3-8, climb-6-9}
 use Rattle.cases.proofs.Allowed.{inRange, Stands, rows-stand, build-only, add-only, set-only, entry-only}
@@ -22,24 +22,30 @@ module _ (more more′ more″ : List ℕ) where
   own = rows-stand 9 prefixA (forests .own) more more′ more″
 
   -- The set of x, by computed rows.
-  lists : {ls : List ℤ} {s : Standing} → NoneOf (checkOrder 9 prefixA ls) → ForestRows A ls s → (x : ℕ) → universal 9 prefixA x ≡ true → {list : List ℕ} → set-of A (joined ls) x ≡ list → SetIs ls (longer s more more′ more″) x list
-  lists {ls} {s} fine f x u is = set-only 9 prefixA ls fine (longer s more more′ more″) (rows-stand 9 prefixA f more more′ more″) x u is
+  lists : {ls : List ℤ} {s : Standing} → NoneOf (checkOrder 1 (withClauses ls)) → ForestRows A ls s → (x : ℕ) → universal 9 prefixA x ≡ true
+      → {list : List ℕ} → set-of A (joined ls) x ≡ list → SetIs ls (longer s more more′ more″) x list
+  unfolding readAs
+  lists {ls} {s} fine f x u is = set-only 1 9 prefixA ls fine (longer s more more′ more″) (rows-stand 9 prefixA f more more′ more″) x u is
 
   -- A clause added to the rows of A.
-  adds : (clause : List ℤ) → inRange 9 clause ≡ true → length clause ≤ 16384 → {rows : Standing} → ForestRows A (withLast clausesA clause) rows → AddLeaves (longer standA more more′ more″) clause (longer rows more more′ more″)
-  adds = add-only 9 prefixA clausesA (accepted .own) (longer standA more more′ more″) own
+  adds : (clause : List ℤ) → inRange 9 clause ≡ true → length clause ≤ 16384 → {built : Standing}
+      → ForestRows A (withLast clausesA clause) built → AddLeaves (longer standA more more′ more″) clause (longer built more more′ more″)
+  unfolding readAs
+  adds = add-only 1 9 prefixA clausesA (accepted .own) (longer standA more more′ more″) own
 
   -- The entry point of x for y, by the rows of A.
   enters : {x y e rises : ℕ} → Climbs more more′ more″ x y e rises → EntryIs (longer standA more more′ more″) x y e rises
-  enters {x} {y} c = entry-only 9 prefixA clausesA (accepted .own) (longer standA more more′ more″) own x (c .of-universal) y (c .for-existential) (c .deeper) (c .ends)
+  unfolding readAs
+  enters {x} {y} c = entry-only 1 9 prefixA clausesA (accepted .own) (longer standA more more′ more″) own x (c .of-universal) y (c .for-existential) (c .deeper) (c .ends)
 
   -- All of them hold.
   pub cases : Cases more more′ more″
+  unfolding readAs
   cases =
       let of-3 = climb-3-8 more more′ more″ .of-universal in
       let of-6 = climb-6-9 more more′ more″ .of-universal in
       record {
-        p1p2 = build-only 9 prefixA clausesA (accepted .own) (forests .own);
+        p1p2 = build-only 1 9 prefixA clausesA (accepted .own) (forests .own);
         p3 = lists (accepted .own) (forests .own) 3 of-3 (sets-A .of-3);
         p4 = lists (accepted .own) (forests .own) 6 of-6 (sets-A .of-6);
         p5 = adds clause79 refl (lit≤ tt) (forests .with79);

@@ -7,18 +7,21 @@ use lib.Dec.{lit≤}
 use lib.IntN.{ℤ}
 use lib.ListN.{length}
 use Rattle.terms.specs.Refusals.{NoneOf}
-use Rattle.formula.specs.Causes.{checkOrder}
+use Rattle.joining.specs.Rules.{checkOrder}
+use Rattle.joining.proofs.Orders.{rule-one-accepts}
+use Rattle.tables.specs.Lent.{rows}
 use Rattle.formula.specs.Meaning.{blocks, clauses, freeLevel, level, isUniversal, isExistential, opposite, denied, alwaysTrue, connected}
 use Rattle.formula.specs.Tables.{cut}
 use Rattle.formula.proofs.Accepts.{goodMark, prefixPasses, clausesPass, accepts}
 use Rattle.connection.specs.Reach.{Variables}
-use Rattle.connection.specs.Tables.{row, lent, climb-by, climb}
+use Rattle.connection.specs.Tables.{row, lent}
+use Rattle.connection.specs.Climb.{climb-by, climb}
 use Rattle.connection.specs.Search.{has, meets, keep, put-back, find, see, spread, reached, is-from, sift, set-of}
 use Rattle.connection.specs.Fusing.{fill, classes-up, marks, goes-before, under, fuse-class, fuse-parent, table-of, rows-by, fuse-marks, fuse, fuse-all, singles, forest-of, count-of, counts-of}
 use Rattle.connection.specs.Counts.{how-many, names}
 use Rattle.tables.specs.Formula.{variables, universal, joined}
 use Rattle.growth.specs.Grown.{Standing, standing, tableOf, many, TallyOf, withLast}
-use Rattle.cases.specs.FormulaA.{prefixA, clausesA, tally, standA, stand79, stand12, stand-none, clause79, clause58, clause12}
+use Rattle.cases.specs.FormulaA.{prefixA, clausesA, withClauses, tally, standA, stand79, stand12, stand-none, clause79, clause58, clause12}
 use Rattle.cases.specs.Cases.{longer}
 
 -- The variables of A.
@@ -27,28 +30,32 @@ A = variables 9 prefixA
 
 -- The rows are the computed forest of the clauses, one for each variable, with its computed counts and the tally of the clauses.
 pub record ForestRows (X : Variables) (ls : List ℤ) (s : Standing) : Type 0 where
-  pub computed : forest-of X (joined ls) ≡ record { classes = s .classes; parents = s .parents }
-  pub counted : counts-of X (tableOf X s) ≡ s .counts
+  pub computed : forest-of X (joined ls) ≡ record { classes = s .rows .classes; parents = s .rows .parents }
+  pub counted : counts-of X (tableOf X s) ≡ s .rows .counts
   pub tallied : TallyOf X (many ls) s
-  pub long : (length (s .classes) ≡ X .count) × (length (s .parents) ≡ X .count) × (length (s .counts) ≡ X .count)
+  pub long : (length (s .rows .classes) ≡ X .count) × (length (s .rows .parents) ≡ X .count) × (length (s .rows .counts) ≡ X .count)
 
 -- A with {5 8} added, of which document 01 lists no rows.
 abbrev pub stand58 : Standing
-stand58 = standing (1 ∷ 2 ∷ 0 ∷ 4 ∷ 4 ∷ 0 ∷ 7 ∷ 8 ∷ 9 ∷ []) (0 ∷ 0 ∷ 0 ∷ 1 ∷ 0 ∷ 0 ∷ 4 ∷ 4 ∷ 4 ∷ []) (6 ∷ 1 ∷ 0 ∷ 5 ∷ 0 ∷ 0 ∷ 1 ∷ 1 ∷ 1 ∷ []) (tally 6 1 6)
+stand58 =
+    standing (rows (1 ∷ 2 ∷ 0 ∷ 4 ∷ 4 ∷ 0 ∷ 7 ∷ 8 ∷ 9 ∷ []) (0 ∷ 0 ∷ 0 ∷ 1 ∷ 0 ∷ 0 ∷ 4 ∷ 4 ∷ 4 ∷ []) (6 ∷ 1 ∷ 0 ∷ 5 ∷ 0 ∷ 0 ∷ 1 ∷ 1 ∷ 1 ∷ [])) (tally 6 1 6)
 
--- Check accepts A, and A with either clause put last.
+-- Check accepts A under rule 1, and A with either clause put last.
 pub record Accepted : Type 0 where
-  pub own : NoneOf (checkOrder 9 prefixA clausesA)
-  pub with79 : NoneOf (checkOrder 9 prefixA (withLast clausesA clause79))
-  pub with58 : NoneOf (checkOrder 9 prefixA (withLast clausesA clause58))
+  pub own : NoneOf (checkOrder 1 (withClauses clausesA))
+  pub with79 : NoneOf (checkOrder 1 (withClauses (withLast clausesA clause79)))
+  pub with58 : NoneOf (checkOrder 1 (withClauses (withLast clausesA clause58)))
 
 pub accepted : Accepted
 unfolding goodMark prefixPasses clausesPass
-accepted = record {
-  own = accepts 9 prefixA clausesA (lit≤ tt) (lit≤ tt) (lit≤ tt) refl refl;
-  with79 = accepts 9 prefixA (withLast clausesA clause79) (lit≤ tt) (lit≤ tt) (lit≤ tt) refl refl;
-  with58 = accepts 9 prefixA (withLast clausesA clause58) (lit≤ tt) (lit≤ tt) (lit≤ tt) refl refl;
-}
+accepted =
+    record {
+      own = rule-one-accepts (withClauses clausesA) (accepts 9 prefixA clausesA (lit≤ tt) (lit≤ tt) (lit≤ tt) refl refl);
+      with79 =
+          rule-one-accepts (withClauses (withLast clausesA clause79)) (accepts 9 prefixA (withLast clausesA clause79) (lit≤ tt) (lit≤ tt) (lit≤ tt) refl refl);
+      with58 =
+          rule-one-accepts (withClauses (withLast clausesA clause58)) (accepts 9 prefixA (withLast clausesA clause58) (lit≤ tt) (lit≤ tt) (lit≤ tt) refl refl);
+    }
 
 -- The forest of A, and of A with a clause put last.
 pub record Forests : Type 0 where
@@ -59,7 +66,8 @@ pub record Forests : Type 0 where
   pub with-none : ForestRows A (withLast clausesA []) stand-none
 
 pub forests : Forests
-unfolding blocks clauses opposite denied alwaysTrue connected freeLevel level isUniversal isExistential cut row lent has fill classes-up marks goes-before under fuse-class fuse-parent table-of rows-by fuse-marks fuse fuse-all singles forest-of count-of counts-of how-many names joined
+unfolding blocks clauses opposite denied alwaysTrue connected freeLevel level isUniversal isExistential cut row lent has fill classes-up marks
+    goes-before under fuse-class fuse-parent table-of rows-by fuse-marks fuse fuse-all singles forest-of count-of counts-of how-many names joined
 forests = record {
   own = record { computed = refl; counted = refl; tallied = record { clauses = refl; classes = refl; merges = refl }; long = (refl, refl, refl) };
   with79 = record { computed = refl; counted = refl; tallied = record { clauses = refl; classes = refl; merges = refl }; long = (refl, refl, refl) };

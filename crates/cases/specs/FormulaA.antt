@@ -4,6 +4,8 @@ use mathlib.Core.List.{List, [], _∷_}
 use lib.IntN.{ℤ, pos, negsuc}
 use lib.ListN.{set}
 use Rattle.terms.specs.declared.Tally.{Tally}
+use Rattle.formula.specs.Lent.{Formula, formulaOf}
+use Rattle.tables.specs.Lent.{rows}
 use Rattle.growth.specs.Grown.{Standing, standing}
 
 abbrev pub prefixA : List ℕ
@@ -12,6 +14,10 @@ prefixA = 1 ∷ 1 ∷ 2 ∷ 0 ∷ 2 ∷ 3 ∷ 0 ∷ 1 ∷ 4 ∷ 5 ∷ 0 ∷ 2 �
 abbrev pub clausesA : List ℤ
 clausesA =
     pos 3 ∷ pos 4 ∷ pos 7 ∷ pos 0 ∷ negsuc 3 ∷ pos 8 ∷ pos 0 ∷ pos 6 ∷ pos 9 ∷ pos 0 ∷ pos 5 ∷ pos 9 ∷ pos 0 ∷ pos 1 ∷ pos 5 ∷ pos 0 ∷ []
+
+-- the formula, also with other clauses
+abbrev pub withClauses : List ℤ → Formula
+withClauses ls = formulaOf 9 prefixA ls
 
 -- P1: the class names of 1 to 9
 abbrev pub classesA : List ℕ
@@ -30,19 +36,20 @@ tally clauses merges classes = record { clauses = clauses; merges = merges; clas
 
 -- All that build leaves of A.
 abbrev pub standA : Standing
-standA = standing classesA parentsA countsA (tally 5 0 7)
+standA = standing (rows classesA parentsA countsA) (tally 5 0 7)
 
 -- P5: the same with {7 -9} added
 abbrev pub stand79 : Standing
-stand79 = standing (1 ∷ 2 ∷ 0 ∷ 4 ∷ 4 ∷ 0 ∷ 7 ∷ 8 ∷ 7 ∷ []) (0 ∷ 0 ∷ 0 ∷ 1 ∷ 0 ∷ 0 ∷ 4 ∷ 4 ∷ 0 ∷ []) (6 ∷ 1 ∷ 0 ∷ 5 ∷ 0 ∷ 0 ∷ 2 ∷ 1 ∷ 0 ∷ []) (tally 6 2 5)
+stand79 =
+    standing (rows (1 ∷ 2 ∷ 0 ∷ 4 ∷ 4 ∷ 0 ∷ 7 ∷ 8 ∷ 7 ∷ []) (0 ∷ 0 ∷ 0 ∷ 1 ∷ 0 ∷ 0 ∷ 4 ∷ 4 ∷ 0 ∷ []) (6 ∷ 1 ∷ 0 ∷ 5 ∷ 0 ∷ 0 ∷ 2 ∷ 1 ∷ 0 ∷ [])) (tally 6 2 5)
 
 -- P8: with {1 -2} added, of classes and parents only row 2 changes, which has index 1: class 1; the counts in rows 1 and 2 go from 3 and 1 to 4 and 0
 abbrev pub stand12 : Standing
-stand12 = standing (set classesA 1 1) parentsA (set (set countsA 0 4) 1 0) (tally 6 1 6)
+stand12 = standing (rows (set classesA 1 1) parentsA (set (set countsA 0 4) 1 0)) (tally 6 1 6)
 
 -- P9: with the empty clause added, no row changes
 abbrev pub stand-none : Standing
-stand-none = standing classesA parentsA countsA (tally 6 0 7)
+stand-none = standing (rows classesA parentsA countsA) (tally 6 0 7)
 
 -- the clauses added, without a closing 0 (negsuc k is -(k + 1))
 abbrev pub clause79 : List ℤ

@@ -3,11 +3,13 @@ use Prim.Native.Nat.{ℕ, _<_}
 use mathlib.Core.Path.{_≡_}
 use mathlib.Core.List.{List}
 use lib.Seq.{sets}
+use denote.Ref.{RefT, now}
+use denote.Triple.Both.{Both}
 use Rattle.terms.specs.declared.Filled.{Filled}
 use Rattle.terms.specs.declared.Verdict.{Verdict}
-use Rattle.forest.specs.declared.EntryAnswer.{EntryAnswer}
+use Rattle.terms.specs.declared.EntryAnswer.{EntryAnswer}
 use Rattle.terms.specs.declared.Tally.{Tally}
-use Rattle.spelling.specs.declared.Output.{Output}
+use Rattle.terms.specs.declared.Tallied.{Tallied}
 use Rattle.cells.specs.Codes.{cellsOf}
 
 -- What an answer says: what it gives in cells, or the number and the place of a refusal.
@@ -28,10 +30,39 @@ Fits B (refuses number at) = InCell at
 abbrev pub Any : {C : Type 0} → C → Type 0
 Any cells = Unit {0}
 
--- Accepted, the cells hold what is given, 0 is returned, and `place` is kept; refused, the cells are kept, the number is returned, and the place stands in its cell.
+-- Accepted, the cells hold what is given, 0 is returned, and `place` is kept; refused, the cells are kept, the number is returned, and the place
+-- stands in its cell.
 pub data Laid {C : Type 0} (said : Said C) (cells cells′ : C) (place place′ returned : ℕ) : Type 0 where
   given : {parts : C} → said ≡ gives parts → cells′ ≡ parts → returned ≡ 0 → place′ ≡ place → Laid said cells cells′ place place′ returned
-  placed : {number at : ℕ} → said ≡ refuses number at → cells′ ≡ cells → returned ≡ number → place′ ≡ at → Laid said cells cells′ place place′ returned
+  placed : {number at : ℕ} → said ≡ refuses number at → cells′ ≡ cells → returned ≡ number → place′ ≡ at
+      → Laid said cells cells′ place place′ returned
+
+-- a cell that a function may write, and the cells of a tally: as they were lent, and as they are left
+abbrev pub Cell : Type 0
+Cell = Both (RefT ℕ) (RefT ℕ)
+
+abbrev pub TallyCells : Type 0
+TallyCells = Both (RefT (List ℕ)) (RefT (List ℕ))
+
+-- What is said stands in no cell but that of the place, in one besides, or in two to four.
+abbrev pub LaidBy : {C : Type 0} → Said C → C → C → Cell → ℕ → Type 0
+LaidBy said cells cells′ place = Laid said cells cells′ (now (place .entry)) (now (place .exit))
+
+abbrev pub NoneLaid : Said (Unit {0}) → Cell → ℕ → Type 0
+NoneLaid said = LaidBy said tt tt
+
+abbrev pub OneLaid : Said ℕ → Cell → Cell → ℕ → Type 0
+OneLaid said a = LaidBy said (now (a .entry)) (now (a .exit))
+
+abbrev pub TwoLaid : Said (ℕ × ℕ) → Cell → Cell → Cell → ℕ → Type 0
+TwoLaid said a b = LaidBy said (now (a .entry), now (b .entry)) (now (a .exit), now (b .exit))
+
+abbrev pub ThreeLaid : Said (ℕ × ℕ × ℕ) → Cell → Cell → Cell → Cell → ℕ → Type 0
+ThreeLaid said a b c = LaidBy said (now (a .entry), now (b .entry), now (c .entry)) (now (a .exit), now (b .exit), now (c .exit))
+
+abbrev pub FourLaid : Said (ℕ × ℕ × ℕ × ℕ) → Cell → Cell → Cell → Cell → Cell → ℕ → Type 0
+FourLaid said a b c d =
+    LaidBy said (now (a .entry), now (b .entry), now (c .entry), now (d .entry)) (now (a .exit), now (b .exit), now (c .exit), now (d .exit))
 
 -- What each answer says.
 abbrev pub verdictSaid : Verdict → Said (Unit {0})
@@ -41,10 +72,6 @@ verdictSaid (Verdict.Refused number at) = refuses number at
 abbrev pub filledSaid : Filled → Said ℕ
 filledSaid (Filled.Count written) = gives written
 filledSaid (Filled.Refused number at) = refuses number at
-
-abbrev pub outputSaid : Output → Said ℕ
-outputSaid (Output.Written count) = gives count
-outputSaid (Output.Refused number at) = refuses number at
 
 abbrev pub entrySaid : EntryAnswer → Said (ℕ × ℕ)
 entrySaid (EntryAnswer.At class rises) = gives (class .0, rises)
@@ -63,3 +90,13 @@ builtSaid (refuses number at) tally cells = refuses number at
 abbrev pub addedSaid : Said (ℕ × List ℕ) → Said (List ℕ)
 addedSaid (gives parts) = gives (parts .1)
 addedSaid (refuses number at) = refuses number at
+
+-- what build and add told stands in the cells of the tally, and a count beside them
+abbrev pub BuiltLaid : Tallied → TallyCells → Cell → Cell → ℕ → Type 0
+BuiltLaid told cells count =
+    LaidBy (builtSaid (filledSaid (told .answer)) (told .tally) (now (cells .entry)))
+    (now (count .entry), now (cells .entry)) (now (count .exit), now (cells .exit))
+
+abbrev pub AddedLaid : Tallied → TallyCells → Cell → ℕ → Type 0
+AddedLaid told cells =
+    LaidBy (addedSaid (builtSaid (filledSaid (told .answer)) (told .tally) (now (cells .entry)))) (now (cells .entry)) (now (cells .exit))

@@ -1,9 +1,10 @@
--- What the answers say that give a formula: its variable count, the counts of the entries of its tables, and what else there is; and which of those fit cells.
+-- What the answers say that give a formula: its variable count, the counts of the entries of its tables, and what else there is; and which of those
+-- fit cells.
 use Prim.Native.Nat.{ℕ}
-use Rattle.qdimacs.specs.declared.Reading.{Reading}
-use Rattle.dqdimacs.specs.declared.Reading as listed
-use Rattle.expansion.specs.declared.Expanded.{Expanded}
-use Rattle.records.specs.declared.Loaded.{Loaded}
+use Rattle.terms.specs.declared.Reading.{Reading}
+use Rattle.terms.specs.declared.ListedReading.{ListedReading}
+use Rattle.terms.specs.declared.Expanded.{Expanded}
+use Rattle.terms.specs.declared.Loaded.{Loaded}
 use Rattle.cells.specs.Codes.{tellsSets}
 use Rattle.cells.specs.Cells.{Said, gives, refuses, InCell}
 
@@ -11,9 +12,9 @@ abbrev pub readingSaid : Reading → Said (ℕ × ℕ × ℕ)
 readingSaid (Reading.Read n entries literals) = gives (n, entries, literals)
 readingSaid (Reading.Refused number at) = refuses number at
 
-abbrev pub listedSaid : listed.Reading → Said (ℕ × ℕ × ℕ × ℕ)
-listedSaid (listed.Reading.Read n entries literals rows) = gives (n, entries, literals, rows)
-listedSaid (listed.Reading.Refused number at) = refuses number at
+abbrev pub listedSaid : ListedReading → Said (ℕ × ℕ × ℕ × ℕ)
+listedSaid (ListedReading.Read n entries literals rows) = gives (n, entries, literals, rows)
+listedSaid (ListedReading.Refused number at) = refuses number at
 
 abbrev pub expandedSaid : Expanded → Said (ℕ × ℕ × ℕ)
 expandedSaid (Expanded.Formula n entries literals) = gives (n, entries, literals)

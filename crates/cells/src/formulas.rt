@@ -1,12 +1,14 @@
 // A formula that was read, loaded or expanded: its variable count, and the counts of the entries of its tables.
 
-use expansion::Expanded;
-use qdimacs::Reading;
-use records::Loaded;
+use terms::Expanded;
+use terms::ListedReading;
+use terms::Loaded;
+use terms::Reading;
 ghost use mathlib.Core.Path.{_≡_};
 ghost use Rattle.cells.specs.Codes.{tellsSets};
-ghost use Rattle.cells.specs.Cells.{Fits, Any, Laid};
-ghost use Rattle.cells.specs.Formulas.{TwoInCells, ThreeInCells, LoadedInCells, readingSaid, listedSaid, expandedSaid, loadedSaid};
+ghost use Rattle.cells.specs.Cells.{Fits, Any, ThreeLaid, FourLaid};
+ghost use Rattle.cells.specs.Formulas.{TwoInCells, ThreeInCells, LoadedInCells};
+ghost use Rattle.cells.specs.Formulas.{readingSaid, listedSaid, expandedSaid, loadedSaid};
 
 // What was read from a text.
 pub fn lay_reading(
@@ -16,8 +18,8 @@ pub fn lay_reading(
     clauses_count: &mut u32,
     place: &mut u32,
 ) -> u32
-    requires { ⌜ Fits TwoInCells (readingSaid answer) ⌝ }
-    ensures { λ r. ⌜ Laid (readingSaid answer) (now (n .entry), now («prefix_count» .entry), now («clauses_count» .entry)) (now (n .exit), now («prefix_count» .exit), now («clauses_count» .exit)) (now (place .entry)) (now (place .exit)) r ⌝ }
+    requires fits { ⌜ Fits TwoInCells (readingSaid answer) ⌝ }
+    ensures laid { λ r. ⌜ ThreeLaid (readingSaid answer) n «prefix_count» «clauses_count» place r ⌝ }
 {
     match answer {
         Reading::Read {
@@ -30,7 +32,7 @@ pub fn lay_reading(
             *clauses_count = literals as u32;
             0
         }
-        Reading::Refused { number, place: at } => {
+        Reading::Refused(number, at) => {
             *place = at as u32;
             number
         }
@@ -39,18 +41,18 @@ pub fn lay_reading(
 
 // What was read from a text with dependency lists.
 pub fn lay_listed(
-    answer: dqdimacs::Reading,
+    answer: ListedReading,
     n: &mut u32,
     prefix_count: &mut u32,
     clauses_count: &mut u32,
     lists_count: &mut u32,
     place: &mut u32,
 ) -> u32
-    requires { ⌜ Fits ThreeInCells (listedSaid answer) ⌝ }
-    ensures { λ r. ⌜ Laid (listedSaid answer) (now (n .entry), now («prefix_count» .entry), now («clauses_count» .entry), now («lists_count» .entry)) (now (n .exit), now («prefix_count» .exit), now («clauses_count» .exit), now («lists_count» .exit)) (now (place .entry)) (now (place .exit)) r ⌝ }
+    requires fits { ⌜ Fits ThreeInCells (listedSaid answer) ⌝ }
+    ensures laid { λ r. ⌜ FourLaid (listedSaid answer) n «prefix_count» «clauses_count» «lists_count» place r ⌝ }
 {
     match answer {
-        dqdimacs::Reading::Read {
+        ListedReading::Read {
             n: variables,
             prefix: entries,
             clauses: literals,
@@ -62,7 +64,7 @@ pub fn lay_listed(
             *lists_count = rows as u32;
             0
         }
-        dqdimacs::Reading::Refused { number, place: at } => {
+        ListedReading::Refused(number, at) => {
             *place = at as u32;
             number
         }
@@ -77,8 +79,8 @@ pub fn lay_expanded(
     clauses_count: &mut u32,
     place: &mut u32,
 ) -> u32
-    requires { ⌜ Fits Any (expandedSaid answer) ⌝ }
-    ensures { λ r. ⌜ Laid (expandedSaid answer) (now («out_n» .entry), now («prefix_count» .entry), now («clauses_count» .entry)) (now («out_n» .exit), now («prefix_count» .exit), now («clauses_count» .exit)) (now (place .entry)) (now (place .exit)) r ⌝ }
+    requires fits { ⌜ Fits Any (expandedSaid answer) ⌝ }
+    ensures laid { λ r. ⌜ ThreeLaid (expandedSaid answer) «out_n» «prefix_count» «clauses_count» place r ⌝ }
 {
     match answer {
         Expanded::Formula(variables, entries, literals) => {
@@ -96,7 +98,7 @@ pub fn lay_expanded(
 
 // The number that tells whether sets are there.
 fn sets_told(there: bool) -> u32
-    ensures { λ r. ⌜ r ≡ tellsSets there ⌝ }
+    ensures told { λ r. ⌜ r ≡ tellsSets there ⌝ }
 {
     if there { 1 } else { 0 }
 }
@@ -110,8 +112,8 @@ pub fn lay_loaded(
     with_sets: &mut u32,
     place: &mut u32,
 ) -> u32
-    requires { ⌜ Fits LoadedInCells (loadedSaid answer) ⌝ }
-    ensures { λ r. ⌜ Laid (loadedSaid answer) (now (n .entry), now («prefix_count» .entry), now («clauses_count» .entry), now («with_sets» .entry)) (now (n .exit), now («prefix_count» .exit), now («clauses_count» .exit), now («with_sets» .exit)) (now (place .entry)) (now (place .exit)) r ⌝ }
+    requires fits { ⌜ Fits LoadedInCells (loadedSaid answer) ⌝ }
+    ensures laid { λ r. ⌜ FourLaid (loadedSaid answer) n «prefix_count» «clauses_count» «with_sets» place r ⌝ }
 {
     match answer {
         Loaded::Formula(variables, entries, literals, sets) => {

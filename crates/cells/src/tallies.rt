@@ -1,19 +1,19 @@
 // A tally in three cells, as its struct in C has it.
 
 use crate::lay;
-use growth::Tallied;
 use terms::Filled;
+use terms::Tallied;
 use terms::Tally;
 ghost use mathlib.Core.Path.{_≡_};
 ghost use Rattle.cells.specs.Codes.{tallyIn};
-ghost use Rattle.cells.specs.Cells.{Fits, Any, Laid, TallyLaid, filledSaid, builtSaid, addedSaid};
+ghost use Rattle.cells.specs.Cells.{Fits, Any, TallyLaid, BuiltLaid, AddedLaid, filledSaid};
 
 // Clauses, merges and classes, in this order.
 pub type TallyCells = [u32; 3];
 
 // The tally that was lent.
 pub fn tally_in(cells: &TallyCells) -> Tally
-    ensures { λ r. ⌜ r ≡ tallyIn (now (cells .entry)) ⌝ }
+    ensures held { λ r. ⌜ r ≡ tallyIn (now (cells .entry)) ⌝ }
 {
     Tally {
         clauses: cells[0],
@@ -24,7 +24,7 @@ pub fn tally_in(cells: &TallyCells) -> Tally
 
 // The tally of an answer that accepts goes into the cells.
 fn lay_tally(told: Tallied, cells: &mut TallyCells)
-    ensures { λ r. ⌜ TallyLaid (filledSaid (told .answer)) (told .tally) (now (cells .entry)) (now (cells .exit)) ⌝ }
+    ensures laid { λ r. ⌜ TallyLaid (filledSaid (told .answer)) (told .tally) (now (cells .entry)) (now (cells .exit)) ⌝ }
 {
     let answer = told.answer;
     if let Filled::Count(_) = answer {
@@ -37,8 +37,8 @@ fn lay_tally(told: Tallied, cells: &mut TallyCells)
 
 // What build gives: a count and the tally.
 pub fn lay_built(told: Tallied, cells: &mut TallyCells, count: &mut u32, place: &mut u32) -> u32
-    requires { ⌜ Fits Any (filledSaid (told .answer)) ⌝ }
-    ensures { λ r. ⌜ Laid (builtSaid (filledSaid (told .answer)) (told .tally) (now (cells .entry))) (now (count .entry), now (cells .entry)) (now (count .exit), now (cells .exit)) (now (place .entry)) (now (place .exit)) r ⌝ }
+    requires fits { ⌜ Fits Any (filledSaid (told .answer)) ⌝ }
+    ensures laid { λ r. ⌜ BuiltLaid told cells count place r ⌝ }
 {
     lay_tally(told, cells);
     let answer = told.answer;
@@ -47,8 +47,8 @@ pub fn lay_built(told: Tallied, cells: &mut TallyCells, count: &mut u32, place: 
 
 // What add gives: the tally.
 pub fn lay_added(told: Tallied, cells: &mut TallyCells, place: &mut u32) -> u32
-    requires { ⌜ Fits Any (filledSaid (told .answer)) ⌝ }
-    ensures { λ r. ⌜ Laid (addedSaid (builtSaid (filledSaid (told .answer)) (told .tally) (now (cells .entry)))) (now (cells .entry)) (now (cells .exit)) (now (place .entry)) (now (place .exit)) r ⌝ }
+    requires fits { ⌜ Fits Any (filledSaid (told .answer)) ⌝ }
+    ensures laid { λ r. ⌜ AddedLaid told cells place r ⌝ }
 {
     let mut count: u32 = 0;
     lay_built(told, cells, &mut count, place)

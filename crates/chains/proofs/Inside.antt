@@ -1,4 +1,4 @@
--- Laws of joins that lie inside others: composed, with a clause added, and for the links of a table.
+-- Laws of joins that lie inside others, so that whatever these do those can do too: composed, with a clause added, and for the links of a table.
 use Prim.Native.Nat.{ℕ}
 use mathlib.Core.Path.{_≡_, refl, sym, _∙_, subst, subst₂}
 use mathlib.Core.List.{List, [], _∷_, _++_, List·Memᴰ, List·Memᴰ·head, List·Memᴰ·tail, List·Memᴰ·cases-cons, List·Memᴰ·eq-of-singleton}
@@ -70,7 +70,10 @@ module _ {X : Variables} where
 
   -- A clause at the end of a list is a clause added.
   pub equal-snoc : {cs : List (List ℕ)} {C : List ℕ} → Equal X (Joined (cs ++ (C ∷ []))) (Added (Joined cs) C)
-  equal-snoc = record { there = record { does = λ i a b fa fb j. reach-one (joined-added a b .0 j) fb }; back = record { does = λ i a b fa fb j. reach-one (joined-added a b .1 j) fb } }
+  equal-snoc = record {
+    there = record { does = λ i a b fa fb j. reach-one (joined-added a b .0 j) fb };
+    back = record { does = λ i a b fa fb j. reach-one (joined-added a b .1 j) fb };
+  }
 
   pub equal-added : {J K : ℕ → ℕ → Type 0} {C : List ℕ} → Equal X J K → Equal X (Added J C) (Added K C)
   equal-added s = record { there = inside-added (s .there); back = inside-added (s .back) }
@@ -90,3 +93,10 @@ link-back l e = reach-one (before (down l)) e
 
 pub both-sym : {X : Variables} {W : Table} {C : List ℕ} → Symmetric (Added (Linked X W) C)
 both-sym = added-sym linked-sym
+
+-- A pair to be joined may be turned round.
+pub pair-turned : {X : Variables} {W : Table} {p q : ℕ} → Equal X (Added (Linked X W) (p ∷ q ∷ [])) (Added (Linked X W) (q ∷ p ∷ []))
+pair-turned = record {
+  there = inside-pair both-sym inside-before (λ i fp fq. pair-back fq);
+  back = inside-pair both-sym inside-before (λ i fq fp. pair-back fp);
+}

@@ -1,4 +1,5 @@
--- Each way in which growing changes a loose table, and that the links and the pair that is still to be joined say the same after it.
+-- Each way in which growing changes a loose table (a row halved, two roots united, one hung over the other), and that the links, together with the
+-- pair that is still to be joined, reach what they reached before it.
 use Prim.Native.Nat.{ℕ, _≤_, _<_}
 use mathlib.Core.Path.{_≡_, refl, sym, _∙_, ap, subst}
 use mathlib.Core.Bool.{true, false}
@@ -13,7 +14,8 @@ use Rattle.connection.specs.Growth.{Added}
 use Rattle.connection.proofs.Reach.{reach-one, reach-trans, reach-sym, reach-mono, from-less}
 use Rattle.connection.proofs.Represent.{Link, to-class, to-parent, Linked, up, down, linked-sym}
 use Rattle.chains.specs.Loose.{Equal, LooseClass, LooseParent, Loose, Kept, RootOf}
-use Rattle.chains.proofs.Inside.{inside-reach, inside-refl, inside-trans, inside-before, inside-pair, inside-links, pair-step, pair-back, link-step, link-back, both-sym}
+use Rattle.chains.proofs.Inside.{inside-reach, inside-refl, inside-trans, inside-before, inside-pair, inside-links, pair-step}
+use Rattle.chains.proofs.Inside.{pair-back, link-step, link-back, both-sym}
 
 -- 0 is no existential, so an existential is not 0.
 pub nonzero : (X : Variables) (v : ℕ) → X .ex 0 ≡ false → X .ex v ≡ true → v ≢ 0
@@ -33,14 +35,17 @@ module _ {X : Variables} {W W′ : Table} (loose : Loose X W) where
 
   -- A parent row that stays, of a root that stays one.
   parent-stays : {v : ℕ} → W′ .par v ≢ 0 → W′ .par v ≡ W .par v → (W .par v ≢ 0 → W .cls v ≡ v → W′ .cls v ≡ v) → LooseParent X W′ v
-  parent-stays {v} n e root = let p : W .par v ≢ 0 = λ z. n (e ∙ z) in let r = loose .parent v p in parent-is e (r .child) (root p (r .root)) (r .existential) (r .less)
+  parent-stays {v} n e root =
+      let p : W .par v ≢ 0 = λ z. n (e ∙ z) in
+      let r = loose .parent v p in
+      parent-is e (r .child) (root p (r .root)) (r .existential) (r .less)
 
   -- A link of a row that stays is a link still.
   link-stays : {u z : ℕ} → W′ .cls u ≡ W .cls u → W′ .par u ≡ W .par u → Link X W u z → Link X W′ u z
   link-stays c p (to-class ex e) = to-class ex (c ∙ e)
   link-stays c p (to-parent n e) = to-parent (λ z. n (sym p ∙ z)) (p ∙ e)
 
--- The level of a member of a level, at another of the same or a deeper block.
+-- What is of a level, and another existential of its block or a deeper one: that is of the level too.
 deeper : {X : Variables} {i a : ℕ} (b : ℕ) → From X i a → X .ex b ≡ true → X .lev a ≤ X .lev b → From X i b
 deeper b f ex l = record { existential = ex; deep = omega (arith, f .deep) }
 
@@ -98,8 +103,11 @@ module _ {X : Variables} {W W′ : Table} (loose : Loose X W) (v : ℕ) (ex : X 
           subst (λ (w : ℕ). Reach (Linked X W) (From X i) w z) (sym q)
           (reach-trans (reach-one (up (to-class ex refl)) (halved-first f)) (reach-one (up (to-class (first .existential) (sym changed ∙ e))) fz))
 
+  halved-equal : Equal X (Linked X W) (Linked X W′)
+  halved-equal = record { there = inside-links linked-sym halved-old; back = inside-links linked-sym halved-new }
+
   pub halved : Kept X W W′
-  halved = record { loose = halved-loose; equal = record { there = inside-links linked-sym halved-old; back = inside-links linked-sym halved-new }; roots = halved-roots }
+  halved = record { loose = halved-loose; equal = halved-equal; roots = halved-roots }
 
 -- Two of a pair that is to be joined give way to their roots.
 module _ {X : Variables} {W W′ : Table} {p q r s : ℕ} (equal : Equal X (Linked X W) (Linked X W′)) (exp : X .ex p ≡ true) (exq : X .ex q ≡ true)
@@ -134,7 +142,8 @@ module _ {X : Variables} {W W′ : Table} (loose : Loose X W) (none : X .ex 0 �
   pub united-loose : Loose X W′
   united-loose = record {
     universal = λ u e. let k = rest u (λ q. clash exh (ap (X .ex) (sym q) ∙ e)) in (k .0 ∙ loose .universal u e .0, k .1 ∙ loose .universal u e .1);
-    class = λ u exu. by-cases (ℕ-discrete u high) (λ e. subst (LooseClass X W′) (sym e) (class-is changed (omega arith) exl block)) (λ d. class-stays loose exu (rest u d .0));
+    class = λ u exu. by-cases (ℕ-discrete u high) (λ e. subst (LooseClass X W′) (sym e) (class-is changed (omega arith) exl block))
+        (λ d. class-stays loose exu (rest u d .0));
     parent = λ u n. by-cases (ℕ-discrete u high) (λ e. absurd (n (ap (W′ .par) e ∙ cleared)))
         (λ d. parent-stays loose n (rest u d .1) (λ p r. rest u d .0 ∙ r));
   }
@@ -201,7 +210,8 @@ module _ {X : Variables} {W W′ : Table} (loose : Loose X W) (none : X .ex 0 �
       (λ d. let e′ : W .par p ≡ z = ap (W .par) (sym d) ∙ e in
       let fq : From X i q = deeper q fz exq (omega (arith, ap (X .lev) e′)) in
       subst (λ (w : ℕ). Reach (Added (Linked X W′) (q ∷ W .par p ∷ [])) (From X i) w z) (sym d)
-      (reach-trans (link-step new-parent fq) (subst (λ (w : ℕ). Reach (Added (Linked X W′) (q ∷ W .par p ∷ [])) (From X i) q w) e′ (pair-step (subst (From X i) (sym e′) fz)))))
+      (reach-trans (link-step new-parent fq) (subst (λ (w : ℕ). Reach (Added (Linked X W′) (q ∷ W .par p ∷ [])) (From X i) q w) e′
+      (pair-step (subst (From X i) (sym e′) fz)))))
       (λ d. link-step (to-parent (λ z. n (sym (rest u d) ∙ z)) (rest u d ∙ e)) fz)
 
   hung-new : (i u z : ℕ) → From X i u → From X i z → Link X W′ u z → Reach (Added (Linked X W) (p ∷ q ∷ [])) (From X i) u z

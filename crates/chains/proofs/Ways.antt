@@ -1,4 +1,4 @@
--- The way to a root: what is known at each row that it passes.
+-- The way to a root, halved as it is walked: what is known at each row where it stops.
 use Prim.Native.Nat.{ℕ, _≤_, _<_}
 use mathlib.Core.Path.{_≡_, refl, sym, _∙_, subst}
 use mathlib.Core.Bool.{true}
@@ -8,14 +8,16 @@ use native.Mathlib.Decide.{ℕ-discrete}
 use native.Mathlib.Omega.{arith}
 use lib.ListN.{length, getD, set, length-set}
 use lib.Seq.{getD-set-same, getD-set-other}
+use Rattle.terms.specs.Limits.{variableRows}
 use Rattle.connection.specs.Reach.{Variables, From, Reach, here}
 use Rattle.connection.specs.Tables.{Table}
 use Rattle.connection.proofs.Reach.{reach-one, reach-trans}
 use Rattle.connection.proofs.Represent.{to-class, Linked, up}
-use Rattle.chains.specs.Loose.{Loose, Kept, Falling, Rooted, table}
+use Rattle.chains.specs.Loose.{Loose, Kept, Falling, FindsRoot, table}
 use Rattle.chains.proofs.Inside.{inside-reach, equal-refl, equal-trans}
 use Rattle.chains.proofs.Relinked.{halved}
 
+-- Rows that are left as they are stand for what they stand for; and so it is kept from rows to rows.
 pub kept-none : {X : Variables} {W : Table} → Loose X W → Kept X W W
 kept-none loose = record { loose = loose; equal = equal-refl; roots = λ u r. r }
 
@@ -28,62 +30,72 @@ pub halved-row : (X : Variables) (C P : List ℕ) (v : ℕ) → Loose X (table C
 halved-row X C P v loose ex other l =
     halved loose v ex other (getD-set-same C v (getD C (getD C v 0) 0) 0 l) (λ u d. getD-set-other C v u (getD C (getD C v 0) 0) 0 d) (λ u. refl)
 
--- The row `at` is on the way from v to its root.
-pub record Found (X : Variables) (W W′ : Table) (v at : ℕ) : Type 0 where
+-- `at` is on the way from v to its root.
+pub record OnWay (X : Variables) (W W′ : Table) (v at : ℕ) : Type 0 where
   pub kept : Kept X W W′
   pub existential : X .ex at ≡ true
   pub block : X .lev at ≡ X .lev v
   pub reached : Reach (Linked X W′) (From X (X .lev v)) v at
 
-pub record Following (C₀ : List ℕ) (v : ℕ) (C : List ℕ) (at over : ℕ) : Type 0 where
+-- The way from v has come to the row `at`, which points to `next`; it was halved so far.
+pub record Halving (C₀ : List ℕ) (v : ℕ) (C : List ℕ) (at next : ℕ) : Type 0 where
   pub falling : Falling C at
-  pub next : over ≡ getD C at 0
-  pub found : (X : Variables) (P : List ℕ) → Loose X (table C₀ P) → X .ex v ≡ true → Found X (table C₀ P) (table C P) v at
+  pub points : next ≡ getD C at 0
+  pub way : (X : Variables) (P : List ℕ) → Loose X (table C₀ P) → X .ex v ≡ true → OnWay X (table C₀ P) (table C P) v at
 
-pub follow-none : {C : List ℕ} {v : ℕ} → Falling C v → Following C v C v (getD C v 0)
-follow-none f = record { falling = f; next = refl; found = λ X P loose ex. record { kept = kept-none loose; existential = ex; block = refl; reached = here } }
+pub halve-none : {C : List ℕ} {v : ℕ} → Falling C v → Halving C v C v (getD C v 0)
+halve-none f = record { falling = f; points = refl; way = λ X P loose ex. record { kept = kept-none loose; existential = ex; block = refl; reached = here } }
 
-module _ {C₀ : List ℕ} {v : ℕ} {C : List ℕ} {at over : ℕ} (f : Following C₀ v C at over) where
-  -- What the row points to is a row, not higher.
-  pub over-least : over ≤ at
-  over-least = omega (arith, f .next, f .falling .falls at)
+module _ {C₀ : List ℕ} {v : ℕ} {C : List ℕ} {at next : ℕ} (f : Halving C₀ v C at next) where
+  -- The row `at`, the one that it points to, and the one after that have rows, each not higher than the one before it.
+  pub way-rows : (at < length C) × (next ≤ at) × (getD C next 0 ≤ next) × (length C ≡ variableRows)
+  way-rows = (omega (arith, f .falling .within, f .falling .size), omega (arith, f .points, f .falling .falls at), f .falling .falls next, f .falling .size)
 
-  pub follow-one : over ≢ at → let C′ = set C at (getD C over 0) in Following C₀ v C′ (getD C over 0) (getD C′ (getD C over 0) 0)
-  follow-one other = record {
-    falling = record { size = length-set C at (getD C over 0) ∙ f .falling .size; falls = falls; within = omega (arith, over-least, f .falling .within, f .falling .falls over) };
-    next = refl;
-    found = found;
+  -- One further: the row `at` is pointed past `next`.
+  pub halve-one : next ≢ at → let C′ = set C at (getD C next 0) in Halving C₀ v C′ (getD C next 0) (getD C′ (getD C next 0) 0)
+  halve-one other = record {
+    falling = record { size = length-set C at x ∙ f .falling .size; falls = falls; within = omega (arith, least, f .falling .within) };
+    points = refl;
+    way = way;
   }
     where
-      q : getD C at 0 ≡ over
-      q = sym (f .next)
+      x : ℕ
+      x = getD C next 0
+
+      q : getD C at 0 ≡ next
+      q = sym (f .points)
 
       inside : at < length C
-      inside = omega (arith, f .falling .within, f .falling .size)
+      inside = way-rows .0
 
-      falls : (u : ℕ) → getD (set C at (getD C over 0)) u 0 ≤ u
+      least : x ≤ at
+      least = omega (arith, way-rows .1, way-rows .2)
+
+      falls : (u : ℕ) → getD (set C at x) u 0 ≤ u
       falls u = by-cases (ℕ-discrete u at)
-          (λ e. subst (λ (w : ℕ). getD (set C at (getD C over 0)) w 0 ≤ w) (sym e) (omega (arith, getD-set-same C at (getD C over 0) 0 inside, f .falling .falls over, over-least)))
-          (λ d. omega (arith, getD-set-other C at u (getD C over 0) 0 d, f .falling .falls u))
+          (λ e. subst (λ (w : ℕ). getD (set C at x) w 0 ≤ w) (sym e) (omega (arith, getD-set-same C at x 0 inside, least)))
+          (λ d. omega (arith, getD-set-other C at u x 0 d, f .falling .falls u))
 
-      found : (X : Variables) (P : List ℕ) → Loose X (table C₀ P) → X .ex v ≡ true → Found X (table C₀ P) (table (set C at (getD C over 0)) P) v (getD C over 0)
-      found X P loose ex =
-          let g = f .found X P loose ex in
-          let k : Kept X (table C P) (table (set C at (getD C over 0)) P) =
-          subst (λ (w : ℕ). Kept X (table C P) (table (set C at (getD C w 0)) P)) q (halved-row X C P at (g .kept .loose) (g .existential) (λ e. other (f .next ∙ e)) inside) in
+      way : (X : Variables) (P : List ℕ) → Loose X (table C₀ P) → X .ex v ≡ true → OnWay X (table C₀ P) (table (set C at x) P) v x
+      way X P loose ex =
+          let g = f .way X P loose ex in
+          let k : Kept X (table C P) (table (set C at x) P) =
+          subst (λ (w : ℕ). Kept X (table C P) (table (set C at (getD C w 0)) P)) q
+          (halved-row X C P at (g .kept .loose) (g .existential) (λ e. other (f .points ∙ e)) inside) in
           let one = g .kept .loose .class at (g .existential) in
           let two = g .kept .loose .class (getD C at 0) (one .existential) in
-          let ex′ : X .ex (getD C over 0) ≡ true = subst (λ (w : ℕ). X .ex (getD C w 0) ≡ true) q (two .existential) in
-          let block : X .lev (getD C over 0) ≡ X .lev v = subst (λ (w : ℕ). X .lev (getD C w 0) ≡ X .lev v) q (two .block ∙ one .block ∙ g .block) in
+          let ex′ : X .ex x ≡ true = subst (λ (w : ℕ). X .ex (getD C w 0) ≡ true) q (two .existential) in
+          let block : X .lev x ≡ X .lev v = subst (λ (w : ℕ). X .lev (getD C w 0) ≡ X .lev v) q (two .block ∙ one .block ∙ g .block) in
           record {
             kept = kept-trans (g .kept) k;
             existential = ex′;
             block = block;
             reached = reach-trans (inside-reach (k .equal .there) (record { existential = ex; deep = omega arith }) (g .reached))
-                (reach-one (up (to-class (g .existential) (getD-set-same C at (getD C over 0) 0 inside))) (record { existential = ex′; deep = omega (arith, block) }));
+                (reach-one (up (to-class (g .existential) (getD-set-same C at x 0 inside))) (record { existential = ex′; deep = omega (arith, block) }));
           }
 
-  pub follow-last : over ≡ at → (X : Variables) (P : List ℕ) → Loose X (table C₀ P) → X .ex v ≡ true → Rooted X (table C₀ P) (table C P) v at
-  follow-last e X P loose ex =
-      let g = f .found X P loose ex in
-      record { kept = g .kept; root = record { itself = sym (f .next) ∙ e; existential = g .existential; block = g .block; reached = g .reached } }
+  -- What points to itself is the root.
+  pub halve-last : next ≡ at → FindsRoot C₀ C v at
+  halve-last e X P loose ex =
+      let g = f .way X P loose ex in
+      record { kept = g .kept; root = record { itself = sym (f .points) ∙ e; existential = g .existential; block = g .block; reached = g .reached } }

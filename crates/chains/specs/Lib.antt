@@ -1,2 +1,2 @@
--- The definitions of loose rows and their chains, which only proofs rest on.
+-- Inner definitions, which only proofs rest on: loose rows, and what joining two chains in them does.
 pub mod Loose

@@ -1,5 +1,5 @@
--- Loose tables, in which the forest grows: what their rows may say, and when two of them, or a table and some joins, say the same.
--- No public promise rests on these: what a reader must believe of a forest that grows stands above, with build and add.
+-- Inner: loose tables, in which the forest grows as in a union-find: what their rows may say, and when two of them, or a table and some joins, say the
+-- same. No public promise rests on these: what a reader must believe of a forest that grows stands with build and add.
 use Prim.Native.Nat.{ℕ, _+_, _≤_, _<_}
 use mathlib.Core.Path.{_≡_}
 use mathlib.Core.Bool.{true, false}
@@ -7,6 +7,7 @@ use mathlib.Core.List.{List, [], _∷_}
 use mathlib.Core.Logic.{_≢_}
 use lib.ListN.{length, getD}
 use lib.Dec.{ltb}
+use Rattle.terms.specs.Limits.{mostVariables, variableRows}
 use Rattle.connection.specs.Reach.{Variables, From, Reach}
 use Rattle.connection.specs.Tables.{Table}
 use Rattle.connection.specs.Growth.{Added}
@@ -48,7 +49,7 @@ pub record Kept (X : Variables) (W W′ : Table) : Type 0 where
   -- what names itself does so still
   pub roots : (u : ℕ) → W .cls u ≡ u → W′ .cls u ≡ u
 
--- r is the root of v.
+-- r is the root of v: it names itself, stands in the block of v, and is reached from v at the level of that block.
 pub record RootOf (X : Variables) (W : Table) (v r : ℕ) : Type 0 where
   pub itself : W .cls r ≡ r
   pub existential : X .ex r ≡ true
@@ -63,20 +64,29 @@ table classes parents = record { cls = λ v. getD classes v 0; par = λ v. getD 
 abbrev pub ranked : List ℕ → Variables
 ranked depths = record { count = length depths; lev = λ v. getD depths v 0; ex = λ v. ltb 0 (getD depths v 0) }
 
--- Class rows that can be followed: each points to itself or lower.
+-- The joins that loose rows stand for: those along a class row or a parent row, either way.
+abbrev pub links : List ℕ → List ℕ → List ℕ → ℕ → ℕ → Type 0
+links depths classes parents = Linked (ranked depths) (table classes parents)
+
+-- Class rows that can be followed from v: each points to itself or lower.
 pub record Falling (classes : List ℕ) (v : ℕ) : Type 0 where
-  pub size : length classes ≡ 4097
+  pub size : length classes ≡ variableRows
   pub falls : (u : ℕ) → getD classes u 0 ≤ u
-  pub within : v ≤ 4096
+  pub within : v ≤ mostVariables
 
 -- The root that was found, in rows that stand for what they stood for.
 pub record Rooted (X : Variables) (W W′ : Table) (v r : ℕ) : Type 0 where
   pub kept : Kept X W W′
   pub root : RootOf X W′ v r
 
+-- Whatever the variables and the parents are: in loose rows r was found as the root of v, and the rows stand for what they stood for.
+abbrev pub FindsRoot : List ℕ → List ℕ → ℕ → ℕ → Type 0
+FindsRoot classes classes′ v r =
+    (X : Variables) (parents : List ℕ) → Loose X (table classes parents) → X .ex v ≡ true → Rooted X (table classes parents) (table classes′ parents) v r
+
 -- Tables in which a forest grows: the depths, and loose rows.
 pub record Growing (depths classes parents : List ℕ) : Type 0 where
-  pub sizes : (length depths ≡ 4097) × (length classes ≡ 4097) × (length parents ≡ 4097)
+  pub sizes : (length depths ≡ variableRows) × (length classes ≡ variableRows) × (length parents ≡ variableRows)
   pub none : getD depths 0 0 ≡ 0
   pub loose : Loose (ranked depths) (table classes parents)
 
@@ -94,14 +104,14 @@ pub record Roots (depths classes parents : List ℕ) (p q : ℕ) : Type 0 where
   pub roots : (getD classes p 0 ≡ p) × (getD classes q 0 ≡ q)
   pub differ : p ≢ q
 
--- Of the pair p and q the pair p′ and q′ is left to be joined, which stands higher.
+-- A step: of the pair p and q the pair p′ and q′ is left to be joined, which is less deep.
 pub record Stepped (depths classes parents : List ℕ) (p q : ℕ) (classes′ parents′ : List ℕ) (p′ q′ : ℕ) : Type 0 where
   pub growing : Growing depths classes′ parents′
-  pub equal : Equal (ranked depths) (Added (Linked (ranked depths) (table classes parents)) (p ∷ q ∷ [])) (Added (Linked (ranked depths) (table classes′ parents′)) (p′ ∷ q′ ∷ []))
+  pub equal : Equal (ranked depths) (Added (links depths classes parents) (p ∷ q ∷ [])) (Added (links depths classes′ parents′) (p′ ∷ q′ ∷ []))
   pub pending : Pending depths p′ q′
   pub fell : getD depths p′ 0 + getD depths q′ 0 < getD depths p 0 + getD depths q 0
 
--- The rows with a clause put in.
+-- The rows with a clause put in: they stand for what the old ones stood for and for the clause.
 pub record Grew (depths classes parents : List ℕ) (clause : List ℕ) (classes′ parents′ : List ℕ) : Type 0 where
   pub growing : Growing depths classes′ parents′
-  pub equal : Equal (ranked depths) (Added (Linked (ranked depths) (table classes parents)) clause) (Linked (ranked depths) (table classes′ parents′))
+  pub equal : Equal (ranked depths) (Added (links depths classes parents) clause) (links depths classes′ parents′)

@@ -1,20 +1,21 @@
-// Chains of classes in loose rows, where row v is of the variable v: a class row points to a lower member of the class or, at the root, to itself;
-// a parent row of a root points to any member of the parent's class. So two classes become one by a single store.
+// Union-find with parents: loose rows in which a forest grows, row v for the variable v.
+// A class row is a union-find pointer: it names a lower member of the class or, at the root, itself, so that the root is the lowest member
+// and names the class. A parent row stands at a root only, and may name any member of the parent's class. So two classes become one by a
+// single store, whatever their sizes. The price: a row tells its class only by way of `root`, and exact rows take a pass at the end (`loose`).
 
 use terms::Variable;
 ghost use Prim.Native.Nat.{ℕ, _<_};
 ghost use mathlib.Core.Path.{_≡_};
-ghost use mathlib.Core.Bool.{true};
 ghost use mathlib.Core.List.{List, [], _∷_};
 ghost use mathlib.Core.Logic.{_≢_};
 ghost use lib.ListN.{length, getD, set};
-ghost use Rattle.connection.specs.Reach.{Variables};
-ghost use Rattle.chains.specs.Loose.{Loose, table, Falling, Rooted, Growing, Pending, Roots, Stepped, Grew};
+ghost use Rattle.chains.specs.Loose.{Falling, FindsRoot, Growing, Pending, Roots, Stepped, Grew};
 
 // The two that are left to be joined, the deeper first; the second is 0 where nothing is left.
 struct Rest(Variable, Variable);
 
-// Joins the chain of `other` to that of `deep`, which is as deep or deeper: a walk up both, at most one step for each level of each.
+// Joins the chain of `other`, that is, its class and the classes above it, to the chain of `deep`, which is as deep or deeper: a walk up
+// both, with at most one step for each level of each.
 pub fn merge(
     depths: &[u32],
     classes: &mut [u32],
@@ -22,8 +23,10 @@ pub fn merge(
     deep: Variable,
     other: Variable,
 )
-    requires { ⌜ Growing (now depths) (now classes) (now parents) × Pending (now depths) (deep .0) (other .0) ⌝ }
-    ensures { λ r. ⌜ Grew (now (depths .entry)) (now (classes .entry)) (now (parents .entry)) (deep .0 ∷ other .0 ∷ []) (now (classes .exit)) (now (parents .exit)) ⌝ }
+    requires rows { ⌜ Growing (now depths) (now classes) (now parents) ⌝ }
+    requires pair { ⌜ Pending (now depths) (deep .0) (other .0) ⌝ }
+    ensures joined { λ r. ⌜ Grew (now (depths .entry)) (now (classes .entry)) (now (parents .entry)) (deep .0 ∷ other .0 ∷ [])
+        (now (classes .exit)) (now (parents .exit)) ⌝ }
 {
     let mut left = Rest(deep, other);
     while left.1.0 != 0 {
@@ -31,10 +34,12 @@ pub fn merge(
     }
 }
 
-// From two that are left to be joined to their roots, and from there one step; nothing is left where both have one root.
+// Finds the roots of the two that are left, and joins these by one step; nothing is left where both have one root.
 fn advance(depths: &[u32], classes: &mut [u32], parents: &mut [u32], left: Rest) -> Rest
-    requires { ⌜ Growing (now depths) (now classes) (now parents) × Pending (now depths) (left .0 .0) (left .1 .0) × (left .1 .0 ≢ 0) ⌝ }
-    ensures { λ r. ⌜ Stepped (now (depths .entry)) (now (classes .entry)) (now (parents .entry)) (left .0 .0) (left .1 .0) (now (classes .exit)) (now (parents .exit)) (r .0 .0) (r .1 .0) ⌝ }
+    requires rows { ⌜ Growing (now depths) (now classes) (now parents) ⌝ }
+    requires pair { ⌜ Pending (now depths) (left .0 .0) (left .1 .0) × (left .1 .0 ≢ 0) ⌝ }
+    ensures stepped { λ r. ⌜ Stepped (now (depths .entry)) (now (classes .entry)) (now (parents .entry)) (left .0 .0) (left .1 .0)
+        (now (classes .exit)) (now (parents .exit)) (r .0 .0) (r .1 .0) ⌝ }
 {
     let p = root(classes, left.0);
     let q = root(classes, left.1);
@@ -44,26 +49,28 @@ fn advance(depths: &[u32], classes: &mut [u32], parents: &mut [u32], left: Rest)
     step(depths, classes, parents, p, q)
 }
 
-// The root of the class of v. On the way each row passed is pointed one further, which keeps later ways short.
+// Find, with path halving: the root of the class of v. On the way every other row is pointed past the row that it pointed to, which keeps
+// later ways short.
 fn root(classes: &mut [u32], v: Variable) -> Variable
-    requires { ⌜ Falling (now classes) (v .0) ⌝ }
-    ensures { λ r. ⌜ ((X : Variables) (parents : List ℕ) → Loose X (table (now (classes .entry)) parents) → X .ex (v .0) ≡ true → Rooted X (table (now (classes .entry)) parents) (table (now (classes .exit)) parents) (v .0) (r .0)) ⌝ }
+    requires falling { ⌜ Falling (now classes) (v .0) ⌝ }
+    ensures found { λ r. ⌜ FindsRoot (now (classes .entry)) (now (classes .exit)) (v .0) (r .0) ⌝ }
 {
     let mut at = v.0;
-    let mut up = classes[at as usize];
-    while up != at {
-        let over = classes[up as usize];
+    let mut next = classes[at as usize];
+    while next != at {
+        let over = classes[next as usize];
         classes[at as usize] = over;
         at = over;
-        up = classes[at as usize];
+        next = classes[at as usize];
     }
     Variable(at)
 }
 
-// One step of joining two chains, at their roots p and q: of one block, they become one class; else p gets the deeper of q and of its parent as its parent.
+// One step at the two roots p and q, of which p is as deep or deeper: of one block they become one class, and else q is hung over p.
 fn step(depths: &[u32], classes: &mut [u32], parents: &mut [u32], p: Variable, q: Variable) -> Rest
-    requires { ⌜ Roots (now depths) (now classes) (now parents) (p .0) (q .0) ⌝ }
-    ensures { λ r. ⌜ Stepped (now (depths .entry)) (now (classes .entry)) (now (parents .entry)) (p .0) (q .0) (now (classes .exit)) (now (parents .exit)) (r .0 .0) (r .1 .0) ⌝ }
+    requires roots { ⌜ Roots (now depths) (now classes) (now parents) (p .0) (q .0) ⌝ }
+    ensures stepped { λ r. ⌜ Stepped (now (depths .entry)) (now (classes .entry)) (now (parents .entry)) (p .0) (q .0)
+        (now (classes .exit)) (now (parents .exit)) (r .0 .0) (r .1 .0) ⌝ }
 {
     if depths[p.0 as usize] == depths[q.0 as usize] {
         return unite(classes, parents, p, q);
@@ -71,10 +78,13 @@ fn step(depths: &[u32], classes: &mut [u32], parents: &mut [u32], p: Variable, q
     hang(depths, parents, p, q)
 }
 
-// Makes one class of two roots of one block, named by the lower.
+// Union: makes one class of two roots of one block. The lower becomes the root, since the lowest member names the class; no rank is kept.
 fn unite(classes: &mut [u32], parents: &mut [u32], p: Variable, q: Variable) -> Rest
-    requires { ⌜ ((depths : List ℕ) × Roots depths (now classes) (now parents) (p .0) (q .0)) ⌝ }
-    ensures { λ r. ⌜ ((depths : List ℕ) → Roots depths (now (classes .entry)) (now (parents .entry)) (p .0) (q .0) → getD depths (p .0) 0 ≡ getD depths (q .0) 0 → Stepped depths (now (classes .entry)) (now (parents .entry)) (p .0) (q .0) (now (classes .exit)) (now (parents .exit)) (r .0 .0) (r .1 .0)) ⌝ }
+    requires roots { ⌜ ((depths : List ℕ) × Roots depths (now classes) (now parents) (p .0) (q .0)) ⌝ }
+    ensures stepped { λ r. ⌜ ((depths : List ℕ) → Roots depths (now (classes .entry)) (now (parents .entry)) (p .0) (q .0)
+        → getD depths (p .0) 0 ≡ getD depths (q .0) 0
+        → Stepped depths (now (classes .entry)) (now (parents .entry)) (p .0) (q .0)
+        (now (classes .exit)) (now (parents .exit)) (r .0 .0) (r .1 .0)) ⌝ }
 {
     if p.0 < q.0 {
         return point(classes, parents, p, q);
@@ -82,10 +92,12 @@ fn unite(classes: &mut [u32], parents: &mut [u32], p: Variable, q: Variable) -> 
     point(classes, parents, q, p)
 }
 
-// Points the root `high` to the lower root `low` of its block. What is left is to join the old parent of `high` to the one class.
+// Points the root `high` to the lower root `low` of its block, and takes its parent from it: that parent is left to be joined to the one class.
 fn point(classes: &mut [u32], parents: &mut [u32], low: Variable, high: Variable) -> Rest
-    requires { ⌜ (high .0 < length (now classes)) × (high .0 < length (now parents)) ⌝ }
-    ensures { λ r. ⌜ (now (classes .exit) ≡ set (now (classes .entry)) (high .0) (low .0)) × (now (parents .exit) ≡ set (now (parents .entry)) (high .0) 0) × (r .0 .0 ≡ low .0) × (r .1 .0 ≡ getD (now (parents .entry)) (high .0) 0) ⌝ }
+    requires inside { ⌜ (high .0 < length (now classes)) × (high .0 < length (now parents)) ⌝ }
+    ensures pointed { λ r. ⌜ (now (classes .exit) ≡ set (now (classes .entry)) (high .0) (low .0))
+        × (now (parents .exit) ≡ set (now (parents .entry)) (high .0) 0)
+        × (r .0 .0 ≡ low .0) × (r .1 .0 ≡ getD (now (parents .entry)) (high .0) 0) ⌝ }
 {
     let at = high.0 as usize;
     let up = parents[at];
@@ -96,8 +108,10 @@ fn point(classes: &mut [u32], parents: &mut [u32], low: Variable, high: Variable
 
 // Where q is of a lesser block than the root p: the deeper of q and of p's parent becomes p's parent, and the two are left to be joined.
 fn hang(depths: &[u32], parents: &mut [u32], p: Variable, q: Variable) -> Rest
-    requires { ⌜ ((classes : List ℕ) × Roots (now depths) classes (now parents) (p .0) (q .0)) ⌝ }
-    ensures { λ r. ⌜ ((classes : List ℕ) → Roots (now (depths .entry)) classes (now (parents .entry)) (p .0) (q .0) → getD (now (depths .entry)) (p .0) 0 ≢ getD (now (depths .entry)) (q .0) 0 → Stepped (now (depths .entry)) classes (now (parents .entry)) (p .0) (q .0) classes (now (parents .exit)) (r .0 .0) (r .1 .0)) ⌝ }
+    requires roots { ⌜ ((classes : List ℕ) × Roots (now depths) classes (now parents) (p .0) (q .0)) ⌝ }
+    ensures stepped { λ r. ⌜ ((classes : List ℕ) → Roots (now (depths .entry)) classes (now (parents .entry)) (p .0) (q .0)
+        → getD (now (depths .entry)) (p .0) 0 ≢ getD (now (depths .entry)) (q .0) 0
+        → Stepped (now (depths .entry)) classes (now (parents .entry)) (p .0) (q .0) classes (now (parents .exit)) (r .0 .0) (r .1 .0)) ⌝ }
 {
     let at = p.0 as usize;
     let up = parents[at];

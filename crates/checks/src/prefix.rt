@@ -8,14 +8,15 @@ ghost use Prim.Native.Nat.{_≤_};
 ghost use mathlib.Core.Path.{_≡_};
 ghost use mathlib.Core.List.{[], _∷_};
 ghost use lib.ListN.{length};
+ghost use Rattle.terms.specs.Limits.{mostVariables, variableRows};
 ghost use Rattle.terms.specs.Refusals.{Judged};
 ghost use Rattle.formula.specs.Causes.{PrefixCause, prefixOrder};
-ghost use Rattle.formula.specs.Scan.{MarkFault, NameFault};
+ghost use Rattle.formula.specs.Scan.{MarkFault, NameFault, NamesEnd};
 
 // Refusals 1, 2 and those of the prefix, which every call that takes a prefix looks at first. Beside the prefix so many clause entries are
 // lent, 0 where a call takes none.
 pub fn prefix_verdict(n: u32, prefix: &[u32], entries: usize) -> Verdict
-    ensures { λ r. ⌜ Judged (prefixOrder n (now (prefix .entry)) entries) r ⌝ }
+    ensures judged { λ r. ⌜ Judged (prefixOrder n (now (prefix .entry)) entries) r ⌝ }
 {
     if Variable::MOST < n {
         return Verdict::Refused(1, 0);
@@ -29,55 +30,43 @@ pub fn prefix_verdict(n: u32, prefix: &[u32], entries: usize) -> Verdict
     check_prefix(n, prefix)
 }
 
-// The first cause of a refusal in the prefix of a formula with n variables.
+// The first cause of a refusal in the prefix of a formula with n variables, one block after another.
 // A table of the variables named so far, a row for each number up to the limit, spares every search.
 fn check_prefix(n: u32, prefix: &[u32]) -> Verdict
-    requires { ⌜ n ≤ 4096 ⌝ }
-    ensures { λ r. ⌜ Judged (PrefixCause n (now (prefix .entry)) ∷ []) r ⌝ }
+    requires few { ⌜ n ≤ mostVariables ⌝ }
+    ensures judged { λ r. ⌜ Judged (PrefixCause n (now (prefix .entry)) ∷ []) r ⌝ }
 {
-    let mut named = [false; 4097];
-    let mut opens = true;
-    let mut fresh = false;
+    let mut named = [false; Variable::ROWS];
     let mut mark: u32 = 0;
     let mut blocks: u32 = 0;
     let mut i = 0;
     while i < prefix.len() {
         let entry = prefix[i];
-        if opens {
-            let number = mark_fault(entry, mark, blocks);
-            if number != 0 {
-                return Verdict::Refused(number, i);
-            }
-            mark = entry;
-            blocks += 1;
-            opens = false;
-            fresh = true;
-            i += 1;
-        } else if entry == 0 {
-            if fresh {
-                return Verdict::Refused(9, i);
-            }
-            opens = true;
-            i += 1;
-        } else {
-            let number = name_fault(n, entry, &mut named);
-            if number != 0 {
-                return Verdict::Refused(number, i);
-            }
-            fresh = false;
-            i += 1;
+        let number = mark_fault(entry, mark, blocks);
+        if number != 0 {
+            return Verdict::Refused(number, i);
         }
+        mark = entry;
+        blocks += 1;
+        let start = i + 1;
+        let naming = name_variables(n, prefix, start, &mut named);
+        if naming.fault != 0 {
+            return Verdict::Refused(naming.fault, naming.end);
+        }
+        if prefix.len() <= naming.end {
+            return Verdict::Refused(3, naming.end);
+        }
+        if naming.end == start {
+            return Verdict::Refused(9, naming.end);
+        }
+        i = naming.end + 1;
     }
-    if opens {
-        Verdict::Accepted
-    } else {
-        Verdict::Refused(3, i)
-    }
+    Verdict::Accepted
 }
 
 // What is wrong with an entry as the mark of the next block, after `blocks` of them, the last with the mark `before`; 0 where nothing is.
 fn mark_fault(entry: u32, before: u32, blocks: u32) -> u32
-    ensures { λ r. ⌜ MarkFault entry before blocks r ⌝ }
+    ensures fault { λ r. ⌜ MarkFault entry before blocks r ⌝ }
 {
     match entry {
         1 | 2 => {
@@ -93,10 +82,39 @@ fn mark_fault(entry: u32, before: u32, blocks: u32) -> u32
     }
 }
 
+// How the naming of variables ended: at which entry, and the number of what is wrong there, 0 where a 0 or the end of the prefix ended it.
+pub struct Naming {
+    pub end: usize,
+    pub fault: u32,
+}
+
+// Names the variables from `start` on, up to the 0 that closes their block, as far as nothing is wrong with them.
+pub fn name_variables(n: u32, prefix: &[u32], start: usize, named: &mut [bool]) -> Naming
+    requires few { ⌜ n ≤ mostVariables ⌝ }
+    requires rows { ⌜ length (now named) ≡ variableRows ⌝ }
+    requires within { ⌜ start ≤ length (now prefix) ⌝ }
+    ensures ends { λ r. ⌜ NamesEnd n (now (prefix .entry)) start (now (named .entry)) (now (named .exit)) (r .end) (r .fault) ⌝ }
+{
+    let mut i = start;
+    while i < prefix.len() {
+        let entry = prefix[i];
+        if entry == 0 {
+            return Naming { end: i, fault: 0 };
+        }
+        let fault = name_fault(n, entry, named);
+        if fault != 0 {
+            return Naming { end: i, fault };
+        }
+        i += 1;
+    }
+    Naming { end: i, fault: 0 }
+}
+
 // What is wrong with an entry as the next variable of a block, by those that are named so far; 0 where nothing is, and then it is named too.
-pub fn name_fault(n: u32, entry: u32, named: &mut [bool]) -> u32
-    requires { ⌜ (n ≤ 4096) × (length (now named) ≡ 4097) ⌝ }
-    ensures { λ r. ⌜ NameFault n entry (now (named .entry)) (now (named .exit)) r ⌝ }
+fn name_fault(n: u32, entry: u32, named: &mut [bool]) -> u32
+    requires few { ⌜ n ≤ mostVariables ⌝ }
+    requires rows { ⌜ length (now named) ≡ variableRows ⌝ }
+    ensures fault { λ r. ⌜ NameFault n entry (now (named .entry)) (now (named .exit)) r ⌝ }
 {
     if n < entry {
         return 7;

@@ -7,9 +7,11 @@ use mathlib.Core.Logic.{_⊎_, inl, inr, _↔_, _≢_, by-cases}
 use native.Mathlib.Decide.{ℕ-discrete}
 use native.Mathlib.Omega.{arith}
 use Rattle.connection.specs.Reach.{Variables, Lawful, Universal, From, Joined, Reach, here, step, Depends, Follows}
-use Rattle.connection.specs.Tables.{Table, ClassName, WellFormed, Above, start, rise, top, EntryPoint, EntryPointOf}
+use Rattle.connection.specs.Tables.{Table, ClassName, WellFormed, Above, start, rise, EntryPoint, EntryPointOf}
 use Rattle.connection.specs.Forest.{Forest}
-use Rattle.connection.specs.Growth.{Added, before, added, LeavesAlone, Represents, Marked, FusedClass, merged, kept, FusedParent, chained, carried, Fused}
+use Rattle.connection.specs.Growth.{Added, before, added, LeavesAlone}
+use Rattle.connection.specs.Climb.{top, Represents}
+use Rattle.connection.specs.Fused.{Marked, FusedClass, merged, kept, FusedParent, chained, carried, Fused}
 use Rattle.connection.proofs.Reach.{reach-first, reach-ends, reach-one, reach-trans, reach-along, reach-level, allow, joined-added}
 use Rattle.connection.proofs.Climb.{Ends, above-falls, entry-ends, climb-entry, entry-one}
 use Rattle.connection.proofs.Represent.{from-class, class-top, parent-top}
@@ -44,7 +46,8 @@ module _ {X : Variables} {J : ℕ → ℕ → Type 0} {C : List ℕ} {x : ℕ} (
       → Follows S J (From X (X .lev x)) x y ↔ Follows S′ (Added J C) (From X (X .lev x)) x y
   alone-follows {S} {S′} {y} starts same = (
     λ f. record { first = f .first; starts = same (f .first) .0 (f .starts); allowed = f .allowed; onward = reach-along (λ a b. before) (f .onward) },
-    λ f. let s = same (f .first) .1 (f .starts) in record { first = f .first; starts = s; allowed = f .allowed; onward = alone-reach (reach-one (starts (f .first) s) (f .allowed)) (f .onward) },
+    λ f. let s = same (f .first) .1 (f .starts) in let on = alone-reach (reach-one (starts (f .first) s) (f .allowed)) (f .onward) in
+        record { first = f .first; starts = s; allowed = f .allowed; onward = on },
   )
 
 module _ {X : Variables} {J : ℕ → ℕ → Type 0} {C : List ℕ} {W W′ : Table} {x : ℕ}
@@ -76,7 +79,8 @@ module _ {X : Variables} {J : ℕ → ℕ → Type 0} {C : List ℕ} {W W′ : T
   alone-unmarked = marked-least (λ m. Depends X J x m → ⊥) class parent
     where
       class : (e : ℕ) → List·Memᴰ e C → X .ex e ≡ true → Depends X J x (W .cls e) → ⊥
-      class e l ex d = alone .set e (set-top d (allow ex (omega (arith, depends-deeper u d .deep, formed .right e .class ex .block))) (class-top formed (suc (X .lev x)) e ex)) l
+      class e l ex d = alone .set e (set-top d (allow ex (omega (arith, depends-deeper u d .deep, formed .right e .class ex .block)))
+          (class-top formed (suc (X .lev x)) e ex)) l
 
       parent : (m : ℕ) → (Depends X J x m → ⊥) → W .par m ≢ 0 → Depends X J x (W .par m) → ⊥
       parent m un n d =
@@ -110,7 +114,8 @@ module _ {X : Variables} {J : ℕ → ℕ → Type 0} {C : List ℕ} {W W′ : T
       (λ p. alone-row n d ∙ alone-class (set-parent d p (l p)) ∙ formed .right c .parent p .name .itself)
 
   -- ... and then the new one is not either.
-  alone-stop : {c : ℕ} → ClassName X W c → Depends X J x c → (W .par c ≢ 0 → X .lev (W .par c) < suc (X .lev x)) → W′ .par c ≢ 0 → X .lev (W′ .par c) < suc (X .lev x)
+  alone-stop : {c : ℕ} → ClassName X W c → Depends X J x c → (W .par c ≢ 0 → X .lev (W .par c) < suc (X .lev x)) → W′ .par c ≢ 0
+      → X .lev (W′ .par c) < suc (X .lev x)
   alone-stop {c} n d s q = by-cases (ℕ-discrete (W .par c) 0) (λ z. absurd (q (alone-orphan n d z)))
       (λ p. omega (arith, s p, ap (X .lev) (alone-row n d), new-class lawful formed fused (formed .right c .parent p .name .existential) .block))
 
@@ -143,17 +148,21 @@ module _ {X : Variables} {J : ℕ → ℕ → Type 0} {C : List ℕ} {W W′ : T
           subst₂ (EntryPoint X W x y) (same .0) (same .1) old
 
   -- The entry points of x stay, by any first steps that are joins, where the steps do.
-  pub alone-entries : {S S′ : ℕ → ℕ → Type 0} {e : ℕ} → ((z : ℕ) → S x z → J x z) → ((z : ℕ) → S x z ↔ S′ x z) → EntryPointOf X W S x e ↔ EntryPointOf X W′ S′ x e
+  pub alone-entries : {S S′ : ℕ → ℕ → Type 0} {e : ℕ} → ((z : ℕ) → S x z → J x z) → ((z : ℕ) → S x z ↔ S′ x z)
+      → EntryPointOf X W S x e ↔ EntryPointOf X W′ S′ x e
   alone-entries {S} {S′} {e} starts same = (
-    λ o. record { for = o .for; shares = same (o .for) .0 (o .shares); existential = o .existential; deeper = o .deeper; rises = o .rises; entry = alone-entry (in-set (o .shares) (o .existential) (o .deeper)) .0 (o .entry) },
+    λ o. let e = alone-entry (in-set (o .shares) (o .existential) (o .deeper)) .0 (o .entry) in
+        let s = same (o .for) .0 (o .shares) in
+        record { for = o .for; shares = s; existential = o .existential; deeper = o .deeper; rises = o .rises; entry = e },
     λ o. let s = same (o .for) .1 (o .shares) in
-        record { for = o .for; shares = s; existential = o .existential; deeper = o .deeper; rises = o .rises; entry = alone-entry (in-set s (o .existential) (o .deeper)) .1 (o .entry) },
+        let e = alone-entry (in-set s (o .existential) (o .deeper)) .1 (o .entry) in
+        record { for = o .for; shares = s; existential = o .existential; deeper = o .deeper; rises = o .rises; entry = e },
   )
     where
       in-set : {y : ℕ} → S x y → X .ex y ≡ true → X .lev x < X .lev y → Depends X J x y
       in-set {y} s ex l = record { existential = ex; reached = reach-one (starts y s) (allow ex (omega arith)) }
 
--- The same of lists: the clause stands last in the longer one.
+-- Of lists, where the clause stands last in the longer one: the set of x stays.
 pub set-stays : {X : Variables} {cs : List (List ℕ)} {C : List ℕ} {x y : ℕ} → LeavesAlone X (Joined cs) C x
     → Depends X (Joined cs) x y ↔ Depends X (Joined (cs ++ (C ∷ []))) x y
 set-stays {X} {cs} {C} {x} {y} alone = (
@@ -172,16 +181,21 @@ joined-stay {X} {cs} {C} {x} alone z = (λ j. joined-added x z .1 (before j), λ
     go (before j) = j
     go (added l r) = absurd (alone .itself l)
 
-module _ {X : Variables} {cs : List (List ℕ)} {C : List ℕ} {x : ℕ} (alone : LeavesAlone X (Joined cs) C x) {S S′ : ℕ → ℕ → Type 0} (starts : (z : ℕ) → S x z → Joined cs x z) (same : (z : ℕ) → S x z ↔ S′ x z) where
+module _ {X : Variables} {cs : List (List ℕ)} {C : List ℕ} {x : ℕ} (alone : LeavesAlone X (Joined cs) C x) {S S′ : ℕ → ℕ → Type 0}
+    (starts : (z : ℕ) → S x z → Joined cs x z) (same : (z : ℕ) → S x z ↔ S′ x z) where
   -- What follows by any first steps stays with them ...
   pub follows-stay : {y : ℕ} → Follows S (Joined cs) (From X (X .lev x)) x y ↔ Follows S′ (Joined (cs ++ (C ∷ []))) (From X (X .lev x)) x y
-  follows-stay = (λ f. along (λ a b. joined-added a b .1) (alone-follows alone starts same .0 f), λ f. alone-follows alone starts same .1 (along (λ a b. joined-added a b .0) f))
+  follows-stay = (
+    λ f. along (λ a b. joined-added a b .1) (alone-follows alone starts same .0 f),
+    λ f. alone-follows alone starts same .1 (along (λ a b. joined-added a b .0) f),
+  )
     where
       along : {J K : ℕ → ℕ → Type 0} {y : ℕ} → ((a b : ℕ) → J a b → K a b) → Follows S′ J (From X (X .lev x)) x y → Follows S′ K (From X (X .lev x)) x y
       along more f = record { first = f .first; starts = f .starts; allowed = f .allowed; onward = reach-along more (f .onward) }
 
   -- ... and so do the entry points, by the forests of the two lists.
-  pub steps-stay : {W W′ : Table} {e : ℕ} → Lawful X → Forest X (Joined cs) W → Forest X (Joined (cs ++ (C ∷ []))) W′ → Universal X x → EntryPointOf X W S x e ↔ EntryPointOf X W′ S′ x e
+  pub steps-stay : {W W′ : Table} {e : ℕ} → Lawful X → Forest X (Joined cs) W → Forest X (Joined (cs ++ (C ∷ []))) W′ → Universal X x
+      → EntryPointOf X W S x e ↔ EntryPointOf X W′ S′ x e
   steps-stay lawful f g u = alone-entries lawful (forest-is lawful .0 f) (forest-fused lawful f g) u alone starts same
 
 -- The entry points of x by the forest of the longer list are those by the forest of the shorter one.

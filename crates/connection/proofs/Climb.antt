@@ -8,7 +8,8 @@ use native.Mathlib.Nat.{add-zero}
 use native.Mathlib.Omega.{arith}
 use borrow.Author.Tests.{eq-eqb, ne-eqb, lt-ltb, le-ltb}
 use Rattle.connection.specs.Reach.{Variables, From}
-use Rattle.connection.specs.Tables.{Table, ClassName, WellFormed, Above, start, rise, EntryPoint, Climbed, climb-by, climb, top}
+use Rattle.connection.specs.Tables.{Table, ClassName, WellFormed, Above, start, rise, EntryPoint}
+use Rattle.connection.specs.Climb.{Climbed, climb-by, climb, top}
 
 -- p is where a climb from c at level i ends, after k rises: it stands in block i or deeper, and its parent, if any, does not.
 pub record Ends (X : Variables) (W : Table) (i c p k : ℕ) : Type 0 where
@@ -45,7 +46,8 @@ module _ {X : Variables} {W : Table} (formed : WellFormed X W) where
   stop-by : (i fuel c r : ℕ) → (W .par c ≢ 0 → X .lev (W .par c) < i) → climb-by X W i fuel c r ≡ record { top = c; rises = r }
   unfolding climb-by
   stop-by i zero c r h = refl
-  stop-by i (suc fuel) c r h = by-cases (ℕ-discrete (W .par c) 0) (λ e. rw (eq-eqb (W .par c) 0 e)) (λ n. rw (ne-eqb (W .par c) 0 n, lt-ltb (X .lev (W .par c)) i (h n)))
+  stop-by i (suc fuel) c r h = by-cases (ℕ-discrete (W .par c) 0) (λ e. rw (eq-eqb (W .par c) 0 e))
+      (λ n. rw (ne-eqb (W .par c) 0 n, lt-ltb (X .lev (W .par c)) i (h n)))
 
   -- And rises where there is one in block i or deeper.
   rise-by : (i fuel c r : ℕ) → W .par c ≢ 0 → i ≤ X .lev (W .par c) → climb-by X W i (suc fuel) c r ≡ climb-by X W i fuel (W .par c) (r + 1)
@@ -99,7 +101,10 @@ module _ {X : Variables} {W : Table} (formed : WellFormed X W) where
 
   -- The entry point of x for y is where the climb from y's class ends at the first level deeper than x.
   pub entry-ends : {x y e k : ℕ} → EntryPoint X W x y e k ↔ Ends X W (suc (X .lev x)) (W .cls y) e k
-  entry-ends {x} {y} {e} {k} = (λ h. record { above = h .above; deep = h .deeper; stop = stop h }, λ h. record { above = h .above; deeper = h .deep; least = least h })
+  entry-ends {x} {y} {e} {k} = (
+    λ h. record { above = h .above; deep = h .deeper; stop = stop h },
+    λ h. record { above = h .above; deeper = h .deep; least = least h },
+  )
     where
       stop : EntryPoint X W x y e k → W .par e ≢ 0 → X .lev (W .par e) < suc (X .lev x)
       stop h n = by-cases (decLt (X .lev (W .par e)) (suc (X .lev x))) (λ l. l)

@@ -19,7 +19,8 @@ module _ {X : Variables} {W : Table} (lawful : Lawful X) (formed : WellFormed X 
   -- The computed count is the number of variables in the class and below.
   count-number : (c : ℕ) → Numbered (Within X W c) (count-of X W c)
   unfolding count-of
-  count-number c = numbered-same (λ v. (λ p. found v (p .2), λ w. let (a, b) = lawful .within v (w .existential) in (a, b, passes v w))) (how-many-numbered (λ v. X .ex v && has c (classes-up W (X .lev v) (W .cls v))) (X .count))
+  count-number c = numbered-same (λ v. (λ p. found v (p .2), λ w. let (a, b) = lawful .within v (w .existential) in (a, b, passes v w)))
+      (how-many-numbered (λ v. X .ex v && has c (classes-up W (X .lev v) (W .cls v))) (X .count))
     where
       found : (v : ℕ) → (X .ex v && has c (classes-up W (X .lev v) (W .cls v))) ≡ true → Within X W c v
       found v t =
@@ -28,7 +29,8 @@ module _ {X : Variables} {W : Table} (lawful : Lawful X) (formed : WellFormed X 
           record { existential = e; rises = k; above = a }
 
       passes : (v : ℕ) → Within X W c v → (X .ex v && has c (classes-up W (X .lev v) (W .cls v))) ≡ true
-      passes v w = rw (w .existential) (member-has (up-member (X .lev v) (w .above) (omega (arith, above-falls formed (w .above), formed .right v .class (w .existential) .block))))
+      passes v w = rw (w .existential) (member-has (up-member (X .lev v) (w .above)
+          (omega (arith, above-falls formed (w .above), formed .right v .class (w .existential) .block))))
 
   -- So the computed counts are right.
   pub counts-counted : Counted X W (row (X .count) (counts-of X W))

@@ -10,7 +10,7 @@ use lib.Dec.{eqb}
 use borrow.Author.Tests.{eqb-true, eq-eqb}
 use Rattle.connection.specs.Reach.{Variables, Lawful}
 use Rattle.connection.specs.Tables.{Table, ClassName, WellFormed, EntryPointOf, MemberBy}
-use Rattle.connection.specs.Listed.{Ascending, Listed}
+use Rattle.terms.specs.Listed.{Ascending, Listed}
 use Rattle.connection.specs.Counts.{Numbered, Within, CountRow, Counted, sum, how-many, names}
 use Rattle.connection.specs.Passing.{RowsCount}
 use Rattle.connection.proofs.Choice.{both}
@@ -90,10 +90,12 @@ module _ {X : Variables} {W : Table} (formed : WellFormed X W) where
         ends-one formed end (record { above = b .above; deep = t .deep; stop = t .stop }) .0
 
     -- So the counts of entry points add up to the number of variables at or below them.
-    under-sum : (entries : List ℕ) → Ascending entries → ((e : ℕ) → List·Memᴰ e entries → EntryPointOf X W S x e) → Numbered (Under X W entries) (sum counts entries)
+    under-sum : (entries : List ℕ) → Ascending entries → ((e : ℕ) → List·Memᴰ e entries → EntryPointOf X W S x e)
+        → Numbered (Under X W entries) (sum counts entries)
     unfolding sum
     under-sum [] up points = numbered-none (λ v u. List·Memᴰ·not-nil (u .listed))
-    under-sum (e ∷ entries) up points = numbered-plus (row-number .0 (counted .right e)) apart parts (under-sum entries (up .1) (λ f m. points f (List·Memᴰ·tail m)))
+    under-sum (e ∷ entries) up points = numbered-plus (row-number .0 (counted .right e)) apart parts
+        (under-sum entries (up .1) (λ f m. points f (List·Memᴰ·tail m)))
       where
         apart : (v : ℕ) → Within X W e v → Under X W entries v → ⊥
         apart v w u =
@@ -103,19 +105,24 @@ module _ {X : Variables} {W : Table} (formed : WellFormed X W) where
 
         parts : (v : ℕ) → Under X W (e ∷ entries) v ↔ (Within X W e v ⊎ Under X W entries v)
         parts v = (
-          λ u. ⊎-elim (λ q. inl (subst (λ (c : ℕ). Within X W c v) q (u .within))) (λ m. inr (record { entry = u .entry; listed = m; within = u .within })) (List·Memᴰ·cases-cons (u .listed)),
-          λ s. ⊎-elim (λ w. record { entry = e; listed = List·Memᴰ·head refl; within = w }) (λ u. record { entry = u .entry; listed = List·Memᴰ·tail (u .listed); within = u .within }) s,
+          λ u. ⊎-elim (λ q. inl (subst (λ (c : ℕ). Within X W c v) q (u .within)))
+              (λ m. inr (record { entry = u .entry; listed = m; within = u .within })) (List·Memᴰ·cases-cons (u .listed)),
+          λ s. ⊎-elim (λ w. record { entry = e; listed = List·Memᴰ·head refl; within = w })
+              (λ u. record { entry = u .entry; listed = List·Memᴰ·tail (u .listed); within = u .within }) s,
         )
 
     -- The sum over those entry points of x that P takes is the number of members by them ...
-    pub size-numbered : {P : ℕ → Type 0} {entries : List ℕ} → ((e : ℕ) → P e → EntryPointOf X W S x e) → Listed P entries → Numbered (MemberBy X W P) (sum counts entries)
+    pub size-numbered : {P : ℕ → Type 0} {entries : List ℕ} → ((e : ℕ) → P e → EntryPointOf X W S x e) → Listed P entries
+        → Numbered (MemberBy X W P) (sum counts entries)
     size-numbered {entries = entries} points l = numbered-same
         (λ v. (
           λ u. record { existential = u .within .existential; entry = u .entry; entered = l .each (u .entry) (u .listed); rises = _; below = u .within .above },
-          λ m. record { entry = m .entry; listed = l .all (m .entry) (m .entered); within = record { existential = m .existential; rises = m .rises; above = m .below } },
+          λ m. let w : Within X W (m .entry) _ = record { existential = m .existential; rises = m .rises; above = m .below } in
+              record { entry = m .entry; listed = l .all (m .entry) (m .entered); within = w },
         ))
         (under-sum entries (l .ascending) (λ e m. points e (l .each e m)))
 
     -- ... and so the length of the list.
-    pub size-is-length : {P : ℕ → Type 0} {entries set : List ℕ} → ((e : ℕ) → P e → EntryPointOf X W S x e) → Listed P entries → Listed (MemberBy X W P) set → sum counts entries ≡ length set
+    pub size-is-length : {P : ℕ → Type 0} {entries set : List ℕ} → ((e : ℕ) → P e → EntryPointOf X W S x e) → Listed P entries
+        → Listed (MemberBy X W P) set → sum counts entries ≡ length set
     size-is-length {set = set} points l m = numbered-one (size-numbered points l) (record { list = set; listed = m; size = refl })

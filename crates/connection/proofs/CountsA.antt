@@ -7,7 +7,8 @@ use Rattle.connection.specs.Tables.{row, lent}
 use Rattle.connection.specs.Forest.{Forest}
 use Rattle.connection.specs.Counts.{Counted, how-many, names}
 use Rattle.connection.specs.Search.{has}
-use Rattle.connection.specs.Fusing.{fill, classes-up, marks, goes-before, under, fuse-class, fuse-parent, Rows, table-of, rows-by, fuse-marks, fuse, fuse-all, singles, forest-of, count-of, counts-of}
+use Rattle.connection.specs.Fusing.{fill, classes-up, marks, goes-before, under, fuse-class, fuse-parent, Rows, table-of, rows-by}
+use Rattle.connection.specs.Fusing.{fuse-marks, fuse, fuse-all, singles, forest-of, count-of, counts-of}
 use Rattle.connection.proofs.Growth.{forest-is}
 use Rattle.connection.proofs.Counting.{counts-counted}
 use Rattle.connection.proofs.FormulaA.{A, clauses, with, A-lawful, forest-by}
@@ -31,11 +32,13 @@ record Computed : Type 0 where
 
 -- It computes so.
 computed : Computed
-unfolding has fill classes-up marks goes-before under fuse-class fuse-parent table-of lent row rows-by fuse-marks fuse fuse-all singles forest-of count-of counts-of how-many names
+unfolding has fill classes-up marks goes-before under fuse-class fuse-parent table-of lent row rows-by fuse-marks fuse fuse-all singles forest-of
+    count-of counts-of how-many names
 computed = record { forest-A = refl; counts-A = refl; names-A = refl; forest-12 = refl; counts-12 = refl; names-12 = refl }
 
 -- The counts are what was computed.
-counts-by : {cs : List (List ℕ)} (R : Rows) {counts : List ℕ} → Forest A (Joined cs) (table-of A R) → counts-of A (table-of A R) ≡ counts → Counted A (table-of A R) (row 9 counts)
+counts-by : {cs : List (List ℕ)} (R : Rows) {counts : List ℕ} → Forest A (Joined cs) (table-of A R) → counts-of A (table-of A R) ≡ counts
+    → Counted A (table-of A R) (row 9 counts)
 counts-by R f e = subst (λ (l : List ℕ). Counted A (table-of A R) (row 9 l)) e (counts-counted A-lawful (forest-is A-lawful .0 f .formed))
 
 -- The two forests, their counts and how many classes each has.

@@ -7,9 +7,9 @@ use native.Mathlib.Decide.{ℕ-discrete, decLt}
 use native.Mathlib.Nat.{le-antisymm}
 use native.Mathlib.Omega.{arith}
 use Rattle.connection.specs.Reach.{Variables, From, Reach}
-use Rattle.connection.specs.Tables.{Table, ClassName, start, top}
+use Rattle.connection.specs.Tables.{Table, ClassName, start}
 use Rattle.connection.specs.Forest.{Names, ClassAbove, Parent, none, deepest, Forest}
-use Rattle.connection.specs.Growth.{Represents}
+use Rattle.connection.specs.Climb.{top, Represents}
 use Rattle.connection.proofs.Reach.{Symmetric, allow, reach-trans, reach-sym}
 use Rattle.connection.proofs.Climb.{top-class}
 use Rattle.connection.proofs.Represent.{parent-top, class-top, own-top}
@@ -73,7 +73,9 @@ module _ {X : Variables} {J : ℕ → ℕ → Type 0} where
                 (allow e (omega (arith, r .block))) .1 (class-top formed (X .lev (W .cls v)) v e);
           };
           lowest = λ u o.
-              let same : W .cls u ≡ W .cls v = sym (own-top formed u (o .left) refl) ∙ rep .tops (X .lev u) u v (allow (o .left) (omega arith)) (allow e (omega (arith, o .block))) .0 (o .reached) ∙ own-top formed v e (o .block) in
+              let same : W .cls u ≡ W .cls v = sym (own-top formed u (o .left) refl)
+              ∙ rep .tops (X .lev u) u v (allow (o .left) (omega arith)) (allow e (omega (arith, o .block))) .0 (o .reached)
+              ∙ own-top formed v e (o .block) in
               omega (arith, formed .right u .class (o .left) .most);
         }
 
@@ -88,7 +90,8 @@ module _ {X : Variables} {J : ℕ → ℕ → Type 0} where
         let eq = a .class .member .left in
         let here : top X W (X .lev q) c ≡ c = top-class formed n (record { above = start; deep = omega (arith, a .less); stop = s }) in
         let there : top X W (X .lev q) q ≡ q = own-top formed q eq refl ∙ represents-name .0 (a .class) .itself in
-        let same : top X W (X .lev q) q ≡ top X W (X .lev q) c = rep .tops (X .lev q) q c (allow eq (omega arith)) (allow (n .existential) (omega (arith, a .less))) .0 (a .reached) in
+        let same : top X W (X .lev q) q ≡ top X W (X .lev q) c = rep .tops (X .lev q) q c (allow eq (omega arith))
+        (allow (n .existential) (omega (arith, a .less))) .0 (a .reached) in
         omega (arith, a .less, ap (X .lev) (sym there ∙ same ∙ here))
 
     -- A parent row gives the deepest class above.

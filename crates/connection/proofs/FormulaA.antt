@@ -9,10 +9,12 @@ use lib.ListN.{getD}
 use lib.Dec.{lit≤, leb}
 use borrow.Author.Tests.{le-leb, leb-true}
 use Rattle.connection.specs.Reach.{Variables, Lawful, From, Joined, Reach, Depends}
-use Rattle.connection.specs.Tables.{Table, row, lent, WellFormed, Above, EntryPoint, Climbed, climb-by, climb}
+use Rattle.connection.specs.Tables.{Table, row, lent, WellFormed, Above, EntryPoint}
+use Rattle.connection.specs.Climb.{Climbed, climb-by, climb}
 use Rattle.connection.specs.Forest.{Forest}
 use Rattle.connection.specs.Search.{has, meets, keep, put-back, find, see, spread, reached, reaches, is-from, sift, set-of}
-use Rattle.connection.specs.Fusing.{fill, classes-up, marks, goes-before, under, fuse-class, fuse-parent, Rows, table-of, rows-by, fuse-marks, fuse, fuse-all, singles, forest-of}
+use Rattle.connection.specs.Fusing.{fill, classes-up, marks, goes-before, under, fuse-class, fuse-parent, Rows, table-of, rows-by}
+use Rattle.connection.specs.Fusing.{fuse-marks, fuse, fuse-all, singles, forest-of}
 use Rattle.connection.proofs.Growth.{forest-represents, forest-exists}
 use Rattle.connection.proofs.Climb.{climb-entry, entry-one, above-falls}
 use Rattle.connection.proofs.Reach.{joined-sym}
@@ -51,7 +53,8 @@ record Computed : Type 0 where
 
 -- It computes so.
 computed : Computed
-unfolding has fill classes-up marks goes-before under fuse-class fuse-parent table-of lent row rows-by fuse-marks fuse fuse-all singles forest-of climb climb-by set-of sift reached is-from meets reaches keep put-back find see spread
+unfolding has fill classes-up marks goes-before under fuse-class fuse-parent table-of lent row rows-by fuse-marks fuse fuse-all singles forest-of
+    climb climb-by set-of sift reached is-from meets reaches keep put-back find see spread
 computed = record { forest-79 = refl; set-3-B = refl; climb-3-7-B = refl; too-far-4 = refl; too-far-8 = refl; through = refl; not-through = refl }
 
 -- Its existentials are in range.
@@ -72,7 +75,8 @@ set-by : {cs : List (List ℕ)} {x : ℕ} {ys : List ℕ} → set-of A cs x ≡ 
 set-by {cs} {x} e y = subst (λ (l : List ℕ). Depends A (Joined cs) x y ↔ List·Memᴰ y l) e (Iff·symm (set-of-depends A-lawful))
 
 -- The entry point is where the climb ended.
-entry-by : {x e k : ℕ} (y : ℕ) {W : Table} → WellFormed A W → A .ex y ≡ true → A .lev x < A .lev y → climb A W (suc (A .lev x)) (W .cls y) 0 ≡ record { top = e; rises = k } → EntryPoint A W x y e k
+entry-by : {x e k : ℕ} (y : ℕ) {W : Table} → WellFormed A W → A .ex y ≡ true → A .lev x < A .lev y
+    → climb A W (suc (A .lev x)) (W .cls y) 0 ≡ record { top = e; rises = k } → EntryPoint A W x y e k
 entry-by {x} y {W} formed ex l e = subst (λ (c : Climbed). EntryPoint A W x y (c .top) (c .rises)) e (climb-entry formed y ex l)
 
 -- The errors that look right, each against what holds.

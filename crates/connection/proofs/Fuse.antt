@@ -9,7 +9,9 @@ use native.Mathlib.Nat.{le-antisymm}
 use native.Mathlib.Omega.{arith}
 use Rattle.connection.specs.Reach.{Variables, Lawful, From, Reach, here}
 use Rattle.connection.specs.Tables.{Table, ClassName, ClassRow, ParentRow, WellFormed, start}
-use Rattle.connection.specs.Growth.{Added, before, added, Represents, Marked, Low, none-next, next-low, FusedClass, merged, kept, FusedParent, chained, carried, Fused}
+use Rattle.connection.specs.Growth.{Added, before, added}
+use Rattle.connection.specs.Climb.{Represents}
+use Rattle.connection.specs.Fused.{Marked, Low, none-next, next-low, FusedClass, merged, kept, FusedParent, chained, carried, Fused}
 use Rattle.connection.proofs.Reach.{reach-one, reach-trans, reach-sym, simulate, reach-along, allow, added-sym}
 use Rattle.connection.proofs.Climb.{above-all, above-next, above-falls}
 use Rattle.connection.proofs.Represent.{Link, to-class, to-parent, Linked, up, down, linked-sym, from-class, above-reach, linked-tops}
@@ -123,7 +125,9 @@ module _ {X : Variables} {W W′ : Table} {C : List ℕ} (lawful : Lawful X) (fo
 
       go : FusedParent X W C W′ v (W′ .par v) → ParentRow X W′ v
       go (chained k (none-next z h)) = absurd (n z)
-      go (chained k (next-low l less h)) = record { child = c; name = record { existential = marked-class formed (l .marked) .existential; itself = low-itself l }; less = less }
+      go (chained k (next-low l less h)) =
+          let ex = marked-class formed (l .marked) .existential in
+          record { child = c; name = record { existential = ex; itself = low-itself l }; less = less }
       go (carried un e) = by-cases (ℕ-discrete (W .par v) 0)
           (λ z. absurd (n (e ∙ ap (W′ .cls) z ∙ fused .universal 0 (zero-universal lawful) .0)))
           (λ p. let r = formed .right v .parent p in up-from e (new-class (r .name .existential)) (r .less))
@@ -134,7 +138,8 @@ module _ {X : Variables} {W W′ : Table} {C : List ℕ} (lawful : Lawful X) (fo
     where
       parent : (v : ℕ) (b : Bool) → X .ex v ≡ b → W′ .par v ≢ 0 → ParentRow X W′ v
       parent v false e n = absurd (n (fused .universal v e .1))
-      parent v true e n = by-cases (ℕ-discrete (W′ .cls v) v) (λ s. new-parent (record { existential = e; itself = s }) n) (λ s. absurd (n (fused .unnamed v e s)))
+      parent v true e n = by-cases (ℕ-discrete (W′ .cls v) v) (λ s. new-parent (record { existential = e; itself = s }) n)
+          (λ s. absurd (n (fused .unnamed v e s)))
 
   -- First simulation: each new link lies in the old links and the clause. A variable reaches its new class ...
   new-reach : {i v : ℕ} → From X i v → Reach (Added (Linked X W) C) (From X i) v (W′ .cls v)
@@ -193,7 +198,8 @@ module _ {X : Variables} {W W′ : Table} {C : List ℕ} (lawful : Lawful X) (fo
 
   -- So marked classes reach one another by new links.
   new-marked : {i m n : ℕ} → Marked X W C m → Marked X W C n → i ≤ X .lev m → i ≤ X .lev n → Reach (Linked X W′) (From X i) m n
-  new-marked {i} {m} {n} k l d e = by-cases (decLe (X .lev n) (X .lev m)) (λ h. falls k l d e h) (λ h. reach-sym linked-sym (from l e) (falls l k e d (omega arith)))
+  new-marked {i} {m} {n} k l d e = by-cases (decLe (X .lev n) (X .lev m)) (λ h. falls k l d e h)
+      (λ h. reach-sym linked-sym (from l e) (falls l k e d (omega arith)))
     where
       from : {m : ℕ} → Marked X W C m → i ≤ X .lev m → From X i m
       from k d = allow (marked-class formed k .existential) d
@@ -202,7 +208,8 @@ module _ {X : Variables} {W W′ : Table} {C : List ℕ} (lawful : Lawful X) (fo
       falls {m} {n} k l d e h =
           let a = marked-low k in
           let b = marked-low l in
-          reach-trans (to-new (from k d)) (reach-trans (low-reach (X .lev m) (a .0) (b .0) (omega (arith, b .1)) (omega (arith, a .1, b .1)) (omega (arith, a .1))) (of-new (from l e)))
+          reach-trans (to-new (from k d)) (reach-trans (low-reach (X .lev m) (a .0) (b .0) (omega (arith, b .1)) (omega (arith, a .1, b .1))
+          (omega (arith, a .1))) (of-new (from l e)))
 
   -- So a variable reaches its old class ...
   old-class : {i v : ℕ} → From X i v → Reach (Linked X W′) (From X i) v (W .cls v)
@@ -232,7 +239,8 @@ module _ {X : Variables} {W W′ : Table} {C : List ℕ} (lawful : Lawful X) (fo
   -- ... and one of the clause another.
   old-clause : {i a b : ℕ} → List·Memᴰ a C → List·Memᴰ b C → From X i a → From X i b → Reach (Linked X W′) (From X i) a b
   old-clause {i} {a} {b} ma mb fa fb =
-      reach-trans (old-class fa) (reach-trans (new-marked (mark ma fa) (mark mb fb) (from-class formed fa .deep) (from-class formed fb .deep)) (reach-sym linked-sym fb (old-class fb)))
+      reach-trans (old-class fa) (reach-trans (new-marked (mark ma fa) (mark mb fb) (from-class formed fa .deep) (from-class formed fb .deep))
+      (reach-sym linked-sym fb (old-class fb)))
     where
       mark : {v : ℕ} → List·Memᴰ v C → From X i v → Marked X W C (W .cls v)
       mark {v} m f = record { by = v; listed = m; existential = f .existential; rises = 0; above = start }

@@ -2,7 +2,8 @@
 use Prim.Native.Nat.{ℕ, zero, suc, _+_, _-_, _≤_, _<_}
 use mathlib.Core.Path.{_≡_, refl, sym, _∙_, ap, subst}
 use mathlib.Core.Bool.{Bool, true, false, cond, _||_, _&&_, true≢false, false≢true}
-use mathlib.Core.List.{List, [], _∷_, List·Memᴰ, List·Memᴰ·head, List·Memᴰ·tail, List·Memᴰ·not-nil, List·Memᴰ·cases-cons, List·Memᴰ·append-cases, List·Memᴰ·eq-of-singleton, Memᴰ·append-left, Memᴰ·append-right}
+use mathlib.Core.List.{List, [], _∷_, List·Memᴰ, List·Memᴰ·head, List·Memᴰ·tail, List·Memᴰ·not-nil, List·Memᴰ·cases-cons}
+use mathlib.Core.List.{List·Memᴰ·append-cases, List·Memᴰ·eq-of-singleton, Memᴰ·append-left, Memᴰ·append-right}
 use mathlib.Core.Logic.{⊎-elim, _≢_, by-cases}
 use native.Mathlib.Omega.{arith}
 use native.Mathlib.Decide.{decLe, decLt}
@@ -11,7 +12,7 @@ use lib.Dec.{eqb, ltb}
 use borrow.Author.Tests.{ltb-true, ltb-false, eqb-true, eqb-false, eq-eqb, ne-eqb, lt-ltb}
 use Rattle.connection.specs.Reach.{Variables, Lawful}
 use Rattle.connection.specs.Tables.{Table, row, lent, WellFormed, Above, start, rise}
-use Rattle.connection.specs.Growth.{Marked, Low, Next, none-next, next-low, FusedClass, merged, kept, FusedParent, chained, carried, Fused}
+use Rattle.connection.specs.Fused.{Marked, Low, Next, none-next, next-low, FusedClass, merged, kept, FusedParent, chained, carried, Fused}
 use Rattle.connection.specs.Search.{has}
 use Rattle.connection.specs.Fusing.{fill, classes-up, marks, goes-before, under, fuse-class, fuse-parent, Rows, table-of, rows-by, fuse-marks, fuse}
 use Rattle.connection.proofs.Choice.{choice, neither, both}
@@ -37,7 +38,8 @@ unfolding classes-up
 up-member zero start h = List·Memᴰ·head refl
 up-member (suc fuel) start h = List·Memᴰ·head refl
 up-member zero (rise n a) h = absurd (omega arith)
-up-member {W} (suc fuel) (rise {c = c} n a) h = List·Memᴰ·tail {xs = cond (eqb (W .par c) 0) [] (classes-up W fuel (W .par c))} (rw (ne-eqb (W .par c) 0 n) (up-member fuel a (omega arith)))
+up-member {W} (suc fuel) (rise {c = c} n a) h = List·Memᴰ·tail {xs = cond (eqb (W .par c) 0) [] (classes-up W fuel (W .par c))}
+    (rw (ne-eqb (W .par c) 0 n) (up-member fuel a (omega arith)))
 
 -- A class stands above itself.
 above-self : {W : Table} {m c : ℕ} → m ≡ c → (k : ℕ) × Above W m c k
@@ -62,7 +64,8 @@ module _ (X : Variables) (W : Table) where
       (choice (λ (l : List ℕ). List·Memᴰ m l → Marked X W (e ∷ C) m) (X .ex e)
       (λ t n. let a = member-up (X .lev e) (W .cls e) n in record { by = e; listed = List·Memᴰ·head refl; existential = t; rises = a .0; above = a .1 })
       (λ t n. absurd (List·Memᴰ·not-nil n)))
-      (λ n. let k = member-marked C n in record { by = k .by; listed = List·Memᴰ·tail (k .listed); existential = k .existential; rises = k .rises; above = k .above })
+      (λ n. let k = member-marked C n in
+      record { by = k .by; listed = List·Memᴰ·tail (k .listed); existential = k .existential; rises = k .rises; above = k .above })
       (List·Memᴰ·append-cases (cond (X .ex e) (classes-up W (X .lev e) (W .cls e)) []) h)
 
   -- What stands above the class of an existential of the clause is among the marks ...
@@ -101,8 +104,11 @@ before-false : (X : Variables) (m b : ℕ) → goes-before X m b ≡ false → (
 unfolding goes-before
 before-false X m b t =
     let one = neither (eqb b 0 || ltb (X .lev b) (X .lev m)) (eqb (X .lev b) (X .lev m) && ltb m b) t in
-    let two = neither (eqb b 0) (ltb (X .lev b) (X .lev m)) (one .0) in
-    (eqb-false b 0 (two .0), ltb-false (X .lev b) (X .lev m) (two .1), λ e. ltb-false m b (subst (λ (p : Bool). (p && ltb m b) ≡ false) (eq-eqb (X .lev b) (X .lev m) e) (one .1)))
+    let two = neither (eqb b 0) (ltb (X .lev b) (X .lev m)) (one .0) in (
+      eqb-false b 0 (two .0),
+      ltb-false (X .lev b) (X .lev m) (two .1),
+      λ e. ltb-false m b (subst (λ (p : Bool). (p && ltb m b) ≡ false) (eq-eqb (X .lev b) (X .lev m) e) (one .1)),
+    )
 
 -- The computed choice is the best.
 under-best : (X : Variables) (j : ℕ) (ms : List ℕ) → ((m : ℕ) → List·Memᴰ m ms → m ≢ 0) → Best X j ms (under X j ms)
@@ -122,7 +128,8 @@ under-best X j (m ∷ ms) nz = go (under X j ms) (under-best X j ms (λ n h. nz 
         (λ n i g. let same : X .lev b ≡ X .lev m = omega (arith, d n i (omega arith), f .0) in omega (arith, w n i (g ∙ sym same), f .1 same)))
 
     leave : (b : ℕ) → Best X j ms b → (X .lev m < j → goes-before X m b ≡ false) → Best X j (m ∷ ms) b
-    leave b (nothing z h) t = nothing z (cons-all (λ n. j ≤ X .lev n) (by-cases (decLt (X .lev m) j) (λ l. absurd (before-false X m b (t l) .0 z)) (λ l. omega arith)) h)
+    leave b (nothing z h) t = nothing z (cons-all (λ n. j ≤ X .lev n)
+        (by-cases (decLt (X .lev m) j) (λ l. absurd (before-false X m b (t l) .0 z)) (λ l. omega arith)) h)
     leave b (best i l d w) t = best (List·Memᴰ·tail i) l
         (cons-all (λ n. X .lev n < j → X .lev n ≤ X .lev b) (λ g. before-false X m b (t g) .1) d)
         (cons-all (λ n. X .lev n ≡ X .lev b → b ≤ n) (λ g. before-false X m b (t (omega arith)) .2 (sym g)) w)
@@ -215,7 +222,8 @@ module _ {X : Variables} {W : Table} (lawful : Lawful X) (formed : WellFormed X 
       par : (v : ℕ) → row (X .count) (fill (X .count) 1 (fuse-parent X W ms)) v ≡ fuse-parent X W ms v
       par = row-all lawful (fuse-parent X W ms) fuse-parent-zero
 
--- The same of rows.
-pub fuse-fused : {X : Variables} (lawful : Lawful X) (R : Rows) → WellFormed X (table-of X R) → (C : List ℕ) → Fused X (table-of X R) C (table-of X (fuse X R C))
+-- So the rows that `fuse` computes are the table with the clause fused in.
+pub fuse-fused : {X : Variables} (lawful : Lawful X) (R : Rows) → WellFormed X (table-of X R) → (C : List ℕ)
+    → Fused X (table-of X R) C (table-of X (fuse X R C))
 unfolding fuse
 fuse-fused lawful R formed C = marks-fused lawful formed C

@@ -6,9 +6,10 @@ use mathlib.Core.List.{List, [], _∷_, _++_, append-assoc, append-nil, List·Me
 use mathlib.Core.Logic.{_↔_}
 use native.Mathlib.Omega.{arith}
 use Rattle.connection.specs.Reach.{Variables, Lawful, From, Joined, Reach, here, step}
-use Rattle.connection.specs.Tables.{Table, row, lent, WellFormed, start, top, joins}
+use Rattle.connection.specs.Tables.{Table, row, lent, WellFormed, start, joins}
 use Rattle.connection.specs.Forest.{Forest}
-use Rattle.connection.specs.Growth.{Represents, Single, Fused}
+use Rattle.connection.specs.Climb.{top, Represents}
+use Rattle.connection.specs.Fused.{Single, Fused}
 use Rattle.connection.specs.Fusing.{fill, Rows, table-of, rows-by, fuse, fuse-all, singles, forest-of}
 use Rattle.connection.proofs.Reach.{reach-along, joined-added, joined-sym}
 use Rattle.connection.proofs.Climb.{top-class}
@@ -38,7 +39,8 @@ module _ {X : Variables} (lawful : Lawful X) where
       formed = record {
         right = λ v. record {
           universal = λ e. (s .universal v e, s .parent v);
-          class = λ e. let c = s .class v e in record { most = omega arith; name = record { existential = rw c e; itself = ap (W .cls) c }; block = ap (X .lev) c };
+          class = λ e. let c = s .class v e in
+              record { most = omega arith; name = record { existential = rw c e; itself = ap (W .cls) c }; block = ap (X .lev) c };
           parent = λ n. absurd (n (s .parent v));
         };
       }
@@ -48,8 +50,12 @@ module _ {X : Variables} (lawful : Lawful X) where
           (record { above = start; deep = f .deep; stop = λ n. absurd (n (s .parent v)) })
 
   -- ... then one more each time that one is fused in.
-  pub represents-grows : {cs : List (List ℕ)} {C : List ℕ} {W W′ : Table} → Represents X (Joined cs) W → Fused X W C W′ → Represents X (Joined (cs ++ (C ∷ []))) W′
-  represents-grows rep fused = represents-reach (λ i v y fv fy. (reach-along (λ a b. joined-added a b .1), reach-along (λ a b. joined-added a b .0))) (fused-represents lawful (rep .formed) fused rep)
+  pub represents-grows : {cs : List (List ℕ)} {C : List ℕ} {W W′ : Table} → Represents X (Joined cs) W → Fused X W C W′
+      → Represents X (Joined (cs ++ (C ∷ []))) W′
+  represents-grows rep fused = represents-reach (λ i v y fv fy. (
+    reach-along (λ a b. joined-added a b .1),
+    reach-along (λ a b. joined-added a b .0),
+  )) (fused-represents lawful (rep .formed) fused rep)
 
   -- The computed rows of no clause.
   singles-single : Single X (table-of X (singles X))
@@ -60,7 +66,8 @@ module _ {X : Variables} (lawful : Lawful X) where
       class = row-all lawful (λ v. cond (X .ex v) v 0) (λ v e. rw e)
 
   -- Clauses put in one after another.
-  pub fuse-all-represents : {ds : List (List ℕ)} (R : Rows) (cs : List (List ℕ)) → Represents X (Joined ds) (table-of X R) → Represents X (Joined (ds ++ cs)) (table-of X (fuse-all X R cs))
+  pub fuse-all-represents : {ds : List (List ℕ)} (R : Rows) (cs : List (List ℕ)) → Represents X (Joined ds) (table-of X R)
+      → Represents X (Joined (ds ++ cs)) (table-of X (fuse-all X R cs))
   unfolding fuse-all
   fuse-all-represents {ds} R [] rep = rw append-nil rep
   fuse-all-represents {ds} R (C ∷ cs) rep =

@@ -1,7 +1,8 @@
 -- Theorem (a): a well-formed table represents the list of joins that it stands for.
 use Prim.Native.Nat.{ℕ, zero, suc, _≤_}
 use mathlib.Core.Path.{_≡_, refl, sym, _∙_, subst, subst₂}
-use mathlib.Core.List.{List, [], _∷_, List·Memᴰ, List·Memᴰ·head, List·Memᴰ·tail, List·Memᴰ·not-nil, List·Memᴰ·cases-cons, List·Memᴰ·append-cases, List·Memᴰ·eq-of-singleton, Memᴰ·append-left, Memᴰ·append-right}
+use mathlib.Core.List.{List, [], _∷_, List·Memᴰ, List·Memᴰ·head, List·Memᴰ·tail, List·Memᴰ·not-nil, List·Memᴰ·cases-cons}
+use mathlib.Core.List.{List·Memᴰ·append-cases, List·Memᴰ·eq-of-singleton, Memᴰ·append-left, Memᴰ·append-right}
 use mathlib.Core.Logic.{_⊎_, inl, inr, ⊎-elim, _↔_, Iff·trans, by-cases}
 use native.Mathlib.Decide.{ℕ-discrete}
 use native.Mathlib.Omega.{arith}
@@ -9,7 +10,7 @@ use lib.Dec.{eqb}
 use borrow.Author.Tests.{eqb-false, ne-eqb}
 use Rattle.connection.specs.Reach.{Variables, Lawful, Joined, Reach, here}
 use Rattle.connection.specs.Tables.{Table, WellFormed, class-join, parent-join, each, joins}
-use Rattle.connection.specs.Growth.{Represents}
+use Rattle.connection.specs.Climb.{Represents}
 use Rattle.connection.proofs.Choice.{choice}
 use Rattle.connection.proofs.Reach.{reach-one, simulate, reach-along, joined-sym}
 use Rattle.connection.proofs.Represent.{Link, to-class, to-parent, Linked, up, down, linked-tops}
@@ -34,7 +35,8 @@ data Pair (X : Variables) (W : Table) (c : List ℕ) : Type 0 where
 -- Every clause of the list is one.
 joins-pair : {c : List ℕ} (X : Variables) (W : Table) → List·Memᴰ c (joins X W) → Pair X W c
 unfolding joins class-join parent-join
-joins-pair {c} X W m = ⊎-elim (λ h. let e = each-member (class-join X W) (X .count) h in class (e .0) (e .1)) (λ h. let e = each-member (parent-join W) (X .count) h in parent (e .0) (e .1))
+joins-pair {c} X W m = ⊎-elim (λ h. let e = each-member (class-join X W) (X .count) h in class (e .0) (e .1))
+    (λ h. let e = each-member (parent-join W) (X .count) h in parent (e .0) (e .1))
     (List·Memᴰ·append-cases (each (class-join X W) (X .count)) m)
   where
     class : (v : ℕ) → List·Memᴰ c (class-join X W v) → Pair X W c
@@ -46,7 +48,8 @@ joins-pair {c} X W m = ⊎-elim (λ h. let e = each-member (class-join X W) (X .
         (λ t h. absurd (List·Memᴰ·not-nil h)) (λ t h. pair v (W .par v) (to-parent (eqb-false (W .par v) 0 t) refl) (List·Memᴰ·eq-of-singleton h))
 
 -- Two of a linked pair reach one another.
-pair-reach : {X : Variables} {W : Table} {E : ℕ → Type 0} {u z a b : ℕ} → Link X W u z → List·Memᴰ a (u ∷ z ∷ []) → List·Memᴰ b (u ∷ z ∷ []) → E b → Reach (Linked X W) E a b
+pair-reach : {X : Variables} {W : Table} {E : ℕ → Type 0} {u z a b : ℕ} → Link X W u z → List·Memᴰ a (u ∷ z ∷ []) → List·Memᴰ b (u ∷ z ∷ []) → E b
+    → Reach (Linked X W) E a b
 pair-reach {X} {W} {E} {u} {z} {a} {b} l ma mb e = go (List·Memᴰ·cases-cons ma) (List·Memᴰ·cases-cons mb)
   where
     go : (a ≡ u) ⊎ List·Memᴰ a (z ∷ []) → (b ≡ u) ⊎ List·Memᴰ b (z ∷ []) → Reach (Linked X W) E a b

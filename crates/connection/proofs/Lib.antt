@@ -22,10 +22,9 @@ pub mod Growth
 pub mod Sets
 -- Theorem (e): demand 3, second sentence.
 pub mod Alone
--- The same of strict sets.
+-- Theorems (d) and (e) for strict sets.
 pub mod Strict
 -- Ascending lists, and counting.
-pub mod Listed
 pub mod Numbered
 -- Counts of a table, and the size of a set.
 pub mod Counts

@@ -8,9 +8,9 @@ use native.Mathlib.Decide.{ℕ-discrete}
 use native.Mathlib.Numerals.{add-one}
 use native.Mathlib.Omega.{arith}
 use lib.ListN.{length}
-use Rattle.connection.specs.Listed.{Ascending}
+use Rattle.terms.specs.Listed.{Ascending}
 use Rattle.connection.specs.Counts.{Numbered, how-many}
-use Rattle.connection.proofs.Listed.{listed-one, listed-most, insert}
+use Rattle.terms.proofs.Listed.{listed-one, listed-most, insert}
 
 module _ {P : ℕ → Type 0} where
   -- There is one number.
@@ -79,7 +79,8 @@ unfolding how-many
 how-many-numbered f zero = numbered-none (λ v p. let (a, b, t) = p in omega arith)
 how-many-numbered f (suc n) = go (f (suc n)) refl (how-many-numbered f n)
   where
-    go : (b : Bool) → f (suc n) ≡ b → Numbered (λ v. (1 ≤ v) × (v ≤ n) × (f v ≡ true)) (how-many f n) → Numbered (λ v. (1 ≤ v) × (v ≤ suc n) × (f v ≡ true)) (how-many f n + cond b 1 0)
+    go : (b : Bool) → f (suc n) ≡ b → Numbered (λ v. (1 ≤ v) × (v ≤ n) × (f v ≡ true)) (how-many f n)
+        → Numbered (λ v. (1 ≤ v) × (v ≤ suc n) × (f v ≡ true)) (how-many f n + cond b 1 0)
     go true q m = numbered-more (suc n) (λ p. let (a, b, t) = p in omega arith)
         (λ v. (
           λ p. by-cases (ℕ-discrete v (suc n)) (λ e. inl e) (λ other. let (a, b, t) = p in inr (a, omega arith, t)),

@@ -27,7 +27,8 @@ rows-stored {Q = Q} {counts′ = counts′} p kept new same r = record {
 }
 
 -- Rows that count existentials hold at most n each.
-pub rows-most : {X : Variables} {P : ℕ → ℕ → Type 0} {counts : ℕ → ℕ} → Lawful X → ((c v : ℕ) → P c v → X .ex v ≡ true) → RowsCount P counts → (c : ℕ) → counts c ≤ X .count
+pub rows-most : {X : Variables} {P : ℕ → ℕ → Type 0} {counts : ℕ → ℕ} → Lawful X → ((c v : ℕ) → P c v → X .ex v ≡ true) → RowsCount P counts
+    → (c : ℕ) → counts c ≤ X .count
 rows-most lawful ex r c = numbered-most (λ v p. lawful .within v (ex c v p)) (r .row c)
 
 -- The way goes on from whatever else is done too.
@@ -54,7 +55,10 @@ pub record Finishes (D : ℕ → Type 0) (w : ℕ) (D′ : ℕ → Type 0) : Typ
 module _ {X : Variables} {W : Table} where
   -- Before the first variable all rows are 0.
   pub placed-none : {counts : ℕ → ℕ} → Lawful X → ((c : ℕ) → counts c ≡ 0) → RowsCount (Placed X W 0) counts
-  placed-none lawful zeros = record { row = λ c. subst (Numbered (Placed X W 0 c)) (sym (zeros c)) (numbered-none (λ v p. let (a, b) = lawful .within v (p .existential) in omega (arith, p .most))) }
+  placed-none lawful zeros = record { row = λ c. subst (Numbered (Placed X W 0 c)) (sym (zeros c)) (numbered-none (none c)) }
+    where
+      none : (c v : ℕ) → Placed X W 0 c v → ⊥
+      none c v p = let (a, b) = lawful .within v (p .existential) in omega (arith, p .most)
 
   -- What is placed stays so as more are, and only the new one is new.
   placed-still : {m c v : ℕ} → Placed X W m c v → Placed X W (m + 1) c v
@@ -71,7 +75,8 @@ module _ {X : Variables} {W : Table} where
   pub placed-more : {m : ℕ} {counts counts′ : ℕ → ℕ} → X .ex (m + 1) ≡ true → counts′ (W .cls (m + 1)) ≡ counts (W .cls (m + 1)) + 1
       → ((c : ℕ) → c ≢ W .cls (m + 1) → counts′ c ≡ counts c) → RowsCount (Placed X W m) counts → RowsCount (Placed X W (m + 1)) counts′
   placed-more {m} ex more kept r = rows-stored (W .cls (m + 1)) kept
-      (subst (Numbered (Placed X W (m + 1) (W .cls (m + 1)))) (sym more) (numbered-more (m + 1) (λ p. omega (arith, p .most)) (λ v. (split v, join v)) (r .row (W .cls (m + 1)))))
+      (subst (Numbered (Placed X W (m + 1) (W .cls (m + 1)))) (sym more)
+      (numbered-more (m + 1) (λ p. omega (arith, p .most)) (λ v. (split v, join v)) (r .row (W .cls (m + 1)))))
       (λ c other v. (placed-still, λ p. placed-before (λ e. other (sym (p .class) ∙ ap (W .cls) e)) p))
       r
     where
@@ -82,7 +87,8 @@ module _ {X : Variables} {W : Table} where
       join v s = ⊎-elim (λ e. record { existential = ap (X .ex) e ∙ ex; most = omega arith; class = ap (W .cls) e }) placed-still s
 
   -- With all variables placed and no class done, the rows count what they are to at the start of passing up.
-  pub placed-all : {D : ℕ → Type 0} {counts : ℕ → ℕ} → Lawful X → ((c : ℕ) → D c → W .par c ≢ 0 → ⊥) → RowsCount (Placed X W (X .count)) counts → RowsCount (WithinBy X W D) counts
+  pub placed-all : {D : ℕ → Type 0} {counts : ℕ → ℕ} → Lawful X → ((c : ℕ) → D c → W .par c ≢ 0 → ⊥) → RowsCount (Placed X W (X .count)) counts
+      → RowsCount (WithinBy X W D) counts
   placed-all {D} lawful none r = rows-same (λ c v. (
     λ p. record { existential = p .existential; passes = subst (Passes W D c) (sym (p .class)) there },
     λ w. record { existential = w .existential; most = lawful .within v (w .existential) .1; class = stays (w .passes) },
@@ -100,7 +106,8 @@ module _ {X : Variables} {W : Table} where
   )) r
 
   -- ... and so does finishing a class that has no parent.
-  pub pass-over : {D D′ : ℕ → Type 0} {w : ℕ} {counts : ℕ → ℕ} → Finishes D w D′ → W .par w ≡ 0 → RowsCount (WithinBy X W D) counts → RowsCount (WithinBy X W D′) counts
+  pub pass-over : {D D′ : ℕ → Type 0} {w : ℕ} {counts : ℕ → ℕ} → Finishes D w D′ → W .par w ≡ 0 → RowsCount (WithinBy X W D) counts
+      → RowsCount (WithinBy X W D′) counts
   pass-over {D} {D′} {w} f orphan r = rows-same (λ c v. (
     λ i. record { existential = i .existential; passes = passes-along (λ d some. f .kept d) (i .passes) },
     λ i. record { existential = i .existential; passes = passes-along back (i .passes) },
@@ -115,7 +122,8 @@ module _ {X : Variables} {W : Table} (formed : WellFormed X W) {D D′ : ℕ →
   -- The way passes the parent as before, or it is a way to w that now goes on ...
   up-from : {c : ℕ} → Passes W D′ (W .par w) c → Passes W D (W .par w) c ⊎ Passes W D w c
   up-from there = inl there
-  up-from (onward {c = c} d s a) = ⊎-elim (λ old. ⊎-elim (λ q. inl (onward old s q)) (λ q. inr (onward old s q)) (up-from a)) (λ e. inr (subst (Passes W D w) (sym e) there)) (f .only c d)
+  up-from (onward {c = c} d s a) = ⊎-elim (λ old. ⊎-elim (λ q. inl (onward old s q)) (λ q. inr (onward old s q)) (up-from a))
+      (λ e. inr (subst (Passes W D w) (sym e) there)) (f .only c d)
 
   up-old : {p c : ℕ} → Passes W D p c → Passes W D′ p c
   up-old a = passes-along (λ c s. f .kept c) a
@@ -161,7 +169,8 @@ module _ {X : Variables} {W : Table} (formed : WellFormed X W) {D D′ : ℕ →
       by i q = record { existential = i .existential; passes = q }
 
 -- With every class done that has a parent, the counts are right.
-pub pass-all : {X : Variables} {W : Table} → WellFormed X W → {D : ℕ → Type 0} {counts : ℕ → ℕ} → ((c : ℕ) → W .par c ≢ 0 → D c) → RowsCount (WithinBy X W D) counts → Counted X W counts
+pub pass-all : {X : Variables} {W : Table} → WellFormed X W → {D : ℕ → Type 0} {counts : ℕ → ℕ} → ((c : ℕ) → W .par c ≢ 0 → D c)
+    → RowsCount (WithinBy X W D) counts → Counted X W counts
 pass-all formed all r = counted-rows formed .1 (rows-same (λ c v. (
   λ i. let (k, a) = passes-above (i .passes) in record { existential = i .existential; rises = k; above = a },
   λ w. record { existential = w .existential; passes = above-passes all (w .above) },

@@ -75,7 +75,10 @@ reach-level h r = reach-mono (λ a b j. j) (λ a f. from-less h f) r
 -- The set of a universal, by its first step: x itself is no existential.
 pub depends-follows : {X : Variables} {J : ℕ → ℕ → Type 0} {x y : ℕ} → Universal X x
     → Depends X J x y ↔ Follows J J (From X (X .lev x)) x y
-depends-follows {X} {J} {x} {y} u = (λ d. go d (reach-first (d .reached)), λ f. record { existential = reach-ends (f .allowed) (f .onward) .existential; reached = follows-reach f })
+depends-follows {X} {J} {x} {y} u = (
+  λ d. go d (reach-first (d .reached)),
+  λ f. record { existential = reach-ends (f .allowed) (f .onward) .existential; reached = follows-reach f },
+)
   where
     go : Depends X J x y → (x ≡ y) ⊎ Follows J J (From X (X .lev x)) x y → Follows J J (From X (X .lev x)) x y
     go d (inl e) = absurd (true≢false (sym (d .existential) ∙ (rw (← e) (u .universal))))

@@ -5,7 +5,8 @@ use mathlib.Core.Bool.{true}
 use mathlib.Core.Logic.{_↔_, _≢_}
 use native.Mathlib.Omega.{arith}
 use Rattle.connection.specs.Reach.{Variables, From, Reach, here, step}
-use Rattle.connection.specs.Tables.{Table, WellFormed, Above, start, rise, climb, top}
+use Rattle.connection.specs.Tables.{Table, WellFormed, Above, start, rise}
+use Rattle.connection.specs.Climb.{climb, top}
 use Rattle.connection.proofs.Reach.{Symmetric, reach-one, reach-trans, reach-sym, reach-ends}
 use Rattle.connection.proofs.Climb.{above-falls, ends-exist, top-ends, top-exists, top-class}
 
@@ -14,7 +15,7 @@ pub data Link (X : Variables) (W : Table) (u z : ℕ) : Type 0 where
   to-class : X .ex u ≡ true → W .cls u ≡ z → Link X W u z
   to-parent : W .par u ≢ 0 → W .par u ≡ z → Link X W u z
 
--- The same, either way.
+-- Two that one of these joins ties, in either order.
 pub data Linked (X : Variables) (W : Table) (u z : ℕ) : Type 0 where
   up : Link X W u z → Linked X W u z
   down : Link X W z u → Linked X W u z

@@ -39,7 +39,8 @@ row-same n (suc v) xs ys h = by-cases (decLt v n)
 
 -- Two lists of rows of one length that read alike, and are alike past n, are one.
 pub rows-one : (n : ℕ) (xs ys : List ℕ) → length xs ≡ length ys → ((v : ℕ) → row n xs v ≡ row n ys v) → ((i : ℕ) → n ≤ i → getD xs i 0 ≡ getD ys i 0) → xs ≡ ys
-rows-one n xs ys same rows rest = ext-getD 0 xs ys same (λ i h. by-cases (decLt i n) (λ l. sym (row-suc n i xs l) ∙ rows (suc i) ∙ row-suc n i ys l) (λ l. rest i (omega arith)))
+rows-one n xs ys same rows rest = ext-getD 0 xs ys same
+    (λ i h. by-cases (decLt i n) (λ l. sym (row-suc n i xs l) ∙ rows (suc i) ∙ row-suc n i ys l) (λ l. rest i (omega arith)))
 
 -- So lent rows that are the forest are settled, whatever stood in them before.
 pub lent-one : {X : Variables} {J : ℕ → ℕ → Type 0} → Symmetric J → {cs ps cs′ ps′ : List ℕ}

@@ -2,7 +2,8 @@
 use Prim.Native.Nat.{ℕ, zero, suc, _+_, _≤_, _<_}
 use mathlib.Core.Path.{_≡_, refl, sym, _∙_, ap, subst}
 use mathlib.Core.Bool.{Bool, true, false, _||_, _&&_, true≢false, false≢true}
-use mathlib.Core.List.{List, [], _∷_, _++_, List·Memᴰ, List·Memᴰ·head, List·Memᴰ·tail, List·Memᴰ·not-nil, List·Memᴰ·cases-cons, List·Memᴰ·append-cases, List·Memᴰ·eq-of-singleton, Memᴰ·append-left, Memᴰ·append-right, Memᴰ·cast}
+use mathlib.Core.List.{List, [], _∷_, _++_, List·Memᴰ, List·Memᴰ·head, List·Memᴰ·tail, List·Memᴰ·not-nil, List·Memᴰ·cases-cons}
+use mathlib.Core.List.{List·Memᴰ·append-cases, List·Memᴰ·eq-of-singleton, Memᴰ·append-left, Memᴰ·append-right, Memᴰ·cast}
 use mathlib.Core.Logic.{_⊎_, inl, inr, ⊎-elim, _↔_, by-cases}
 use native.Mathlib.Decide.{ℕ-discrete}
 use native.Mathlib.Omega.{arith}
@@ -33,7 +34,8 @@ member-has {v} (List·Memᴰ·tail {x = x} {xs = xs} m) = or-right (eqb v x) (ha
 meets-member : (xs ys : List ℕ) → meets xs ys ≡ true → (u : ℕ) × List·Memᴰ u xs × List·Memᴰ u ys
 unfolding meets
 meets-member [] ys t = absurd (false≢true t)
-meets-member (x ∷ xs) ys t = ⊎-elim (λ h. (x, List·Memᴰ·head refl, has-member ys h)) (λ h. let m = meets-member xs ys h in (m .0, List·Memᴰ·tail (m .1), m .2)) (either (has x ys) (meets xs ys) t)
+meets-member (x ∷ xs) ys t = ⊎-elim (λ h. (x, List·Memᴰ·head refl, has-member ys h))
+    (λ h. let m = meets-member xs ys h in (m .0, List·Memᴰ·tail (m .1), m .2)) (either (has x ys) (meets xs ys) t)
 
 -- Lists with a number in common pass it.
 member-meets : {u : ℕ} {xs ys : List ℕ} → List·Memᴰ u xs → List·Memᴰ u ys → meets xs ys ≡ true
@@ -67,7 +69,8 @@ data Sight (seen : List ℕ) (cs : List (List ℕ)) : Found → Type 0 where
 find-sight : (seen : List ℕ) (cs : List (List ℕ)) → Sight seen cs (find seen cs)
 unfolding find put-back
 find-sight seen [] = unmet (λ c m. absurd (List·Memᴰ·not-nil m))
-find-sight seen (c ∷ cs) = choice (Sight seen (c ∷ cs)) (meets seen c) (λ t. met t (List·Memᴰ·head refl) (λ d m. List·Memᴰ·tail m) (λ d m. List·Memᴰ·cases-cons m) (omega arith))
+find-sight seen (c ∷ cs) = choice (Sight seen (c ∷ cs)) (meets seen c)
+    (λ t. met t (List·Memᴰ·head refl) (λ d m. List·Memᴰ·tail m) (λ d m. List·Memᴰ·cases-cons m) (omega arith))
     (λ f. later f (find-sight seen cs))
   where
     later : {F : Found} → meets seen c ≡ false → Sight seen cs F → Sight seen (c ∷ cs) (put-back c F)
@@ -82,7 +85,8 @@ unfolding spread see
 spread-seen e zero cs seen m = m
 spread-seen {u} e (suc fuel) cs seen m = go (find seen cs) (λ ds more k. spread-seen e fuel ds more k)
   where
-    go : (F : Found) → ((ds : List (List ℕ)) (more : List ℕ) → List·Memᴰ u more → List·Memᴰ u (spread e fuel ds more)) → List·Memᴰ u (see (λ others more. spread e fuel others more) e seen F)
+    go : (F : Found) → ((ds : List (List ℕ)) (more : List ℕ) → List·Memᴰ u more → List·Memᴰ u (spread e fuel ds more))
+        → List·Memᴰ u (see (λ others more. spread e fuel others more) e seen F)
     go nowhere on = m
     go (found c ds) on = on ds (keep e c ++ seen) (Memᴰ·append-right (keep e c) m)
 
@@ -101,7 +105,8 @@ module _ {E : ℕ → Type 0} {e : ℕ → Bool} (test : (v : ℕ) → E v ↔ (
           step (r (b .0) (b .1)) (record { clause = c; listed = sub c k; left = b .2; right = a .0 }) (test w .1 (a .1)))
           (r w) (List·Memᴰ·append-cases (keep e c) n)
 
-      go : (F : Found) → Sight seen cs F → ((ds : List (List ℕ)) (more : List ℕ) → ((c : List ℕ) → List·Memᴰ c ds → List·Memᴰ c all) → ((u : ℕ) → List·Memᴰ u more → Reach (Joined all) E v u) → List·Memᴰ y (spread e fuel ds more) → Reach (Joined all) E v y)
+      go : (F : Found) → Sight seen cs F → ((ds : List (List ℕ)) (more : List ℕ) → ((c : List ℕ) → List·Memᴰ c ds → List·Memᴰ c all)
+          → ((u : ℕ) → List·Memᴰ u more → Reach (Joined all) E v u) → List·Memᴰ y (spread e fuel ds more) → Reach (Joined all) E v y)
           → List·Memᴰ y (see (λ others more. spread e fuel others more) e seen F) → Reach (Joined all) E v y
       go nowhere (unmet h) on n = r y n
       go (found c ds) (met t k others rest l) on n = on ds (keep e c ++ seen) (λ d i. sub d (others d i)) (on-reach t k) n
@@ -112,10 +117,12 @@ module _ {E : ℕ → Type 0} {e : ℕ → Bool} (test : (v : ℕ) → E v ↔ (
   unfolding spread see
   spread-closed zero [] seen h c m u w mu su mw t = absurd (List·Memᴰ·not-nil m)
   spread-closed zero (d ∷ cs) seen h c m u w mu su mw t = absurd (omega arith)
-  spread-closed (suc fuel) cs seen h c m u w mu su mw t = go (find seen cs) (find-sight seen cs) (λ ds more l k s. spread-closed fuel ds more l c k u w mu s mw t) su
+  spread-closed (suc fuel) cs seen h c m u w mu su mw t = go (find seen cs) (find-sight seen cs)
+      (λ ds more l k s. spread-closed fuel ds more l c k u w mu s mw t) su
     where
       go : (F : Found) → Sight seen cs F
-          → ((ds : List (List ℕ)) (more : List ℕ) → length ds ≤ fuel → List·Memᴰ c ds → List·Memᴰ u (spread e fuel ds more) → List·Memᴰ w (spread e fuel ds more))
+          → ((ds : List (List ℕ)) (more : List ℕ) → length ds ≤ fuel → List·Memᴰ c ds → List·Memᴰ u (spread e fuel ds more)
+          → List·Memᴰ w (spread e fuel ds more))
           → List·Memᴰ u (see (λ others more. spread e fuel others more) e seen F) → List·Memᴰ w (see (λ others more. spread e fuel others more) e seen F)
       go nowhere (unmet un) on s = absurd (true≢false (sym (member-meets s mu) ∙ un c m))
       go (found d ds) (met k i others rest l) on s = ⊎-elim
@@ -125,13 +132,15 @@ module _ {E : ℕ → Type 0} {e : ℕ → Bool} (test : (v : ℕ) → E v ↔ (
   -- What is listed is reached.
   reached-reach : (cs : List (List ℕ)) {v y : ℕ} → List·Memᴰ y (reached e cs v) → Reach (Joined cs) E v y
   unfolding reached
-  reached-reach cs {v} {y} m = spread-reach cs (length cs) cs (v ∷ []) (λ c k. k) (λ u k. subst (Reach (Joined cs) E v) (sym (List·Memᴰ·eq-of-singleton k)) here) y m
+  reached-reach cs {v} {y} m = spread-reach cs (length cs) cs (v ∷ []) (λ c k. k)
+      (λ u k. subst (Reach (Joined cs) E v) (sym (List·Memᴰ·eq-of-singleton k)) here) y m
 
   -- What is reached is listed.
   reach-reached : (cs : List (List ℕ)) {v y : ℕ} → Reach (Joined cs) E v y → List·Memᴰ y (reached e cs v)
   unfolding reached
   reach-reached cs {v} here = spread-seen e (length cs) cs (v ∷ []) (List·Memᴰ·head refl)
-  reach-reached cs {v} (step {y = a} {z = b} r j f) = spread-closed (length cs) cs (v ∷ []) (omega arith) (j .clause) (j .listed) a b (j .left) (reach-reached cs r) (j .right) (test b .0 f)
+  reach-reached cs {v} (step {y = a} {z = b} r j f) = spread-closed (length cs) cs (v ∷ []) (omega arith) (j .clause) (j .listed) a b (j .left)
+      (reach-reached cs r) (j .right) (test b .0 f)
 
   -- The test decides reach.
   pub reaches-true : {cs : List (List ℕ)} {v y : ℕ} → (reaches e cs v y ≡ true) ↔ Reach (Joined cs) E v y

@@ -6,9 +6,9 @@ use mathlib.Core.List.{List}
 use mathlib.Core.Logic.{_↔_, Iff·trans}
 use native.Mathlib.Omega.{arith}
 use Rattle.connection.specs.Reach.{Variables, Lawful, Universal, From, Joined, Depends, Follows}
-use Rattle.connection.specs.Tables.{Table, ClassName, WellFormed, Above, start, rise, top, Climbed, climb, EntryPoint, EntryPointOf, MemberBy, Member}
+use Rattle.connection.specs.Tables.{Table, ClassName, WellFormed, Above, start, rise, EntryPoint, EntryPointOf, MemberBy, Member}
 use Rattle.connection.specs.Forest.{Forest, ClassAbove, AtOrAbove, at, over, EntryClass}
-use Rattle.connection.specs.Growth.{Represents}
+use Rattle.connection.specs.Climb.{Climbed, climb, top, Represents}
 use Rattle.connection.proofs.Reach.{reach-mono, reach-level, reach-ends, allow, from-less, depends-follows}
 use Rattle.connection.proofs.Climb.{Ends, above-falls, above-class, above-strict, climb-ends, climb-entry, entry-ends, top-ends, top-exists, top-class}
 use Rattle.connection.proofs.Represent.{own-top}
@@ -36,13 +36,15 @@ module _ {X : Variables} {W : Table} (formed : WellFormed X W) where
 
     -- So a member is deeper than x ...
     pub member-deeper : {y : ℕ} → MemberBy X W P y → From X (suc (X .lev x)) y
-    member-deeper {y} m = allow (m .existential) (omega (arith, above-falls formed (m .below), member-ends m .deep, formed .right y .class (m .existential) .block))
+    member-deeper {y} m = allow (m .existential)
+        (omega (arith, above-falls formed (m .below), member-ends m .deep, formed .right y .class (m .existential) .block))
 
     -- ... and an existential y deeper than x is a member exactly if the entry point of x for y is one of them.
     pub member-climb : {y : ℕ} → X .ex y ≡ true → X .lev x < X .lev y → MemberBy X W P y ↔ P (climb X W (suc (X .lev x)) (W .cls y) 0 .top)
     member-climb {y} ex l = (
       λ m. subst P (sym (ap (λ (c : Climbed). c .top) (climb-ends formed (member-ends m) 0))) (m .entered),
-      λ o. record { existential = ex; entry = climb X W (suc (X .lev x)) (W .cls y) 0 .top; entered = o; rises = climb X W (suc (X .lev x)) (W .cls y) 0 .rises; below = climb-entry formed y ex l .above },
+      λ o. let c = climb X W (suc (X .lev x)) (W .cls y) 0 in
+          record { existential = ex; entry = c .top; entered = o; rises = c .rises; below = climb-entry formed y ex l .above },
     )
 
 module _ {X : Variables} {J : ℕ → ℕ → Type 0} {W : Table} (rep : Represents X J W) where
@@ -55,7 +57,8 @@ module _ {X : Variables} {J : ℕ → ℕ → Type 0} {W : Table} (rep : Represe
           let z = f .first in
           let fz = from-deeper u (f .allowed) in
           let fy = from-deeper u (reach-ends (f .allowed) (f .onward)) in
-          let same : top X W (suc (X .lev x)) z ≡ top X W (suc (X .lev x)) y = rep .tops (suc (X .lev x)) z y fz fy .0 (reach-mono (λ a b j. j) (λ a e. from-deeper u e) (f .onward)) in
+          let same : top X W (suc (X .lev x)) z ≡ top X W (suc (X .lev x)) y = rep .tops (suc (X .lev x)) z y fz fy .0
+          (reach-mono (λ a b j. j) (λ a e. from-deeper u e) (f .onward)) in
           let ez = top-exists (rep .formed) fz in
           let ey = top-exists (rep .formed) fy in
           record {
@@ -78,7 +81,8 @@ module _ {X : Variables} {J : ℕ → ℕ → Type 0} {W : Table} (rep : Represe
             starts = o .shares;
             allowed = from-less (omega arith) fz;
             onward = reach-level (omega arith)
-                (rep .tops (suc (X .lev x)) z y fz fy .1 (top-ends (rep .formed) z ez ∙ sym (top-ends (rep .formed) y (member-ends (rep .formed) (λ e o. o) m))));
+                (rep .tops (suc (X .lev x)) z y fz fy .1 (top-ends (rep .formed) z ez
+                ∙ sym (top-ends (rep .formed) y (member-ends (rep .formed) (λ e o. o) m))));
           }
 
   -- Demand 2, for whatever joins the table represents.
@@ -103,19 +107,20 @@ module _ {X : Variables} {J : ℕ → ℕ → Type 0} {W : Table} (rep : Represe
       back a =
           let q = above-class (rep .formed) n (a .1) in
           let less : X .lev p < X .lev c = omega (arith, above-falls (rep .formed) (a .1)) in
-          let is : top X W (X .lev p) c ≡ p = top-class (rep .formed) n (record { above = a .1; deep = omega arith; stop = λ h. rep .formed .right p .parent h .less }) in
+          let is : top X W (X .lev p) c ≡ p = top-class (rep .formed) n
+          (record { above = a .1; deep = omega arith; stop = λ h. rep .formed .right p .parent h .less }) in
           record {
             class = represents-name rep .1 q;
             less = less;
             reached = rep .tops (X .lev p) p c (allow (q .existential) (omega arith)) (allow (n .existential) (omega arith)) .1 (own q ∙ sym is);
           }
 
-  -- The same with the class itself.
+  -- So whatever stands at class c or above it in the table does so by reach ...
   above-at : {p c k : ℕ} → ClassName X W c → Above W p c k → AtOrAbove X J c p
   above-at n start = at refl
   above-at n (rise h a) = over (class-above n .1 (_, rise h a))
 
-  -- And the other way.
+  -- ... and whatever does so by reach does so in the table.
   at-above : {p c : ℕ} → ClassName X W c → AtOrAbove X J c p → (k : ℕ) × Above W p c k
   at-above {p} {c} n (at e) = (0, subst (λ (q : ℕ). Above W q c 0) e start)
   at-above n (over a) = let r = class-above n .0 a in (suc (r .0), r .1)

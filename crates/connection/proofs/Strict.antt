@@ -13,11 +13,13 @@ use Rattle.connection.proofs.Sets.{entries-along, member-deeper, member
 use Rattle.connection.proofs.Alone.{follows-stay, steps-stay}
 
 -- A strict member is a member by both signs: the climb from its class ends at one class, which both have.
-pub strict-member : {X : Variables} {W : Table} {S : Bool → ℕ → ℕ → Type 0} {x y : ℕ} → WellFormed X W → StrictMember X W S x y ↔ ((sign : Bool) → Member X W (S sign) x y)
+pub strict-member : {X : Variables} {W : Table} {S : Bool → ℕ → ℕ → Type 0} {x y : ℕ} → WellFormed X W
+    → StrictMember X W S x y ↔ ((sign : Bool) → Member X W (S sign) x y)
 strict-member {X} {W} {S} {x} formed = (
   λ m sign. record { existential = m .existential; entry = m .entry; entered = m .entered .by sign; rises = m .rises; below = m .below },
   λ both. let f = member-deeper formed (λ e o. o) (both true) in
-      member-climb formed (λ (e : ℕ) (s : StrictEntryOf X W S x e). s .by true) (f .existential) (f .deep) .1 (record { by = λ sign. member-climb formed (λ e o. o) (f .existential) (f .deep) .0 (both sign) }),
+      member-climb formed (λ (e : ℕ) (s : StrictEntryOf X W S x e). s .by true) (f .existential) (f .deep) .1
+      (record { by = λ sign. member-climb formed (λ e o. o) (f .existential) (f .deep) .0 (both sign) }),
 )
 
 -- Demand 2 for strict sets: from a formula's own forest, the strict set of x is the members at or below its strict entry points.
@@ -38,7 +40,8 @@ module _ {X : Variables} {S : Bool → ℕ → ℕ → Type 0} {J : ℕ → ℕ 
   strict-member-within m = record { existential = m .existential; entry = m .entry; entered = strict-entry-within (m .entered); rises = m .rises; below = m .below }
 
   pub strict-within : {y : ℕ} → Universal X x → StrictlyDepends X S J x y → Depends X J x y
-  strict-within u d = let f = d .by true in depends-follows u .1 (record { first = f .first; starts = starts true (f .first) (f .starts); allowed = f .allowed; onward = f .onward })
+  strict-within u d = let f = d .by true in depends-follows u .1
+      (record { first = f .first; starts = starts true (f .first) (f .starts); allowed = f .allowed; onward = f .onward })
 
 -- ... and there are none, where no clause has x in one of the signs.
 module _ {X : Variables} {S : Bool → ℕ → ℕ → Type 0} {x : ℕ} (sign : Bool) (missing : (z : ℕ) → S sign x z → ⊥) where

@@ -1,4 +1,5 @@
--- Counts: how many variables a class has with all classes below it, the sum of counts, and how many classes there are (document 02, request 3).
+-- To be believed: counts, that is, how many variables a class has with all classes below it, their sum, and how many classes there are (document 02,
+-- request 3).
 use Prim.Native.Nat.{ℕ, zero, suc, _+_}
 use mathlib.Core.Path.{_≡_}
 use mathlib.Core.Bool.{Bool, true, cond, _&&_}
@@ -7,7 +8,7 @@ use lib.ListN.{length}
 use lib.Dec.{eqb}
 use Rattle.connection.specs.Reach.{Variables}
 use Rattle.connection.specs.Tables.{Table, ClassName, Above}
-use Rattle.connection.specs.Listed.{Listed}
+use Rattle.terms.specs.Listed.{Listed}
 
 -- k is how many numbers there are of which P holds.
 pub record Numbered (P : ℕ → Type 0) (k : ℕ) : Type 0 where

@@ -1,4 +1,4 @@
--- The forest that joins determine: class name and parent, said by reach (document 000, 4.12 to 4.23; document 01, "Connection").
+-- To be believed: the forest that joins determine, that is, class name and parent, said by reach (document 000, 4.12 to 4.23; document 01, "Connection").
 use Prim.Native.Nat.{ℕ, _≤_, _<_}
 use mathlib.Core.Path.{_≡_}
 use mathlib.Core.Bool.{true, false}

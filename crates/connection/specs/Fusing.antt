@@ -1,4 +1,4 @@
--- The forest of a list, computed as rows, one clause at a time; and the counts of rows.
+-- Inner: the forest of a list computed as rows, one clause at a time by the rules of Fused, and the counts of rows; for worked examples.
 use Prim.Native.Nat.{ℕ, zero, suc}
 use mathlib.Core.Bool.{Bool, cond, _||_, _&&_}
 use mathlib.Core.List.{List, [], _∷_, _++_}
@@ -45,7 +45,7 @@ pub record Rows : Type 0 where
   pub classes : List ℕ
   pub parents : List ℕ
 
--- The table that they are.
+-- The table that two lists of rows are.
 unfoldable pub table-of : Variables → Rows → Table
 table-of X R = lent X (R .classes) (R .parents)
 
@@ -53,15 +53,15 @@ table-of X R = lent X (R .classes) (R .parents)
 unfoldable pub rows-by : Variables → (ℕ → ℕ) → (ℕ → ℕ) → Rows
 rows-by X f g = record { classes = fill (X .count) 1 f; parents = fill (X .count) 1 g }
 
--- A clause put into the rows.
+-- The rows after a clause that marks ms.
 unfoldable pub fuse-marks : Variables → Table → List ℕ → Rows
 fuse-marks X W ms = rows-by X (fuse-class X W ms) (fuse-parent X W ms)
 
--- The marks are found once.
+-- A clause put into the rows, with its marks found once.
 unfoldable pub fuse : Variables → Rows → List ℕ → Rows
 fuse X R clause = fuse-marks X (table-of X R) (marks X (table-of X R) clause)
 
--- Clause by clause, from a table on.
+-- Clause after clause put into the rows R.
 unfoldable pub fuse-all : Variables → Rows → List (List ℕ) → Rows
 fuse-all X R [] = R
 fuse-all X R (clause ∷ clauses) = fuse-all X (fuse X R clause) clauses

@@ -1,10 +1,13 @@
--- The definitions of connection, in reading order: reach, tables, the forest, growth, counts, and the forms that compute.
+-- The definitions of connection, in reading order.
+-- To be believed, since promises cite them: reach, tables, the forest, growth, ascending lists, counts.
 pub mod Reach
 pub mod Tables
 pub mod Forest
 pub mod Growth
-pub mod Listed
 pub mod Counts
+-- Inner, which only proofs and worked examples rest on: the climb, the rows after a clause, both and reach as they compute, counts passed up.
+pub mod Climb
+pub mod Fused
 pub mod Search
 pub mod Fusing
 pub mod Passing

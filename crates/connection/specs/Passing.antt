@@ -1,4 +1,4 @@
--- Counts passed up from class to parent, one class after another: what the rows hold on the way.
+-- Inner: counts passed up from class to parent, one class after another, and what the rows hold on the way.
 use Prim.Native.Nat.{ℕ, _≤_}
 use mathlib.Core.Path.{_≡_}
 use mathlib.Core.Bool.{true}

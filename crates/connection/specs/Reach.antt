@@ -1,4 +1,5 @@
--- Steps, reach, and the standard and the strict set of a variable: document 000, definitions 4.1 and 4.4, document 01, "Connection", and document 002, definition 5.2.
+-- To be believed: steps, reach, and the standard and the strict set of a variable (document 000, definitions 4.1 and 4.4; document 01, "Connection";
+-- document 002, definition 5.2).
 use Prim.Native.Nat.{ℕ, _≤_}
 use mathlib.Core.Path.{_≡_}
 use mathlib.Core.Bool.{Bool, true, false}
@@ -42,7 +43,7 @@ pub record Depends (X : Variables) (J : ℕ → ℕ → Type 0) (x y : ℕ) : Ty
   pub existential : X .ex y ≡ true
   pub reached : Reach J (From X (X .lev x)) x y
 
--- The same by its first step, which may go along joins of its own: S for the first, J for every further one.
+-- y is reached from x by one step or more, of which the first may go along joins of its own: S for the first, J for every further one.
 pub record Follows (S J : ℕ → ℕ → Type 0) (E : ℕ → Type 0) (x y : ℕ) : Type 0 where
   pub first : ℕ
   pub starts : S x first

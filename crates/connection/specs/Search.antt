@@ -1,4 +1,4 @@
--- Reach, computed as a search, for any test of what may be stepped on; and the set of a universal.
+-- Inner: reach, computed as a search for any test of what may be stepped on, and the set of a universal; for worked examples.
 use Prim.Native.Nat.{ℕ, zero, suc}
 use mathlib.Core.Bool.{Bool, false, cond, _||_, _&&_}
 use mathlib.Core.List.{List, [], _∷_, _++_}
@@ -41,7 +41,7 @@ unfoldable pub see : (List (List ℕ) → List ℕ → List ℕ) → (ℕ → Bo
 see on e seen nowhere = seen
 see on e seen (found clause others) = on others (keep e clause ++ seen)
 
--- With fuel for each clause.
+-- All that is seen from the clauses, with fuel for each of them.
 unfoldable pub spread : (ℕ → Bool) → ℕ → List (List ℕ) → List ℕ → List ℕ
 spread e zero clauses seen = seen
 spread e (suc fuel) clauses seen = see (λ others more. spread e fuel others more) e seen (find seen clauses)

@@ -1,7 +1,8 @@
--- Forest tables, by themselves: well formed, the chain of parents, the climb, entry points, members (document 01, "Forest tables").
-use Prim.Native.Nat.{ℕ, zero, suc, _+_, _≤_, _<_}
+-- To be believed: forest tables by themselves, that is, when they are well formed, the chain of parents, entry points, members, and the joins that they
+-- stand for (document 01, "Forest tables").
+use Prim.Native.Nat.{ℕ, zero, suc, _≤_, _<_}
 use mathlib.Core.Path.{_≡_}
-use mathlib.Core.Bool.{Bool, true, false, cond, _||_}
+use mathlib.Core.Bool.{Bool, true, false, cond}
 use mathlib.Core.List.{List, [], _∷_, _++_}
 use mathlib.Core.Logic.{_≢_}
 use lib.ListN.{getD}
@@ -87,26 +88,6 @@ Member X W S x = MemberBy X W (EntryPointOf X W S x)
 
 abbrev pub StrictMember : Variables → Table → (Bool → ℕ → ℕ → Type 0) → ℕ → ℕ → Type 0
 StrictMember X W S x = MemberBy X W (StrictEntryOf X W S x)
-
--- What a search gives: where it ended and the number of rises.
-pub record Climbed : Type 0 where
-  pub top : ℕ
-  pub rises : ℕ
-
--- The search: from class c with r rises behind it, rise while the parent is not 0 and stands in block i or deeper.
-unfoldable pub climb-by : Variables → Table → ℕ → ℕ → ℕ → ℕ → Climbed
-climb-by X W i zero c r = record { top = c; rises = r }
-climb-by X W i (suc fuel) c r =
-    let up = climb-by X W i fuel (W .par c) (r + 1) in
-    cond (eqb (W .par c) 0 || ltb (X .lev (W .par c)) i) (record { top = c; rises = r }) up
-
--- Each rise goes to a lesser block, so the block number of c is fuel enough.
-unfoldable pub climb : Variables → Table → ℕ → ℕ → ℕ → Climbed
-climb X W i c r = climb-by X W i (X .lev c) c r
-
--- Where the search from v's class ends, at level i.
-unfoldable pub top : Variables → Table → ℕ → ℕ → ℕ
-top X W i v = climb X W i (W .cls v) 0 .top
 
 -- {v, class name of v} for an existential.
 unfoldable pub class-join : Variables → Table → ℕ → List (List ℕ)

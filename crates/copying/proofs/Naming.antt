@@ -14,6 +14,7 @@ use mir.Val.{SFits, toZ}
 use mir.Facts.{toZ-pos}
 use Rattle.terms.specs.Literals.{variableOf}
 use Rattle.copying.specs.Expansion.{madeTrue, renamed}
+use Rattle.copying.specs.Copied.{expandedVariables}
 
 and-false : (b : Bool) → (b && false) ≡ false
 and-false true = refl
@@ -48,15 +49,19 @@ module _ {y z : ℤ} (same : y ≡ z) where
       of (negsuc v) t is = absurd (subst T t tt)
 
   -- a member has the name of its copy, in its own sign
-  pub renamed-negative : (copy : ℕ → ℕ) {k : ℕ} {r : ℤ} → ltZ y (pos 0) ≡ true → k ≡ copy (variableOf z) → k ≢ 0 → r ≡ negℤ (pos k) → r ≡ renamed copy z
+  pub renamed-negative : (copy : ℕ → ℕ) {k : ℕ} {r : ℤ} → ltZ y (pos 0) ≡ true → k ≡ copy (variableOf z) → k ≢ 0
+      → r ≡ negℤ (pos k) → r ≡ renamed copy z
   unfolding renamed
   renamed-negative copy {k} {r} t is some e = of z (sym (ap (λ (w : ℤ). ltZ w (pos 0)) same) ∙ t) is
     where
       of : (z : ℤ) → ltZ z (pos 0) ≡ true → k ≡ copy (variableOf z) → r ≡ renamed copy z
       of (pos v) t is = absurd (not-suc-le-zero (ltb-true v 0 t))
-      of (negsuc v) t is = e ∙ ap (λ (c : ℕ). negℤ (pos c)) is ∙ sym (ap (λ b. cond b (negsuc v) (negℤ (pos (copy (suc v))))) (ne-eqb (copy (suc v)) 0 (λ q. some (is ∙ q))))
+      of (negsuc v) t is =
+          e ∙ ap (λ (c : ℕ). negℤ (pos c)) is
+          ∙ sym (ap (λ b. cond b (negsuc v) (negℤ (pos (copy (suc v))))) (ne-eqb (copy (suc v)) 0 (λ q. some (is ∙ q))))
 
-  pub renamed-positive : (copy : ℕ → ℕ) {k : ℕ} {r : ℤ} → ltZ y (pos 0) ≡ false → k ≡ copy (variableOf z) → k ≢ 0 → r ≡ pos k → r ≡ renamed copy z
+  pub renamed-positive : (copy : ℕ → ℕ) {k : ℕ} {r : ℤ} → ltZ y (pos 0) ≡ false → k ≡ copy (variableOf z) → k ≢ 0
+      → r ≡ pos k → r ≡ renamed copy z
   unfolding renamed
   renamed-positive copy {k} {r} t is some e = of z (sym (ap (λ (w : ℤ). ltZ w (pos 0)) same) ∙ t) is
     where
@@ -71,9 +76,9 @@ renamed-same copy (pos v) none = sym (ap (λ b. cond b (pos v) (pos (copy v))) (
 renamed-same copy (negsuc v) none = sym (ap (λ b. cond b (negsuc v) (negℤ (pos (copy (suc v))))) (eq-eqb (copy (suc v)) 0 none))
 
 -- the negation of a number as the machine makes it, and that it fits
-pub negated : (v : ℕ) → v ≤ 8192 → pos 0 -ℤ toZ w32 v ≡ negℤ (pos v)
+pub negated : (v : ℕ) → v ≤ expandedVariables → pos 0 -ℤ toZ w32 v ≡ negℤ (pos v)
 negated v h = let p : v < 2147483648 = omega arith in ap (λ (z : ℤ). pos 0 -ℤ z) (toZ-pos w32 p) ∙ +ℤ-idl (negℤ (pos v))
 
-pub negated-fits : (v : ℕ) → v ≤ 8192 → SFits w32 (negℤ (pos v))
+pub negated-fits : (v : ℕ) → v ≤ expandedVariables → SFits w32 (negℤ (pos v))
 negated-fits zero h = record { sfits = lit< tt }
 negated-fits (suc v) h = record { sfits = omega arith }

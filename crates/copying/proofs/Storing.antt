@@ -16,13 +16,17 @@ module _ {A : Type 0} where
   stored-one a at s = record { count = refl; store = s }
 
   -- stored as other entries that they are
-  pub stored-as : {entries other before after : List A} {at end : ℕ} → entries ≡ other → Stored entries before after at end → Stored other before after at end
+  pub stored-as : {entries other before after : List A} {at end : ℕ} → entries ≡ other → Stored entries before after at end
+      → Stored other before after at end
   stored-as {before = before} {after} {at} {end} q s = subst (λ (r : List A). Stored r before after at end) q s
 
-  pub stored-more : {before mid after : List A} {at k end : ℕ} (front bs : List A) → Stored front before mid at k → Stored bs mid after k end → Stored (front ++ bs) before after at end
+  pub stored-more : {before mid after : List A} {at k end : ℕ} (front bs : List A) → Stored front before mid at k → Stored bs mid after k end
+      → Stored (front ++ bs) before after at end
   stored-more {before} {mid} {after} {at} {k} {end} front bs s s′ = record {
     count = let q = length-append front bs in omega (arith, s .count, s′ .count);
-    store = s′ .store ∙ ap (λ (t : List A). sets t k bs) (s .store) ∙ ap (λ (j : ℕ). sets (sets before at front) j bs) (s .count) ∙ sym (sets-append before at front bs);
+    store =
+        s′ .store ∙ ap (λ (t : List A). sets t k bs) (s .store) ∙ ap (λ (j : ℕ). sets (sets before at front) j bs) (s .count)
+        ∙ sym (sets-append before at front bs);
   }
 
 -- Where a loop that stores `whole` stands: `rest` is still to be stored, from the row `at` on.
@@ -46,12 +50,11 @@ module _ {A : Type 0} {whole before : List A} {from : ℕ} where
     onward-all s = record { count = s .count ∙ o .count; store = s .store ∙ o .store }
 
   -- the first of what is to be stored is stored
-  pub onward-more : {now next : List A} {at end : ℕ} (front rest : List A) → Onward whole before from (front ++ rest) now at → Stored front now next at end → Onward whole before from rest next end
+  pub onward-more : {now next : List A} {at end : ℕ} (front rest : List A) → Onward whole before from (front ++ rest) now at
+      → Stored front now next at end → Onward whole before from rest next end
   onward-more {now} {next} {at} {end} front rest o s = record {
     count = let q = length-append front rest in omega (arith, o .count, s .count);
-    store = ap (λ (t : List A). sets t end rest) (s .store) ∙ ap (λ (k : ℕ). sets (sets now at front) k rest) (s .count) ∙ sym (sets-append now at front rest) ∙ o .store;
+    store =
+        ap (λ (t : List A). sets t end rest) (s .store) ∙ ap (λ (k : ℕ). sets (sets now at front) k rest) (s .count)
+        ∙ sym (sets-append now at front rest) ∙ o .store;
   }
-
--- Entries stored from the first row on, counted before.
-pub stored-at : {A : Type 0} {entries before after : List A} {end count : ℕ} → count ≡ length entries → Stored entries before after 0 end → Stored entries before after 0 count
-stored-at counted s = record { count = omega (arith, counted); store = s .store }

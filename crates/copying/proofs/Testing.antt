@@ -24,7 +24,9 @@ module _ (value : Bool) (x : ℕ) (clause : List ℤ) (i : ℕ) (same : satisfie
   module _ (more : i < length clause) {literal : ℤ} (is : literal ≡ literalAt clause i) {test : Bool} (tested : test ≡ madeTrue value x literal) where
     satisfied-here : satisfied value x (drop i clause) ≡ (test || satisfied value x (drop (suc i) clause))
     unfolding satisfied
-    satisfied-here = ap (satisfied value x) (drop-cons clause i (pos 0) more) ∙ ap (λ b. b || satisfied value x (drop (suc i) clause)) (sym (tested ∙ ap (madeTrue value x) is))
+    satisfied-here =
+        ap (satisfied value x) (drop-cons clause i (pos 0) more)
+        ∙ ap (λ b. b || satisfied value x (drop (suc i) clause)) (sym (tested ∙ ap (madeTrue value x) is))
 
     pub satisfied-found : test ≡ true → true ≡ satisfied value x clause
     satisfied-found t = sym (ap (λ b. b || satisfied value x (drop (suc i) clause)) t) ∙ sym satisfied-here ∙ same
@@ -43,7 +45,8 @@ touched x copy clause = hasX x clause || hasMember copy clause
 -- and what is left does exactly if the clause does
 module _ (x : ℕ) (copy : ℕ → ℕ) (clause : List ℤ) (i : ℕ) (same : touched x copy (drop i clause) ≡ touched x copy clause) where
   module _ (more : i < length clause) {variable : ℕ} (is : variable ≡ variableOf (literalAt clause i)) where
-    touched-here : touched x copy (drop i clause) ≡ ((eqb variable x || hasX x (drop (suc i) clause)) || (not (eqb (copy variable) 0) || hasMember copy (drop (suc i) clause)))
+    touched-here : touched x copy (drop i clause)
+        ≡ ((eqb variable x || hasX x (drop (suc i) clause)) || (not (eqb (copy variable) 0) || hasMember copy (drop (suc i) clause)))
     unfolding hasX hasMember
     touched-here =
         ap (touched x copy) (drop-cons clause i (pos 0) more)

@@ -9,9 +9,8 @@ use lib.Dec.{eqb}
 use lib.IntN.{ℤ, pos, negsuc}
 use lib.ListN.{length, length-map, length-append}
 use Rattle.terms.specs.Literals.{variableOf}
-use Rattle.terms.proofs.Common.{clash}
+use Rattle.terms.proofs.Common.{clash, by-test}
 use Rattle.formula.specs.Meaning.{clauses, opposite, denied, alwaysTrue}
-use Rattle.joining.proofs.Passing.{by-test}
 use Rattle.copying.specs.Expansion.{madeTrue, satisfied, hasX, hasMember, without, named, hasCopy, copies, expandedList, clauseTable, expandedClauses}
 use Rattle.copying.specs.Total.{literals, xLiterals, counts, totalOf, literalTotal}
 use Rattle.copying.proofs.Testing.{or-true, copy-always, copy-satisfied, copy-touched, copy-first}
@@ -22,7 +21,8 @@ unfolding without xLiterals
 without-length x [] = refl
 without-length x (literal ∷ more) = by (eqb (variableOf literal) x) (without-length x more)
   where
-    by : (b : Bool) → length (without x more) + xLiterals x more ≡ length more → length (cond b (without x more) (literal ∷ without x more)) + (cond b 1 0 + xLiterals x more) ≡ suc (length more)
+    by : (b : Bool) → length (without x more) + xLiterals x more ≡ length more
+        → length (cond b (without x more) (literal ∷ without x more)) + (cond b 1 0 + xLiterals x more) ≡ suc (length more)
     by true q = omega arith
     by false q = omega arith
 
@@ -49,7 +49,8 @@ module _ (x : ℕ) where
   satisfied-none value [] f = refl
   satisfied-none value (z ∷ more) f = by (satisfied-none value more) (eqb (variableOf z) x) refl f
     where
-      by : (hasX x more ≡ false → satisfied value x more ≡ false) → (b : Bool) → eqb (variableOf z) x ≡ b → (b || hasX x more) ≡ false → (madeTrue value x z || satisfied value x more) ≡ false
+      by : (hasX x more ≡ false → satisfied value x more ≡ false) → (b : Bool) → eqb (variableOf z) x ≡ b → (b || hasX x more) ≡ false
+          → (madeTrue value x z || satisfied value x more) ≡ false
       by on true q f = absurd (clash refl f)
       by on false q f = ap (λ b. b || satisfied value x more) (made-none value z q) ∙ on f
 
@@ -74,7 +75,8 @@ module _ (x : ℕ) where
       right false false true d q = refl
       right false false false d q = q
 
-      by : (hasX x more ≡ true → (satisfied true x more || satisfied false x more) ≡ true) → (b : Bool) → eqb (variableOf z) x ≡ b → (b || hasX x more) ≡ true → ((madeTrue true x z || satisfied true x more) || (madeTrue false x z || satisfied false x more)) ≡ true
+      by : (hasX x more ≡ true → (satisfied true x more || satisfied false x more) ≡ true) → (b : Bool) → eqb (variableOf z) x ≡ b
+          → (b || hasX x more) ≡ true → ((madeTrue true x z || satisfied true x more) || (madeTrue false x z || satisfied false x more)) ≡ true
       by on true q t = left (madeTrue true x z) (satisfied true x more) (madeTrue false x z) (satisfied false x more) (either z q)
       by on false q t = right (madeTrue true x z) (satisfied true x more) (madeTrue false x z) (satisfied false x more) (on t)
 
@@ -88,12 +90,14 @@ module _ (x : ℕ) where
   opposite-made false (negsuc v) (pos w) p q = eq-eqb (suc v) w (eqb-true (suc v) x p ∙ sym (eqb-true w x q))
   opposite-made false (negsuc v) (negsuc w) p q = absurd (clash q refl)
 
-  denied-made : (value : Bool) (a : ℤ) (clause : List ℤ) → madeTrue value x a ≡ true → satisfied (not value) x clause ≡ true → denied a clause ≡ true
+  denied-made : (value : Bool) (a : ℤ) (clause : List ℤ) → madeTrue value x a ≡ true → satisfied (not value) x clause ≡ true
+      → denied a clause ≡ true
   unfolding denied satisfied
   denied-made value a [] p q = absurd (clash q refl)
   denied-made value a (b ∷ more) p q = by (denied-made value a more p) (madeTrue (not value) x b) refl q
     where
-      by : (satisfied (not value) x more ≡ true → denied a more ≡ true) → (t : Bool) → madeTrue (not value) x b ≡ t → (t || satisfied (not value) x more) ≡ true → (opposite a b || denied a more) ≡ true
+      by : (satisfied (not value) x more ≡ true → denied a more ≡ true) → (t : Bool) → madeTrue (not value) x b ≡ t
+          → (t || satisfied (not value) x more) ≡ true → (opposite a b || denied a more) ≡ true
       by on true e q = ap (λ o. o || denied a more) (opposite-made value a b p e)
       by on false e q = ap (λ d. opposite a b || d) (on q) ∙ or-true (opposite a b)
 
@@ -108,7 +112,9 @@ module _ (x : ℕ) where
   both-always [] p q = absurd (clash p refl)
   both-always (z ∷ more) p q = by (both-always more) (madeTrue true x z) (madeTrue false x z) refl refl p q
     where
-      by : (satisfied true x more ≡ true → satisfied false x more ≡ true → alwaysTrue more ≡ true) → (a b : Bool) → madeTrue true x z ≡ a → madeTrue false x z ≡ b → (a || satisfied true x more) ≡ true → (b || satisfied false x more) ≡ true → (denied z more || alwaysTrue more) ≡ true
+      by : (satisfied true x more ≡ true → satisfied false x more ≡ true → alwaysTrue more ≡ true) → (a b : Bool)
+          → madeTrue true x z ≡ a → madeTrue false x z ≡ b → (a || satisfied true x more) ≡ true → (b || satisfied false x more) ≡ true
+          → (denied z more || alwaysTrue more) ≡ true
       by on true true e f p q = absurd (one-value z e f)
       by on true false e f p q = ap (λ d. d || alwaysTrue more) (denied-made true z more e q)
       by on false true e f p q = ap (λ d. d || alwaysTrue more) (denied-made false z more f p)
@@ -119,11 +125,14 @@ module _ (x : ℕ) (copy : ℕ → ℕ) where
   abbrev share : Bool → List ℤ → ℕ
   share value clause = cond (hasCopy value x copy clause) (length (without x clause)) 0
 
-  copies-cons : (value : Bool) (clause : List ℤ) (later : List (List ℤ)) → literals (copies value x copy (clause ∷ later)) ≡ share value clause + literals (copies value x copy later)
+  copies-cons : (value : Bool) (clause : List ℤ) (later : List (List ℤ))
+      → literals (copies value x copy (clause ∷ later)) ≡ share value clause + literals (copies value x copy later)
   unfolding copies literals
   copies-cons value clause later = by (hasCopy value x copy clause)
     where
-      by : (b : Bool) → literals (cond b (map (named value copy) (without x clause) ∷ copies value x copy later) (copies value x copy later)) ≡ cond b (length (without x clause)) 0 + literals (copies value x copy later)
+      by : (b : Bool)
+          → literals (cond b (map (named value copy) (without x clause) ∷ copies value x copy later) (copies value x copy later))
+          ≡ cond b (length (without x clause)) 0 + literals (copies value x copy later)
       by true = ap (λ (k : ℕ). k + literals (copies value x copy later)) (length-map (without x clause) (named value copy))
       by false = omega arith
 
@@ -136,37 +145,48 @@ module _ (x : ℕ) (copy : ℕ → ℕ) where
     unfolding counts
     shares-always t =
         ap₂ _+_ (share-is false false (copy-always false x copy clause t)) (share-is true false (copy-always true x copy clause t))
-        ∙ sym (ap (λ b. cond b 0 (cond (hasX x clause) (length clause - xLiterals x clause) (cond (hasMember copy clause) (length clause + length clause) (length clause)))) t)
+        ∙ sym (ap (λ b. cond b 0 (cond (hasX x clause) (length clause - xLiterals x clause)
+        (cond (hasMember copy clause) (length clause + length clause) (length clause)))) t)
 
     module _ (f : alwaysTrue clause ≡ false) where
-      counted : counts x copy clause ≡ cond (hasX x clause) (length clause - xLiterals x clause) (cond (hasMember copy clause) (length clause + length clause) (length clause))
+      counted : counts x copy clause ≡ cond (hasX x clause) (length clause - xLiterals x clause)
+          (cond (hasMember copy clause) (length clause + length clause) (length clause))
       unfolding counts
-      counted = ap (λ b. cond b 0 (cond (hasX x clause) (length clause - xLiterals x clause) (cond (hasMember copy clause) (length clause + length clause) (length clause)))) f
+      counted =
+          ap (λ b. cond b 0 (cond (hasX x clause) (length clause - xLiterals x clause)
+          (cond (hasMember copy clause) (length clause + length clause) (length clause)))) f
 
       counted-x : hasX x clause ≡ true → counts x copy clause ≡ length (without x clause)
       counted-x h =
           let q = without-length x clause in
           let r : length clause - xLiterals x clause ≡ length (without x clause) = omega arith in
-          counted ∙ ap (λ b. cond b (length clause - xLiterals x clause) (cond (hasMember copy clause) (length clause + length clause) (length clause))) h ∙ r
+          counted
+          ∙ ap (λ b. cond b (length clause - xLiterals x clause) (cond (hasMember copy clause) (length clause + length clause) (length clause))) h
+          ∙ r
 
       shares-true : hasX x clause ≡ true → satisfied true x clause ≡ true → share false clause + share true clause ≡ counts x copy clause
       shares-true h s =
           let none : satisfied false x clause ≡ false = by-test (satisfied false x clause) (λ t. absurd (clash (both-always x clause s t) f)) (λ e. e) in
           let r : length (without x clause) + 0 ≡ length (without x clause) = omega arith in
-          ap₂ _+_ (share-is false true (copy-first false x copy clause f none refl)) (share-is true false (copy-satisfied true x copy clause f s)) ∙ r ∙ sym (counted-x h)
+          ap₂ _+_ (share-is false true (copy-first false x copy clause f none refl)) (share-is true false (copy-satisfied true x copy clause f s))
+          ∙ r ∙ sym (counted-x h)
 
       shares-false : hasX x clause ≡ true → satisfied true x clause ≡ false → share false clause + share true clause ≡ counts x copy clause
       shares-false h s =
           let one : satisfied false x clause ≡ true = sym (ap (λ b. b || satisfied false x clause) s) ∙ satisfied-some x clause h in
           let r : 0 + length (without x clause) ≡ length (without x clause) = omega arith in
-          ap₂ _+_ (share-is false false (copy-satisfied false x copy clause f one)) (share-is true true (copy-touched true x copy clause f s refl (sym (ap (λ b. b || hasMember copy clause) h)))) ∙ r ∙ sym (counted-x h)
+          ap₂ _+_ (share-is false false (copy-satisfied false x copy clause f one))
+          (share-is true true (copy-touched true x copy clause f s refl (sym (ap (λ b. b || hasMember copy clause) h))))
+          ∙ r ∙ sym (counted-x h)
 
       shares-without : hasX x clause ≡ false → share false clause + share true clause ≡ counts x copy clause
       shares-without h =
           ap₂ _+_ (share-is false true (copy-first false x copy clause f (satisfied-none x false clause h) refl))
-          (share-is true (hasMember copy clause) (copy-touched true x copy clause f (satisfied-none x true clause h) refl (sym (ap (λ b. b || hasMember copy clause) h))))
+          (share-is true (hasMember copy clause)
+          (copy-touched true x copy clause f (satisfied-none x true clause h) refl (sym (ap (λ b. b || hasMember copy clause) h))))
           ∙ by (hasMember copy clause)
-          ∙ sym (counted ∙ ap (λ b. cond b (length clause - xLiterals x clause) (cond (hasMember copy clause) (length clause + length clause) (length clause))) h)
+          ∙ sym (counted
+          ∙ ap (λ b. cond b (length clause - xLiterals x clause) (cond (hasMember copy clause) (length clause + length clause) (length clause))) h)
         where
           all : length (without x clause) ≡ length clause
           all = let q = without-length x clause in let r = without-none x clause h in omega arith
@@ -176,7 +196,9 @@ module _ (x : ℕ) (copy : ℕ → ℕ) where
           by false = omega (arith, all)
 
     shares : share false clause + share true clause ≡ counts x copy clause
-    shares = by-test (alwaysTrue clause) shares-always (λ f. by-test (hasX x clause) (λ h. by-test (satisfied true x clause) (shares-true f h) (shares-false f h)) (shares-without f))
+    shares =
+        by-test (alwaysTrue clause) shares-always
+        (λ f. by-test (hasX x clause) (λ h. by-test (satisfied true x clause) (shares-true f h) (shares-false f h)) (shares-without f))
 
   total-of : (cs : List (List ℤ)) → literals (copies false x copy cs) + literals (copies true x copy cs) ≡ totalOf x copy cs
   unfolding copies literals totalOf
@@ -205,6 +227,7 @@ table-length [] = refl
 table-length (c ∷ cs) = let q = table-length cs in let r = length-append c (pos 0 ∷ clauseTable cs) in omega arith
 
 -- So the clause table has that many entries and one more for each clause.
-pub entries-total : (x : ℕ) (copy : ℕ → ℕ) (ls : List ℤ) → length (expandedClauses x copy ls) ≡ literalTotal x copy ls + length (expandedList x copy ls)
+pub entries-total : (x : ℕ) (copy : ℕ → ℕ) (ls : List ℤ)
+    → length (expandedClauses x copy ls) ≡ literalTotal x copy ls + length (expandedList x copy ls)
 unfolding expandedClauses
 entries-total x copy ls = table-length (expandedList x copy ls) ∙ ap (λ (k : ℕ). k + length (expandedList x copy ls)) (literal-total x copy ls)

@@ -10,18 +10,20 @@ use terms::Variable;
 ghost use Prim.Native.Nat.{_+_, _≤_};
 ghost use mathlib.Core.Path.{_≡_};
 ghost use mathlib.Core.Bool.{_||_};
-ghost use mathlib.Core.List.{[], _∷_, _++_, map};
+ghost use mathlib.Core.List.{[], _∷_};
 ghost use lib.IntN.{pos, negℤ};
 ghost use lib.ListN.{length};
+ghost use Rattle.terms.specs.Limits.{clauseEntries};
 ghost use Rattle.formula.specs.Lookup.{InRows, SoundClauses, Stamps};
 ghost use Rattle.formula.specs.Meaning.{clauses as Meaning·clauses};
-ghost use Rattle.copying.specs.Expansion.{madeTrue, satisfied, hasX, hasMember, without, renamed, named, hasCopy, copies as Expansion·copies, clauseTable, expandedClauses};
-ghost use Rattle.copying.specs.Copied.{Stored, tabled, Copies};
+ghost use Rattle.copying.specs.Expansion.{madeTrue, satisfied, hasX, hasMember, renamed, named, hasCopy, expandedClauses};
+ghost use Rattle.copying.specs.Copied.{Stored, tabled, expandedVariables, expandedEntries, Copies, closed, copied};
 
 // Writes the clauses into a table as far as that has rows, and gives the count of all entries.
 pub fn copy_clauses(clauses: &[i32], x: Variable, copies: &[u32], out: &mut [i32]) -> usize
-    requires { ⌜ SoundClauses (now clauses) × Copies (now copies) ⌝ }
-    ensures { λ r. ⌜ Stored (expandedClauses (x .0) (tabled (now (copies .entry))) (now (clauses .entry))) (now (out .entry)) (now (out .exit)) 0 r ⌝ }
+    requires sound { ⌜ SoundClauses (now clauses) × Copies (now copies) ⌝ }
+    ensures stored { λ r. ⌜ Stored (expandedClauses (x .0) (tabled (now (copies .entry))) (now (clauses .entry)))
+        (now (out .entry)) (now (out .exit)) 0 r ⌝ }
 {
     let end = copy_all(false, clauses, x, copies, out, 0);
     copy_all(true, clauses, x, copies, out, end)
@@ -36,11 +38,12 @@ fn copy_all(
     out: &mut [i32],
     at: usize,
 ) -> usize
-    requires { ⌜ SoundClauses (now clauses) × Copies (now copies) × (at ≤ 16384) ⌝ }
-    ensures { λ r. ⌜ Stored (clauseTable (Expansion·copies value (x .0) (tabled (now (copies .entry))) (Meaning·clauses (now (clauses .entry))))) (now (out .entry)) (now (out .exit)) at r ⌝ }
-    ensures { λ r. ⌜ r ≤ at + length (now (clauses .entry)) ⌝ }
+    requires sound { ⌜ SoundClauses (now clauses) × Copies (now copies) × (at ≤ clauseEntries) ⌝ }
+    ensures stored { λ r. ⌜ Stored (copied value (x .0) (tabled (now (copies .entry))) (Meaning·clauses (now (clauses .entry))))
+        (now (out .entry)) (now (out .exit)) at r ⌝ }
+    ensures few { λ r. ⌜ r ≤ at + length (now (clauses .entry)) ⌝ }
 {
-    let mut seen = [0u16; 8194];
+    let mut seen = [0u16; Literal::ROWS];
     let mut end = at;
     let mut start = 0;
     while start < clauses.len() {
@@ -75,8 +78,10 @@ fn copy_clause(
     out: &mut [i32],
     at: usize,
 ) -> usize
-    requires { ⌜ InRows (now clause) × Stamps (now seen) stamp × Copies (now copies) × (length (now clause) ≤ 16384) × (at ≤ 32768) ⌝ }
-    ensures { λ r. ⌜ Stored (clauseTable (Expansion·copies value (x .0) (tabled (now (copies .entry))) (now (clause .entry) ∷ []))) (now (out .entry)) (now (out .exit)) at r × Stamps (now (seen .exit)) (stamp + 1) ⌝ }
+    requires sound { ⌜ InRows (now clause) × Stamps (now seen) stamp × Copies (now copies)
+        × (length (now clause) ≤ clauseEntries) × (at ≤ expandedEntries) ⌝ }
+    ensures stored { λ r. ⌜ Stored (copied value (x .0) (tabled (now (copies .entry))) (now (clause .entry) ∷ []))
+        (now (out .entry)) (now (out .exit)) at r × Stamps (now (seen .exit)) (stamp + 1) ⌝ }
 {
     if has_copy(value, clause, x, copies, seen, stamp) {
         return copy_one(value, clause, x, copies, out, at);
@@ -93,8 +98,9 @@ fn has_copy(
     seen: &mut [u16],
     stamp: u16,
 ) -> bool
-    requires { ⌜ InRows (now clause) × Stamps (now seen) stamp ⌝ }
-    ensures { λ r. ⌜ (r ≡ hasCopy value (x .0) (tabled (now (copies .entry))) (now (clause .entry))) × Stamps (now (seen .exit)) (stamp + 1) ⌝ }
+    requires sound { ⌜ InRows (now clause) × Stamps (now seen) stamp ⌝ }
+    ensures told { λ r. ⌜ (r ≡ hasCopy value (x .0) (tabled (now (copies .entry))) (now (clause .entry)))
+        × Stamps (now (seen .exit)) (stamp + 1) ⌝ }
 {
     if always_true(clause, seen, stamp) {
         return false;
@@ -110,7 +116,7 @@ fn has_copy(
 
 // Whether x satisfies a clause by its value.
 fn is_satisfied(value: bool, clause: &[i32], x: Variable) -> bool
-    ensures { λ r. ⌜ r ≡ satisfied value (x .0) (now (clause .entry)) ⌝ }
+    ensures told { λ r. ⌜ r ≡ satisfied value (x .0) (now (clause .entry)) ⌝ }
 {
     let mut i = 0;
     while i < clause.len() {
@@ -124,7 +130,7 @@ fn is_satisfied(value: bool, clause: &[i32], x: Variable) -> bool
 
 // Whether x makes a literal true by its value.
 fn makes_true(value: bool, literal: Literal, x: Variable) -> bool
-    ensures { λ r. ⌜ r ≡ madeTrue value (x .0) (literal .0) ⌝ }
+    ensures told { λ r. ⌜ r ≡ madeTrue value (x .0) (literal .0) ⌝ }
 {
     let variable = literal.variable();
     if variable.0 != x.0 {
@@ -135,7 +141,7 @@ fn makes_true(value: bool, literal: Literal, x: Variable) -> bool
 
 // Whether a clause has x, in either sign, or a member.
 fn is_touched(clause: &[i32], x: Variable, copies: &[u32]) -> bool
-    ensures { λ r. ⌜ r ≡ (hasX (x .0) (now (clause .entry)) || hasMember (tabled (now (copies .entry))) (now (clause .entry))) ⌝ }
+    ensures told { λ r. ⌜ r ≡ (hasX (x .0) (now (clause .entry)) || hasMember (tabled (now (copies .entry))) (now (clause .entry))) ⌝ }
 {
     let mut i = 0;
     while i < clause.len() {
@@ -161,8 +167,9 @@ fn copy_one(
     out: &mut [i32],
     at: usize,
 ) -> usize
-    requires { ⌜ Copies (now copies) × (length (now clause) ≤ 16384) × (at ≤ 32768) ⌝ }
-    ensures { λ r. ⌜ Stored (map (named value (tabled (now (copies .entry)))) (without (x .0) (now (clause .entry))) ++ (pos 0 ∷ [])) (now (out .entry)) (now (out .exit)) at r ⌝ }
+    requires few { ⌜ Copies (now copies) × (length (now clause) ≤ clauseEntries) × (at ≤ expandedEntries) ⌝ }
+    ensures stored { λ r. ⌜ Stored (closed value (x .0) (tabled (now (copies .entry))) (now (clause .entry)))
+        (now (out .entry)) (now (out .exit)) at r ⌝ }
 {
     let mut end = at;
     let mut i = 0;
@@ -184,8 +191,8 @@ fn copy_one(
 
 // A literal as it stands in a copy with x at a value: with x true a member has the name of its copy.
 fn name_by(value: bool, literal: Literal, copies: &[u32]) -> Literal
-    requires { ⌜ Copies (now copies) ⌝ }
-    ensures { λ r. ⌜ r .0 ≡ named value (tabled (now (copies .entry))) (literal .0) ⌝ }
+    requires few { ⌜ Copies (now copies) ⌝ }
+    ensures named { λ r. ⌜ r .0 ≡ named value (tabled (now (copies .entry))) (literal .0) ⌝ }
 {
     if value {
         rename(literal, copies)
@@ -196,32 +203,32 @@ fn name_by(value: bool, literal: Literal, copies: &[u32]) -> Literal
 
 // A member renamed to its copy, its sign kept; any other literal as it is.
 fn rename(literal: Literal, copies: &[u32]) -> Literal
-    requires { ⌜ Copies (now copies) ⌝ }
-    ensures { λ r. ⌜ r .0 ≡ renamed (tabled (now (copies .entry))) (literal .0) ⌝ }
+    requires few { ⌜ Copies (now copies) ⌝ }
+    ensures renamed { λ r. ⌜ r .0 ≡ renamed (tabled (now (copies .entry))) (literal .0) ⌝ }
 {
     let copy = copy_at(copies, literal.variable());
     if copy.0 == 0 {
         return literal;
     }
     if literal.0 < 0 {
-        negation(copy)
+        negated_literal(copy)
     } else {
-        plain(copy)
+        plain_literal(copy)
     }
 }
 
 // The literal of a variable.
-fn plain(v: Variable) -> Literal
-    requires { ⌜ v .0 ≤ 8192 ⌝ }
-    ensures { λ r. ⌜ r .0 ≡ pos (v .0) ⌝ }
+fn plain_literal(v: Variable) -> Literal
+    requires few { ⌜ v .0 ≤ expandedVariables ⌝ }
+    ensures plain { λ r. ⌜ r .0 ≡ pos (v .0) ⌝ }
 {
     Literal::new(v.0 as i32)
 }
 
 // The literal of its negation.
-fn negation(v: Variable) -> Literal
-    requires { ⌜ v .0 ≤ 8192 ⌝ }
-    ensures { λ r. ⌜ r .0 ≡ negℤ (pos (v .0)) ⌝ }
+fn negated_literal(v: Variable) -> Literal
+    requires few { ⌜ v .0 ≤ expandedVariables ⌝ }
+    ensures negated { λ r. ⌜ r .0 ≡ negℤ (pos (v .0)) ⌝ }
 {
     let literal = v.0 as i32;
     Literal::new(-literal)

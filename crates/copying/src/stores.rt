@@ -6,7 +6,7 @@ ghost use lib.ListN.{set, getD};
 
 // Stores an entry of the prefix table if the table has that row.
 pub fn store_entry(table: &mut [u32], row: usize, entry: u32)
-    ensures { λ _. ⌜ now (table .exit) ≡ set (now (table .entry)) row entry ⌝ }
+    ensures stored { λ _. ⌜ now (table .exit) ≡ set (now (table .entry)) row entry ⌝ }
 {
     if row < table.len() {
         table[row] = entry;
@@ -15,7 +15,7 @@ pub fn store_entry(table: &mut [u32], row: usize, entry: u32)
 
 // Stores an entry of the clause table if the table has that row.
 pub fn store_literal(table: &mut [i32], row: usize, entry: i32)
-    ensures { λ _. ⌜ now (table .exit) ≡ set (now (table .entry)) row entry ⌝ }
+    ensures stored { λ _. ⌜ now (table .exit) ≡ set (now (table .entry)) row entry ⌝ }
 {
     if row < table.len() {
         table[row] = entry;
@@ -24,7 +24,7 @@ pub fn store_literal(table: &mut [i32], row: usize, entry: i32)
 
 // The copy of v; 0 for a variable that has none.
 pub fn copy_at(copies: &[u32], v: Variable) -> Variable
-    ensures { λ r. ⌜ r .0 ≡ getD (now (copies .entry)) (v .0) 0 ⌝ }
+    ensures found { λ r. ⌜ r .0 ≡ getD (now (copies .entry)) (v .0) 0 ⌝ }
 {
     let at = v.0 as usize;
     if at < copies.len() {

@@ -9,7 +9,7 @@ use borrow.Author.Tests.{lt-ltb, le-ltb}
 use lib.IntN.{ℤ}
 use lib.ListN.{getD}
 use Rattle.terms.proofs.Common.{clash}
-use Rattle.connection.specs.Reach.{Variables, From, Reach, here, step}
+use Rattle.connection.specs.Reach.{Variables, From, Reach, Joined, here, step}
 use Rattle.connection.specs.Tables.{Table, row}
 use Rattle.connection.proofs.Reach.{reach-one, reach-trans, reach-sym, reach-ends, reach-mono, allow}
 use Rattle.connection.proofs.Represent.{Link, to-class, to-parent, Linked, up, down, linked-sym}
@@ -21,7 +21,8 @@ use Rattle.chains.proofs.Inside.{inside-reach, equal-trans}
 use Rattle.chains.proofs.Steps.{no-zero, deep-some, some-deep}
 use Rattle.dependents.specs.Inner.{Flat, Classed}
 
-module _ {depths C₀ C P : List ℕ} {J : ℕ → ℕ → Type 0} (flat : (v : ℕ) → getD depths v 0 ≤ 1) (g : Growing depths C₀ P) (equal : Equal (ranked depths) J (Linked (ranked depths) (table C₀ P))) (s : Settled C₀ C) where
+module _ {depths C₀ C P : List ℕ} {J : ℕ → ℕ → Type 0} (flat : (v : ℕ) → getD depths v 0 ≤ 1) (g : Growing depths C₀ P)
+    (equal : Equal (ranked depths) J (Linked (ranked depths) (table C₀ P))) (s : Settled C₀ C) where
   abbrev D : Variables
   D = ranked depths
 
@@ -51,12 +52,16 @@ module _ {depths C₀ C P : List ℕ} {J : ℕ → ℕ → Type 0} (flat : (v : 
   reach-class (step {y = y} {z = z} r j e) = reach-class r ∙ linked-class y z j
 
   to-name : {a : ℕ} → From D 1 a → Reach (Linked D W) (From D 1) a (getD C a 0)
-  to-name {a} f = let r = kept .loose .class a (f .existential) in reach-one (up (to-class (f .existential) refl)) (allow (r .existential) (omega (arith, f .deep, r .block)))
+  to-name {a} f =
+      let r = kept .loose .class a (f .existential) in
+      reach-one (up (to-class (f .existential) refl)) (allow (r .existential) (omega (arith, f .deep, r .block)))
 
   class-reach : {a b : ℕ} → From D 1 a → From D 1 b → Reach J (From D 1) a b ↔ (getD C a 0 ≡ getD C b 0)
   class-reach {a} {b} fa fb = (
     λ r. reach-class (inside-reach (same .there) fa r),
-    λ e. inside-reach (same .back) fa (reach-trans (subst (λ (w : ℕ). Reach (Linked D W) (From D 1) a w) e (to-name fa)) (reach-sym linked-sym fb (to-name fb))),
+    λ e.
+        inside-reach (same .back) fa
+        (reach-trans (subst (λ (w : ℕ). Reach (Linked D W) (From D 1) a w) e (to-name fa)) (reach-sym linked-sym fb (to-name fb))),
   )
 
   class-some : {a : ℕ} → From D 1 a → getD C a 0 ≢ 0
@@ -66,10 +71,13 @@ module _ {depths C₀ C P : List ℕ} {J : ℕ → ℕ → Type 0} (flat : (v : 
   class-none v z = kept .loose .universal v (le-ltb 0 (getD depths v 0) (omega arith)) .0
 
   class-most : (v : ℕ) → getD C v 0 ≤ v
-  class-most v = by-cases (ℕ-discrete (getD depths v 0) 0) (λ z. omega (arith, class-none v z)) (λ some. kept .loose .class v (some-deep depths v some) .most)
+  class-most v =
+      by-cases (ℕ-discrete (getD depths v 0) 0) (λ z. omega (arith, class-none v z)) (λ some. kept .loose .class v (some-deep depths v some) .most)
 
 -- Rows with 1 for what may be stepped on are the depths, and the settled rows are written in their place.
-module _ {n : ℕ} (ls : List ℤ) {rows depths C₀ C P rows′ ups ups′ : List ℕ} (few : n ≤ 4096) (flat : Flat n rows) (read : (v : ℕ) → getD depths v 0 ≡ row n rows v) (h : Holds depths C₀ P (joined ls)) (s : Settled C₀ C) (w : Written n C P rows rows′ ups ups′) where
+module _ {n : ℕ} (ls : List ℤ) {rows depths C₀ C P rows′ ups ups′ : List ℕ} (few : n ≤ 4096) (flat : Flat n rows)
+    (read : (v : ℕ) → getD depths v 0 ≡ row n rows v) (h : Holds depths C₀ P (joined ls)) (s : Settled C₀ C)
+    (w : Written n C P rows rows′ ups ups′) where
   low : (v : ℕ) → getD depths v 0 ≤ 1
   low v = let q = read v in ⊎-elim (λ e. omega arith) (λ e. omega arith) (flat v)
 
@@ -86,23 +94,33 @@ module _ {n : ℕ} (ls : List ℤ) {rows depths C₀ C P rows′ ups ups′ : Li
   rows-are v = by-cases (decLe 1 v) (λ l. by-cases (decLe v n) (inside l) (λ k. outside (λ _. omega arith))) (λ l. outside (λ k. absurd (l k)))
     where
       inside : 1 ≤ v → v ≤ n → row n rows′ v ≡ getD C v 0
-      inside l k = let back : (v - 1) + 1 ≡ v = omega arith in row-at n v rows′ l k ∙ w .class (v - 1) (omega arith) ∙ ap (λ (u : ℕ). getD C u 0) back
+      inside l k =
+          let back : (v - 1) + 1 ≡ v = omega arith in
+          row-at n v rows′ l k ∙ w .class (v - 1) (omega arith) ∙ ap (λ (u : ℕ). getD C u 0) back
 
       outside : (1 ≤ v → n < v) → row n rows′ v ≡ getD C v 0
       outside k = row-out n v rows′ k ∙ sym (class-none low (h .growing) (h .equal) s v (read v ∙ row-out n v rows k))
 
   stepped : (v : ℕ) → row n rows′ v ≢ 0 → E v
-  stepped v some = ⊎-elim (λ e. e) (λ z. absurd (some (rows-are v ∙ class-none low (h .growing) (h .equal) s v (read v ∙ z)))) (flat v)
+  stepped v some =
+      ⊎-elim (λ e. e) (λ z. absurd (some (rows-are v ∙ class-none low (h .growing) (h .equal) s v (read v ∙ z)))) (flat v)
+
+  -- two that may be stepped on are in one class exactly if one is reached from the other
+  one-class : (a b : ℕ) → E a → E b → Reach (Joined (joined ls)) (From (ranked depths) 1) a b ↔ (getD C a 0 ≡ getD C b 0)
+  one-class a b oa ob = class-reach low (h .growing) (h .equal) s (to-depth a oa) (to-depth b ob)
 
   pub classed : Classed n E ls rows′
   classed =
       record {
-        small = λ v. by-cases (decLe v 4096) (λ l. let q = rows-are v in let m = class-most low (h .growing) (h .equal) s v in omega arith) (λ l. let q = row-out n v rows′ (λ _. omega arith) in omega arith);
+        small = λ v.
+            by-cases (decLe v 4096) (λ l. let q = rows-are v in let m = class-most low (h .growing) (h .equal) s v in omega arith)
+            (λ l. let q = row-out n v rows′ (λ _. omega arith) in omega arith);
         there = λ a b e some.
             let oa = stepped a (λ z. some (sym e ∙ z)) in
-            let ob = stepped b some in
-            (oa, reach-mono (λ u v j. j) of-depth (class-reach low (h .growing) (h .equal) s (to-depth a oa) (to-depth b ob) .1 (sym (rows-are a) ∙ e ∙ rows-are b)));
+            (oa, reach-mono (λ u v j. j) of-depth (one-class a b oa (stepped b some) .1 (sym (rows-are a) ∙ e ∙ rows-are b)));
         back = λ a b oa r.
-            let ob = reach-ends oa r in
-            (rows-are a ∙ class-reach low (h .growing) (h .equal) s (to-depth a oa) (to-depth b ob) .0 (reach-mono (λ u v j. j) to-depth r) ∙ sym (rows-are b), λ z. class-some low (h .growing) (h .equal) s (to-depth b ob) (sym (rows-are b) ∙ z));
+            let ob = reach-ends oa r in (
+              rows-are a ∙ one-class a b oa ob .0 (reach-mono (λ u v j. j) to-depth r) ∙ sym (rows-are b),
+              λ z. class-some low (h .growing) (h .equal) s (to-depth b ob) (sym (rows-are b) ∙ z),
+            );
       }

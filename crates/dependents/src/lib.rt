@@ -1,24 +1,32 @@
-// The set of a universal x by dependency lists: which existentials depend on it, where some of them have a list of the universals that they may depend on.
-// No forest is lent: what may be stepped on from x is put into classes, clause by clause.
+// The set of a universal x by dependency lists, under a reading rule: which existentials depend on it, where some of them have a list of the universals that
+// they may depend on. No forest is lent: what may be stepped on from x is put into classes, clause by clause.
 
 mod classing;
-mod entering;
 mod opening;
 
-use entering::enter;
-use joining::join;
-use lists::checking::judged_entries;
+use classing::class_rows;
+use joining::as_read;
+use lists::reading::read_listed;
+use marks::flag_entries;
+use opening::open_rows;
 use picking::Asked;
 use picking::list_picked;
 use terms::Filled;
+use terms::Level;
 use terms::Scheme;
 use terms::Variable;
 use terms::Verdict;
-ghost use Rattle.lists.specs.Answers.{SetListed};
-ghost use Rattle.lists.specs.Inner.{SetRead};
+ghost use Prim.Native.Nat.{_≤_};
+ghost use lib.ListN.{length};
+ghost use Rattle.formula.specs.Lent.{formulaIn};
+ghost use Rattle.formula.specs.Levels.{SoundPrefix};
+ghost use Rattle.formula.specs.Lookup.{SoundClauses};
+ghost use Rattle.lists.specs.Lists.{listEntries};
+ghost use Rattle.dependents.specs.Answers.{SetByLists};
+ghost use Rattle.dependents.specs.Inner.{SetBehind};
 
 // The set of x by a scheme and by the lists, with the prefix read by a rule, written ascending into `out`, with the count of its members.
-pub fn set_by(
+pub fn set_of(
     rule: u32,
     scheme: Scheme,
     n: u32,
@@ -28,29 +36,21 @@ pub fn set_by(
     x: Variable,
     out: &mut [u32],
 ) -> Filled
-    ensures { λ r. ⌜ SetListed rule scheme n (now (prefix .entry)) (now (clauses .entry)) (now (lists .entry)) (x .0) (now (out .entry)) (now (out .exit)) r ⌝ }
+    ensures listed { λ r. ⌜ SetByLists rule scheme (formulaIn n prefix clauses) (now (lists .entry)) (x .0) (now (out .entry)) (now (out .exit)) r ⌝ }
 {
-    if rule == 1 {
-        return set_read(scheme, n, prefix, clauses, lists, x, out);
-    }
-    let mut read = [0u32; 4224];
-    match join(
-        rule,
-        n,
-        prefix,
-        judged_entries(clauses.len(), lists.len()),
-        &mut read,
-    ) {
+    let mut joined = [0u32; Level::JOINED];
+    match read_listed(rule, n, prefix, clauses, lists.len(), &mut joined) {
         Filled::Refused(number, place) => Filled::Refused(number, place),
         Filled::Count(count) => {
-            let end = count as usize;
-            set_read(scheme, n, &read[0..end], clauses, lists, x, out)
+            let read = as_read(rule, prefix, &joined, count);
+            sound_set(scheme, n, read, clauses, lists, x, out)
         }
     }
 }
 
-// The same for a prefix as it is read.
-fn set_read(
+// The set of x, of an accepted formula: what may be stepped on from x is put into classes, those that share a clause with x are flagged by the scheme, and
+// the members of flagged classes are listed.
+fn sound_set(
     scheme: Scheme,
     n: u32,
     prefix: &[u32],
@@ -59,12 +59,18 @@ fn set_read(
     x: Variable,
     out: &mut [u32],
 ) -> Filled
-    ensures { λ r. ⌜ SetRead scheme n (now (prefix .entry)) (now (clauses .entry)) (now (lists .entry)) (x .0) (now (out .entry)) (now (out .exit)) r ⌝ }
+    requires sound { ⌜ SoundPrefix n (now prefix) × SoundClauses (now clauses) ⌝ }
+    requires short { ⌜ length (now lists) ≤ listEntries ⌝ }
+    ensures listed { λ r. ⌜ SetBehind scheme (formulaIn n prefix clauses) (now (lists .entry)) (x .0) (now (out .entry)) (now (out .exit)) r ⌝ }
 {
-    let mut rows = [0u32; 4097];
-    let mut flags = [false; 4097];
-    match enter(scheme, n, prefix, clauses, lists, x, &mut rows, &mut flags) {
+    let mut rows = [0u32; Variable::ROWS];
+    match open_rows(n, prefix, lists, x, &mut rows) {
         Verdict::Refused(number, place) => Filled::Refused(number, place),
-        Verdict::Accepted => list_picked(n, Asked::Set, &flags, &rows, out),
+        Verdict::Accepted => {
+            let mut flags = [false; Variable::ROWS];
+            class_rows(n, clauses, &mut rows);
+            flag_entries(scheme, n, clauses, x, &mut rows, &mut flags);
+            list_picked(n, Asked::Set, &flags, &rows, out)
+        }
     }
 }

@@ -25,7 +25,8 @@ rest-empty (x ∷ xs) ys e = let no : _≡_ {A = ℕ} 0 1 = cc in let no : ⊥ =
 -- Lines of QDIMACS, before any list line, or after one if they add nothing to the prefix table.
 pub with-flag : (b : Bool) {s t : Stage} {ls : List (List ℕ)} {P : List ℕ} {C : List ℤ} → (b ≡ true → P ≡ []) → Lines s ls t P C → ListedLines b s ls b t P [] C
 with-flag b none Lines.no-line = ListedLines.no-line
-with-flag b none (Lines.one-more {p = p} {P = P} line more) = ListedLines.one-more (a-line (λ e. front-empty p P (none e)) line) (with-flag b (λ e. rest-empty p P (none e)) more)
+with-flag b none (Lines.one-more {p = p} {P = P} line more) =
+    ListedLines.one-more (a-line (λ e. front-empty p P (none e)) line) (with-flag b (λ e. rest-empty p P (none e)) more)
 
 -- a list line adds to the table of lists
 list-some : {line l : List ℕ} (more : List ℕ) → ListLine line l → l ++ more ≡ [] → ⊥
@@ -38,7 +39,14 @@ without-flag e (ListedLines.one-more {L = later} (a-list z x) more) = absurd (li
 
 pub plain-text : (n : ℕ) (P : List ℕ) (C : List ℤ) (text : List ℕ) → TextOf n P C text ↔ ListedText n P [] C text
 plain-text n P C text = (
-  λ t. record { announced = t .announced; listed = false; lines = t .lines; cut = t .cut; follow = with-flag false (λ e. absurd (true≢false (sym e))) (t .follow) },
+  λ t.
+      record {
+        announced = t .announced;
+        listed = false;
+        lines = t .lines;
+        cut = t .cut;
+        follow = with-flag false (λ e. absurd (true≢false (sym e))) (t .follow);
+      },
   λ t. record { announced = t .announced; lines = t .lines; cut = t .cut; follow = without-flag refl (t .follow) },
 )
 
@@ -56,13 +64,15 @@ unfolding front
 unlisted-front no-lines l x = empty-line x
 unlisted-front (and-more none u) l x = none l x
 
-without-lists : {b b′ : Bool} {s t : Stage} {ls : List (List ℕ)} {P L : List ℕ} {C : List ℤ} → Unlisted ls → ListedLines b s ls b′ t P L C → Lines s ls t P C × (b′ ≡ b)
+without-lists : {b b′ : Bool} {s t : Stage} {ls : List (List ℕ)} {P L : List ℕ} {C : List ℤ} → Unlisted ls → ListedLines b s ls b′ t P L C
+    → Lines s ls t P C × (b′ ≡ b)
 without-lists no-lines ListedLines.no-line = (Lines.no-line, refl)
 without-lists (and-more none u) (ListedLines.one-more (a-line k line) more) = let (lines, same) = without-lists u more in (Lines.one-more line lines, same)
 without-lists (and-more none u) (ListedLines.one-more (a-list {l = l} z x) more) = absurd (none l x)
 
 fault-back : {k : ℕ} {b : Bool} {s : Stage} {left : List (List ℕ)} → b ≡ false → ListedFault k b s left → Fault k s left
-fault-back {b = b} e (ListedFault.outside no-line no-many) = Fault.outside (λ after p c x. no-line b after p [] c (a-line (λ t. absurd (true≢false (sym t ∙ e))) x)) no-many
+fault-back {b = b} e (ListedFault.outside no-line no-many) =
+    Fault.outside (λ after p c x. no-line b after p [] c (a-line (λ t. absurd (true≢false (sym t ∙ e))) x)) no-many
 fault-back e ListedFault.unended = Fault.unended
 fault-back e ListedFault.no-problem = Fault.no-problem
 fault-back e (ListedFault.many t) = Fault.many t
@@ -92,4 +102,14 @@ plain-fault text u number place = (to, from)
     from f =
         let (passed, _) = unlisted-split (f .lines) (f .left) (subst Unlisted (f .cut) u) in
         let (follow, same) = without-lists passed (f .follow) in
-        record { lines = f .lines; left = f .left; stage = f .stage; prefix = f .prefix; clauses = f .clauses; cut = f .cut; follow = follow; fault = fault-back same (f .fault); at = f .at }
+        record {
+          lines = f .lines;
+          left = f .left;
+          stage = f .stage;
+          prefix = f .prefix;
+          clauses = f .clauses;
+          cut = f .cut;
+          follow = follow;
+          fault = fault-back same (f .fault);
+          at = f .at;
+        }

@@ -7,7 +7,8 @@ use mathlib.Core.Option.{Option, some}
 use native.Mathlib.Omega.{arith}
 use lib.IntN.{pos, negℤ}
 use Rattle.grammar.specs.declared.Stage.the-variants.{Opening, Body}
-use Rattle.tokens.specs.Words.{onto, pieces, filled, words, allDigits, spelt, isNumber, numberOf, plainItem, negatedItem, itemOf, prepend, closed, entry, entriesOf}
+use Rattle.tokens.specs.Words.{onto, pieces, filled, words, allDigits, spelt, isNumber, numberOf, plainItem, negatedItem, itemOf, prepend, closed, entry}
+use Rattle.tokens.specs.Words.{entriesOf}
 use Rattle.grammar.specs.Grammar.{Line, p-cnf, QuantifierLine, literals-line, the-problem, a-block, a-clause}
 use Rattle.qdimacs.proofs.Unique.{many-stuck}
 use Rattle.dqdimacs.specs.Grammar.{ListLine, d-line, a-line, a-list, no-line, one-more, ListedText, outside, ListedFaultIn}
@@ -62,10 +63,14 @@ with-list =
       cut = refl;
       follow =
           one-more (a-line (λ e. absurd (true≢false (sym e))) problem-line)
-          (one-more (a-line (λ e. absurd (true≢false (sym e))) block-line) (one-more (a-list refl list-line) (one-more (a-line (λ e. refl) clause-line) no-line)));
+          (one-more (a-line (λ e. absurd (true≢false (sym e))) block-line)
+          (one-more (a-list refl list-line) (one-more (a-line (λ e. refl) clause-line) no-line)));
     }
 
--- `d 0` is 16 at its first byte
+-- `d 0` is 16 at its first byte: one entry is not y and another
+one-entry : (y next : ℕ) (others : List ℕ) → _≡_ {A = Option (List ℕ)} (some (0 ∷ [])) (some (y ∷ next ∷ others)) → ⊥
+one-entry y next others e = let no : _≡_ {A = ℕ} 0 1 = cc in omega arith
+
 pub list-of-none : ListedFaultIn (text (problem ∷ bare ∷ [])) 16 10
 unfolding pieces onto words filled entriesOf entry prepend closed itemOf plainItem numberOf isNumber allDigits spelt
 list-of-none =
@@ -79,7 +84,7 @@ list-of-none =
       clauses = [];
       cut = refl;
       follow = one-more (a-line (λ e. absurd (true≢false (sym e))) problem-line) no-line;
-      fault = outside (λ then after p l c. no-listed 3 1 refl refl (λ y next others e. let one : _≡_ {A = Option (List ℕ)} (some (0 ∷ [])) (some (y ∷ next ∷ others)) = e in let no : _≡_ {A = ℕ} 0 1 = cc in omega arith)) (d-many refl);
+      fault = outside (λ then after p l c. no-listed 3 1 refl refl one-entry) (d-many refl);
       at = refl;
     }
 
@@ -97,6 +102,8 @@ late-block =
       clauses = [];
       cut = refl;
       follow = one-more (a-line (λ e. absurd (true≢false (sym e))) problem-line) (one-more (a-list refl list-line) no-line);
-      fault = outside (λ then after p l c. late-none (λ n m l e x. list-none x block-line) refl block-line (λ e. let no : _≡_ {A = ℕ} 0 1 = cc in omega arith)) (λ t. many-stuck t block-line);
+      fault =
+          outside (λ then after p l c. late-none (λ n m l e x. list-none x block-line) refl block-line (λ e. let no : _≡_ {A = ℕ} 0 1 = cc in omega arith))
+          (λ t. many-stuck t block-line);
       at = refl;
     }

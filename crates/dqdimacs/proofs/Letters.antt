@@ -9,7 +9,7 @@ use Rattle.grammar.specs.declared.Stage.{Stage}
 use Rattle.grammar.specs.declared.Stage.the-variants.{Body}
 use Rattle.tokens.specs.Words.{LETTER-A, LETTER-E, words, allDigits, isNumber, numberOf, plainItem, itemOf, entry, entriesOf}
 use Rattle.grammar.specs.Grammar.{variables, literals, QuantifierLine, e-line, a-line, ClauseLine, literals-line, Line, a-block, a-clause, TooMany, too-many}
-use Rattle.dqspelling.specs.Writing.{LETTER-D}
+use Rattle.dqdimacs.specs.Writing.{LETTER-D}
 use Rattle.dqdimacs.specs.Grammar.{ListLine, d-line}
 
 no-literals : (more : List (List ℕ)) (es : List ℤ) → entriesOf literals ((LETTER-D ∷ []) ∷ more) ≡ some es → ⊥
@@ -31,7 +31,7 @@ module _ {line : List ℕ} {more : List (List ℕ)} (begins : words line ≡ (LE
   pub d-many : {s : Stage} → TooMany s line → ⊥
   d-many (too-many e x) = d-clause x
 
--- The same of a list line.
+-- So a list line is no line of QDIMACS there, and no clause line too many.
 pub list-none : {line l : List ℕ} {n m k : ℕ} {t : Stage} {p : List ℕ} {c : List ℤ} → ListLine line l → Line (Body n m k) line t p c → ⊥
 list-none (d-line begins r) x = d-none begins x
 

@@ -10,6 +10,7 @@ pub mod Readings
 pub mod Settled
 pub mod Agreement
 -- The text that is written, and that it reads back (text-reads-back, written-reads-back).
+pub mod Bytes
 pub mod Holdable
 pub mod Written
 pub mod RoundTrip

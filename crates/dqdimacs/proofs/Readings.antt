@@ -11,11 +11,11 @@ use lib.IntN.{ℤ}
 use Rattle.terms.specs.Refusals.{FirstOf, None, NoneOf}
 use Rattle.spelling.specs.Texts.{TEXT-MOST}
 use Rattle.spelling.proofs.Outputs.{not-overlong}
-use Rattle.dqdimacs.specs.declared.Reading.{Reading}
-use Rattle.dqdimacs.specs.declared.Reading.the-variants.{Read, Refused}
+use Rattle.terms.specs.declared.ListedReading.{ListedReading}
+use Rattle.terms.specs.declared.ListedReading.the-variants.{Read, Refused}
 use Rattle.dqdimacs.specs.Grammar.{ListedText, ListedFaultIn}
 use Rattle.dqdimacs.specs.Steps.{Adds, ScanIs}
-use Rattle.dqdimacs.specs.Reading.{Tables, NoRoom, no-room-prefix, no-room-clauses, no-room-lists, readOrder, Filled, ReadIs}
+use Rattle.dqdimacs.specs.Reading.{Tables, NoRoom, no-room-prefix, no-room-clauses, no-room-lists, readOrder, FrontFilled, ReadIs}
 use Rattle.dqdimacs.proofs.Scans.{adds-length}
 use Rattle.dqdimacs.proofs.Unique.{fault-same, text-fault, text-same}
 
@@ -27,7 +27,7 @@ module _ {A : Type 0} {P before after : List A} {count : ℕ} (adds : Adds P 0 c
   in-front : take count after ≡ P
   in-front = ap (take count) all-stored ∙ take-at P (drop (0 + length P) before) count (sym (adds .counted ∙ zero-add (length P)))
 
-  filled : Filled count before after
+  filled : FrontFilled count before after
   filled =
       let e : count ≡ length P = adds .counted ∙ zero-add (length P) in
       record {
@@ -55,7 +55,11 @@ module _ (text : List ℕ) (before : Tables) (short : length text ≤ TEXT-MOST)
 
     -- no room
     pub first-room : NoRoom text before 14 0 → FirstOf (readOrder text before) 14 0
-    first-room room = inr (not-overlong text short, inr (not-fault, inl (record { holds = room; leftmost = λ number place c. omega arith; lowest = λ number c. lowest c })))
+    first-room room =
+        inr (
+          not-overlong text short,
+          inr (not-fault, inl (record { holds = room; leftmost = λ number place c. omega arith; lowest = λ number c. lowest c })),
+        )
       where
         lowest : {number place : ℕ} → NoRoom text before number place → 14 ≤ number
         lowest (no-room-prefix t h) = omega arith
@@ -72,7 +76,8 @@ module _ (text : List ℕ) (before : Tables) (short : length text ≤ TEXT-MOST)
         room number place (no-room-lists t h) = let same = ap length (text-same text-of t .lists) in omega arith
 
     -- the answer of the second scan, where the text is known to be within the rules and to fit
-    pub read-all : length P ≤ length (before .0) → length C ≤ length (before .1) → length L ≤ length (before .2) → (after : Tables) (r : Reading) → ScanIs text before after r → ReadIs text before after r
+    pub read-all : length P ≤ length (before .0) → length C ≤ length (before .1) → length L ≤ length (before .2) → (after : Tables) (r : ListedReading)
+        → ScanIs text before after r → ReadIs text before after r
     read-all p c l after (Refused number place) f = absurd (text-fault text-of f)
     read-all p c l after (Read n′ entries literals rows) s =
         let same = text-same text-of (s .text-of) in

@@ -17,8 +17,8 @@ use Rattle.grammar.specs.Steps.{Sound, announcedAt}
 use Rattle.tokens.proofs.Lines.{line-length}
 use Rattle.grammar.proofs.Bodies.{line-then}
 use Rattle.qdimacs.proofs.Scans.{line-sound, place-more, stored-more}
-use Rattle.dqdimacs.specs.declared.Reading.{Reading}
-use Rattle.dqdimacs.specs.declared.Reading.the-variants.{Read, Refused}
+use Rattle.terms.specs.declared.ListedReading.{ListedReading}
+use Rattle.terms.specs.declared.ListedReading.the-variants.{Read, Refused}
 use Rattle.dqdimacs.specs.Grammar.{ListedLine, a-line, a-list, ListedLines, no-line, one-more, ListedFault, ListedFaultIn}
 use Rattle.dqdimacs.specs.Reading.{Tables}
 use Rattle.dqdimacs.specs.Steps.{Counts, Few, Adds, Went, FinishIs, ScanIs}
@@ -33,15 +33,19 @@ lines-sound no-line h = h
 lines-sound (one-more line lines) h = lines-sound lines (listed-sound line h)
 
 -- One more line at the end.
-lines-more : {a b b′ : Bool} {s t t′ : Stage} {ls : List (List ℕ)} {l P p L d : List ℕ} {C c : List ℤ} → ListedLines a s ls b t P L C → ListedLine b t l b′ t′ p d c → ListedLines a s (ls ++ (l ∷ [])) b′ t′ (P ++ p) (L ++ d) (C ++ c)
+lines-more : {a b b′ : Bool} {s t t′ : Stage} {ls : List (List ℕ)} {l P p L d : List ℕ} {C c : List ℤ} → ListedLines a s ls b t P L C
+    → ListedLine b t l b′ t′ p d c → ListedLines a s (ls ++ (l ∷ [])) b′ t′ (P ++ p) (L ++ d) (C ++ c)
 lines-more {b = b} {b′ = b′} {t = t} {t′ = t′} {l = l} {p = p} {d = d} {c = c} no-line line =
     subst (λ (x : List ℕ). ListedLines b t (l ∷ []) b′ t′ x d c) (append-nil p)
-    (subst (λ (y : List ℕ). ListedLines b t (l ∷ []) b′ t′ (p ++ []) y c) (append-nil d) (subst (λ (z : List ℤ). ListedLines b t (l ∷ []) b′ t′ (p ++ []) (d ++ []) z) (append-nil c) (one-more line no-line)))
-lines-more {a = a} {b′ = b′} {s = s} {t′ = t′} {l = l} {p = p} {d = d} {c = c} (one-more {line = first} {lines = lines} {p = p₁} {P = P₁} {l = d₁} {L = L₁} {c = c₁} {C = C₁} first-line more) line =
+    (subst (λ (y : List ℕ). ListedLines b t (l ∷ []) b′ t′ (p ++ []) y c) (append-nil d)
+    (subst (λ (z : List ℤ). ListedLines b t (l ∷ []) b′ t′ (p ++ []) (d ++ []) z) (append-nil c) (one-more line no-line)))
+lines-more {a = a} {b′ = b′} {s = s} {t′ = t′} {l = l} {p = p} {d = d} {c = c}
+    (one-more {line = first} {lines = lines} {p = p₁} {P = P₁} {l = d₁} {L = L₁} {c = c₁} {C = C₁} first-line more) line =
     let ls = first ∷ (lines ++ (l ∷ [])) in
     subst (λ (x : List ℕ). ListedLines a s ls b′ t′ x ((d₁ ++ L₁) ++ d) ((c₁ ++ C₁) ++ c)) (sym (append-assoc p₁ P₁ p))
     (subst (λ (y : List ℕ). ListedLines a s ls b′ t′ (p₁ ++ (P₁ ++ p)) y ((c₁ ++ C₁) ++ c)) (sym (append-assoc d₁ L₁ d))
-    (subst (λ (z : List ℤ). ListedLines a s ls b′ t′ (p₁ ++ (P₁ ++ p)) (d₁ ++ (L₁ ++ d)) z) (sym (append-assoc c₁ C₁ c)) (one-more first-line (lines-more more line))))
+    (subst (λ (z : List ℤ). ListedLines a s ls b′ t′ (p₁ ++ (P₁ ++ p)) (d₁ ++ (L₁ ++ d)) z) (sym (append-assoc c₁ C₁ c))
+    (one-more first-line (lines-more more line))))
 
 -- A table that is filled further.
 adds-more : {A : Type 0} {P p before now now′ : List A} {k k′ : ℕ} → Adds P 0 k before now → Adds p k k′ now now′ → Adds (P ++ p) 0 k′ before now′
@@ -87,15 +91,18 @@ reached-none text before =
     }
 
 -- a line that is passed has bytes, its LF at least
-pub went-less : {listed listed′ : Bool} {stage stage′ : Stage} {text : List ℕ} {at next : ℕ} {from counts : Counts} {before after : Tables} → Went listed stage text at from before after listed′ stage′ next counts → at < next
+pub went-less : {listed listed′ : Bool} {stage stage′ : Stage} {text : List ℕ} {at next : ℕ} {from counts : Counts} {before after : Tables}
+    → Went listed stage text at from before after listed′ stage′ next counts → at < next
 went-less w = let from = w .passed .place in omega arith
 
-module _ {text : List ℕ} {before : Tables} {at : ℕ} {listed : Bool} {stage : Stage} {counts : Counts} {now : Tables} (reached : Reached text before at listed stage counts now) where
+module _ {text : List ℕ} {before : Tables} {at : ℕ} {listed : Bool} {stage : Stage} {counts : Counts} {now : Tables}
+    (reached : Reached text before at listed stage counts now) where
   pub reached-sound : Sound stage
   reached-sound = lines-sound (reached .follow) tt
 
   -- a line is passed
-  pub reached-more : {now′ : Tables} {listed′ : Bool} {stage′ : Stage} {next : ℕ} {counts′ : Counts} → Went listed stage text at counts now now′ listed′ stage′ next counts′ → Reached text before next listed′ stage′ counts′ now′
+  pub reached-more : {now′ : Tables} {listed′ : Bool} {stage′ : Stage} {next : ℕ} {counts′ : Counts}
+      → Went listed stage text at counts now now′ listed′ stage′ next counts′ → Reached text before next listed′ stage′ counts′ now′
   reached-more {now′} {listed′} {stage′} {next} {counts′} w =
       let line = lineAt text at in
       let from = w .passed .place in
@@ -137,7 +144,7 @@ module _ {text : List ℕ} {before : Tables} {at : ℕ} {listed : Bool} {stage :
       }
 
   -- the text's end
-  pub reached-end : length text ≤ at → (r : Reading) → FinishIs stage at counts r → ScanIs text before now r
+  pub reached-end : length text ≤ at → (r : ListedReading) → FinishIs stage at counts r → ScanIs text before now r
   unfolding pieces
   reached-end h (Read n entries literals rows) f =
       record {
@@ -150,11 +157,14 @@ module _ {text : List ℕ} {before : Tables} {at : ℕ} {listed : Bool} {stage :
               listed = listed;
               lines = reached .lines;
               cut = reached .cut ∙ ap (λ (xs : List ℕ). reached .lines ++ pieces LF xs) (drop-of-length-le text h);
-              follow = subst (λ (s : Stage). ListedLines false Opening (reached .lines) listed s (reached .P) (reached .L) (reached .C)) (f .0) (reached .follow);
+              follow =
+                  subst (λ (s : Stage). ListedLines false Opening (reached .lines) listed s (reached .P) (reached .L) (reached .C)) (f .0)
+                  (reached .follow);
             };
         prefix-adds = record { counted = f .1 ∙ reached .prefix-adds .counted; stored = reached .prefix-adds .stored };
         clauses-adds = record { counted = f .2 ∙ reached .clauses-adds .counted; stored = reached .clauses-adds .stored };
         lists-adds = record { counted = f .3 ∙ reached .lists-adds .counted; stored = reached .lists-adds .stored };
       }
   reached-end h (Refused number place) f =
-      subst (ListedFaultIn text number) (sym (f .1)) (reached-fault (subst (λ (xs : List ℕ). ListedFault number listed stage (pieces LF xs)) (sym (drop-of-length-le text h)) (f .0 listed)))
+      subst (ListedFaultIn text number) (sym (f .1))
+      (reached-fault (subst (λ (xs : List ℕ). ListedFault number listed stage (pieces LF xs)) (sym (drop-of-length-le text h)) (f .0 listed)))

@@ -7,25 +7,26 @@ use lib.ListN.{length, take, drop}
 use lib.Seq.{length-take-le}
 use lib.IntN.{ℤ}
 use Rattle.terms.proofs.Verdicts.{firstOf-same, first-or-none}
-use Rattle.spelling.specs.declared.Output.{Output}
+use Rattle.terms.specs.declared.Filled.{Filled}
 use Rattle.qdimacs.proofs.Settled.{rows-same}
 use Rattle.qdimacs.proofs.Settled as writing
+use Rattle.formula.specs.Lent.{Formula}
 use Rattle.lists.specs.Causes.{checkListsOrder}
-use Rattle.dqdimacs.specs.declared.Reading.{Reading}
-use Rattle.dqdimacs.specs.Reading.{Tables, readOrder, Filled, ReadInto, ReadIs}
-use Rattle.dqspelling.specs.Writing.{listedTextOf}
-use Rattle.dqdimacs.specs.Stored.{WritesListed}
+use Rattle.terms.specs.declared.ListedReading.{ListedReading}
+use Rattle.dqdimacs.specs.Reading.{Tables, readOrder, FrontFilled, ReadInto, ReadIs}
+use Rattle.dqdimacs.specs.Writing.{listedTextOf}
+use Rattle.dqdimacs.specs.Stored.{listedText, WritesListed}
 use Rattle.dqdimacs.proofs.Unique.{text-same}
 
 -- What two answers of read have in common.
-pub record SameAnswer (r r′ : Reading) (after after′ : Tables) : Type 0 where
+pub record SameAnswer (r r′ : ListedReading) (after after′ : Tables) : Type 0 where
   pub answer : r ≡ r′
   pub prefix-rows : after .0 ≡ after′ .0
   pub clause-rows : after .1 ≡ after′ .1
   pub list-rows : after .2 ≡ after′ .2
 
 -- Two tables with the same rows in front.
-module _ {A : Type 0} {before x y : List A} {k k′ : ℕ} (a : Filled k before x) (b : Filled k′ before y) (same : take k x ≡ take k′ y) where
+module _ {A : Type 0} {before x y : List A} {k k′ : ℕ} (a : FrontFilled k before x) (b : FrontFilled k′ before y) (same : take k x ≡ take k′ y) where
   count-same : k ≡ k′
   count-same =
       let al = a .same-length in
@@ -38,7 +39,8 @@ module _ {A : Type 0} {before x y : List A} {k k′ : ℕ} (a : Filled k before 
   table-same = rows-same k k′ x y same (a .kept ∙ ap (λ (i : ℕ). drop i before) count-same ∙ sym (b .kept))
 
 module _ (text : List ℕ) (before : Tables) where
-  into-same : {n e l d n′ e′ l′ d′ : ℕ} {after after′ : Tables} → ReadInto n e l d text before after → ReadInto n′ e′ l′ d′ text before after′ → SameAnswer (Reading.Read n e l d) (Reading.Read n′ e′ l′ d′) after after′
+  into-same : {n e l d n′ e′ l′ d′ : ℕ} {after after′ : Tables} → ReadInto n e l d text before after → ReadInto n′ e′ l′ d′ text before after′
+      → SameAnswer (ListedReading.Read n e l d) (ListedReading.Read n′ e′ l′ d′) after after′
   into-same {n} {e} {l} {d} {n′} {e′} {l′} {d′} a b =
       let same = text-same (a .text-of) (b .text-of) in
       let number = same .number in
@@ -52,13 +54,19 @@ module _ (text : List ℕ) (before : Tables) where
         list-rows = table-same (a .lists-filled) (b .lists-filled) (same .lists);
       }
 
-  pub read-settled : (after after′ : Tables) (r r′ : Reading) → ReadIs text before after r → ReadIs text before after′ r′ → SameAnswer r r′ after after′
-  read-settled after after′ (Reading.Read n e l d) (Reading.Read n′ e′ l′ d′) a b = into-same (a .1) (b .1)
-  read-settled after after′ (Reading.Read n e l d) (Reading.Refused k q) a b = absurd (first-or-none (readOrder text before) k q (b .0) (a .0))
-  read-settled after after′ (Reading.Refused k q) (Reading.Read n e l d) a b = absurd (first-or-none (readOrder text before) k q (a .0) (b .0))
-  read-settled after after′ (Reading.Refused k q) (Reading.Refused k′ q′) a b =
+  pub read-settled : (after after′ : Tables) (r r′ : ListedReading) → ReadIs text before after r → ReadIs text before after′ r′ → SameAnswer r r′ after after′
+  read-settled after after′ (ListedReading.Read n e l d) (ListedReading.Read n′ e′ l′ d′) a b = into-same (a .1) (b .1)
+  read-settled after after′ (ListedReading.Read n e l d) (ListedReading.Refused k q) a b = absurd (first-or-none (readOrder text before) k q (b .0) (a .0))
+  read-settled after after′ (ListedReading.Refused k q) (ListedReading.Read n e l d) a b = absurd (first-or-none (readOrder text before) k q (a .0) (b .0))
+  read-settled after after′ (ListedReading.Refused k q) (ListedReading.Refused k′ q′) a b =
       let same = firstOf-same (readOrder text before) k q k′ q′ (a .0) (b .0) in
-      record { answer = ap₂ Reading.Refused (same .0) (same .1); prefix-rows = a .1 ∙ sym (b .1); clause-rows = a .2 ∙ sym (b .2); list-rows = a .3 ∙ sym (b .3) }
+      record {
+        answer = ap₂ ListedReading.Refused (same .0) (same .1);
+        prefix-rows = a .1 ∙ sym (b .1);
+        clause-rows = a .2 ∙ sym (b .2);
+        list-rows = a .3 ∙ sym (b .3);
+      }
 
-pub write-settled : (rule n : ℕ) (es : List ℕ) (ls : List ℤ) (ds out out₁ out₂ : List ℕ) (r r′ : Output) → WritesListed rule n es ls ds out out₁ r → WritesListed rule n es ls ds out out₂ r′ → (r ≡ r′) × (out₁ ≡ out₂)
-write-settled rule n es ls ds = writing.write-settled (checkListsOrder rule n es ls ds) (listedTextOf n es ls ds)
+pub write-settled : (rule : ℕ) (f : Formula) (ds out out₁ out₂ : List ℕ) (r r′ : Filled) → WritesListed rule f ds out out₁ r
+    → WritesListed rule f ds out out₂ r′ → (r ≡ r′) × (out₁ ≡ out₂)
+write-settled rule f ds = writing.write-settled (checkListsOrder rule f ds) (listedText f ds)

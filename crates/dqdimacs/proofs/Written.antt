@@ -14,9 +14,10 @@ use Rattle.grammar.specs.Grammar.{variables, p-cnf, the-problem}
 use Rattle.spelling.specs.Writing.{decimal, digitsOf, spaced, ended, prefixText, clauseText, clauseCount}
 use Rattle.qdimacs.proofs.Decimal.{decimal-number}
 use Rattle.qdimacs.proofs.Holdable.{Holdable}
-use Rattle.qdimacs.proofs.Written.{pieces-front, pieces-spaced, decimal-without, zero-row, variable-taken, letter-words, BlockLines, blocks, ClauseLines, clauses, problem-bytes, problem-cut, problem-words}
+use Rattle.qdimacs.proofs.Written.{pieces-front, pieces-spaced, decimal-without, zero-row, variable-taken, letter-words, BlockLines, blocks, ClauseLines}
+use Rattle.qdimacs.proofs.Written.{clauses, problem-bytes, problem-cut, problem-words}
 use Rattle.dqdimacs.specs.Grammar.{d-line, a-line, a-list, ListedLines, no-line, one-more, ListedText}
-use Rattle.dqspelling.specs.Writing.{LETTER-D, lettered, listText, listedTextOf}
+use Rattle.dqdimacs.specs.Writing.{LETTER-D, lettered, listText, listedTextOf}
 use Rattle.dqdimacs.proofs.Agreement.{with-flag}
 use Rattle.dqdimacs.proofs.Holdable.{Lists, no-list, list, list-end, member}
 
@@ -53,7 +54,8 @@ module _ (n m : ℕ) (rest : List ℕ) where
   abbrev memberBody : {more : List ℕ} → ℕ → ListRest more → List ℕ
   memberBody v r = decimal v ++ (SPACE ∷ r .body)
 
-  member-cut : (v : ℕ) (more : List ℕ) → (v ≡ 0 → ⊥) → v < 100000 → (r : ListRest more) → pieces LF (listText false (v ∷ more) ++ rest) ≡ spaced false (memberBody v r) ∷ (r .lines ++ pieces LF rest)
+  member-cut : (v : ℕ) (more : List ℕ) → (v ≡ 0 → ⊥) → v < 100000 → (r : ListRest more)
+      → pieces LF (listText false (v ∷ more) ++ rest) ≡ spaced false (memberBody v r) ∷ (r .lines ++ pieces LF rest)
   unfolding spaced
   member-cut v more positive small r =
       ap (λ (t : List ℕ). pieces LF (t ++ rest)) (member-text v more positive)
@@ -61,11 +63,13 @@ module _ (n m : ℕ) (rest : List ℕ) where
       ∙ pieces-spaced false (decimal v ++ (listText false more ++ rest)) (memberBody v r) (r .lines ++ pieces LF rest)
       (pieces-front LF (listText false more ++ rest) (SPACE ∷ r .body) (r .lines ++ pieces LF rest) (decimal-without v small LF (omega arith)) (r .cut))
 
-  member-read : (v : ℕ) (more : List ℕ) → (v ≡ 0 → ⊥) → v < 100000 → (r : ListRest more) → entriesOf variables (words (memberBody v r)) ≡ some (v ∷ r .first ∷ r .others)
+  member-read : (v : ℕ) (more : List ℕ) → (v ≡ 0 → ⊥) → v < 100000 → (r : ListRest more)
+      → entriesOf variables (words (memberBody v r)) ≡ some (v ∷ r .first ∷ r .others)
   member-read v more positive small r = variable-taken v (r .body) (r .first ∷ r .others) positive small (r .read)
 
   -- the letter in front of the first
-  lettered-cut : (v : ℕ) (more : List ℕ) (line : List ℕ) (ls : List (List ℕ)) → pieces LF (listText false (v ∷ more) ++ rest) ≡ line ∷ ls → pieces LF (listText true (v ∷ more) ++ rest) ≡ (LETTER-D ∷ line) ∷ ls
+  lettered-cut : (v : ℕ) (more : List ℕ) (line : List ℕ) (ls : List (List ℕ)) → pieces LF (listText false (v ∷ more) ++ rest) ≡ line ∷ ls
+      → pieces LF (listText true (v ∷ more) ++ rest) ≡ (LETTER-D ∷ line) ∷ ls
   unfolding listText lettered pieces onto
   lettered-cut v more line ls e = ap (onto LETTER-D) e
 
@@ -85,7 +89,18 @@ module _ (n m : ℕ) (rest : List ℕ) where
       }
   lists (list-end {more} b) =
       let r = lists b in
-      record { body = ZERO ∷ []; first = 0; others = []; after = more; lines = r .lines; is = refl; cut = rw (r .cut); read = zero-row variables; then = r .then; follow = r .follow }
+      record {
+        body = ZERO ∷ [];
+        first = 0;
+        others = [];
+        after = more;
+        lines = r .lines;
+        is = refl;
+        cut = rw (r .cut);
+        read = zero-row variables;
+        then = r .then;
+        follow = r .follow;
+      }
   lists (member {x} {more} positive small b) =
       let r = lists b in
       record {
@@ -102,15 +117,19 @@ module _ (n m : ℕ) (rest : List ℕ) where
       }
 
 -- Lines that follow lines.
-lines-join : {a b c : Bool} {s t u : Stage} {ks ls : List (List ℕ)} {P Q K L : List ℕ} {C D : List ℤ} → ListedLines a s ks b t P K C → ListedLines b t ls c u Q L D → ListedLines a s (ks ++ ls) c u (P ++ Q) (K ++ L) (C ++ D)
+lines-join : {a b c : Bool} {s t u : Stage} {ks ls : List (List ℕ)} {P Q K L : List ℕ} {C D : List ℤ} → ListedLines a s ks b t P K C
+    → ListedLines b t ls c u Q L D → ListedLines a s (ks ++ ls) c u (P ++ Q) (K ++ L) (C ++ D)
 lines-join no-line x = x
-lines-join {a = a} {c = c′} {s = s} {u = u} {ls = ls} {Q = Q} {L = L} {D = D} (one-more {line = k} {lines = ks} {p = p} {P = P} {l = l} {L = K} {c = c} {C = C} line more) x =
+lines-join {a = a} {c = c′} {s = s} {u = u} {ls = ls} {Q = Q} {L = L} {D = D}
+    (one-more {line = k} {lines = ks} {p = p} {P = P} {l = l} {L = K} {c = c} {C = C} line more) x =
     subst (λ (e : List ℕ). ListedLines a s (k ∷ (ks ++ ls)) c′ u e ((l ++ K) ++ L) ((c ++ C) ++ D)) (sym (append-assoc p P Q))
     (subst (λ (e : List ℕ). ListedLines a s (k ∷ (ks ++ ls)) c′ u (p ++ (P ++ Q)) e ((c ++ C) ++ D)) (sym (append-assoc l K L))
-    (subst (λ (e : List ℤ). ListedLines a s (k ∷ (ks ++ ls)) c′ u (p ++ (P ++ Q)) (l ++ (K ++ L)) e) (sym (append-assoc c C D)) (one-more line (lines-join more x))))
+    (subst (λ (e : List ℤ). ListedLines a s (k ∷ (ks ++ ls)) c′ u (p ++ (P ++ Q)) (l ++ (K ++ L)) e) (sym (append-assoc c C D))
+    (one-more line (lines-join more x))))
 
 -- The written text is the text of its tables.
-pub written : (n : ℕ) (prefix : List ℕ) (clauses′ : List ℤ) (lists′ : List ℕ) → Holdable n prefix clauses′ → Lists true lists′ → ListedText n prefix lists′ clauses′ (listedTextOf n prefix clauses′ lists′)
+pub written : (n : ℕ) (prefix : List ℕ) (clauses′ : List ℤ) (lists′ : List ℕ) → Holdable n prefix clauses′ → Lists true lists′
+    → ListedText n prefix lists′ clauses′ (listedTextOf n prefix clauses′ lists′)
 unfolding listedTextOf
 written n prefix clauses′ lists′ h d =
     let m = clauseCount clauses′ in
@@ -125,11 +144,20 @@ written n prefix clauses′ lists′ h d =
       cut =
           problem-cut n m (h .number) (h .count) (prefixText true prefix ++ (listText true lists′ ++ end))
           ∙ ap (λ (ls : List (List ℕ)). problem-bytes n m ∷ ls)
-          (bs .cut ∙ ap (λ (ls : List (List ℕ)). bs .lines ++ ls) (ds .cut ∙ ap (λ (ls : List (List ℕ)). ds .lines ++ ls) (cs .cut) ∙ sym (append-assoc (ds .lines) (cs .lines) ([] ∷ [])))
+          (bs .cut
+          ∙ ap (λ (ls : List (List ℕ)). bs .lines ++ ls)
+          (ds .cut ∙ ap (λ (ls : List (List ℕ)). ds .lines ++ ls) (cs .cut) ∙ sym (append-assoc (ds .lines) (cs .lines) ([] ∷ [])))
           ∙ sym (append-assoc (bs .lines) (ds .lines ++ cs .lines) ([] ∷ [])));
       follow =
-          one-more (a-line (λ e. refl) (the-problem (p-cnf (problem-words n m (h .number) (h .count)) (decimal-number n (h .number)) (decimal-number m (h .count)))))
-          (subst (λ (P : List ℕ). ListedLines false (Body n m 0) (bs .lines ++ (ds .lines ++ cs .lines)) (ds .then false) (Body n m m) P lists′ clauses′) (append-nil prefix)
-          (subst (λ (L : List ℕ). ListedLines false (Body n m 0) (bs .lines ++ (ds .lines ++ cs .lines)) (ds .then false) (Body n m m) (prefix ++ []) L clauses′) (append-nil lists′)
-          (lines-join (with-flag false (λ e. absurd (true≢false (sym e))) (bs .follow)) (lines-join (ds .follow false) (with-flag (ds .then false) (λ e. refl) (cs .follow))))));
+          one-more
+          (a-line (λ e. refl)
+          (the-problem (p-cnf (problem-words n m (h .number) (h .count)) (decimal-number n (h .number)) (decimal-number m (h .count)))))
+          (subst (λ (P : List ℕ). ListedLines false (Body n m 0) (bs .lines ++ (ds .lines ++ cs .lines)) (ds .then false) (Body n m m) P lists′ clauses′)
+          (append-nil prefix)
+          (subst
+          (λ (L : List ℕ).
+          ListedLines false (Body n m 0) (bs .lines ++ (ds .lines ++ cs .lines)) (ds .then false) (Body n m m) (prefix ++ []) L clauses′)
+          (append-nil lists′)
+          (lines-join (with-flag false (λ e. absurd (true≢false (sym e))) (bs .follow))
+          (lines-join (ds .follow false) (with-flag (ds .then false) (λ e. refl) (cs .follow))))));
     }

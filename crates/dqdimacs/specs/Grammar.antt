@@ -10,25 +10,28 @@ use Rattle.grammar.specs.declared.Stage.{Stage}
 use Rattle.grammar.specs.declared.Stage.the-variants.{Opening, Body}
 use Rattle.tokens.specs.Words.{LF, pieces, words, entriesOf}
 use Rattle.grammar.specs.Grammar.{variables, Line, TooMany, placeAfter}
-use Rattle.dqspelling.specs.Writing.{LETTER-D}
+use Rattle.dqdimacs.specs.Writing.{LETTER-D}
 
 -- A list line `d y x1 .. 0`, and its entries in the table of lists: y, its universals or none, 0. The last number, and no other, is 0: so y is
 -- a number before the closing one, and `d 0` is no list line.
 pub data ListLine : List ℕ → List ℕ → Type 0 where
-  d-line : {line entries : List ℕ} {y next : ℕ} {more : List (List ℕ)} → words line ≡ (LETTER-D ∷ []) ∷ more → entriesOf variables more ≡ some (y ∷ next ∷ entries) → ListLine line (y ∷ next ∷ entries)
+  d-line : {line entries : List ℕ} {y next : ℕ} {more : List (List ℕ)} → words line ≡ (LETTER-D ∷ []) ∷ more
+      → entriesOf variables more ≡ some (y ∷ next ∷ entries) → ListLine line (y ∷ next ∷ entries)
 
 -- Which line may stand where, to which stage it leads, and what it adds to the prefix table, to the table of lists and to the clause table.
 -- The flag says whether a list line has stood: a line of QDIMACS may stand where it may there, but no quantifier line, which would add to the
 -- prefix table, after a list line; a list line may stand after the problem line, before the clause lines.
 pub data ListedLine : Bool → Stage → List ℕ → Bool → Stage → List ℕ → List ℕ → List ℤ → Type 0 where
-  a-line : {listed : Bool} {stage next : Stage} {line p : List ℕ} {c : List ℤ} → (listed ≡ true → p ≡ []) → Line stage line next p c → ListedLine listed stage line listed next p [] c
+  a-line : {listed : Bool} {stage next : Stage} {line p : List ℕ} {c : List ℤ} → (listed ≡ true → p ≡ []) → Line stage line next p c
+      → ListedLine listed stage line listed next p [] c
   a-list : {listed : Bool} {line l : List ℕ} {n m k : ℕ} → k ≡ 0 → ListLine line l → ListedLine listed (Body n m k) line true (Body n m k) [] l []
 
 -- Lines that follow one another, and what they add together.
 pub data ListedLines : Bool → Stage → List (List ℕ) → Bool → Stage → List ℕ → List ℕ → List ℤ → Type 0 where
   no-line : {listed : Bool} {stage : Stage} → ListedLines listed stage [] listed stage [] [] []
   one-more : {listed then done : Bool} {stage next last : Stage} {line : List ℕ} {lines : List (List ℕ)} {p P l L : List ℕ} {c C : List ℤ}
-      → ListedLine listed stage line then next p l c → ListedLines then next lines done last P L C → ListedLines listed stage (line ∷ lines) done last (p ++ P) (l ++ L) (c ++ C)
+      → ListedLine listed stage line then next p l c → ListedLines then next lines done last P L C
+      → ListedLines listed stage (line ∷ lines) done last (p ++ P) (l ++ L) (c ++ C)
 
 -- The text of n and three tables: lines from the opening to the last clause line announced, and nothing after the last LF.
 pub record ListedText (n : ℕ) (prefix lists : List ℕ) (clauses : List ℤ) (text : List ℕ) : Type 0 where
@@ -42,7 +45,8 @@ pub record ListedText (n : ℕ) (prefix lists : List ℕ) (clauses : List ℤ) (
 -- clause line too many; a last line without LF; no problem line. 17: one clause line too many; too few.
 pub data ListedFault : ℕ → Bool → Stage → List (List ℕ) → Type 0 where
   outside : {listed : Bool} {stage : Stage} {line next : List ℕ} {more : List (List ℕ)}
-      → ((then : Bool) (after : Stage) (p l : List ℕ) (c : List ℤ) → ListedLine listed stage line then after p l c → ⊥) → (TooMany stage line → ⊥) → ListedFault 16 listed stage (line ∷ next ∷ more)
+      → ((then : Bool) (after : Stage) (p l : List ℕ) (c : List ℤ) → ListedLine listed stage line then after p l c → ⊥) → (TooMany stage line → ⊥)
+      → ListedFault 16 listed stage (line ∷ next ∷ more)
   unended : {listed : Bool} {stage : Stage} {byte : ℕ} {bytes : List ℕ} → ListedFault 16 listed stage ((byte ∷ bytes) ∷ [])
   no-problem : {listed : Bool} → ListedFault 16 listed Opening ([] ∷ [])
   many : {listed : Bool} {stage : Stage} {line next : List ℕ} {more : List (List ℕ)} → TooMany stage line → ListedFault 17 listed stage (line ∷ next ∷ more)

@@ -7,8 +7,8 @@ use lib.ListN.{length, take, drop}
 use lib.IntN.{ℤ}
 use Rattle.terms.specs.Refusals.{Causes, FirstOf, NoneOf}
 use Rattle.spelling.specs.Texts.{Overlong}
-use Rattle.dqdimacs.specs.declared.Reading.{Reading}
-use Rattle.dqdimacs.specs.declared.Reading.the-variants.{Read, Refused}
+use Rattle.terms.specs.declared.ListedReading.{ListedReading}
+use Rattle.terms.specs.declared.ListedReading.the-variants.{Read, Refused}
 use Rattle.dqdimacs.specs.Grammar.{ListedText, ListedFaultIn}
 
 -- The tables that a text fills: the prefix table, the clause table and the table of lists.
@@ -25,7 +25,7 @@ abbrev pub readOrder : List ℕ → Tables → List Causes
 readOrder text before = Overlong text ∷ ListedFaultIn text ∷ NoRoom text before ∷ []
 
 -- A table has its first rows filled: there is room for them, and the rows past them are as they were.
-pub record Filled {A : Type 0} (count : ℕ) (before after : List A) : Type 0 where
+pub record FrontFilled {A : Type 0} (count : ℕ) (before after : List A) : Type 0 where
   pub room : count ≤ length before
   pub same-length : length after ≡ length before
   pub kept : drop count after ≡ drop count before
@@ -33,11 +33,12 @@ pub record Filled {A : Type 0} (count : ℕ) (before after : List A) : Type 0 wh
 -- The text is that of n and of what now stands in front in the three tables.
 pub record ReadInto (n entries literals rows : ℕ) (text : List ℕ) (before after : Tables) : Type 0 where
   pub text-of : ListedText n (take entries (after .0)) (take rows (after .2)) (take literals (after .1)) text
-  pub prefix-filled : Filled entries (before .0) (after .0)
-  pub clauses-filled : Filled literals (before .1) (after .1)
-  pub lists-filled : Filled rows (before .2) (after .2)
+  pub prefix-filled : FrontFilled entries (before .0) (after .0)
+  pub clauses-filled : FrontFilled literals (before .1) (after .1)
+  pub lists-filled : FrontFilled rows (before .2) (after .2)
 
 -- Each answer: accepted, with n and the three counts, or refused, with the tables as they were.
-abbrev pub ReadIs : List ℕ → Tables → Tables → Reading → Type 0
+abbrev pub ReadIs : List ℕ → Tables → Tables → ListedReading → Type 0
 ReadIs text before after (Read n entries literals rows) = NoneOf (readOrder text before) × ReadInto n entries literals rows text before after
-ReadIs text before after (Refused number place) = FirstOf (readOrder text before) number place × (after .0 ≡ before .0) × (after .1 ≡ before .1) × (after .2 ≡ before .2)
+ReadIs text before after (Refused number place) =
+    FirstOf (readOrder text before) number place × (after .0 ≡ before .0) × (after .1 ≡ before .1) × (after .2 ≡ before .2)

@@ -18,11 +18,11 @@ use Rattle.grammar.specs.Grammar.{variables}
 use Rattle.tokens.specs.Places.{lineAt, wordsAt, Passed, WholeRow, NoRow}
 use Rattle.tokens.specs.Expected.{Goes}
 use Rattle.grammar.specs.Steps.{announcedAt}
-use Rattle.dqdimacs.specs.declared.Reading.{Reading}
-use Rattle.dqdimacs.specs.declared.Reading.the-variants.{Read, Refused}
+use Rattle.terms.specs.declared.ListedReading.{ListedReading}
+use Rattle.terms.specs.declared.ListedReading.the-variants.{Read, Refused}
 use Rattle.dqdimacs.specs.declared.Onward.{Onward}
 use Rattle.dqdimacs.specs.declared.Onward.the-variants.{Wrong, On}
-use Rattle.dqspelling.specs.Writing.{LETTER-D}
+use Rattle.dqdimacs.specs.Writing.{LETTER-D}
 use Rattle.dqdimacs.specs.Grammar.{ListLine, ListedLine, ListedText, ListedFault, ListedFaultIn}
 use Rattle.dqdimacs.specs.Reading.{Tables}
 
@@ -81,7 +81,8 @@ pub record Adds {A : Type 0} (entries : List A) (from count : ℕ) (before after
   pub stored : after ≡ sets before from entries
 
 -- The line at a place may stand there: the stage it leads to, the next line, and what it added to the tables.
-pub record Went (listed : Bool) (stage : Stage) (text : List ℕ) (at : ℕ) (from : Counts) (before after : Tables) (listed′ : Bool) (stage′ : Stage) (next : ℕ) (counts : Counts) : Type 0 where
+pub record Went (listed : Bool) (stage : Stage) (text : List ℕ) (at : ℕ) (from : Counts) (before after : Tables) (listed′ : Bool) (stage′ : Stage)
+    (next : ℕ) (counts : Counts) : Type 0 where
   pub p : List ℕ
   pub c : List ℤ
   pub l : List ℕ
@@ -95,11 +96,13 @@ pub record Went (listed : Bool) (stage : Stage) (text : List ℕ) (at : ℕ) (fr
 -- What a line makes of a stage and three tables: a fault, or the next stage.
 abbrev pub OnwardIs : Bool → Stage → List ℕ → ℕ → Counts → Tables → Tables → Onward → Type 0
 OnwardIs listed stage text at from before after (Wrong number) = ListedFault number listed stage (pieces LF (drop at text))
-OnwardIs listed stage text at from before after (On listed′ stage′ next entries literals rows) = Went listed stage text at from before after listed′ stage′ next (entries, literals, rows)
+OnwardIs listed stage text at from before after (On listed′ stage′ next entries literals rows) =
+    Went listed stage text at from before after listed′ stage′ next (entries, literals, rows)
 
 -- A line that is no list line, and the two tables to which it may add.
 abbrev pub PlainIs : Bool → Stage → List ℕ → ℕ → Counts → List ℕ × List ℤ → List ℕ × List ℤ → Onward → Type 0
-PlainIs listed stage text at from before after r = (lists : List ℕ) → OnwardIs listed stage text at from (before .0, before .1, lists) (after .0, after .1, lists) r
+PlainIs listed stage text at from before after r =
+    (lists : List ℕ) → OnwardIs listed stage text at from (before .0, before .1, lists) (after .0, after .1, lists) r
 
 -- What a scan of a whole text finds: a fault, or n and tables whose text it is, which are stored as far as there are rows.
 pub record Scanned (n : ℕ) (counts : Counts) (text : List ℕ) (before after : Tables) : Type 0 where
@@ -111,11 +114,12 @@ pub record Scanned (n : ℕ) (counts : Counts) (text : List ℕ) (before after :
   pub clauses-adds : Adds C 0 (counts .1) (before .1) (after .1)
   pub lists-adds : Adds L 0 (counts .2) (before .2) (after .2)
 
-abbrev pub ScanIs : List ℕ → Tables → Tables → Reading → Type 0
+abbrev pub ScanIs : List ℕ → Tables → Tables → ListedReading → Type 0
 ScanIs text before after (Read n entries literals rows) = Scanned n (entries, literals, rows) text before after
 ScanIs text before after (Refused number place) = ListedFaultIn text number place
 
 -- What lies at the end of a text, after all its lines, at a stage: a fault, whether list lines have stood or not, or nothing.
-abbrev pub FinishIs : Stage → ℕ → Counts → Reading → Type 0
-FinishIs stage at counts (Read n entries literals rows) = (stage ≡ Body n (announcedAt stage) (announcedAt stage)) × (entries ≡ counts .0) × (literals ≡ counts .1) × (rows ≡ counts .2)
+abbrev pub FinishIs : Stage → ℕ → Counts → ListedReading → Type 0
+FinishIs stage at counts (Read n entries literals rows) =
+    (stage ≡ Body n (announcedAt stage) (announcedAt stage)) × (entries ≡ counts .0) × (literals ≡ counts .1) × (rows ≡ counts .2)
 FinishIs stage at counts (Refused number place) = ((listed : Bool) → ListedFault number listed stage ([] ∷ [])) × (place ≡ at)

@@ -1,13 +1,22 @@
--- What writing promises (document 01, "Refusal numbers", and document 02, request 12): the text of the tables stands in front in the lent buffer,
--- or the first cause in the order of the check of lists under the rule, then 15, then 14.
+-- What writing promises (document 01, "Refusal numbers", and document 02, request 12): the text of a formula and its lists stands in front in the lent
+-- buffer, or the first cause in the order of the check of lists under the rule, then 15, then 14.
 use Prim.Native.Nat.{ℕ}
-use mathlib.Core.List.{List}
-use lib.IntN.{ℤ}
-use Rattle.spelling.specs.declared.Output.{Output}
-use Rattle.spelling.specs.Stored.{WritesAfter}
+use mathlib.Core.List.{List, _++_}
+use Rattle.terms.specs.Refusals.{Causes}
+use Rattle.terms.specs.declared.Filled.{Filled}
+use Rattle.formula.specs.Lent.{Formula}
+use Rattle.spelling.specs.Stored.{writeOrder, WritesAfter}
 use Rattle.lists.specs.Causes.{checkListsOrder}
-use Rattle.dqspelling.specs.Writing.{listedTextOf}
+use Rattle.dqdimacs.specs.Writing.{listedTextOf}
+
+-- the text of a formula with lists
+abbrev pub listedText : Formula → List ℕ → List ℕ
+listedText f ds = listedTextOf (f .n) (f .prefix) (f .clauses) ds
+
+-- the order: that of the check of lists, 15, 14
+abbrev pub listedWritingOrder : ℕ → Formula → List ℕ → List ℕ → List Causes
+listedWritingOrder rule f ds out = checkListsOrder rule f ds ++ writeOrder (listedText f ds) out
 
 -- The prefix is written as it is lent, so that the text reads back as that table.
-abbrev pub WritesListed : ℕ → ℕ → List ℕ → List ℤ → List ℕ → List ℕ → List ℕ → Output → Type 0
-WritesListed rule n es ls ds = WritesAfter (checkListsOrder rule n es ls ds) (listedTextOf n es ls ds)
+abbrev pub WritesListed : ℕ → Formula → List ℕ → List ℕ → List ℕ → Filled → Type 0
+WritesListed rule f ds = WritesAfter (checkListsOrder rule f ds) (listedText f ds)

@@ -2,40 +2,32 @@
 
 mod lines;
 mod scanning;
+mod writing;
 
-use dqspelling::write_accepted;
 use grammar::Stage;
 use scanning::scan;
-use spelling::Output;
 use spelling::TEXT_MOST;
+use terms::Filled;
+use terms::ListedReading;
 use terms::Verdict;
+use writing::write_accepted;
 ghost use Rattle.dqdimacs.specs.Reading.{ReadIs};
 ghost use Rattle.dqdimacs.specs.Stored.{WritesListed};
-
-// What reading a text answers: n and the counts of entries of the prefix, the clauses and the lists, or the number of the refusal and its place.
-pub enum Reading {
-    Read {
-        n: u32,
-        prefix: usize,
-        clauses: usize,
-        lists: usize,
-    },
-    Refused {
-        number: u32,
-        place: usize,
-    },
-}
+ghost use Rattle.formula.specs.Lent.{formulaIn};
 
 // Reads a text into three lent tables: n and the counts of entries, or the refusal. A first scan stores in tables of its own that no one sees,
 // so that nothing is written before it is known that the text is within the rules and that all three tables have room.
-pub fn read(text: &[u8], prefix: &mut [u32], clauses: &mut [i32], lists: &mut [u32]) -> Reading
-    ensures { λ r. ⌜ ReadIs (now (text .entry)) (now (prefix .entry), now (clauses .entry), now (lists .entry)) (now (prefix .exit), now (clauses .exit), now (lists .exit)) r ⌝ }
+pub fn read(
+    text: &[u8],
+    prefix: &mut [u32],
+    clauses: &mut [i32],
+    lists: &mut [u32],
+) -> ListedReading
+    ensures answered { λ r. ⌜ ReadIs (now (text .entry)) (now (prefix .entry), now (clauses .entry), now (lists .entry))
+        (now (prefix .exit), now (clauses .exit), now (lists .exit)) r ⌝ }
 {
     if TEXT_MOST < text.len() {
-        return Reading::Refused {
-            number: 15,
-            place: TEXT_MOST,
-        };
+        return ListedReading::Refused(15, TEXT_MOST);
     }
     let mut unseen_entries = [0u32; 1];
     let mut unseen_literals = [0i32; 1];
@@ -46,38 +38,29 @@ pub fn read(text: &[u8], prefix: &mut [u32], clauses: &mut [i32], lists: &mut [u
         &mut unseen_literals,
         &mut unseen_rows,
     ) {
-        Reading::Refused { number, place } => Reading::Refused { number, place },
-        Reading::Read {
+        ListedReading::Refused(number, place) => ListedReading::Refused(number, place),
+        ListedReading::Read {
             n: _,
             prefix: entries,
             clauses: literals,
             lists: rows,
         } => {
             if prefix.len() < entries {
-                return Reading::Refused {
-                    number: 14,
-                    place: 0,
-                };
+                return ListedReading::Refused(14, 0);
             }
             if clauses.len() < literals {
-                return Reading::Refused {
-                    number: 14,
-                    place: 0,
-                };
+                return ListedReading::Refused(14, 0);
             }
             if lists.len() < rows {
-                return Reading::Refused {
-                    number: 14,
-                    place: 0,
-                };
+                return ListedReading::Refused(14, 0);
             }
             scan(text, prefix, clauses, lists)
         }
     }
 }
 
-// Writes the text of a formula with dependency lists, its prefix as it is lent, into a lent buffer: refused as the check of lists refuses it under the
-// rule, where the text is too long, or where it does not fit.
+// Writes the text of a formula with dependency lists, its prefix as it is lent, into a lent buffer: refused as the check of lists refuses it under
+// the rule, where the text is too long, or where it does not fit.
 pub fn write(
     rule: u32,
     n: u32,
@@ -85,11 +68,11 @@ pub fn write(
     clauses: &[i32],
     lists: &[u32],
     out: &mut [u8],
-) -> Output
-    ensures { λ r. ⌜ WritesListed rule n (now (prefix .entry)) (now (clauses .entry)) (now (lists .entry)) (now (out .entry)) (now (out .exit)) r ⌝ }
+) -> Filled
+    ensures answered { λ r. ⌜ WritesListed rule (formulaIn n prefix clauses) (now (lists .entry)) (now (out .entry)) (now (out .exit)) r ⌝ }
 {
     match lists::check(rule, n, prefix, clauses, lists) {
-        Verdict::Refused(number, place) => Output::Refused { number, place },
+        Verdict::Refused(number, place) => Filled::Refused(number, place),
         Verdict::Accepted => write_accepted(n, prefix, clauses, lists, out),
     }
 }

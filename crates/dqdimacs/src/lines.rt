@@ -1,7 +1,7 @@
 // The lines of a text, one by one: list lines, and those of QDIMACS.
 
 use crate::Onward;
-use dqspelling::LETTER_D;
+use crate::writing::LETTER_D;
 use grammar::Stage;
 use grammar::Step;
 use grammar::tables::variables_at;
@@ -26,8 +26,9 @@ pub fn line_at(
     lists: &mut [u32],
     rows: usize,
 ) -> Onward
-    requires { ⌜ (at < length (now text)) × Few (entries, literals, rows) at × Sound stage ⌝ }
-    ensures { λ r. ⌜ OnwardIs listed stage (now (text .entry)) at (entries, literals, rows) (now (prefix .entry), now (clauses .entry), now (lists .entry)) (now (prefix .exit), now (clauses .exit), now (lists .exit)) r ⌝ }
+    requires within { ⌜ (at < length (now text)) × Few (entries, literals, rows) at × Sound stage ⌝ }
+    ensures steps { λ r. ⌜ OnwardIs listed stage (now (text .entry)) at (entries, literals, rows)
+        (now (prefix .entry), now (clauses .entry), now (lists .entry)) (now (prefix .exit), now (clauses .exit), now (lists .exit)) r ⌝ }
 {
     match list_mark(text, at, stage) {
         Spelt::Missing => plain_line(
@@ -57,7 +58,7 @@ pub fn line_at(
 
 // Whether a line begins with `d` where list lines may stand, and where it goes on. No byte of a line after the first clause line is looked at.
 fn list_mark(text: &[u8], at: usize, stage: Stage) -> Spelt
-    ensures { λ r. ⌜ ListMarkIs stage (now (text .entry)) at r ⌝ }
+    ensures marked { λ r. ⌜ ListMarkIs stage (now (text .entry)) at r ⌝ }
 {
     match stage {
         Stage::Opening => Spelt::Missing,
@@ -76,8 +77,8 @@ fn list_mark(text: &[u8], at: usize, stage: Stage) -> Spelt
 
 // The numbers of a list line, stored in the table of lists from a row on: at least y and the closing 0. The place is the one after the letter.
 fn list_at(text: &[u8], at: usize, lists: &mut [u32], from: usize) -> Row
-    requires { ⌜ from < at ⌝ }
-    ensures { λ r. ⌜ ListIs (now (text .entry)) at from (now (lists .entry)) (now (lists .exit)) r ⌝ }
+    requires behind { ⌜ from < at ⌝ }
+    ensures stored { λ r. ⌜ ListIs (now (text .entry)) at from (now (lists .entry)) (now (lists .exit)) r ⌝ }
 {
     match variables_at(text, at, lists, from) {
         Row::Broken => Row::Broken,
@@ -102,8 +103,9 @@ fn plain_line(
     literals: usize,
     rows: usize,
 ) -> Onward
-    requires { ⌜ (at < length (now text)) × Few (entries, literals, rows) at × Sound stage × Unlisted stage (now text) at ⌝ }
-    ensures { λ r. ⌜ PlainIs listed stage (now (text .entry)) at (entries, literals, rows) (now (prefix .entry), now (clauses .entry)) (now (prefix .exit), now (clauses .exit)) r ⌝ }
+    requires within { ⌜ (at < length (now text)) × Few (entries, literals, rows) at × Sound stage × Unlisted stage (now text) at ⌝ }
+    ensures steps { λ r. ⌜ PlainIs listed stage (now (text .entry)) at (entries, literals, rows)
+        (now (prefix .entry), now (clauses .entry)) (now (prefix .exit), now (clauses .exit)) r ⌝ }
 {
     match qdimacs::scanning::line_at(text, at, stage, prefix, entries, clauses, literals) {
         Step::Wrong(number) => Onward::Wrong(number),
@@ -130,7 +132,7 @@ fn plain_line(
 
 // Whether a line after a list line added to the prefix table.
 fn is_late(listed: bool, before: usize, after: usize) -> bool
-    ensures { λ r. ⌜ LateIs listed before after r ⌝ }
+    ensures told { λ r. ⌜ LateIs listed before after r ⌝ }
 {
     if before == after {
         return false;

@@ -1,15 +1,22 @@
 // The scan of a whole text, line by line, from stage to stage.
 
 use crate::Onward;
-use crate::Reading;
 use crate::lines::line_at;
 use grammar::Stage;
+use terms::ListedReading;
+use terms::Reading;
 ghost use Rattle.grammar.specs.Steps.{Sound};
 ghost use Rattle.dqdimacs.specs.Steps.{FinishIs, ScanIs};
 
 // Scans a whole text line by line, and stores what its lines add as far as the tables have rows: a short table only learns the counts.
-pub fn scan(text: &[u8], prefix: &mut [u32], clauses: &mut [i32], lists: &mut [u32]) -> Reading
-    ensures { λ r. ⌜ ScanIs (now (text .entry)) (now (prefix .entry), now (clauses .entry), now (lists .entry)) (now (prefix .exit), now (clauses .exit), now (lists .exit)) r ⌝ }
+pub fn scan(
+    text: &[u8],
+    prefix: &mut [u32],
+    clauses: &mut [i32],
+    lists: &mut [u32],
+) -> ListedReading
+    ensures scanned { λ r. ⌜ ScanIs (now (text .entry)) (now (prefix .entry), now (clauses .entry), now (lists .entry))
+        (now (prefix .exit), now (clauses .exit), now (lists .exit)) r ⌝ }
 {
     let mut at = 0;
     let mut listed = false;
@@ -31,7 +38,7 @@ pub fn scan(text: &[u8], prefix: &mut [u32], clauses: &mut [i32], lists: &mut [u
             rows,
         ) {
             Onward::Wrong(number) => {
-                return Reading::Refused { number, place: at };
+                return ListedReading::Refused(number, at);
             }
             Onward::On {
                 listed: listed_now,
@@ -53,18 +60,18 @@ pub fn scan(text: &[u8], prefix: &mut [u32], clauses: &mut [i32], lists: &mut [u
     finish(stage, at, entries, literals, rows)
 }
 
-// What the end of a text makes of the stage that its lines led to: the same as in QDIMACS.
-fn finish(stage: Stage, at: usize, entries: usize, literals: usize, rows: usize) -> Reading
-    requires { ⌜ Sound stage ⌝ }
-    ensures { λ r. ⌜ FinishIs stage at (entries, literals, rows) r ⌝ }
+// What the end of a text makes of the stage that its lines led to: list lines change nothing of what is missing then.
+fn finish(stage: Stage, at: usize, entries: usize, literals: usize, rows: usize) -> ListedReading
+    requires sound { ⌜ Sound stage ⌝ }
+    ensures finished { λ r. ⌜ FinishIs stage at (entries, literals, rows) r ⌝ }
 {
     match qdimacs::scanning::finish(stage, at, entries, literals) {
-        qdimacs::Reading::Refused { number, place } => Reading::Refused { number, place },
-        qdimacs::Reading::Read {
+        Reading::Refused(number, place) => ListedReading::Refused(number, place),
+        Reading::Read {
             n,
             prefix: _,
             clauses: _,
-        } => Reading::Read {
+        } => ListedReading::Read {
             n,
             prefix: entries,
             clauses: literals,

@@ -21,7 +21,8 @@ pub partly-none : (whole buffer : List ℕ) (at : ℕ) → Partly whole whole bu
 partly-none whole buffer at = record { bytes = []; is = refl; wrote = wrote-none buffer at }
 
 module _ {whole left before now : List ℕ} {at next : ℕ} (partly : Partly whole left before now at next) where
-  pub partly-more : {xs left′ now′ : List ℕ} {next′ : ℕ} → left ≡ xs ++ left′ → Wrote xs now now′ next next′ → Partly whole left′ before now′ at next′
+  pub partly-more : {xs left′ now′ : List ℕ} {next′ : ℕ} → left ≡ xs ++ left′ → Wrote xs now now′ next next′
+      → Partly whole left′ before now′ at next′
   partly-more {xs} {left′} split w =
       record {
         bytes = partly .bytes ++ xs;
@@ -30,7 +31,9 @@ module _ {whole left before now : List ℕ} {at next : ℕ} (partly : Partly who
       }
 
   pub partly-all : left ≡ [] → Wrote whole before now at next
-  partly-all none = subst (λ (xs : List ℕ). Wrote xs before now at next) (sym (partly .is ∙ ap (λ (rest : List ℕ). partly .bytes ++ rest) none ∙ append-nil (partly .bytes))) (partly .wrote)
+  partly-all none =
+      subst (λ (xs : List ℕ). Wrote xs before now at next)
+      (sym (partly .is ∙ ap (λ (rest : List ℕ). partly .bytes ++ rest) none ∙ append-nil (partly .bytes))) (partly .wrote)
 
   pub partly-near : next + length left ≡ at + length whole
   partly-near =
@@ -54,9 +57,12 @@ number-over zero rest h = refl
 number-over (suc left) rest h = let no : ⊥ = omega arith in absurd no
 
 -- a table entry by entry
-pub numbers-step : (width : ℕ) (numbers : List ℕ) (i : ℕ) → i < length numbers → bytesOf width (drop i numbers) ≡ numberBytes width (getD numbers i 0) ++ bytesOf width (drop (i + 1) numbers)
+pub numbers-step : (width : ℕ) (numbers : List ℕ) (i : ℕ) → i < length numbers
+    → bytesOf width (drop i numbers) ≡ numberBytes width (getD numbers i 0) ++ bytesOf width (drop (i + 1) numbers)
 unfolding bytesOf
-numbers-step width numbers i h = ap (bytesOf width) (drop-cons numbers i 0 h) ∙ ap (λ (k : ℕ). numberBytes width (getD numbers i 0) ++ bytesOf width (drop k numbers)) (sym (add-one i))
+numbers-step width numbers i h =
+    ap (bytesOf width) (drop-cons numbers i 0 h)
+    ∙ ap (λ (k : ℕ). numberBytes width (getD numbers i 0) ++ bytesOf width (drop k numbers)) (sym (add-one i))
 
 pub numbers-over : (width : ℕ) (numbers : List ℕ) (i : ℕ) → length numbers ≤ i → bytesOf width (drop i numbers) ≡ []
 unfolding bytesOf
@@ -66,9 +72,12 @@ numbers-over width numbers i h = ap (bytesOf width) (drop-of-length-le numbers h
 abbrev pub literalsBytes : List ℤ → List ℕ
 literalsBytes ls = bytesOf 4 (map literalNumber ls)
 
-pub literals-step : (ls : List ℤ) (i : ℕ) → i < length ls → literalsBytes (drop i ls) ≡ numberBytes 4 (literalNumber (getD ls i (pos 0))) ++ literalsBytes (drop (i + 1) ls)
+pub literals-step : (ls : List ℤ) (i : ℕ) → i < length ls
+    → literalsBytes (drop i ls) ≡ numberBytes 4 (literalNumber (getD ls i (pos 0))) ++ literalsBytes (drop (i + 1) ls)
 unfolding bytesOf
-literals-step ls i h = ap literalsBytes (drop-cons ls i (pos 0) h) ∙ ap (λ (k : ℕ). numberBytes 4 (literalNumber (getD ls i (pos 0))) ++ literalsBytes (drop k ls)) (sym (add-one i))
+literals-step ls i h =
+    ap literalsBytes (drop-cons ls i (pos 0) h)
+    ∙ ap (λ (k : ℕ). numberBytes 4 (literalNumber (getD ls i (pos 0))) ++ literalsBytes (drop k ls)) (sym (add-one i))
 
 pub literals-over : (ls : List ℤ) (i : ℕ) → length ls ≤ i → literalsBytes (drop i ls) ≡ []
 unfolding bytesOf

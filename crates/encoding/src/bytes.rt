@@ -1,18 +1,20 @@
 // Numbers and literals as bytes, stored in a lent table from a place on as far as it has room, and the place after them.
 
+use records::Record;
 use records::numbers::literal_number;
 use spelling::bytes::put_byte;
 ghost use Prim.Native.Nat.{_<_, _≤_};
 ghost use mathlib.Core.List.{map};
 ghost use lib.ListN.{length};
+ghost use Rattle.terms.specs.Limits.{prefixEntries, clauseEntries};
 ghost use Rattle.spelling.specs.Bytes.{Wrote};
 ghost use Rattle.records.specs.Numbers.{numberBytes, bytesOf, literalNumber};
 ghost use Rattle.encoding.specs.Parts.{headBytes};
 
 // So many bytes of a number, the lowest first.
 pub fn put_number(out: &mut [u8], at: usize, width: u32, number: u32) -> usize
-    requires { ⌜ (at < 2097152) × (width ≤ 4) ⌝ }
-    ensures { λ r. ⌜ Wrote (numberBytes width number) (now (out .entry)) (now (out .exit)) at r ⌝ }
+    requires near { ⌜ (at < 2097152) × (width ≤ 4) ⌝ }
+    ensures wrote { λ r. ⌜ Wrote (numberBytes width number) (now (out .entry)) (now (out .exit)) at r ⌝ }
 {
     let mut next = at;
     let mut left = width;
@@ -27,8 +29,8 @@ pub fn put_number(out: &mut [u8], at: usize, width: u32, number: u32) -> usize
 
 // Numbers one after the other, each of so many bytes.
 pub fn put_numbers(out: &mut [u8], at: usize, width: u32, numbers: &[u32]) -> usize
-    requires { ⌜ (at < 1048576) × (width ≤ 4) × (length (now numbers) ≤ 8192) ⌝ }
-    ensures { λ r. ⌜ Wrote (bytesOf width (now (numbers .entry))) (now (out .entry)) (now (out .exit)) at r ⌝ }
+    requires near { ⌜ (at < 1048576) × (width ≤ 4) × (length (now numbers) ≤ prefixEntries) ⌝ }
+    ensures wrote { λ r. ⌜ Wrote (bytesOf width (now (numbers .entry))) (now (out .entry)) (now (out .exit)) at r ⌝ }
 {
     let mut next = at;
     let mut i = 0;
@@ -41,8 +43,8 @@ pub fn put_numbers(out: &mut [u8], at: usize, width: u32, numbers: &[u32]) -> us
 
 // Literals one after the other, each of four bytes.
 pub fn put_literals(out: &mut [u8], at: usize, clauses: &[i32]) -> usize
-    requires { ⌜ (at < 1048576) × (length (now clauses) ≤ 16384) ⌝ }
-    ensures { λ r. ⌜ Wrote (bytesOf 4 (map literalNumber (now (clauses .entry)))) (now (out .entry)) (now (out .exit)) at r ⌝ }
+    requires near { ⌜ (at < 1048576) × (length (now clauses) ≤ clauseEntries) ⌝ }
+    ensures wrote { λ r. ⌜ Wrote (bytesOf 4 (map literalNumber (now (clauses .entry)))) (now (out .entry)) (now (out .exit)) at r ⌝ }
 {
     let mut next = at;
     let mut i = 0;
@@ -54,11 +56,11 @@ pub fn put_literals(out: &mut [u8], at: usize, clauses: &[i32]) -> usize
     next
 }
 
-// The head of a record.
-pub fn put_head(out: &mut [u8], at: usize, size: u32, kind: u32) -> usize
-    requires { ⌜ at < 1048576 ⌝ }
-    ensures { λ r. ⌜ Wrote (headBytes size kind) (now (out .entry)) (now (out .exit)) at r ⌝ }
+// The head of a record: the length of its payload in four bytes, and its kind in two.
+pub fn put_head(out: &mut [u8], at: usize, head: Record) -> usize
+    requires near { ⌜ at < 1048576 ⌝ }
+    ensures wrote { λ r. ⌜ Wrote (headBytes (head .size) (head .kind)) (now (out .entry)) (now (out .exit)) at r ⌝ }
 {
-    let next = put_number(out, at, 4, size);
-    put_number(out, next, 2, kind)
+    let next = put_number(out, at, 4, head.size);
+    put_number(out, next, 2, head.kind)
 }

@@ -11,10 +11,12 @@ use lib.Dec.{eqb, leb}
 use lib.IntN.{ℤ, pos, negsuc, negℤ}
 use lib.ListN.{length, getD, take}
 use Rattle.terms.specs.Literals.{variableOf}
-use Rattle.terms.specs.Refusals.{At0, None, NoneOf}
-use Rattle.terms.proofs.Common.{clash}
+use Rattle.terms.specs.Refusals.{None, NoneOf}
+use Rattle.terms.specs.declared.Expanded.{Expanded}
+use Rattle.terms.proofs.Common.{clash, by-test}
 use Rattle.terms.proofs.Verdicts.{at0-none}
-use Rattle.formula.specs.Causes.{ClauseCause, checkOrder}
+use Rattle.formula.specs.Causes.{ClauseCause}
+use Rattle.formula.specs.Lent.{Formula, formulaOf}
 use Rattle.formula.specs.Levels.{SoundPrefix}
 use Rattle.formula.specs.Meaning.{has, isZero, clauses}
 use Rattle.formula.specs.Scan.{IsMark}
@@ -22,23 +24,21 @@ use Rattle.formula.specs.Tables.{literalAt, cut, push}
 use Rattle.formula.proofs.Accepts.{prefixPasses, clausesPass, accepts}
 use Rattle.formula.proofs.Sound.{sound-prefix}
 use Rattle.joining.specs.Joined.{joinedPrefix}
-use Rattle.joining.specs.Rules.{readAs, NoRule, ruledPrefix, checkOrderUnder}
+use Rattle.joining.specs.Rules.{readAs, readBy, ruledPrefix, checkOrder}
 use Rattle.joining.specs.Writing.{closing}
 use Rattle.joining.proofs.Scanned.{mark-some}
-use Rattle.joining.proofs.Passing.{startsZero, Passes, no-more, begin, go-on, close-block, name, passes, by-test}
+use Rattle.joining.proofs.Passing.{startsZero, Passes, no-more, begin, go-on, close-block, name, passes}
 use Rattle.joining.proofs.Rest.{old-mark}
 use Rattle.joining.proofs.Short.{joined-short}
 use Rattle.joining.proofs.Accepted.{good-mark, both-true, joined-accepted}
 use Rattle.joining.proofs.Orders.{accepted-two}
 use Rattle.joining.proofs.Agreement.{also-accepted, both-accept}
 use Rattle.copying.specs.Expansion.{copyFrom, copyOf, withCopy, expandedPrefix, without, renamed, named, hasCopy, copies, expandedList, clauseTable, expandedClauses}
-use Rattle.expansion.specs.declared.Expanded.the-variants.{Formula}
-use Rattle.expansion.specs.Promise.{prefixBy, clausesBy, Expands}
+use Rattle.expansion.specs.Promise.{ResultTables, expandedBy, ManyVariables, Long, Expands}
 use Rattle.expansion.specs.Writing.{beginning}
 use Rattle.expansion.proofs.Blocking.{begin-none, begin-new}
 use Rattle.expansion.proofs.Laying.{left, left-expanded}
-use Rattle.expansion.proofs.Finding.{in-front}
-use Rattle.expansion.proofs.Outcome.{copy-number}
+use Rattle.expansion.proofs.Outcome.{in-front, copy-number}
 
 -- Copies as they are numbered: over the n variables and within the new count, and no two variables have one.
 pub record Distinct (n most : ℕ) (copy : ℕ → ℕ) : Type 0 where
@@ -52,7 +52,8 @@ unfolding copyFrom
 from-over next [] v some = absurd (some refl)
 from-over next (member ∷ members) v some = by (eqb member v) some (from-over (suc next) members v)
   where
-    by : (b : Bool) → cond b next (copyFrom (suc next) members v) ≢ 0 → (copyFrom (suc next) members v ≢ 0 → suc next ≤ copyFrom (suc next) members v) → next ≤ cond b next (copyFrom (suc next) members v)
+    by : (b : Bool) → cond b next (copyFrom (suc next) members v) ≢ 0 → (copyFrom (suc next) members v ≢ 0 → suc next ≤ copyFrom (suc next) members v)
+        → next ≤ cond b next (copyFrom (suc next) members v)
     by true some on = omega arith
     by false some on = omega (arith, on some)
 
@@ -61,7 +62,8 @@ unfolding copyFrom
 from-one next [] v w some q = absurd (some refl)
 from-one next (member ∷ members) v w some q = by (eqb member v) (eqb member w) refl refl some q (from-one (suc next) members v w)
   where
-    by : (a b : Bool) → eqb member v ≡ a → eqb member w ≡ b → cond a next (copyFrom (suc next) members v) ≢ 0 → cond a next (copyFrom (suc next) members v) ≡ cond b next (copyFrom (suc next) members w)
+    by : (a b : Bool) → eqb member v ≡ a → eqb member w ≡ b → cond a next (copyFrom (suc next) members v) ≢ 0
+        → cond a next (copyFrom (suc next) members v) ≡ cond b next (copyFrom (suc next) members w)
         → (copyFrom (suc next) members v ≢ 0 → copyFrom (suc next) members v ≡ copyFrom (suc next) members w → v ≡ w) → v ≡ w
     by true true e f some q on = sym (eqb-true member v e) ∙ eqb-true member w f
     by true false e f some q on = absurd (omega (arith, q, from-over (suc next) members w (λ z. some (q ∙ z))))
@@ -104,7 +106,8 @@ module _ {n most : ℕ} {copy : ℕ → ℕ} (distinct : Distinct n most copy) w
     fresh-copy c =
         has-other v (copy v) written (λ q. omega (arith, low, distinct .over v c, q))
         ∙ by-test (has written (copy v))
-        (λ t. ⊎-elim (λ old. absurd (omega (arith, s .low (copy v) old, distinct .over v c))) (λ w. let (u, old, q, _) = w in absurd (clash old (ap (has names) (sym (distinct .one v u c (sym q))) ∙ new))) (s .each (copy v) t))
+        (λ t. ⊎-elim (λ old. absurd (omega (arith, s .low (copy v) old, distinct .over v c)))
+        (λ w. let (u, old, q, _) = w in absurd (clash old (ap (has names) (sym (distinct .one v u c (sym q))) ∙ new))) (s .each (copy v) t))
         (λ f. f)
 
     -- x is named and not written
@@ -126,14 +129,17 @@ module _ {n most : ℕ} {copy : ℕ → ℕ} (distinct : Distinct n most copy) w
     copy-written c =
         record {
           low = named-only .low;
-          each = λ w t. by-cases (ℕ-discrete (copy v) w) (λ q. inr (v, has-same v v names refl, q, λ z. c (q ∙ z))) (λ other. variable-written .each w (sym (has-other (copy v) w (v ∷ written) other) ∙ t));
+          each = λ w t. by-cases (ℕ-discrete (copy v) w) (λ q. inr (v, has-same v v names refl, q, λ z. c (q ∙ z)))
+              (λ other. variable-written .each w (sym (has-other (copy v) w (v ∷ written) other) ∙ t));
         }
 
   -- one variable passes the test
-  pass-one : (v : ℕ) (more : List ℕ) (fresh : Bool) (mark count : ℕ) (written : List ℕ) → v ≢ 0 → v ≤ most → has written v ≡ false → prefixPasses most more false false mark count (v ∷ written) ≡ true → prefixPasses most (v ∷ more) false fresh mark count written ≡ true
+  pass-one : (v : ℕ) (more : List ℕ) (fresh : Bool) (mark count : ℕ) (written : List ℕ) → v ≢ 0 → v ≤ most → has written v ≡ false
+      → prefixPasses most more false false mark count (v ∷ written) ≡ true → prefixPasses most (v ∷ more) false fresh mark count written ≡ true
   unfolding prefixPasses
   pass-one v more fresh mark count written some low new on =
-      ap (λ b. cond b (not fresh && prefixPasses most more true false mark count written) (leb v most && not (has written v) && prefixPasses most more false false mark count (v ∷ written))) (ne-eqb v 0 some)
+      ap (λ b. cond b (not fresh && prefixPasses most more true false mark count written)
+      (leb v most && not (has written v) && prefixPasses most more false false mark count (v ∷ written))) (ne-eqb v 0 some)
       ∙ both-true (both-true (le-leb v most low) (ap not new)) on
 
   -- and so does a mark, behind the 0 that closes the block before
@@ -146,7 +152,8 @@ module _ {n most : ℕ} {copy : ℕ → ℕ} (distinct : Distinct n most copy) w
 
   -- A variable with its copy passes.
   module _ {names written : List ℕ} (s : Written names written) (v : ℕ) (some : v ≢ 0) (low : v ≤ n) (new : has names v ≡ false) (more : List ℕ) (mark : ℕ) where
-    pass-placed : (fresh : Bool) (count : ℕ) → ((after : List ℕ) → Written (v ∷ names) after → prefixPasses most more false false mark count after ≡ true) → prefixPasses most (withCopy copy v ++ more) false fresh mark count written ≡ true
+    pass-placed : (fresh : Bool) (count : ℕ) → ((after : List ℕ) → Written (v ∷ names) after
+        → prefixPasses most more false false mark count after ≡ true) → prefixPasses most (withCopy copy v ++ more) false fresh mark count written ≡ true
     unfolding withCopy
     pass-placed fresh count on = by-test (eqb (copy v) 0) alone both
       where
@@ -162,7 +169,8 @@ module _ {n most : ℕ} {copy : ℕ → ℕ} (distinct : Distinct n most copy) w
         both f =
             let c = eqb-false (copy v) 0 f in
             ap (λ b. prefixPasses most (cond b (v ∷ []) (v ∷ copy v ∷ []) ++ more) false fresh mark count written) f
-            ∙ first (copy v ∷ more) (pass-one (copy v) more false mark count (v ∷ written) c (distinct .within v) (fresh-copy s v some low new c) (on (copy v ∷ v ∷ written) (copy-written s v some low new c)))
+            ∙ first (copy v ∷ more) (pass-one (copy v) more false mark count (v ∷ written) c (distinct .within v) (fresh-copy s v some low new c)
+            (on (copy v ∷ v ∷ written) (copy-written s v some low new c)))
 
     -- So it does where its block goes on, and where it begins.
     pass-on : (last count : ℕ) → mark ≡ last → mark ≢ 0 → ((after : List ℕ) → Written (v ∷ names) after → prefixPasses most more false false mark count after ≡ true)
@@ -202,15 +210,19 @@ module _ {n most : ℕ} {copy : ℕ → ℕ} (distinct : Distinct n most copy) w
     unfolding left startsZero
     went last count names more v some low new on mark wlast wcount written good (inr t) b s = absurd (some (eqb-true v 0 t))
     went last count names more v some low new on mark wlast wcount written good (inl same) b s =
-        ap (λ e. prefixPasses most (cond e (left x copy true mark wlast more) (cond (eqb v x) (left x copy false mark wlast more) (beginning mark wlast ++ (withCopy copy v ++ left x copy false mark mark more)))) (eqb wlast 0) false wlast wcount written) (ne-eqb v 0 some)
+        ap (λ e. prefixPasses most (cond e (left x copy true mark wlast more)
+        (cond (eqb v x) (left x copy false mark wlast more) (beginning mark wlast ++ (withCopy copy v ++ left x copy false mark mark more)))) (eqb
+        wlast 0) false wlast wcount written) (ne-eqb v 0 some)
         ∙ by-test (eqb v x) gone stays
       where
         m : mark ≢ 0
         m = mark-some mark good
 
-        gone : eqb v x ≡ true → prefixPasses most (cond (eqb v x) (left x copy false mark wlast more) (beginning mark wlast ++ (withCopy copy v ++ left x copy false mark mark more))) (eqb wlast 0) false wlast wcount written ≡ true
+        gone : eqb v x ≡ true → prefixPasses most (cond (eqb v x) (left x copy false mark wlast more)
+            (beginning mark wlast ++ (withCopy copy v ++ left x copy false mark mark more))) (eqb wlast 0) false wlast wcount written ≡ true
         gone t =
-            ap (λ e. prefixPasses most (cond e (left x copy false mark wlast more) (beginning mark wlast ++ (withCopy copy v ++ left x copy false mark mark more))) (eqb wlast 0) false wlast wcount written) t
+            ap (λ e. prefixPasses most (cond e (left x copy false mark wlast more)
+            (beginning mark wlast ++ (withCopy copy v ++ left x copy false mark mark more))) (eqb wlast 0) false wlast wcount written) t
             ∙ on mark wlast wcount written good (inl same) b (named-only s v some low new)
 
         -- behind its own mark
@@ -226,9 +238,11 @@ module _ {n most : ℕ} {copy : ℕ → ℕ} (distinct : Distinct n most copy) w
             let few = b .few in
             pass-begun s v some low new (left x copy false mark mark more) mark wlast wcount other good (λ z. omega arith) (next (suc wcount) l)
 
-        stays : eqb v x ≡ false → prefixPasses most (cond (eqb v x) (left x copy false mark wlast more) (beginning mark wlast ++ (withCopy copy v ++ left x copy false mark mark more))) (eqb wlast 0) false wlast wcount written ≡ true
+        stays : eqb v x ≡ false → prefixPasses most (cond (eqb v x) (left x copy false mark wlast more)
+            (beginning mark wlast ++ (withCopy copy v ++ left x copy false mark mark more))) (eqb wlast 0) false wlast wcount written ≡ true
         stays f =
-            ap (λ e. prefixPasses most (cond e (left x copy false mark wlast more) (beginning mark wlast ++ (withCopy copy v ++ left x copy false mark mark more))) (eqb wlast 0) false wlast wcount written) f
+            ap (λ e. prefixPasses most (cond e (left x copy false mark wlast more)
+            (beginning mark wlast ++ (withCopy copy v ++ left x copy false mark mark more))) (eqb wlast 0) false wlast wcount written) f
             ∙ laid (ℕ-discrete mark wlast)
 
     goes : {opening : Bool} {last count : ℕ} {names es : List ℕ} → Passes n opening last count names es → Goes opening last count names es
@@ -276,7 +290,8 @@ clauses-low : {n : ℕ} (ls : List ℤ) → None (ClauseCause n ls) → AllLow n
 unfolding clauses
 clauses-low {n} ls none =
     cut-low n ls
-    (low-table ls (λ e l. by-cases (decLe (variableOf (literalAt ls e)) n) (λ low. low) (λ over. absurd (none 10 e (ClauseCause.outside refl l (λ z. let q = ap variableOf z in omega arith) (omega arith))))))
+    (low-table ls (λ e l. by-cases (decLe (variableOf (literalAt ls e)) n) (λ low. low)
+    (λ over. absurd (none 10 e (ClauseCause.outside refl l (λ z. let q = ap variableOf z in omega arith) (omega arith))))))
 
 module _ {n most : ℕ} {copy : ℕ → ℕ} (distinct : Distinct n most copy) where
   negated : (k : ℕ) → k ≤ most → variableOf (negℤ (pos k)) ≤ most
@@ -337,15 +352,21 @@ module _ {n most : ℕ} {copy : ℕ → ℕ} (distinct : Distinct n most copy) w
   unfolding expandedClauses expandedList
   clauses-pass x ls none =
       let all = clauses-low ls none in
-      table-passes (copies false x copy (clauses ls) ++ copies true x copy (clauses ls)) (append-low (copies false x copy (clauses ls)) (copies true x copy (clauses ls)) (copies-low false x (clauses ls) all) (copies-low true x (clauses ls) all))
+      table-passes (copies false x copy (clauses ls) ++ copies true x copy (clauses ls))
+      (append-low (copies false x copy (clauses ls)) (copies true x copy (clauses ls)) (copies-low false x (clauses ls) all)
+      (copies-low true x (clauses ls) all))
 
 -- An accepted formula expanded by the copies of some members, within the limits, is accepted.
-expanded-accepted : {n : ℕ} {es : List ℕ} {ls : List ℤ} (x : ℕ) (members : List ℕ) → SoundPrefix n es → None (ClauseCause n ls) → n + length members ≤ 4096
-    → length (expandedPrefix x (copyOf n members) es) ≤ 8192 → length (expandedClauses x (copyOf n members) ls) ≤ 16384
-    → NoneOf (checkOrder (n + length members) (expandedPrefix x (copyOf n members) es) (expandedClauses x (copyOf n members) ls))
-expanded-accepted {n} {es} {ls} x members sound low few short small =
-    accepts (n + length members) (expandedPrefix x (copyOf n members) es) (expandedClauses x (copyOf n members) ls) few short small
-    (prefix-passes (numbered n members) x sound) (clauses-pass (numbered n members) x ls low)
+expanded-accepted : (f : Formula) (x : ℕ) (members : List ℕ) → SoundPrefix (f .n) (f .prefix) → None (ClauseCause (f .n) (f .clauses))
+    → ¬ ManyVariables (expandedBy f x members) → ¬ Long (expandedBy f x members) → NoneOf (checkOrder 1 (expandedBy f x members))
+expanded-accepted f x members sound low few short =
+    let g = expandedBy f x members in
+    let fits : ¬ (8192 < length (g .prefix)) = λ over. short (inl over) in
+    let small : ¬ (16384 < length (g .clauses)) = λ over. short (inr over) in
+    let passes′ = prefix-passes (numbered (f .n) members) x sound in (
+      at0-none 23 (λ w. w .0 refl),
+      accepts (g .n) (g .prefix) (g .clauses) (omega arith) (omega arith) (omega arith) passes′ (clauses-pass (numbered (f .n) members) x (f .clauses) low),
+    )
 
 -- The prefix as a rule reads it is sound where the rule accepts it.
 read-sound : (rule n : ℕ) (es : List ℕ) (entries : ℕ) → NoneOf (ruledPrefix rule n es entries) → SoundPrefix n (readAs rule es)
@@ -361,30 +382,35 @@ read-sound rule n es entries none = by-cases (ℕ-discrete rule 1) one other
         let fits : length (joinedPrefix es) ≤ 8192 = omega (arith, joined-short few faultless) in
         subst (λ (r : ℕ). SoundPrefix n (readAs r es)) (sym is) (record { few = few; short = fits; faultless = joined-accepted few fits faultless })
 
--- What both rules say of a formula that check accepts as it stands.
-both-rules : (n : ℕ) (es : List ℕ) (ls : List ℤ) → NoneOf (checkOrder n es ls) → NoneOf (checkOrderUnder 1 n es ls) × NoneOf (checkOrderUnder 2 n es ls)
-both-rules n es ls none =
-    let rule : None (At0 23 (NoRule 1)) = at0-none 23 (λ w. w .0 refl) in
-    let two = both-accept n es (length ls) (rule, (none .0, (none .1 .0, (none .1 .1 .0, tt)))) .0 in
-    ((rule, none), (two .0, (two .1 .0, (two .1 .1 .0, (two .1 .1 .1 .0, (none .1 .1 .1 .0, tt))))))
+-- A formula that rule 1 accepts, rule 2 does.
+other-rule : (g : Formula) → NoneOf (checkOrder 1 g) → NoneOf (checkOrder 2 g)
+other-rule g none =
+    let two = both-accept (g .n) (g .prefix) (length (g .clauses)) (none .0, (none .1 .0, (none .1 .1 .0, (none .1 .1 .1 .0, tt)))) .0 in
+    (two .0, (two .1 .0, (two .1 .1 .0, (two .1 .1 .1 .0, (none .1 .1 .1 .1 .0, tt)))))
+
+-- The formula that stands in front in the tables.
+abbrev pub written : ResultTables → ℕ → ℕ → ℕ → Formula
+written out count entries literals = formulaOf count (take entries (out .prefix)) (take literals (out .clauses))
 
 -- So what the call writes where it accepts is a formula that check accepts, under rule 1 as under rule 2.
-pub result-accepted : (rule n : ℕ) (es : List ℕ) (ls : List ℤ) (x : ℕ) (out out′ : List ℕ) (outs outs′ : List ℤ) (count entries literals : ℕ) → Expands rule n es ls x out out′ outs outs′ (Formula count entries literals)
-    → NoneOf (checkOrderUnder 1 count (take entries out′) (take literals outs′)) × NoneOf (checkOrderUnder 2 count (take entries out′) (take literals outs′))
-result-accepted rule n es ls x out out′ outs outs′ count entries literals (none, (members, set, leaves)) =
-    let read = readAs rule es in
-    let blocks = prefixBy n read x members in
-    let table = clausesBy n ls x members in
-    let sound = read-sound rule n es (length ls) (none .0, (none .1 .0, (none .1 .1 .0, (none .1 .1 .1 .0, tt)))) in
-    let few : ¬ (4096 < n + length members) = λ over. none .1 .1 .1 .1 .1 .1 .0 1 0 (refl, refl, (members, set, over)) in
-    let short : ¬ (8192 < length blocks) = λ over. none .1 .1 .1 .1 .1 .1 .1 .0 2 0 (refl, refl, (members, set, inl over)) in
-    let small : ¬ (16384 < length table) = λ over. none .1 .1 .1 .1 .1 .1 .1 .0 2 0 (refl, refl, (members, set, inr over)) in
-    let room : ¬ (length out < length blocks) = λ l. none .1 .1 .1 .1 .1 .1 .1 .1 .0 14 0 (refl, refl, (members, set, inl l)) in
-    let rooms : ¬ (length outs < length table) = λ l. none .1 .1 .1 .1 .1 .1 .1 .1 .0 14 0 (refl, refl, (members, set, inr l)) in
-    let accepted : NoneOf (checkOrder (n + length members) blocks table) = expanded-accepted x members sound (none .1 .1 .1 .1 .0) (omega arith) (omega arith) (omega arith) in
-    let front : take entries out′ ≡ blocks = ap (λ (k : ℕ). take k out′) (leaves .entries-is) ∙ ap (take (length blocks)) (leaves .prefix-is) ∙ in-front blocks out (omega arith) in
-    let fronts : take literals outs′ ≡ table = ap (λ (k : ℕ). take k outs′) (leaves .literals-is) ∙ ap (take (length table)) (leaves .clauses-is) ∙ in-front table outs (omega arith) in
-    both-rules count (take entries out′) (take literals outs′)
-    (subst (λ (k : ℕ). NoneOf (checkOrder k (take entries out′) (take literals outs′))) (sym (leaves .count-is))
-    (subst (λ (r : List ℕ). NoneOf (checkOrder (n + length members) r (take literals outs′))) (sym front)
-    (subst (λ (r : List ℤ). NoneOf (checkOrder (n + length members) blocks r)) (sym fronts) accepted)))
+pub result-accepted : (rule : ℕ) (f : Formula) (x : ℕ) (out out′ : ResultTables) (count entries literals : ℕ)
+    → Expands rule f x out out′ (Expanded.Formula count entries literals)
+    → NoneOf (checkOrder 1 (written out′ count entries literals)) × NoneOf (checkOrder 2 (written out′ count entries literals))
+result-accepted rule f x out out′ count entries literals (none, (members, set, leaves)) =
+    let read = readBy rule f in
+    let g = expandedBy read x members in
+    let sound = read-sound rule (f .n) (f .prefix) (length (f .clauses)) (none .0, (none .1 .0, (none .1 .1 .0, (none .1 .1 .1 .0, tt)))) in
+    let behind = none .1 .1 .1 .1 .1 .1 in
+    let few : ¬ ManyVariables g = λ over. behind .0 1 0 (refl, refl, (members, set, over)) in
+    let short : ¬ Long g = λ over. behind .1 .0 2 0 (refl, refl, (members, set, over)) in
+    let room : ¬ (length (out .prefix) < length (g .prefix)) = λ l. behind .1 .1 .0 14 0 (refl, refl, (members, set, inl l)) in
+    let rooms : ¬ (length (out .clauses) < length (g .clauses)) = λ l. behind .1 .1 .0 14 0 (refl, refl, (members, set, inr l)) in
+    let accepted = expanded-accepted read x members sound (none .1 .1 .1 .1 .0) few short in
+    let front : take entries (out′ .prefix) ≡ g .prefix =
+    ap (λ (k : ℕ). take k (out′ .prefix)) (leaves .entries-is) ∙ ap (take (length (g .prefix))) (leaves .prefix-is)
+    ∙ in-front (g .prefix) (out .prefix) (omega arith) in
+    let fronts : take literals (out′ .clauses) ≡ g .clauses =
+    ap (λ (k : ℕ). take k (out′ .clauses)) (leaves .literals-is) ∙ ap (take (length (g .clauses))) (leaves .clauses-is)
+    ∙ in-front (g .clauses) (out .clauses) (omega arith) in
+    let same : g ≡ written out′ count entries literals = λ i. formulaOf (sym (leaves .count-is) i) (sym front i) (sym fronts i) in
+    subst (λ (h : Formula). NoneOf (checkOrder 1 h) × NoneOf (checkOrder 2 h)) same (accepted, other-rule g accepted)

@@ -17,7 +17,8 @@ use Rattle.formula.specs.Tables.{at, cut, push}
 use Rattle.joining.specs.Joined.{inFront, joinedBlocks, tableOf}
 use Rattle.joining.specs.Writing.{closing}
 use Rattle.joining.proofs.Scanned.{mark-some}
-use Rattle.joining.proofs.Passing.{Passes, no-more, begin, go-on, close-block, name, passes, by-test}
+use Rattle.joining.proofs.Passing.{Passes, no-more, begin, go-on, close-block, name, passes}
+use Rattle.terms.proofs.Common.{by-test}
 use Rattle.joining.proofs.Rest.{laid, laid-new, laid-same, blocks-cons}
 use Rattle.joining.proofs.Agreement.{also-accepted}
 use Rattle.copying.specs.Expansion.{withCopy, placed, expandedBlock, expandedPrefix}
@@ -92,12 +93,16 @@ module _ (x : ℕ) (copy : ℕ → ℕ) where
             ∙ by-test (eqb v x) (gone mark last m) (stays mark last m);
       }
     where
-      gone : (mark last : ℕ) → mark ≢ 0 → eqb v x ≡ true → cond (eqb v x) (left false mark last more) (beginning mark last ++ (withCopy copy v ++ left false mark mark more)) ≡ laid last (inFront (mark ∷ cond (eqb v x) (placed x copy (s .variables)) (withCopy copy v ++ placed x copy (s .variables))) (expanded (s .later)))
+      gone : (mark last : ℕ) → mark ≢ 0 → eqb v x ≡ true → cond (eqb v x) (left false mark last more)
+          (beginning mark last ++ (withCopy copy v ++ left false mark mark more)) ≡ laid last
+          (inFront (mark ∷ cond (eqb v x) (placed x copy (s .variables)) (withCopy copy v ++ placed x copy (s .variables))) (expanded (s .later)))
       gone mark last m t =
           ap (λ b. cond b (left false mark last more) (beginning mark last ++ (withCopy copy v ++ left false mark mark more))) t ∙ s .written mark last m
           ∙ sym (ap (λ b. laid last (inFront (mark ∷ cond b (placed x copy (s .variables)) (withCopy copy v ++ placed x copy (s .variables))) (expanded (s .later)))) t)
 
-      stays : (mark last : ℕ) → mark ≢ 0 → eqb v x ≡ false → cond (eqb v x) (left false mark last more) (beginning mark last ++ (withCopy copy v ++ left false mark mark more)) ≡ laid last (inFront (mark ∷ cond (eqb v x) (placed x copy (s .variables)) (withCopy copy v ++ placed x copy (s .variables))) (expanded (s .later)))
+      stays : (mark last : ℕ) → mark ≢ 0 → eqb v x ≡ false → cond (eqb v x) (left false mark last more)
+          (beginning mark last ++ (withCopy copy v ++ left false mark mark more)) ≡ laid last
+          (inFront (mark ∷ cond (eqb v x) (placed x copy (s .variables)) (withCopy copy v ++ placed x copy (s .variables))) (expanded (s .later)))
       stays mark last m f =
           ap (λ b. cond b (left false mark last more) (beginning mark last ++ (withCopy copy v ++ left false mark mark more))) f
           ∙ ap (λ (r : List ℕ). beginning mark last ++ (withCopy copy v ++ r)) (s .written mark mark m ∙ laid-own mark (placed x copy (s .variables)) (expanded (s .later)) m)
@@ -163,7 +168,9 @@ module _ {x : ℕ} {copy : ℕ → ℕ} {es out₀ : List ℕ} {i : ℕ} {openin
         record { within = more; few = omega (arith, s .few); on = onward-as (s .on) (here ∙ ap (λ o. left x copy o mark last (at es i ∷ drop (suc i) es)) t) }
 
     module _ (shut : opening ≡ false) where
-      inside : left x copy opening mark last (drop i es) ≡ cond (eqb (at es i) 0) (left x copy true mark last (drop (suc i) es)) (cond (eqb (at es i) x) (left x copy false mark last (drop (suc i) es)) (beginning mark last ++ (withCopy copy (at es i) ++ left x copy false mark mark (drop (suc i) es))))
+      inside : left x copy opening mark last (drop i es) ≡ cond (eqb (at es i) 0) (left x copy true mark last (drop (suc i) es))
+          (cond (eqb (at es i) x) (left x copy false mark last (drop (suc i) es))
+          (beginning mark last ++ (withCopy copy (at es i) ++ left x copy false mark mark (drop (suc i) es))))
       unfolding left
       inside = here ∙ ap (λ o. left x copy o mark last (at es i ∷ drop (suc i) es)) shut
 
@@ -174,13 +181,18 @@ module _ {x : ℕ} {copy : ℕ → ℕ} {es out₀ : List ℕ} {i : ℕ} {openin
             within = more;
             few = omega (arith, s .few);
             on = onward-as (s .on)
-                (inside ∙ ap (λ b. cond b (left x copy true mark last (drop (suc i) es)) (cond (eqb (at es i) x) (left x copy false mark last (drop (suc i) es)) (beginning mark last ++ (withCopy copy (at es i) ++ left x copy false mark mark (drop (suc i) es))))) (eq-eqb (at es i) 0 z));
+                (inside ∙ ap (λ b. cond b (left x copy true mark last (drop (suc i) es))
+                (cond (eqb (at es i) x) (left x copy false mark last (drop (suc i) es))
+                (beginning mark last ++ (withCopy copy (at es i) ++ left x copy false mark mark (drop (suc i) es))))) (eq-eqb (at es i) 0 z));
           }
 
       module _ (some : at es i ≢ 0) where
-        variable : left x copy opening mark last (drop i es) ≡ cond (eqb (at es i) x) (left x copy false mark last (drop (suc i) es)) (beginning mark last ++ (withCopy copy (at es i) ++ left x copy false mark mark (drop (suc i) es)))
+        variable : left x copy opening mark last (drop i es) ≡ cond (eqb (at es i) x) (left x copy false mark last (drop (suc i) es))
+            (beginning mark last ++ (withCopy copy (at es i) ++ left x copy false mark mark (drop (suc i) es)))
         variable =
-            inside ∙ ap (λ b. cond b (left x copy true mark last (drop (suc i) es)) (cond (eqb (at es i) x) (left x copy false mark last (drop (suc i) es)) (beginning mark last ++ (withCopy copy (at es i) ++ left x copy false mark mark (drop (suc i) es))))) (ne-eqb (at es i) 0 some)
+            inside ∙ ap (λ b. cond b (left x copy true mark last (drop (suc i) es))
+            (cond (eqb (at es i) x) (left x copy false mark last (drop (suc i) es))
+            (beginning mark last ++ (withCopy copy (at es i) ++ left x copy false mark mark (drop (suc i) es))))) (ne-eqb (at es i) 0 some)
 
         pub laid-x : at es i ≡ x → Laid x copy es out₀ (i + 1) opening mark last out count
         laid-x q =
@@ -189,7 +201,8 @@ module _ {x : ℕ} {copy : ℕ → ℕ} {es out₀ : List ℕ} {i : ℕ} {openin
               within = more;
               few = omega (arith, s .few);
               on = onward-as (s .on)
-                  (variable ∙ ap (λ b. cond b (left x copy false mark last (drop (suc i) es)) (beginning mark last ++ (withCopy copy (at es i) ++ left x copy false mark mark (drop (suc i) es)))) (eq-eqb (at es i) x q)
+                  (variable ∙ ap (λ b. cond b (left x copy false mark last (drop (suc i) es))
+                  (beginning mark last ++ (withCopy copy (at es i) ++ left x copy false mark mark (drop (suc i) es)))) (eq-eqb (at es i) x q)
                   ∙ ap (λ o. left x copy o mark last (drop (suc i) es)) (sym shut));
             }
 
@@ -208,7 +221,8 @@ module _ {x : ℕ} {copy : ℕ → ℕ} {es out₀ : List ℕ} {i : ℕ} {openin
                 on = onward-as
                     (onward-more (withCopy copy (at es i)) (left x copy false mark mark (drop (suc i) es))
                     (onward-more (beginning mark last) (withCopy copy (at es i) ++ left x copy false mark mark (drop (suc i) es))
-                    (onward-as (s .on) (variable ∙ ap (λ b. cond b (left x copy false mark last (drop (suc i) es)) (beginning mark last ++ (withCopy copy (at es i) ++ left x copy false mark mark (drop (suc i) es)))) (ne-eqb (at es i) x other)))
+                    (onward-as (s .on) (variable ∙ ap (λ b. cond b (left x copy false mark last (drop (suc i) es))
+                    (beginning mark last ++ (withCopy copy (at es i) ++ left x copy false mark mark (drop (suc i) es)))) (ne-eqb (at es i) x other)))
                     begun) placed′)
                     (ap (λ o. left x copy o mark mark (drop (suc i) es)) (sym shut));
               }

@@ -2,10 +2,8 @@
 -- The prefix: the parts of a block, and the pass over all of them.
 pub mod Blocking
 pub mod Laying
--- The set, and what the call comes to, under either rule.
-pub mod Finding
+-- What the call comes to once the set is found; that what was lent settles it, and that both rules agree.
 pub mod Outcome
-pub mod Ruled
 pub mod Tight
 -- Check accepts the result.
 pub mod Accepted

@@ -5,6 +5,7 @@ use mathlib.Core.List.{List, [], _∷_, List·Memᴰ, List·Memᴰ·not-nil}
 use mathlib.Core.Logic.{_↔_, Iff·symm}
 use lib.Dec.{lit<}
 use lib.IntN.{ℤ, pos, negsuc}
+use Rattle.formula.specs.Lent.{Formula, formulaOf}
 use Rattle.formula.specs.Tables.{cut}
 use Rattle.formula.specs.Meaning.{blocks, clauses, opposite, denied, alwaysTrue, connected, freeLevel, level, isUniversal, isExistential}
 use Rattle.connection.specs.Reach.{Depends}
@@ -13,8 +14,9 @@ use Rattle.connection.proofs.Search.{cons-all, set-of-depends}
 use Rattle.tables.specs.Formula.{variables, joined, Shares}
 use Rattle.tables.proofs.Agreeing.{lawful}
 use Rattle.joining.specs.Joined.{inFront, joinedBlocks, tableOf}
-use Rattle.copying.specs.Expansion.{copyFrom, copyOf, withCopy, placed, expandedBlock, expandedPrefix, madeTrue, satisfied, hasX, hasMember, without, renamed, named, hasCopy, copies, expandedList, clauseTable, expandedClauses}
-use Rattle.expansion.specs.Promise.{SetOf, prefixBy, clausesBy}
+use Rattle.copying.specs.Expansion.{copyFrom, copyOf, withCopy, placed, expandedBlock, expandedPrefix, madeTrue, satisfied, hasX, hasMember, without}
+use Rattle.copying.specs.Expansion.{renamed, named, hasCopy, copies, expandedList, clauseTable, expandedClauses}
+use Rattle.expansion.specs.Promise.{SetOf, expandedBy}
 use Rattle.copying.specs.Total.{xLiterals, counts, totalOf, literalTotal}
 
 -- blocks e 1 2, a 3, e 4 5, a 6, e 7 8 9; clauses {3 4 7} {-4 8} {6 9} {5 9} {1 5} (negsuc k is -(k + 1))
@@ -24,17 +26,23 @@ prefixA = 1 ∷ 1 ∷ 2 ∷ 0 ∷ 2 ∷ 3 ∷ 0 ∷ 1 ∷ 4 ∷ 5 ∷ 0 ∷ 2 �
 abbrev clausesA : List ℤ
 clausesA = pos 3 ∷ pos 4 ∷ pos 7 ∷ pos 0 ∷ negsuc 3 ∷ pos 8 ∷ pos 0 ∷ pos 6 ∷ pos 9 ∷ pos 0 ∷ pos 5 ∷ pos 9 ∷ pos 0 ∷ pos 1 ∷ pos 5 ∷ pos 0 ∷ []
 
+abbrev formula-A : Formula
+formula-A = formulaOf 9 prefixA clausesA
+
 abbrev members : List ℕ
 members = 4 ∷ 7 ∷ 8 ∷ []
 
 -- What the definitions give for A and 3.
 pub record Expanded-A : Type 0 where
-  pub set : SetOf 9 prefixA clausesA 3 members
+  pub set : SetOf formula-A 3 members
   -- e 1 2 4 10 5, a 6, e 7 11 8 12 9
-  pub prefix : prefixBy 9 prefixA 3 members ≡ 1 ∷ 1 ∷ 2 ∷ 4 ∷ 10 ∷ 5 ∷ 0 ∷ 2 ∷ 6 ∷ 0 ∷ 1 ∷ 7 ∷ 11 ∷ 8 ∷ 12 ∷ 9 ∷ 0 ∷ []
+  pub prefix : expandedBy formula-A 3 members .prefix ≡ 1 ∷ 1 ∷ 2 ∷ 4 ∷ 10 ∷ 5 ∷ 0 ∷ 2 ∷ 6 ∷ 0 ∷ 1 ∷ 7 ∷ 11 ∷ 8 ∷ 12 ∷ 9 ∷ 0 ∷ []
   -- 4 7, -4 8, 6 9, 5 9, 1 5, -10 12
-  pub table : clausesBy 9 clausesA 3 members
-      ≡ pos 4 ∷ pos 7 ∷ pos 0 ∷ negsuc 3 ∷ pos 8 ∷ pos 0 ∷ pos 6 ∷ pos 9 ∷ pos 0 ∷ pos 5 ∷ pos 9 ∷ pos 0 ∷ pos 1 ∷ pos 5 ∷ pos 0 ∷ negsuc 9 ∷ pos 12 ∷ pos 0 ∷ []
+  pub table : expandedBy formula-A 3 members .clauses
+      ≡ pos 4 ∷ pos 7 ∷ pos 0 ∷ negsuc 3 ∷ pos 8 ∷ pos 0 ∷ pos 6 ∷ pos 9 ∷ pos 0 ∷ pos 5 ∷ pos 9 ∷ pos 0
+      ∷ pos 1 ∷ pos 5 ∷ pos 0 ∷ negsuc 9 ∷ pos 12 ∷ pos 0 ∷ []
+  -- twelve variables, and twelve literals
+  pub count : expandedBy formula-A 3 members .n ≡ 12
   pub total : literalTotal 3 (copyOf 9 members) clausesA ≡ 12
 
 -- the set as it computes
@@ -46,7 +54,8 @@ depends : (y : ℕ) → Depends (variables 9 prefixA) (Shares clausesA) 3 y ↔ 
 depends y = subst (λ (l : List ℕ). Depends (variables 9 prefixA) (Shares clausesA) 3 y ↔ List·Memᴰ y l) computed (Iff·symm (set-of-depends (lawful 9 prefixA)))
 
 pub expanded-A : Expanded-A
-unfolding cut blocks clauses opposite denied alwaysTrue inFront joinedBlocks tableOf copyFrom withCopy placed expandedBlock expandedPrefix madeTrue satisfied hasX hasMember without renamed named hasCopy copies expandedList clauseTable expandedClauses xLiterals counts totalOf literalTotal
+unfolding cut blocks clauses opposite denied alwaysTrue inFront joinedBlocks tableOf copyFrom withCopy placed expandedBlock expandedPrefix madeTrue
+    satisfied hasX hasMember without renamed named hasCopy copies expandedList clauseTable expandedClauses xLiterals counts totalOf literalTotal
 expanded-A = record {
   set = record {
     ascending = (
@@ -58,5 +67,6 @@ expanded-A = record {
   };
   prefix = refl;
   table = refl;
+  count = refl;
   total = refl;
 }

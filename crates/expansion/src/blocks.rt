@@ -12,8 +12,9 @@ ghost use Rattle.expansion.specs.Writing.{beginning};
 
 // Writes the prefix into a table as far as that has rows, and gives the count of all entries. A block begins with its first variable that stays.
 pub fn lay(prefix: &[u32], x: Variable, copies: &[u32], out: &mut [u32]) -> usize
-    requires { ⌜ ((n : ℕ) × SoundPrefix n (now prefix)) ⌝ }
-    ensures { λ r. ⌜ Stored (expandedPrefix (x .0) (tabled (now (copies .entry))) (now (prefix .entry))) (now (out .entry)) (now (out .exit)) 0 r ⌝ }
+    requires sound { ⌜ ((n : ℕ) × SoundPrefix n (now prefix)) ⌝ }
+    ensures stored { λ r. ⌜ Stored (expandedPrefix (x .0) (tabled (now (copies .entry))) (now (prefix .entry)))
+        (now (out .entry)) (now (out .exit)) 0 r ⌝ }
 {
     let mut opens = true;
     let mut mark: u32 = 0;
@@ -43,8 +44,8 @@ pub fn lay(prefix: &[u32], x: Variable, copies: &[u32], out: &mut [u32]) -> usiz
 
 // Begins the block with the mark `mark`, where the one that is not closed yet has another.
 fn begin(mark: u32, last: u32, out: &mut [u32], at: usize) -> usize
-    requires { ⌜ at ≤ 32768 ⌝ }
-    ensures { λ r. ⌜ Stored (beginning mark last) (now (out .entry)) (now (out .exit)) at r ⌝ }
+    requires within { ⌜ at ≤ 32768 ⌝ }
+    ensures stored { λ r. ⌜ Stored (beginning mark last) (now (out .entry)) (now (out .exit)) at r ⌝ }
 {
     if mark == last {
         return at;
@@ -56,8 +57,8 @@ fn begin(mark: u32, last: u32, out: &mut [u32], at: usize) -> usize
 
 // Closes the block with the mark `last`, where there is one.
 fn close(last: u32, out: &mut [u32], at: usize) -> usize
-    requires { ⌜ at ≤ 32768 ⌝ }
-    ensures { λ r. ⌜ Stored (closing last) (now (out .entry)) (now (out .exit)) at r ⌝ }
+    requires within { ⌜ at ≤ 32768 ⌝ }
+    ensures stored { λ r. ⌜ Stored (closing last) (now (out .entry)) (now (out .exit)) at r ⌝ }
 {
     if last == 0 {
         return at;
@@ -68,8 +69,8 @@ fn close(last: u32, out: &mut [u32], at: usize) -> usize
 
 // Writes a variable, and its copy after it.
 fn place(copies: &[u32], v: Variable, out: &mut [u32], at: usize) -> usize
-    requires { ⌜ at ≤ 65536 ⌝ }
-    ensures { λ r. ⌜ Stored (withCopy (tabled (now (copies .entry))) (v .0)) (now (out .entry)) (now (out .exit)) at r ⌝ }
+    requires within { ⌜ at ≤ 65536 ⌝ }
+    ensures stored { λ r. ⌜ Stored (withCopy (tabled (now (copies .entry))) (v .0)) (now (out .entry)) (now (out .exit)) at r ⌝ }
 {
     store_entry(out, at, v.0);
     let copy = copy_at(copies, v);

@@ -6,33 +6,30 @@ mod members;
 use blocks::lay;
 use copying::literals::copy_clauses;
 use copying::numbers::number;
-use joining::join;
+use joining::as_read;
+use joining::read_formula;
+use levelling::fill_levels;
 use members::find;
+use tables::rows::level_at;
+use tables::rows::universal_at;
+use terms::Expanded;
 use terms::Filled;
 use terms::Level;
 use terms::Literal;
 use terms::Variable;
-ghost use Prim.Native.Nat.{ℕ};
+ghost use Prim.Native.Nat.{ℕ, _≤_};
 ghost use mathlib.Core.Path.{_≡_};
-ghost use mathlib.Core.Logic.{_≢_};
 ghost use lib.ListN.{length};
-ghost use Rattle.terms.specs.Refusals.{NoneOf};
+ghost use Rattle.formula.specs.Lent.{formulaOf, formulaIn};
 ghost use Rattle.formula.specs.Levels.{SoundPrefix};
 ghost use Rattle.formula.specs.Lookup.{SoundClauses};
 ghost use Rattle.copying.specs.Expansion.{expandedPrefix, expandedClauses};
 ghost use Rattle.copying.specs.Copied.{tabled, Copies};
-ghost use Rattle.expansion.specs.Promise.{SetOf, askedOrder, Expands};
-ghost use Rattle.expansion.specs.Writing.{Fits, ExpandsPlain};
+ghost use Rattle.expansion.specs.Promise.{resultIn, resultOut, SetOf, expandedWith, resultOrder, behindExpand, ExpandsBy, Expands};
+ghost use Rattle.expansion.specs.Writing.{Fits};
 
-// What expanding says: the variable count of the result and how many entries its prefix and its clause table have, or the refusal.
-pub enum Expanded {
-    Formula(u32, u32, u32),
-    // the number of the refusal, and its place
-    Refused(u32, usize),
-}
-
-// Writes the formula with the universal x expanded: its standard set is found from the clauses and gets copies numbered from n + 1. Under rule 2 the
-// prefix is joined first.
+// Writes the formula with the universal x expanded, its prefix read by a rule: the standard set of x is found from the clauses and gets copies
+// numbered from n + 1.
 pub fn expand(
     rule: u32,
     n: u32,
@@ -42,39 +39,21 @@ pub fn expand(
     out_prefix: &mut [u32],
     out_clauses: &mut [i32],
 ) -> Expanded
-    ensures { λ r. ⌜ Expands rule n (now (prefix .entry)) (now (clauses .entry)) (x .0) (now («out_prefix» .entry)) (now («out_prefix» .exit)) (now («out_clauses» .entry)) (now («out_clauses» .exit)) r ⌝ }
+    ensures expanded { λ r. ⌜ Expands rule (formulaIn n prefix clauses) (x .0)
+        (resultIn «out_prefix» «out_clauses») (resultOut «out_prefix» «out_clauses») r ⌝ }
 {
-    if rule == 1 {
-        return expand_plain(n, prefix, clauses, x, out_prefix, out_clauses);
-    }
-    expand_joined(rule, n, prefix, clauses, x, out_prefix, out_clauses)
-}
-
-// The same under any other rule, by the joined prefix.
-fn expand_joined(
-    rule: u32,
-    n: u32,
-    prefix: &[u32],
-    clauses: &[i32],
-    x: Variable,
-    out_prefix: &mut [u32],
-    out_clauses: &mut [i32],
-) -> Expanded
-    requires { ⌜ rule ≢ 1 ⌝ }
-    ensures { λ r. ⌜ Expands rule n (now (prefix .entry)) (now (clauses .entry)) (x .0) (now («out_prefix» .entry)) (now («out_prefix» .exit)) (now («out_clauses» .entry)) (now («out_clauses» .exit)) r ⌝ }
-{
-    let mut read = [0u32; 4224];
-    match join(rule, n, prefix, clauses.len(), &mut read) {
+    let mut joined = [0u32; Level::JOINED];
+    match read_formula(rule, n, prefix, clauses, &mut joined) {
         Filled::Refused(number, place) => Expanded::Refused(number, place),
         Filled::Count(count) => {
-            let end = count as usize;
-            expand_plain(n, &read[0..end], clauses, x, out_prefix, out_clauses)
+            let read = as_read(rule, prefix, &joined, count);
+            sound_expand(n, read, clauses, x, out_prefix, out_clauses)
         }
     }
 }
 
-// The same for a prefix that is read as it stands.
-fn expand_plain(
+// Expands x in an accepted formula, if it is universal: its set is found first.
+fn sound_expand(
     n: u32,
     prefix: &[u32],
     clauses: &[i32],
@@ -82,24 +61,31 @@ fn expand_plain(
     out_prefix: &mut [u32],
     out_clauses: &mut [i32],
 ) -> Expanded
-    ensures { λ r. ⌜ ExpandsPlain n (now (prefix .entry)) (now (clauses .entry)) (x .0) (now («out_prefix» .entry)) (now («out_prefix» .exit)) (now («out_clauses» .entry)) (now («out_clauses» .exit)) r ⌝ }
+    requires sound { ⌜ SoundPrefix n (now prefix) × SoundClauses (now clauses) ⌝ }
+    ensures expanded { λ r. ⌜ ExpandsBy (behindExpand (formulaIn n prefix clauses) (x .0) (resultIn «out_prefix» «out_clauses»))
+        (formulaIn n prefix clauses) (x .0) (resultIn «out_prefix» «out_clauses») (resultOut «out_prefix» «out_clauses») r ⌝ }
 {
-    let mut members = [0u32; 4096];
-    match find(n, prefix, clauses, x, &mut members) {
-        Filled::Refused(number, place) => Expanded::Refused(number, place),
-        Filled::Count(size) => expand_set(
-            n,
-            prefix,
-            clauses,
-            x,
-            &members[0..size as usize],
-            out_prefix,
-            out_clauses,
-        ),
+    let mut levels = [0u32; Variable::ROWS];
+    let mut universals = [false; Variable::ROWS];
+    fill_levels(prefix, &mut levels, &mut universals);
+    if !universal_at(n, &universals, x) {
+        return Expanded::Refused(13, 0);
     }
+    let floor = level_at(&levels, x);
+    let mut members = [0u32; Variable::ROWS];
+    let size = find(n, prefix, clauses, x, floor, &mut members);
+    expand_set(
+        n,
+        prefix,
+        clauses,
+        x,
+        &members[0..size],
+        out_prefix,
+        out_clauses,
+    )
 }
 
-// The same, once the set is found.
+// Expands x by the list of its set: each member gets a copy, if the result has no more variables than a formula may have.
 fn expand_set(
     n: u32,
     prefix: &[u32],
@@ -109,14 +95,16 @@ fn expand_set(
     out_prefix: &mut [u32],
     out_clauses: &mut [i32],
 ) -> Expanded
-    requires { ⌜ NoneOf (askedOrder n (now prefix) (now clauses) (x .0)) × SetOf n (now prefix) (now clauses) (x .0) (now members) ⌝ }
-    ensures { λ r. ⌜ ExpandsPlain n (now (prefix .entry)) (now (clauses .entry)) (x .0) (now («out_prefix» .entry)) (now («out_prefix» .exit)) (now («out_clauses» .entry)) (now («out_clauses» .exit)) r ⌝ }
+    requires sound { ⌜ SoundPrefix n (now prefix) × SoundClauses (now clauses) ⌝ }
+    requires set { ⌜ SetOf (formulaOf n (now prefix) (now clauses)) (x .0) (now members) ⌝ }
+    ensures expanded { λ r. ⌜ ExpandsBy (resultOrder (formulaIn n prefix clauses) (x .0) (resultIn «out_prefix» «out_clauses»))
+        (formulaIn n prefix clauses) (x .0) (resultIn «out_prefix» «out_clauses») (resultOut «out_prefix» «out_clauses») r ⌝ }
 {
     let count = n + members.len() as u32;
     if Variable::MOST < count {
         return Expanded::Refused(1, 0);
     }
-    let mut copies = [0u32; 4097];
+    let mut copies = [0u32; Variable::ROWS];
     number(n, members, &mut copies);
     fill(count, prefix, clauses, x, &copies, out_prefix, out_clauses)
 }
@@ -131,8 +119,9 @@ fn fill(
     out_prefix: &mut [u32],
     out_clauses: &mut [i32],
 ) -> Expanded
-    requires { ⌜ ((n : ℕ) × SoundPrefix n (now prefix)) × SoundClauses (now clauses) × Copies (now copies) ⌝ }
-    ensures { λ r. ⌜ Fits count (now (prefix .entry)) (now (clauses .entry)) (x .0) (tabled (now (copies .entry))) (now («out_prefix» .entry)) (now («out_prefix» .exit)) (now («out_clauses» .entry)) (now («out_clauses» .exit)) r ⌝ }
+    requires sound { ⌜ ((n : ℕ) × SoundPrefix n (now prefix)) × SoundClauses (now clauses) × Copies (now copies) ⌝ }
+    ensures fits { λ r. ⌜ Fits (expandedWith count (x .0) (tabled (now (copies .entry))) (formulaIn count prefix clauses))
+        (resultIn «out_prefix» «out_clauses») (resultOut «out_prefix» «out_clauses») r ⌝ }
 {
     let entries = prefix_entries(prefix, x, copies);
     if Level::ENTRIES < entries {
@@ -155,8 +144,8 @@ fn fill(
 
 // How many entries the prefix of the result has: it is written into a table that no one sees.
 fn prefix_entries(prefix: &[u32], x: Variable, copies: &[u32]) -> usize
-    requires { ⌜ ((n : ℕ) × SoundPrefix n (now prefix)) ⌝ }
-    ensures { λ r. ⌜ r ≡ length (expandedPrefix (x .0) (tabled (now (copies .entry))) (now (prefix .entry))) ⌝ }
+    requires sound { ⌜ ((n : ℕ) × SoundPrefix n (now prefix)) ⌝ }
+    ensures counted { λ r. ⌜ r ≡ length (expandedPrefix (x .0) (tabled (now (copies .entry))) (now (prefix .entry))) ⌝ }
 {
     let mut unseen = [0u32; 1];
     lay(prefix, x, copies, &mut unseen)
@@ -164,8 +153,8 @@ fn prefix_entries(prefix: &[u32], x: Variable, copies: &[u32]) -> usize
 
 // How many entries its clause table has.
 fn clause_entries(clauses: &[i32], x: Variable, copies: &[u32]) -> usize
-    requires { ⌜ SoundClauses (now clauses) × Copies (now copies) ⌝ }
-    ensures { λ r. ⌜ r ≡ length (expandedClauses (x .0) (tabled (now (copies .entry))) (now (clauses .entry))) ⌝ }
+    requires sound { ⌜ SoundClauses (now clauses) × Copies (now copies) ⌝ }
+    ensures counted { λ r. ⌜ r ≡ length (expandedClauses (x .0) (tabled (now (copies .entry))) (now (clauses .entry))) ⌝ }
 {
     let mut unseen = [0i32; 1];
     copy_clauses(clauses, x, copies, &mut unseen)

@@ -1,50 +1,50 @@
 // The standard set of x, found from the clauses.
 
-use forest::set_by;
-use growth::build_tallied;
-use terms::Filled;
+use forest::sound_members;
+use settling::grow;
+use terms::Level;
 use terms::Scheme;
-use terms::Tally;
 use terms::Variable;
+ghost use Prim.Native.Nat.{_≤_};
 ghost use mathlib.Core.Path.{_≡_};
+ghost use mathlib.Core.Bool.{true};
 ghost use lib.ListN.{length};
-ghost use Rattle.expansion.specs.Writing.{Finds};
+ghost use Rattle.terms.specs.declared.Scheme.the-variants.{Standard};
+ghost use Rattle.formula.specs.Lent.{formulaIn};
+ghost use Rattle.formula.specs.Levels.{SoundPrefix};
+ghost use Rattle.formula.specs.Lookup.{SoundClauses};
+ghost use Rattle.formula.specs.Meaning.{level};
+ghost use Rattle.tables.specs.Formula.{universal};
+ghost use Rattle.forest.specs.Answers.{DependsBy};
+ghost use Rattle.forest.specs.Wanted.{Lists};
 
-// Writes the standard set of x ascending into a table with room for all variables: the forest is built, and the set is listed by it.
-pub fn find(n: u32, prefix: &[u32], clauses: &[i32], x: Variable, members: &mut [u32]) -> Filled
-    requires { ⌜ length (now members) ≡ 4096 ⌝ }
-    ensures { λ r. ⌜ Finds n (now (prefix .entry)) (now (clauses .entry)) (x .0) (now (members .exit)) r ⌝ }
+// Writes the standard set of a universal x, whose level is known, ascending into a table with room for all variables, and gives the count of its
+// members: the rows of the forest are made, and the set is listed by them. Of a forest made here nothing is judged, counted or tallied.
+pub fn find(
+    n: u32,
+    prefix: &[u32],
+    clauses: &[i32],
+    x: Variable,
+    floor: Level,
+    members: &mut [u32],
+) -> usize
+    requires sound { ⌜ SoundPrefix n (now prefix) × SoundClauses (now clauses) ⌝ }
+    requires place { ⌜ (universal n (now prefix) (x .0) ≡ true) × (floor .0 ≡ level (now prefix) (x .0)) ⌝ }
+    requires room { ⌜ n ≤ length (now members) ⌝ }
+    ensures listed { λ r. ⌜ Lists (DependsBy Standard (formulaIn n prefix clauses) (x .0)) (now (members .entry)) (now (members .exit)) r ⌝ }
 {
-    let mut classes = [0u32; 4096];
-    let mut parents = [0u32; 4096];
-    let mut counts = [0u32; 4096];
-    let none = Tally {
-        clauses: 0,
-        merges: 0,
-        classes: 0,
-    };
-    let built = build_tallied(
+    let mut classes = [0u32; Variable::ROWS];
+    let mut parents = [0u32; Variable::ROWS];
+    grow(n, prefix, clauses, &mut classes, &mut parents);
+    sound_members(
+        Scheme::Standard,
         n,
         prefix,
         clauses,
-        &mut classes,
-        &mut parents,
-        &mut counts,
-        none,
-    );
-    let answer = built.answer;
-    match answer {
-        Filled::Refused(number, place) => Filled::Refused(number, place),
-        Filled::Count(_) => set_by(
-            Scheme::Standard,
-            n,
-            prefix,
-            clauses,
-            &classes,
-            &parents,
-            &counts,
-            x,
-            members,
-        ),
-    }
+        &classes,
+        &parents,
+        x,
+        floor,
+        members,
+    )
 }

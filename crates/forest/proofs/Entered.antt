@@ -2,7 +2,7 @@
 use Prim.Native.Nat.{ℕ, _≤_, _<_}
 use mathlib.Core.Path.{_≡_, refl, sym, ap, _∙_, subst}
 use mathlib.Core.Bool.{Bool, true, false}
-use mathlib.Core.List.{List}
+use mathlib.Core.List.{List, []}
 use mathlib.Core.Logic.{_≢_, inl, inr, ⊎-elim, _↔_}
 use native.Mathlib.Decide.{decLt}
 use native.Mathlib.Omega.{arith}
@@ -12,11 +12,15 @@ use Rattle.terms.proofs.Common.{clash}
 use Rattle.formula.specs.Meaning.{level, isExistential}
 use Rattle.formula.specs.Levels.{SoundPrefix, Levelled}
 use Rattle.connection.specs.Reach.{Variables, Lawful}
-use Rattle.connection.specs.Tables.{Table, row, lent, WellFormed, EntryPoint, EntryPointOf, MemberBy, Climbed}
+use Rattle.connection.specs.Tables.{Table, row, lent, WellFormed, EntryPoint, EntryPointOf, MemberBy}
+use Rattle.connection.specs.Climb.{Climbed}
 use Rattle.connection.proofs.Climb.{above-class, entry-one, entry-climb, entry-rises}
 use Rattle.connection.proofs.Sets.{member-deeper, member-climb}
-use Rattle.tables.specs.Formula.{variables, tabled, universalIn}
+use Rattle.tables.specs.Formula.{variables}
+use Rattle.tables.specs.Tabled.{tabled, universalIn}
 use Rattle.tables.specs.Causes.{ForestCause}
+use Rattle.tables.specs.Lent.{rows}
+use Rattle.formula.specs.Lent.{formulaOf}
 use Rattle.forest.specs.Causes.{NotUniversal, NotDeeper}
 use Rattle.forest.specs.Answers.{Entry}
 use Rattle.tables.specs.Rows.{rowsOf}
@@ -61,10 +65,12 @@ module _ {X : Variables} {W : Table} (law : Lawful X) (formed : WellFormed X W) 
         back o =
             let v = o .for in
             let (k, p) = rows v .found (o .existential, o .deeper) in
-            record { for = v; holds = o .shares; is = entry-one formed p (o .entry) .0; some = λ z. let a = entry-within (o .existential) (o .entry) .0 in omega arith }
+            let low = entry-within (o .existential) (o .entry) .0 in
+            record { for = v; holds = o .shares; is = entry-one formed p (o .entry) .0; some = λ z. omega arith }
 
     -- Those whose entry is one of some entry points of x are the members by these.
-    pub members-of : {P : ℕ → Type 0} {S : ℕ → ℕ → Type 0} → ((e : ℕ) → P e → EntryPointOf X W S x e) → (entered : List Bool) → ((e : ℕ) → e ≤ X .count → (getD entered e false ≡ true) ↔ P e) → (y : ℕ) → (getD entered (row (X .count) tops y) false ≡ true) ↔ MemberBy X W P y
+    pub members-of : {P : ℕ → Type 0} {S : ℕ → ℕ → Type 0} → ((e : ℕ) → P e → EntryPointOf X W S x e) → (entered : List Bool)
+        → ((e : ℕ) → e ≤ X .count → (getD entered e false ≡ true) ↔ P e) → (y : ℕ) → (getD entered (row (X .count) tops y) false ≡ true) ↔ MemberBy X W P y
     members-of {P} {S} points entered tells y = (there, back)
       where
         -- no entry is no entry point
@@ -75,7 +81,8 @@ module _ {X : Variables} {W : Table} (law : Lawful X) (formed : WellFormed X W) 
         there t =
             let (deep, found) = row-found y (some t) in
             let (k, p) = found in
-            record { existential = deep .0; entry = row (X .count) tops y; entered = tells (row (X .count) tops y) (entry-within (deep .0) p .1) .0 t; rises = k; below = p .above }
+            let top = row (X .count) tops y in
+            record { existential = deep .0; entry = top; entered = tells top (entry-within (deep .0) p .1) .0 t; rises = k; below = p .above }
 
         back : MemberBy X W P y → getD entered (row (X .count) tops y) false ≡ true
         back m =
@@ -87,7 +94,7 @@ module _ {X : Variables} {W : Table} (law : Lawful X) (formed : WellFormed X W) 
 -- What the inner calls find by the level table, said of the formula.
 module _ {n : ℕ} {es levels : List ℕ} {universals : List Bool} (sound : SoundPrefix n es) (table : Levelled es levels universals) (classes parents : List ℕ) where
   -- Tables with no cause of refusal 12 are well formed, by the level table too.
-  pub tabled-formed : {counts : List ℕ} → None (ForestCause n es classes parents counts) → WellFormed (tabled n levels universals) (rowsOf n classes parents)
+  pub tabled-formed : {counts : List ℕ} → None (ForestCause n es (rows classes parents counts)) → WellFormed (tabled n levels universals) (rowsOf n classes parents)
   unfolding lent
   tabled-formed none = formed-same (same-back (tables-agree sound table)) (none-formed none)
 
@@ -103,8 +110,9 @@ module _ {n : ℕ} {es levels : List ℕ} {universals : List Bool} (sound : Soun
   sound-not-universal told no′ = sym (universal-agrees sound table x) ∙ sym told ∙ no′
 
   -- What the search for y finds.
-  pub sound-found : {y e k : ℕ} → WellFormed (tabled n levels universals) (rowsOf n classes parents) → universalIn n universals x ≡ true → Deeper (tabled n levels universals) x y × EntryPoint (tabled n levels universals) (rowsOf n classes parents) x y e k
-      → (NotDeeper n es x y → ⊥) × Entry n es classes parents x y e k
+  pub sound-found : {y e k : ℕ} → WellFormed (tabled n levels universals) (rowsOf n classes parents) → universalIn n universals x ≡ true
+      → Deeper (tabled n levels universals) x y × EntryPoint (tabled n levels universals) (rowsOf n classes parents) x y e k
+      → (NotDeeper n es x y → ⊥) × Entry (formulaOf n es []) (rows classes parents []) x y e k
   unfolding lent
   sound-found {y} formed u f =
       let s = tables-agree sound table in
@@ -113,7 +121,8 @@ module _ {n : ℕ} {es levels : List ℕ} {universals : List Bool} (sound : Soun
       let point = entry-same s formed own (f .0 .0) (f .1) in
       (⊎-elim (λ un. clash (deep .0) un) (λ l. let d = deep .1 in omega arith), (point, entry-rises (formed-same s formed) (deep .0) point))
 
-  pub sound-nowhere : (y : ℕ) → WellFormed (tabled n levels universals) (rowsOf n classes parents) → universalIn n universals x ≡ true → (Deeper (tabled n levels universals) x y → ⊥) → NotDeeper n es x y
+  pub sound-nowhere : (y : ℕ) → WellFormed (tabled n levels universals) (rowsOf n classes parents) → universalIn n universals x ≡ true
+      → (Deeper (tabled n levels universals) x y → ⊥) → NotDeeper n es x y
   sound-nowhere y formed u shallow = go (isExistential n es y) refl (decLt (level es x) (level es y))
     where
       s : Same (tabled n levels universals) (variables n es)

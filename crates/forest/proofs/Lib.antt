@@ -5,3 +5,4 @@ pub mod Listings
 pub mod Demands
 pub mod Strict
 pub mod Sample
+pub mod Agreed

@@ -15,6 +15,7 @@ use Rattle.connection.specs.Reach.{Variables, From, Reach, here, Follows}
 use Rattle.connection.specs.Search.{has, meets, keep, put-back, find, see, spread, reached, reaches, is-from, sift, set-of}
 use Rattle.connection.proofs.Search.{reaches-true, reaches-false, from-test, set-of-depends}
 use Rattle.terms.specs.declared.Scheme.the-variants.{Standard, Strict}
+use Rattle.formula.specs.Lent.{Formula, formulaOf}
 use Rattle.tables.specs.Formula.{variables, signed, joined, Shares, SharesBy}
 use Rattle.forest.specs.Answers.{DependsBy}
 use Rattle.tables.proofs.Agreeing.{lawful}
@@ -24,6 +25,9 @@ es = 2 ∷ 1 ∷ 0 ∷ 1 ∷ 2 ∷ 3 ∷ 4 ∷ 0 ∷ []
 
 abbrev ls : List ℤ
 ls = pos 1 ∷ pos 2 ∷ pos 0 ∷ negsuc 0 ∷ pos 3 ∷ pos 0 ∷ pos 2 ∷ pos 3 ∷ pos 0 ∷ pos 1 ∷ pos 4 ∷ pos 0 ∷ []
+
+abbrev sample : Formula
+sample = formulaOf 4 es ls
 
 abbrev X : Variables
 X = variables 4 es
@@ -62,7 +66,8 @@ unfolding clauses cut
 which clause m l =
     ⊎-elim (λ q. absurd (no-negation 1 2 (subst (List·Memᴰ (negsuc 0)) q l)))
     (λ m′. ⊎-elim (λ q. q)
-    (λ m″. ⊎-elim (λ q. absurd (no-negation 2 3 (subst (List·Memᴰ (negsuc 0)) q l))) (λ m‴. absurd (no-negation 1 4 (subst (List·Memᴰ (negsuc 0)) (List·Memᴰ·eq-of-singleton m‴) l))) (List·Memᴰ·cases-cons m″))
+    (λ m″. ⊎-elim (λ q. absurd (no-negation 2 3 (subst (List·Memᴰ (negsuc 0)) q l)))
+    (λ m‴. absurd (no-negation 1 4 (subst (List·Memᴰ (negsuc 0)) (List·Memᴰ·eq-of-singleton m‴) l))) (List·Memᴰ·cases-cons m″))
     (List·Memᴰ·cases-cons m′))
     (List·Memᴰ·cases-cons m)
 
@@ -76,15 +81,15 @@ only-3 z s ex = third (subst (λ c. List·Memᴰ z (connected c)) (which (s .cla
 
 -- The standard set of 1 is 2 3 4, and of these 2 and 3 depend on it strictly, and 4 does not.
 pub record Sampled : Type 0 where
-  pub standard : (y : ℕ) → DependsBy Standard 4 es ls 1 y ↔ List·Memᴰ y (2 ∷ 3 ∷ 4 ∷ [])
-  pub strict-2 : DependsBy Strict 4 es ls 1 2
-  pub strict-3 : DependsBy Strict 4 es ls 1 3
-  pub not-strict-4 : DependsBy Strict 4 es ls 1 4 → ⊥
+  pub standard : (y : ℕ) → DependsBy Standard sample 1 y ↔ List·Memᴰ y (2 ∷ 3 ∷ 4 ∷ [])
+  pub strict-2 : DependsBy Strict sample 1 2
+  pub strict-3 : DependsBy Strict sample 1 3
+  pub not-strict-4 : DependsBy Strict sample 1 4 → ⊥
 
 pub sampled : Sampled
 sampled =
     record {
-      standard = λ y. subst (λ l. DependsBy Standard 4 es ls 1 y ↔ List·Memᴰ y l) (computed .standard) (Iff·symm (set-of-depends (lawful 4 es)));
+      standard = λ y. subst (λ l. DependsBy Standard sample 1 y ↔ List·Memᴰ y l) (computed .standard) (Iff·symm (set-of-depends (lawful 4 es)));
       strict-2 = record { by = λ sign. to 2 sign here (reaches-true from-test .0 (computed .back)) };
       strict-3 = record { by = λ sign. to 3 sign (reaches-true from-test .0 (computed .there)) here };
       not-strict-4 = λ d. let f = d .by false in
@@ -92,6 +97,7 @@ sampled =
     }
   where
     -- first to 2 or, by the negation, to 3, and on from there
-    to : (y : ℕ) (sign : Bool) → Reach (Shares ls) (From X (level es 1)) 2 y → Reach (Shares ls) (From X (level es 1)) 3 y → Follows (SharesBy ls sign) (Shares ls) (From X (level es 1)) 1 y
+    to : (y : ℕ) (sign : Bool) → Reach (Shares ls) (From X (level es 1)) 2 y → Reach (Shares ls) (From X (level es 1)) 3 y
+        → Follows (SharesBy ls sign) (Shares ls) (From X (level es 1)) 1 y
     to y true r s = record { first = 2; starts = plain; allowed = from-test 2 .1 (computed .from-2); onward = r }
     to y false r s = record { first = 3; starts = negated; allowed = from-test 3 .1 (computed .from-3); onward = s }

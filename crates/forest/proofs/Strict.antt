@@ -11,16 +11,19 @@ use Rattle.terms.specs.declared.Filled.the-variants.{Count}
 use Rattle.formula.specs.Meaning.{clauses, alwaysTrue, connected}
 use Rattle.connection.specs.Tables.{row}
 use Rattle.connection.specs.Counts.{sum}
-use Rattle.connection.specs.Listed.{Listed}
+use Rattle.terms.specs.Listed.{Listed}
 use Rattle.connection.proofs.Strict.{strict-member-within, one-sign-entry}
 use Rattle.terms.specs.declared.Scheme.the-variants.{Standard, Strict}
 use Rattle.tables.specs.Formula.{signed, SharesBy}
-use Rattle.forest.specs.Answers.{EntriesBy, MembersBy, EntriesListedBy, SetListedBy, SizedBy}
+use Rattle.formula.specs.Lent.{Formula}
+use Rattle.joining.specs.Rules.{readBy}
+use Rattle.tables.specs.Lent.{Rows}
+use Rattle.forest.specs.Answers.{EntriesBy, MembersBy, EntriesListed, SetListed, Sized}
 use Rattle.marks.proofs.Sides.{connected-open, shares-some, shares-x}
 
 -- The strict set lies within the standard one, by the lent tables, whatever they are.
-pub strict-set-within : (n : ℕ) (es : List ℕ) (ls : List ℤ) (classes parents : List ℕ) (x y : ℕ) → MembersBy Strict n es ls classes parents x y → MembersBy Standard n es ls classes parents x y
-strict-set-within n es ls classes parents x y m = strict-member-within (λ sign z. shares-some sign) m
+pub strict-set-within : (f : Formula) (r : Rows) (x y : ℕ) → MembersBy Strict f r x y → MembersBy Standard f r x y
+strict-set-within f r x y m = strict-member-within (λ sign z. shares-some sign) m
 
 -- A list of what there is none of is empty.
 none-listed : {P : ℕ → Type 0} → ((v : ℕ) → P v → ⊥) → (list : List ℕ) → Listed P list → list ≡ []
@@ -28,26 +31,28 @@ none-listed none [] l = refl
 none-listed none (v ∷ list) l = absurd (none v (l .each v (List·Memᴰ·head refl)))
 
 -- A universal with one sign only, in the clauses that connect, has no strict entry points, an empty strict set, and size 0.
-module _ (n : ℕ) (es : List ℕ) (ls : List ℤ) (classes parents counts : List ℕ) (x : ℕ) (sign : Bool)
-    (missing : (clause : List ℤ) → List·Memᴰ clause (clauses ls) → alwaysTrue clause ≡ false → List·Memᴰ (signed sign x) clause → ⊥) where
-  no-entry : (e : ℕ) → EntriesBy Strict n es ls classes parents x e → ⊥
+module _ (rule : ℕ) (f : Formula) (r : Rows) (x : ℕ) (sign : Bool)
+    (missing : (clause : List ℤ) → List·Memᴰ clause (clauses (f .clauses)) → alwaysTrue clause ≡ false → List·Memᴰ (signed sign x) clause → ⊥) where
+  no-entry : (e : ℕ) → EntriesBy Strict (readBy rule f) r x e → ⊥
   no-entry e s = one-sign-entry sign (λ z h. missing (h .clause) (h .listed) (connected-open (h .clause) z (h .connects)) (h .literal)) s
 
-  pub one-sign-entries : (before after : List ℕ) (count : ℕ) → EntriesListedBy Strict n es ls classes parents counts x before after (Count count) → count ≡ 0
+  pub one-sign-entries : (before after : List ℕ) (count : ℕ) → EntriesListed rule Strict f r x before after (Count count) → count ≡ 0
   one-sign-entries before after count (none, written) = written .2 ∙ ap length (none-listed no-entry (written .0) (written .1))
 
-  pub one-sign-set : (before after : List ℕ) (count : ℕ) → SetListedBy Strict n es ls classes parents counts x before after (Count count) → count ≡ 0
+  pub one-sign-set : (before after : List ℕ) (count : ℕ) → SetListed rule Strict f r x before after (Count count) → count ≡ 0
   one-sign-set before after count (none, written) = written .2 ∙ ap length (none-listed (λ y m. no-entry (m .entry) (m .entered)) (written .0) (written .1))
 
-  pub one-sign-size : (size : ℕ) → SizedBy Strict n es ls classes parents counts x (Count size) → size ≡ 0
+  pub one-sign-size : (size : ℕ) → Sized rule Strict f r x (Count size) → size ≡ 0
   unfolding sum
-  one-sign-size size (none, sized) = sized .2 ∙ ap (sum (row n counts)) (none-listed no-entry (sized .0) (sized .1))
+  one-sign-size size (none, sized) = sized .2 ∙ ap (sum (row (f .n) (r .counts))) (none-listed no-entry (sized .0) (sized .1))
 
 -- With a clause put last that has no x, what shares a clause with a literal of x is what shared one before: with `strict-stays` and
 -- `strict-entries-stay` this is demand 3, second sentence, for strict sets.
-pub shares-last : {ls longer : List ℤ} (clause : List ℤ) {x : ℕ} → clauses longer ≡ clauses ls ++ (clause ∷ []) → (List·Memᴰ x (connected clause) → ⊥) → (sign : Bool) (y : ℕ) → SharesBy ls sign x y ↔ SharesBy longer sign x y
+pub shares-last : {ls longer : List ℤ} (clause : List ℤ) {x : ℕ} → clauses longer ≡ clauses ls ++ (clause ∷ []) → (List·Memᴰ x (connected clause) → ⊥)
+    → (sign : Bool) (y : ℕ) → SharesBy ls sign x y ↔ SharesBy longer sign x y
 shares-last {ls} {longer} clause {x} is alone sign y = (
-  λ s. record { clause = s .clause; listed = subst (List·Memᴰ (s .clause)) (sym is) (Memᴰ·append-left (clause ∷ []) (s .listed)); literal = s .literal; connects = s .connects },
+  λ s. let listed = subst (List·Memᴰ (s .clause)) (sym is) (Memᴰ·append-left (clause ∷ []) (s .listed)) in
+      record { clause = s .clause; listed = listed; literal = s .literal; connects = s .connects },
   λ s. ⊎-elim (λ m. record { clause = s .clause; listed = m; literal = s .literal; connects = s .connects })
       (λ last. absurd (alone (subst (λ c. List·Memᴰ x (connected c)) (List·Memᴰ·eq-of-singleton last) (shares-x sign s))))
       (List·Memᴰ·append-cases (clauses ls) (subst (List·Memᴰ (s .clause)) is (s .listed))),

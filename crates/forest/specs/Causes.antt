@@ -1,16 +1,18 @@
--- The causes of refusals 13 and 14 for calls that read a forest, as the table of document 01 has them, and the orders of these calls.
+-- The causes of refusal 13 for calls that read a forest, as the table of document 01 has them, and the orders of these calls. What is looked for behind the prefix is
+-- looked for in the formula as the rule reads it.
 use Prim.Native.Nat.{ℕ, _≤_}
 use mathlib.Core.Path.{_≡_}
 use mathlib.Core.Bool.{false}
 use mathlib.Core.List.{List, [], _∷_, _++_}
 use mathlib.Core.Logic.{_⊎_}
-use lib.IntN.{ℤ}
+use Rattle.terms.specs.Answers.{TooLong}
 use Rattle.terms.specs.Refusals.{Causes, At0}
-use Rattle.formula.specs.Causes.{prefixOrder, checkOrder}
+use Rattle.formula.specs.Lent.{Formula}
 use Rattle.formula.specs.Meaning.{level, isExistential}
+use Rattle.joining.specs.Rules.{readAs, ruledPrefix, checkOrder}
 use Rattle.tables.specs.Formula.{universal}
+use Rattle.tables.specs.Lent.{Rows}
 use Rattle.tables.specs.Causes.{ForestCause}
-use Rattle.forest.specs.Listed.{TooLong}
 
 -- 13: x not universal
 abbrev pub NotUniversal : ℕ → List ℕ → ℕ → Type 0
@@ -20,14 +22,22 @@ NotUniversal n es x = universal n es x ≡ false
 abbrev pub NotDeeper : ℕ → List ℕ → ℕ → ℕ → Type 0
 NotDeeper n es x y = (isExistential n es y ≡ false) ⊎ (level es y ≤ level es x)
 
--- the order of the entry point of x for y, which takes no clauses: 1, 2, prefix, 12, 13
-abbrev pub entryOrder : ℕ → List ℕ → List ℕ → List ℕ → List ℕ → ℕ → ℕ → List Causes
-entryOrder n es classes parents counts x y = prefixOrder n es 0 ++ (ForestCause n es classes parents counts ∷ At0 13 (NotUniversal n es x ⊎ NotDeeper n es x y) ∷ [])
+-- what the entry point of x for y looks for behind the prefix, where that is read as es: 12, 13
+abbrev pub behindEntry : ℕ → List ℕ → Rows → ℕ → ℕ → List Causes
+behindEntry n es r x y = ForestCause n es r ∷ At0 13 (NotUniversal n es x ⊎ NotDeeper n es x y) ∷ []
 
--- the order of what a call that lists for x looks at before its output: that of check, 12, 13
-abbrev pub readOrder : ℕ → List ℕ → List ℤ → List ℕ → List ℕ → List ℕ → ℕ → List Causes
-readOrder n es ls classes parents counts x = checkOrder n es ls ++ (ForestCause n es classes parents counts ∷ At0 13 (NotUniversal n es x) ∷ [])
+-- and what a call that asks for x looks for behind check: 12, 13
+abbrev pub behindCheck : ℕ → List ℕ → Rows → ℕ → List Causes
+behindCheck n es r x = ForestCause n es r ∷ At0 13 (NotUniversal n es x) ∷ []
+
+-- the order of the entry point of x for y, which takes no clauses: 23, 1, 2, prefix, 12, 13
+abbrev pub entryOrder : ℕ → Formula → Rows → ℕ → ℕ → List Causes
+entryOrder rule f r x y = ruledPrefix rule (f .n) (f .prefix) 0 ++ behindEntry (f .n) (readAs rule (f .prefix)) r x y
+
+-- the order of what a call that asks for x looks at before its output: that of check, 12, 13
+abbrev pub askOrder : ℕ → Formula → Rows → ℕ → List Causes
+askOrder rule f r x = checkOrder rule f ++ behindCheck (f .n) (readAs rule (f .prefix)) r x
 
 -- the order of a call that lists, for x, the numbers of which P holds: the same, and 14
-abbrev pub listOrder : ℕ → List ℕ → List ℤ → List ℕ → List ℕ → List ℕ → ℕ → (ℕ → Type 0) → List ℕ → List Causes
-listOrder n es ls classes parents counts x P before = readOrder n es ls classes parents counts x ++ (At0 14 (TooLong P before) ∷ [])
+abbrev pub listOrder : ℕ → Formula → Rows → ℕ → (ℕ → Type 0) → List ℕ → List Causes
+listOrder rule f r x P before = askOrder rule f r x ++ (At0 14 (TooLong P before) ∷ [])

@@ -1,4 +1,4 @@
-pub mod Listed
+-- What the calls that ask of a forest promise: Causes and Answers are what to believe, Wanted is inner.
 pub mod Causes
 pub mod Answers
 pub mod Wanted

@@ -1,24 +1,33 @@
--- What the inner functions are asked for, by a scheme and by the lent tables.
+-- What the inner functions are asked for, by a scheme and by the lent rows.
 use Prim.Native.Nat.{ℕ}
+use mathlib.Core.Path.{_≡_}
 use mathlib.Core.Bool.{Bool}
 use mathlib.Core.List.{List}
-use lib.IntN.{ℤ}
+use lib.ListN.{length}
+use lib.Seq.{sets}
+use Rattle.terms.specs.Listed.{Listed}
 use Rattle.terms.specs.declared.Scheme.{Scheme}
 use Rattle.picking.specs.declared.Asked.{Asked}
 use Rattle.picking.specs.declared.Asked.the-variants.{Points, Set}
 use Rattle.terms.specs.declared.Verdict.{Verdict}
 use Rattle.terms.specs.declared.Verdict.the-variants.{Accepted}
-use Rattle.connection.specs.Reach.{Variables}
-use Rattle.connection.specs.Tables.{Table}
+use Rattle.formula.specs.Lent.{Formula}
 use Rattle.searching.specs.Search.{EntryRows}
 use Rattle.marks.specs.Flags.{Entering}
+use Rattle.tables.specs.Lent.{Rows, variablesOf, forestOf}
 use Rattle.forest.specs.Answers.{EntriesBy, MembersBy}
 
-abbrev pub Wanted : Scheme → Asked → ℕ → List ℕ → List ℤ → List ℕ → List ℕ → ℕ → ℕ → Type 0
-Wanted scheme Points n es ls classes parents x = EntriesBy scheme n es ls classes parents x
-Wanted scheme Set n es ls classes parents x = MembersBy scheme n es ls classes parents x
+-- the entry points of x, or its set
+abbrev pub Wanted : Scheme → Asked → Formula → Rows → ℕ → ℕ → Type 0
+Wanted scheme Points f r x = EntriesBy scheme f r x
+Wanted scheme Set f r x = MembersBy scheme f r x
 
--- where a call is not refused: the entry points, by P, are flagged, and the rows stand for the entries of all variables
-abbrev pub Enters : Variables → Table → (ℕ → Type 0) → ℕ → List ℕ → List Bool → Verdict → Type 0
-Enters X W P x tops flags Accepted = (entries : List ℕ) × EntryRows X W x entries × Entering (X .count) P entries tops flags
-Enters X W P x tops flags (Verdict.Refused number place) = Unit {0}
+-- where a call is not refused: the entry points of x by the scheme are flagged, and the rows stand for the entries of all variables
+abbrev pub Enters : Scheme → Formula → Rows → ℕ → List ℕ → List Bool → Verdict → Type 0
+Enters scheme f r x tops flags Accepted =
+    (entries : List ℕ) × EntryRows (variablesOf f) (forestOf f r) x entries × Entering (f .n) (EntriesBy scheme f r x) entries tops flags
+Enters scheme f r x tops flags (Verdict.Refused number place) = Unit {0}
+
+-- the numbers of which P holds are written into the front of a table, ascending, and counted
+abbrev pub Lists : (ℕ → Type 0) → List ℕ → List ℕ → ℕ → Type 0
+Lists P before after count = (list : List ℕ) × Listed P list × (count ≡ length list) × (after ≡ sets before 0 list)

@@ -1,40 +1,55 @@
-// Lent forest tables: the entry point of x for y, the entry points of x, the set of x and its size, by the standard scheme or the strict one.
+// Lent forest tables asked, under a reading rule: the entry point of x for y, the entry points of x, the set of x and its size, by the standard
+// scheme or the strict one.
 
 mod entering;
 
-use checks::prefix::prefix_verdict;
 use entering::enter;
+use entering::enter_over;
+use joining::as_read;
+use joining::read_formula;
+use joining::read_prefix;
 use levelling::fill_levels;
 use picking::Asked;
 use picking::list_picked;
 use picking::sum_flagged;
+use picking::write_picked;
 use searching::Found;
 use searching::find_entry;
 use tables::checking::check_forest;
 use tables::rows::universal_at;
+use terms::EntryAnswer;
 use terms::Filled;
+use terms::Level;
 use terms::Scheme;
 use terms::Variable;
 use terms::Verdict;
-ghost use mathlib.Core.List.{[], _∷_};
-ghost use mathlib.Core.Logic.{_⊎_};
+ghost use Prim.Native.Nat.{_≤_};
+ghost use mathlib.Core.Path.{_≡_};
+ghost use mathlib.Core.List.{[], _∷_, _++_};
+ghost use lib.ListN.{length};
+ghost use Rattle.terms.specs.Limits.{mostVariables};
+ghost use Rattle.terms.specs.Answers.{Answered, Numbered, Listing, TooLong};
 ghost use Rattle.terms.specs.Refusals.{At0};
+ghost use Rattle.formula.specs.Lent.{formulaIn, prefixIn};
+ghost use Rattle.formula.specs.Meaning.{level};
 ghost use Rattle.formula.specs.Levels.{SoundPrefix};
-ghost use Rattle.tables.specs.Causes.{ForestCause};
-ghost use Rattle.forest.specs.Causes.{NotUniversal, NotDeeper, listOrder};
-ghost use Rattle.forest.specs.Answers.{Answered, Entry, EntryAnswered, EntriesListedBy, SetListedBy, SizedBy, EntriesListed, SetListed, Sized};
-ghost use Rattle.forest.specs.Listed.{Listing};
-ghost use Rattle.forest.specs.Wanted.{Wanted};
+ghost use Rattle.formula.specs.Lookup.{SoundClauses};
+ghost use Rattle.tables.specs.Counting.{FormedBy};
+ghost use Rattle.tables.specs.Lent.{rows, rowsIn};
+ghost use Rattle.forest.specs.Causes.{behindEntry, behindCheck};
+ghost use Rattle.forest.specs.Answers.{Entry, MembersBy, SizeBy, EntryAnswered, ListedFor, EntriesListed, SetListed, Sized};
+ghost use Rattle.forest.specs.Wanted.{Lists, Wanted};
 
-// What the entry point call says: the class and the number of rises, or the number of the refusal and its place.
-pub enum EntryAnswer {
-    At(Variable, u32),
-    // the number of the refusal, and its place
-    Refused(u32, usize),
+// What is listed for x: its entry points or its set, by a scheme.
+struct Question {
+    x: Variable,
+    scheme: Scheme,
+    asked: Asked,
 }
 
 // The entry point of x for y, and the number of rises from the class of y up to it.
 pub fn entry_point(
+    rule: u32,
     n: u32,
     prefix: &[u32],
     classes: &[u32],
@@ -43,66 +58,21 @@ pub fn entry_point(
     x: Variable,
     y: Variable,
 ) -> EntryAnswer
-    ensures { λ r. ⌜ EntryAnswered n (now (prefix .entry)) (now (classes .entry)) (now (parents .entry)) (now (counts .entry)) (x .0) (y .0) r ⌝ }
+    ensures answer { λ r. ⌜ EntryAnswered rule (prefixIn n prefix) (rowsIn classes parents counts) (x .0) (y .0) r ⌝ }
 {
-    match prefix_verdict(n, prefix, 0) {
-        Verdict::Refused(number, place) => EntryAnswer::Refused(number, place),
-        Verdict::Accepted => sound_entry(n, prefix, classes, parents, counts, x, y),
+    let mut joined = [0u32; Level::JOINED];
+    match read_prefix(rule, n, prefix, 0, &mut joined) {
+        Filled::Refused(number, place) => EntryAnswer::Refused(number, place),
+        Filled::Count(count) => {
+            let read = as_read(rule, prefix, &joined, count);
+            sound_entry(n, read, classes, parents, counts, x, y)
+        }
     }
 }
 
-// The strict entry points of x, written ascending into `out`, with their count.
-pub fn entry_points(
-    n: u32,
-    prefix: &[u32],
-    clauses: &[i32],
-    classes: &[u32],
-    parents: &[u32],
-    counts: &[u32],
-    x: Variable,
-    out: &mut [u32],
-) -> Filled
-    ensures { λ r. ⌜ EntriesListed n (now (prefix .entry)) (now (clauses .entry)) (now (classes .entry)) (now (parents .entry)) (now (counts .entry)) (x .0) (now (out .entry)) (now (out .exit)) r ⌝ }
-{
-    let strict = Scheme::Strict;
-    entry_points_by(strict, n, prefix, clauses, classes, parents, counts, x, out)
-}
-
-// The strict set of x, written ascending into `out`, with the count of its members.
-pub fn set_of(
-    n: u32,
-    prefix: &[u32],
-    clauses: &[i32],
-    classes: &[u32],
-    parents: &[u32],
-    counts: &[u32],
-    x: Variable,
-    out: &mut [u32],
-) -> Filled
-    ensures { λ r. ⌜ SetListed n (now (prefix .entry)) (now (clauses .entry)) (now (classes .entry)) (now (parents .entry)) (now (counts .entry)) (x .0) (now (out .entry)) (now (out .exit)) r ⌝ }
-{
-    let strict = Scheme::Strict;
-    set_by(strict, n, prefix, clauses, classes, parents, counts, x, out)
-}
-
-// The size of the strict set of x, by the counts of its strict entry points.
-pub fn set_size(
-    n: u32,
-    prefix: &[u32],
-    clauses: &[i32],
-    classes: &[u32],
-    parents: &[u32],
-    counts: &[u32],
-    x: Variable,
-) -> Filled
-    ensures { λ r. ⌜ Sized n (now (prefix .entry)) (now (clauses .entry)) (now (classes .entry)) (now (parents .entry)) (now (counts .entry)) (x .0) r ⌝ }
-{
-    let strict = Scheme::Strict;
-    size_by(strict, n, prefix, clauses, classes, parents, counts, x)
-}
-
 // The entry points of x by a scheme, written ascending into `out`, with their count.
-pub fn entry_points_by(
+pub fn entry_points(
+    rule: u32,
     scheme: Scheme,
     n: u32,
     prefix: &[u32],
@@ -113,24 +83,27 @@ pub fn entry_points_by(
     x: Variable,
     out: &mut [u32],
 ) -> Filled
-    ensures { λ r. ⌜ EntriesListedBy scheme n (now (prefix .entry)) (now (clauses .entry)) (now (classes .entry)) (now (parents .entry)) (now (counts .entry)) (x .0) (now (out .entry)) (now (out .exit)) r ⌝ }
+    ensures listed { λ r. ⌜ EntriesListed rule scheme (formulaIn n prefix clauses) (rowsIn classes parents counts) (x .0)
+        (now (out .entry)) (now (out .exit)) r ⌝ }
 {
+    let asked = Asked::Points;
+    let question = Question { x, scheme, asked };
     list_asked(
-        scheme,
+        rule,
         n,
         prefix,
         clauses,
         classes,
         parents,
         counts,
-        x,
-        Asked::Points,
+        question,
         out,
     )
 }
 
 // The set of x by a scheme, written ascending into `out`, with the count of its members.
-pub fn set_by(
+pub fn set_of(
+    rule: u32,
     scheme: Scheme,
     n: u32,
     prefix: &[u32],
@@ -141,24 +114,26 @@ pub fn set_by(
     x: Variable,
     out: &mut [u32],
 ) -> Filled
-    ensures { λ r. ⌜ SetListedBy scheme n (now (prefix .entry)) (now (clauses .entry)) (now (classes .entry)) (now (parents .entry)) (now (counts .entry)) (x .0) (now (out .entry)) (now (out .exit)) r ⌝ }
+    ensures listed { λ r. ⌜ SetListed rule scheme (formulaIn n prefix clauses) (rowsIn classes parents counts) (x .0) (now (out .entry)) (now (out .exit)) r ⌝ }
 {
+    let asked = Asked::Set;
+    let question = Question { x, scheme, asked };
     list_asked(
-        scheme,
+        rule,
         n,
         prefix,
         clauses,
         classes,
         parents,
         counts,
-        x,
-        Asked::Set,
+        question,
         out,
     )
 }
 
 // The size of the set of x by a scheme, by the counts of its entry points.
-pub fn size_by(
+pub fn set_size(
+    rule: u32,
     scheme: Scheme,
     n: u32,
     prefix: &[u32],
@@ -168,44 +143,67 @@ pub fn size_by(
     counts: &[u32],
     x: Variable,
 ) -> Filled
-    ensures { λ r. ⌜ SizedBy scheme n (now (prefix .entry)) (now (clauses .entry)) (now (classes .entry)) (now (parents .entry)) (now (counts .entry)) (x .0) r ⌝ }
+    ensures sized { λ r. ⌜ Sized rule scheme (formulaIn n prefix clauses) (rowsIn classes parents counts) (x .0) r ⌝ }
 {
-    let mut tops = [0u32; 4097];
-    let mut entered = [false; 4097];
-    match enter(
-        scheme,
-        n,
-        prefix,
-        clauses,
-        classes,
-        parents,
-        counts,
-        x,
-        &mut tops,
-        &mut entered,
-    ) {
-        Verdict::Refused(number, place) => Filled::Refused(number, place),
-        Verdict::Accepted => Filled::Count(sum_flagged(n, &entered, counts)),
+    let mut joined = [0u32; Level::JOINED];
+    match read_formula(rule, n, prefix, clauses, &mut joined) {
+        Filled::Refused(number, place) => Filled::Refused(number, place),
+        Filled::Count(count) => {
+            let read = as_read(rule, prefix, &joined, count);
+            sound_size(scheme, n, read, clauses, classes, parents, counts, x)
+        }
     }
 }
 
-// What the two that list do: the entry points of x are flagged, and what is asked for is listed by the flags.
+// Lists what a question asks for.
 fn list_asked(
-    scheme: Scheme,
+    rule: u32,
     n: u32,
     prefix: &[u32],
     clauses: &[i32],
     classes: &[u32],
     parents: &[u32],
     counts: &[u32],
-    x: Variable,
-    asked: Asked,
+    question: Question,
     out: &mut [u32],
 ) -> Filled
-    ensures { λ r. ⌜ Listing (listOrder n (now (prefix .entry)) (now (clauses .entry)) (now (classes .entry)) (now (parents .entry)) (now (counts .entry)) (x .0) (Wanted scheme asked n (now (prefix .entry)) (now (clauses .entry)) (now (classes .entry)) (now (parents .entry)) (x .0)) (now (out .entry))) (Wanted scheme asked n (now (prefix .entry)) (now (clauses .entry)) (now (classes .entry)) (now (parents .entry)) (x .0)) (now (out .entry)) (now (out .exit)) r ⌝ }
+    ensures listed { λ r. ⌜ ListedFor rule (formulaIn n prefix clauses) (rowsIn classes parents counts) (question .x .0)
+        (λ read. Wanted (question .scheme) (question .asked) read (rowsIn classes parents counts) (question .x .0))
+        (now (out .entry)) (now (out .exit)) r ⌝ }
 {
-    let mut tops = [0u32; 4097];
-    let mut entered = [false; 4097];
+    let mut joined = [0u32; Level::JOINED];
+    match read_formula(rule, n, prefix, clauses, &mut joined) {
+        Filled::Refused(number, place) => Filled::Refused(number, place),
+        Filled::Count(count) => {
+            let read = as_read(rule, prefix, &joined, count);
+            sound_list(n, read, clauses, classes, parents, counts, question, out)
+        }
+    }
+}
+
+// Lists what a question asks for, of an accepted formula: the entry points of x are flagged, and what is asked for is picked by the flags.
+fn sound_list(
+    n: u32,
+    prefix: &[u32],
+    clauses: &[i32],
+    classes: &[u32],
+    parents: &[u32],
+    counts: &[u32],
+    question: Question,
+    out: &mut [u32],
+) -> Filled
+    requires sound { ⌜ SoundPrefix n (now prefix) × SoundClauses (now clauses) ⌝ }
+    ensures listed { λ r. ⌜ Listing (behindCheck n (now (prefix .entry)) (rowsIn classes parents counts) (question .x .0)
+        ++ (At0 14 (TooLong (Wanted (question .scheme) (question .asked) (formulaIn n prefix clauses) (rowsIn classes parents counts) (question .x .0))
+        (now (out .entry))) ∷ []))
+        (Wanted (question .scheme) (question .asked) (formulaIn n prefix clauses) (rowsIn classes parents counts) (question .x .0))
+        (now (out .entry)) (now (out .exit)) r ⌝ }
+{
+    let mut tops = [0u32; Variable::ROWS];
+    let mut entered = [false; Variable::ROWS];
+    let x = question.x;
+    let scheme = question.scheme;
+    let asked = question.asked;
     match enter(
         scheme,
         n,
@@ -223,7 +221,78 @@ fn list_asked(
     }
 }
 
-// The entry point of x for y, once the prefix is accepted.
+// The set of x by a scheme, of an accepted formula with well-formed rows, for an x whose level is known: written ascending into a table that has room
+// for all variables, with the count of its members. Nothing is judged.
+pub fn sound_members(
+    scheme: Scheme,
+    n: u32,
+    prefix: &[u32],
+    clauses: &[i32],
+    classes: &[u32],
+    parents: &[u32],
+    x: Variable,
+    floor: Level,
+    out: &mut [u32],
+) -> usize
+    requires sound { ⌜ SoundPrefix n (now prefix) × SoundClauses (now clauses) ⌝ }
+    requires formed { ⌜ FormedBy n (now prefix) (now classes) (now parents) ⌝ }
+    requires place { ⌜ (x .0 ≤ mostVariables) × (floor .0 ≡ level (now prefix) (x .0)) ⌝ }
+    requires room { ⌜ n ≤ length (now out) ⌝ }
+    ensures listed { λ r. ⌜ Lists (MembersBy scheme (formulaIn n prefix clauses) (rows (now (classes .entry)) (now (parents .entry)) []) (x .0))
+        (now (out .entry)) (now (out .exit)) r ⌝ }
+{
+    let mut tops = [0u32; Variable::ROWS];
+    let mut entered = [false; Variable::ROWS];
+    enter_over(
+        scheme,
+        n,
+        prefix,
+        clauses,
+        classes,
+        parents,
+        x,
+        floor,
+        &mut tops,
+        &mut entered,
+    );
+    write_picked(n, Asked::Set, &entered, &tops, 0, 0, out)
+}
+
+// The size of the set of x by a scheme, of an accepted formula.
+fn sound_size(
+    scheme: Scheme,
+    n: u32,
+    prefix: &[u32],
+    clauses: &[i32],
+    classes: &[u32],
+    parents: &[u32],
+    counts: &[u32],
+    x: Variable,
+) -> Filled
+    requires sound { ⌜ SoundPrefix n (now prefix) × SoundClauses (now clauses) ⌝ }
+    ensures sized { λ r. ⌜ Numbered (behindCheck n (now (prefix .entry)) (rowsIn classes parents counts) (x .0))
+        (SizeBy scheme (formulaIn n prefix clauses) (rowsIn classes parents counts) (x .0)) r ⌝ }
+{
+    let mut tops = [0u32; Variable::ROWS];
+    let mut entered = [false; Variable::ROWS];
+    match enter(
+        scheme,
+        n,
+        prefix,
+        clauses,
+        classes,
+        parents,
+        counts,
+        x,
+        &mut tops,
+        &mut entered,
+    ) {
+        Verdict::Refused(number, place) => Filled::Refused(number, place),
+        Verdict::Accepted => Filled::Count(sum_flagged(n, &entered, counts)),
+    }
+}
+
+// The entry point of x for y, by an accepted prefix.
 fn sound_entry(
     n: u32,
     prefix: &[u32],
@@ -233,11 +302,12 @@ fn sound_entry(
     x: Variable,
     y: Variable,
 ) -> EntryAnswer
-    requires { ⌜ SoundPrefix n (now prefix) ⌝ }
-    ensures { λ r. ⌜ Answered (ForestCause n (now (prefix .entry)) (now (classes .entry)) (now (parents .entry)) (now (counts .entry)) ∷ At0 13 (NotUniversal n (now (prefix .entry)) (x .0) ⊎ NotDeeper n (now (prefix .entry)) (x .0) (y .0)) ∷ []) (Entry n (now (prefix .entry)) (now (classes .entry)) (now (parents .entry)) (x .0) (y .0)) r ⌝ }
+    requires sound { ⌜ SoundPrefix n (now prefix) ⌝ }
+    ensures answer { λ r. ⌜ Answered (behindEntry n (now (prefix .entry)) (rowsIn classes parents counts) (x .0) (y .0))
+        (Entry (prefixIn n prefix) (rowsIn classes parents counts) (x .0) (y .0)) r ⌝ }
 {
-    let mut levels = [0u32; 4097];
-    let mut universals = [false; 4097];
+    let mut levels = [0u32; Variable::ROWS];
+    let mut universals = [false; Variable::ROWS];
     fill_levels(prefix, &mut levels, &mut universals);
     match check_forest(n, prefix, &levels, &universals, classes, parents, counts) {
         Verdict::Refused(number, place) => EntryAnswer::Refused(number, place),

@@ -58,18 +58,38 @@ good-mark entry mark count t =
     one-or-two (yes q) is = inl q
     one-or-two (no other) is = inr (eqb-true entry 2 (sym (ap (λ b. cond b true (eqb entry 2)) (ne-eqb entry 1 other)) ∙ is))
 
+-- the table of names has those of a list
+abbrev Same : List Bool → List ℕ → Type 0
+Same named names = (v : ℕ) → v < 4097 → getD named v false ≡ has names v
+
 -- One entry inside a block: what the test says of it, and how the scan goes on.
-inside-entry : {n : ℕ} {es : List ℕ} {i : ℕ} {fresh : Bool} {mark count : ℕ} (names : List ℕ) {named : List Bool} → n ≤ 4096 → Scanned n es i false fresh mark count named → i < length es → ((v : ℕ) → v < 4097 → getD named v false ≡ has names v) → prefixPasses n (at es i ∷ drop (suc i) es) false fresh mark count names ≡ true → (Scanned n es (i + 1) true fresh mark count named → prefixPasses n (drop (i + 1) es) true fresh mark count names ≡ true → None (PrefixCause n es)) → (Scanned n es (i + 1) false false mark count (set named (at es i) true) → ((v : ℕ) → v < 4097 → getD (set named (at es i) true) v false ≡ has (at es i ∷ names) v) → prefixPasses n (drop (i + 1) es) false false mark count (at es i ∷ names) ≡ true → None (PrefixCause n es)) → None (PrefixCause n es)
+inside-entry : {n : ℕ} {es : List ℕ} {i : ℕ} {fresh : Bool} {mark count : ℕ} (names : List ℕ) {named : List Bool} → n ≤ 4096
+    → Scanned n es i false fresh mark count named → i < length es → Same named names
+    → prefixPasses n (at es i ∷ drop (suc i) es) false fresh mark count names ≡ true
+    → (Scanned n es (i + 1) true fresh mark count named → prefixPasses n (drop (i + 1) es) true fresh mark count names ≡ true → None (PrefixCause n es))
+    → (Scanned n es (i + 1) false false mark count (set named (at es i) true) → Same (set named (at es i) true) (at es i ∷ names)
+    → prefixPasses n (drop (i + 1) es) false false mark count (at es i ∷ names) ≡ true → None (PrefixCause n es))
+    → None (PrefixCause n es)
 unfolding prefixPasses
 inside-entry {n} {es} {i} {fresh} {mark} {count} names {named} few s more same t close name = by-entry (ℕ-discrete (at es i) 0)
   where
+    closed : Bool
+    closed = prefixPasses n (drop (suc i) es) true false mark count names
+
+    goes-on : Bool
+    goes-on = prefixPasses n (drop (suc i) es) false false mark count (at es i ∷ names)
+
+    told : (b : Bool) → eqb (at es i) 0 ≡ b → cond b (not fresh && closed) (leb (at es i) n && not (has names (at es i)) && goes-on) ≡ true
+    told b q = sym (ap (λ b. cond b (not fresh && closed) (leb (at es i) n && not (has names (at es i)) && goes-on)) q) ∙ t
+
     by-entry : Dec (at es i ≡ 0) → None (PrefixCause n es)
     by-entry (yes z) =
-        let (stale, on) = both (not fresh) (prefixPasses n (drop (suc i) es) true false mark count names) (sym (ap (λ b. cond b (not fresh && prefixPasses n (drop (suc i) es) true false mark count names) (leb (at es i) n && not (has names (at es i)) && prefixPasses n (drop (suc i) es) false false mark count (at es i ∷ names))) (eq-eqb (at es i) 0 z)) ∙ t) in
+        let (stale, on) = both (not fresh) closed (told true (eq-eqb (at es i) 0 z)) in
         let old = not-true fresh stale in
-        close (scan-close s more (sym (s .opening-is)) z old) (rw (add-one i) (ap (λ f. prefixPasses n (drop (suc i) es) true f mark count names) old ∙ on))
+        close (scan-close s more (sym (s .opening-is)) z old)
+        (rw (add-one i) (ap (λ f. prefixPasses n (drop (suc i) es) true f mark count names) old ∙ on))
     by-entry (no some) =
-        let (first, on) = both (leb (at es i) n && not (has names (at es i))) (prefixPasses n (drop (suc i) es) false false mark count (at es i ∷ names)) (sym (ap (λ b. cond b (not fresh && prefixPasses n (drop (suc i) es) true false mark count names) (leb (at es i) n && not (has names (at es i)) && prefixPasses n (drop (suc i) es) false false mark count (at es i ∷ names))) (ne-eqb (at es i) 0 some)) ∙ t) in
+        let (first, on) = both (leb (at es i) n && not (has names (at es i))) goes-on (told false (ne-eqb (at es i) 0 some)) in
         let (low, new) = both (leb (at es i) n) (not (has names (at es i))) first in
         let inside = leb-true (at es i) n low in
         let size = s .naming .size in
@@ -78,31 +98,41 @@ inside-entry {n} {es} {i} {fresh} {mark} {count} names {named} few s more same t
         (rw (add-one i) on)
 
 -- The scan goes on to its end where the test comes out true; m entries are left.
-prefix-passes : {n : ℕ} {es : List ℕ} → n ≤ 4096 → (m i : ℕ) (opening fresh : Bool) (mark count : ℕ) (names : List ℕ) (named : List Bool) → length es ≡ i + m → Scanned n es i opening fresh mark count named → ((v : ℕ) → v < 4097 → getD named v false ≡ has names v) → prefixPasses n (drop i es) opening fresh mark count names ≡ true → None (PrefixCause n es)
+prefix-passes : {n : ℕ} {es : List ℕ} → n ≤ 4096 → (m i : ℕ) (opening fresh : Bool) (mark count : ℕ) (names : List ℕ) (named : List Bool)
+    → length es ≡ i + m → Scanned n es i opening fresh mark count named → Same named names
+    → prefixPasses n (drop i es) opening fresh mark count names ≡ true → None (PrefixCause n es)
 unfolding prefixPasses
 prefix-passes {n} {es} few zero i opening fresh mark count names named q s same t =
     none-in-prefix s (omega arith) (sym (ap (λ r. prefixPasses n r opening fresh mark count names) (drop-of-length-le es {i = i} (omega arith))) ∙ t)
 prefix-passes {n} {es} few (suc m) i true fresh mark count names named q s same t =
     let more : i < length es = omega arith in
-    let (good, on) = both (goodMark (at es i) mark count) (prefixPasses n (drop (suc i) es) false true (at es i) (suc count) names) (sym (ap (λ r. prefixPasses n r true fresh mark count names) (drop-cons es i 0 more)) ∙ t) in
-    prefix-passes few m (i + 1) false true (at es i) (count + 1) names named (omega arith) (scan-mark s more (sym (s .opening-is)) (good-mark (at es i) mark count good) refl) same (rw (add-one i, add-one count) on)
+    let (good, on) =
+    both (goodMark (at es i) mark count) (prefixPasses n (drop (suc i) es) false true (at es i) (suc count) names)
+    (sym (ap (λ r. prefixPasses n r true fresh mark count names) (drop-cons es i 0 more)) ∙ t) in
+    prefix-passes few m (i + 1) false true (at es i) (count + 1) names named (omega arith)
+    (scan-mark s more (sym (s .opening-is)) (good-mark (at es i) mark count good) refl) same (rw (add-one i, add-one count) on)
 prefix-passes {n} {es} few (suc m) i false fresh mark count names named q s same t =
     let more : i < length es = omega arith in
     inside-entry names few s more same (sym (ap (λ r. prefixPasses n r false fresh mark count names) (drop-cons es i 0 more)) ∙ t)
     (λ next on. prefix-passes few m (i + 1) true fresh mark count names named (omega arith) next same on)
     (λ next same′ on. prefix-passes few m (i + 1) false false mark count (at es i ∷ names) (set named (at es i) true) (omega arith) next same′ on)
 
-clauses-pass : {n : ℕ} {ls : List ℤ} (m i : ℕ) (inside : Bool) → length ls ≡ i + m → Read n ls i inside → clausesPass n (drop i ls) inside ≡ true → None (ClauseCause n ls)
+clauses-pass : {n : ℕ} {ls : List ℤ} (m i : ℕ) (inside : Bool) → length ls ≡ i + m → Read n ls i inside → clausesPass n (drop i ls) inside ≡ true
+    → None (ClauseCause n ls)
 unfolding clausesPass
 clauses-pass {n} {ls} zero i inside q r t =
     none-in-clauses r (omega arith) (not-true inside (sym (ap (λ z. clausesPass n z inside) (drop-of-length-le ls {i = i} (omega arith))) ∙ t))
 clauses-pass {n} {ls} (suc m) i inside q r t =
     let more : i < length ls = omega arith in
-    let (low, on) = both (leb (variableOf (literalAt ls i)) n) (clausesPass n (drop (suc i) ls) (not (eqb (variableOf (literalAt ls i)) 0))) (sym (ap (λ z. clausesPass n z inside) (drop-cons ls i (pos 0) more)) ∙ t) in
-    clauses-pass m (i + 1) (not (eqb (variableOf (literalAt ls i)) 0)) (omega arith) (read-literal r (variableOf (literalAt ls i)) more refl (leb-true _ n low)) (rw (add-one i) on)
+    let (low, on) =
+    both (leb (variableOf (literalAt ls i)) n) (clausesPass n (drop (suc i) ls) (not (eqb (variableOf (literalAt ls i)) 0)))
+    (sym (ap (λ z. clausesPass n z inside) (drop-cons ls i (pos 0) more)) ∙ t) in
+    clauses-pass m (i + 1) (not (eqb (variableOf (literalAt ls i)) 0)) (omega arith)
+    (read-literal r (variableOf (literalAt ls i)) more refl (leb-true _ n low)) (rw (add-one i) on)
 
 -- All of check's causes are absent where n and the lengths are within the limits and both tests come out true.
-pub accepts : (n : ℕ) (es : List ℕ) (ls : List ℤ) → n ≤ 4096 → length es ≤ 8192 → length ls ≤ 16384 → prefixPasses n es true false 0 0 [] ≡ true → clausesPass n ls false ≡ true → NoneOf (checkOrder n es ls)
+pub accepts : (n : ℕ) (es : List ℕ) (ls : List ℤ) → n ≤ 4096 → length es ≤ 8192 → length ls ≤ 16384 → prefixPasses n es true false 0 0 [] ≡ true
+    → clausesPass n ls false ≡ true → NoneOf (checkOrder n es ls)
 accepts n es ls few short small prefix clauses = (
   at0-none 1 (λ over. omega arith),
   (

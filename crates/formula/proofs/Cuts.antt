@@ -10,7 +10,8 @@ use Rattle.formula.specs.Tables.{cut, push}
 
 module _ {A : Type 0} (isNought : A → Bool) (nought : A) where
   -- Up to its first 0 a table is its first list, and what follows that 0 holds the rest.
-  pub cut-closed : (m : ℕ) (xs : List A) → m < length xs → ((e : ℕ) → e < m → isNought (getD xs e nought) ≡ false) → isNought (getD xs m nought) ≡ true → cut isNought xs ≡ take m xs ∷ cut isNought (drop (suc m) xs)
+  pub cut-closed : (m : ℕ) (xs : List A) → m < length xs → ((e : ℕ) → e < m → isNought (getD xs e nought) ≡ false)
+      → isNought (getD xs m nought) ≡ true → cut isNought xs ≡ take m xs ∷ cut isNought (drop (suc m) xs)
   unfolding cut
   cut-closed m [] l before here = absurd (not-suc-le-zero l)
   cut-closed zero (x ∷ xs) l before here = ap (λ b. cond b ([] ∷ cut isNought xs) (push x (cut isNought xs))) here
@@ -23,4 +24,5 @@ module _ {A : Type 0} (isNought : A → Bool) (nought : A) where
   unfolding cut
   cut-unclosed [] before = refl
   cut-unclosed (x ∷ xs) before =
-      ap (λ b. cond b ([] ∷ cut isNought xs) (push x (cut isNought xs))) (before zero (omega arith)) ∙ ap (push x) (cut-unclosed xs (λ e l. before (suc e) (suc-le-suc l)))
+      ap (λ b. cond b ([] ∷ cut isNought xs) (push x (cut isNought xs))) (before zero (omega arith))
+      ∙ ap (push x) (cut-unclosed xs (λ e l. before (suc e) (suc-le-suc l)))

@@ -10,21 +10,24 @@ use Rattle.terms.specs.declared.Verdict.{Verdict}
 use Rattle.terms.specs.declared.Verdict.the-variants.{Accepted, Refused}
 use Rattle.terms.specs.Refusals.{None, Judged}
 use Rattle.terms.proofs.Verdicts.{at0-first, at0-none, judged-unique}
-use Rattle.formula.specs.Causes.{PrefixCause, checkOrder}
+use Rattle.formula.specs.Causes.{PrefixCause, ClauseCause, checkOrder}
 use Rattle.formula.proofs.Accepts.{prefixPasses, goodMark, clausesPass, accepts}
 use Rattle.formula.proofs.Scanned.{scan-none, none-in-prefix}
 use Rattle.formula.proofs.Literals.{read-none, fault-at-literal, none-in-clauses}
 
--- an empty prefix has no cause, whatever n
+-- an empty prefix has no cause, whatever n, and neither has an empty clause table
 no-prefix : (n : ℕ) → None (PrefixCause n [])
 no-prefix n = none-in-prefix (scan-none n []) (omega arith) refl
+
+no-clauses : (n : ℕ) → None (ClauseCause n [])
+no-clauses n = none-in-clauses (read-none n []) (omega arith) refl
 
 -- n 4,097 is 1, and 4,096 with empty tables is accepted, and so is n 0
 pub over-the-limit : (v : Verdict) → Judged (checkOrder 4097 [] []) v → v ≡ Refused 1 0
 over-the-limit v judged = judged-unique (checkOrder 4097 [] []) v (Refused 1 0) judged (inl (at0-first 1 (lit< tt)))
 
 empty : (n : ℕ) → ¬ (4096 < n) → Judged (checkOrder n [] []) Accepted
-empty n few = (at0-none 1 few, (at0-none 2 (⊎-elim (λ l. omega arith) (λ l. omega arith)), (no-prefix n, (none-in-clauses (read-none n []) (omega arith) refl, tt))))
+empty n few = (at0-none 1 few, (at0-none 2 (⊎-elim (λ l. omega arith) (λ l. omega arith)), (no-prefix n, (no-clauses n, tt))))
 
 pub at-the-limit : (v : Verdict) → Judged (checkOrder 4096 [] []) v → v ≡ Accepted
 at-the-limit v judged = judged-unique (checkOrder 4096 [] []) v Accepted judged (empty 4096 (λ l. omega arith))

@@ -15,7 +15,7 @@ use lib.Seq.{drop-cons, getD-drop, getD-set-same, getD-set-other}
 use Rattle.formula.specs.Tables.{at, opens, cut, push}
 use Rattle.formula.specs.Causes.{ends-inside, no-mark, outside}
 use Rattle.formula.specs.Meaning.{isZero, blocks, has, saidOf, firstMark, freeLevel, level, isUniversal}
-use Rattle.formula.specs.Levels.{SoundPrefix, Levelled}
+use Rattle.formula.specs.Levels.{SoundPrefix, LevelRows, Levelled}
 
 -- a list with a 0 in it holds a list that the 0 closes
 cut-some : (m : ℕ) (xs : List ℕ) → m < length xs → getD xs m 0 ≡ 0 → (list : List ℕ) × (lists : List (List ℕ)) × (cut isZero xs ≡ list ∷ lists)
@@ -24,7 +24,8 @@ cut-some m [] l z = absurd (not-suc-le-zero l)
 cut-some zero (x ∷ xs) l z = ([], cut isZero xs, ap (λ b. cond b ([] ∷ cut isZero xs) (push x (cut isZero xs))) (eq-eqb x 0 z))
 cut-some (suc m) (x ∷ xs) l z = let (list, lists, q) = cut-some m xs (le-of-suc-le-suc l) z in front (eqb x 0) list lists q
   where
-    front : (b : Bool) (list : List ℕ) (lists : List (List ℕ)) → cut isZero xs ≡ list ∷ lists → (list′ : List ℕ) × (lists′ : List (List ℕ)) × (cond b ([] ∷ cut isZero xs) (push x (cut isZero xs)) ≡ list′ ∷ lists′)
+    front : (b : Bool) (list : List ℕ) (lists : List (List ℕ)) → cut isZero xs ≡ list ∷ lists
+        → (list′ : List ℕ) × (lists′ : List (List ℕ)) × (cond b ([] ∷ cut isZero xs) (push x (cut isZero xs)) ≡ list′ ∷ lists′)
     front true list lists q = ([], cut isZero xs, refl)
     front false list lists q = (x ∷ list, lists, ap (push x) q)
 
@@ -34,10 +35,14 @@ module _ {A : Type 0} (says : ℕ → ℕ → A) where
   saidInside [] b m found v = found
   saidInside (rest ∷ later) b m found v = saidOf says later (suc b) (cond (has rest v) (says b m) found) v
 
-  -- The same from any place, by whether a block may open there; b blocks are opened so far.
+  -- What is said of v from any place, by whether a block may open there; b blocks are opened so far.
   abbrev pub saidFrom : Bool → List (List ℕ) → ℕ → ℕ → A → ℕ → A
   saidFrom true cs b m found v = saidOf says cs (suc b) found v
   saidFrom false cs b m found v = saidInside cs b m found v
+
+  -- What is said of v from entry i of a prefix on.
+  abbrev pub saidAt : List ℕ → ℕ → Bool → ℕ → ℕ → A → ℕ → A
+  saidAt es i opening b m found v = saidFrom opening (cut isZero (drop i es)) b m found v
 
   -- At the end nothing more is said.
   pub said-end : (opening : Bool) (b m : ℕ) (found : A) (v : ℕ) → saidFrom opening [] b m found v ≡ found
@@ -45,7 +50,8 @@ module _ {A : Type 0} (says : ℕ → ℕ → A) where
   said-end false b m found v = refl
 
   -- A mark opens a block.
-  pub said-mark : (m : ℕ) (r : List ℕ) (b m₀ : ℕ) (found : A) (v : ℕ) → m ≢ 0 → saidFrom true (cut isZero (m ∷ r)) b m₀ found v ≡ saidFrom false (cut isZero r) (suc b) m found v
+  pub said-mark : (m : ℕ) (r : List ℕ) (b m₀ : ℕ) (found : A) (v : ℕ) → m ≢ 0
+      → saidFrom true (cut isZero (m ∷ r)) b m₀ found v ≡ saidFrom false (cut isZero r) (suc b) m found v
   unfolding cut
   said-mark m r b m₀ found v some =
       ap (λ z. saidOf says (cond z ([] ∷ cut isZero r) (push m (cut isZero r))) (suc b) found v) (ne-eqb m 0 some) ∙ opened (cut isZero r)
@@ -55,12 +61,14 @@ module _ {A : Type 0} (says : ℕ → ℕ → A) where
       opened (rest ∷ later) = refl
 
   -- A 0 closes it.
-  pub said-close : (w : ℕ) (r : List ℕ) (b m : ℕ) (found : A) (v : ℕ) → w ≡ 0 → saidFrom false (cut isZero (w ∷ r)) b m found v ≡ saidFrom true (cut isZero r) b m found v
+  pub said-close : (w : ℕ) (r : List ℕ) (b m : ℕ) (found : A) (v : ℕ) → w ≡ 0
+      → saidFrom false (cut isZero (w ∷ r)) b m found v ≡ saidFrom true (cut isZero r) b m found v
   unfolding cut
   said-close w r b m found v none = ap (λ z. saidInside (cond z ([] ∷ cut isZero r) (push w (cut isZero r))) b m found v) (eq-eqb w 0 none)
 
   -- A variable is said to be of the block, which a later 0 closes.
-  pub said-variable : (w : ℕ) (r rest : List ℕ) (later : List (List ℕ)) (b m : ℕ) (found : A) (v : ℕ) → w ≢ 0 → cut isZero r ≡ rest ∷ later → saidFrom false (cut isZero (w ∷ r)) b m found v ≡ saidFrom false (cut isZero r) b m (cond (eqb w v) (says b m) found) v
+  pub said-variable : (w : ℕ) (r rest : List ℕ) (later : List (List ℕ)) (b m : ℕ) (found : A) (v : ℕ) → w ≢ 0 → cut isZero r ≡ rest ∷ later
+      → saidFrom false (cut isZero (w ∷ r)) b m found v ≡ saidFrom false (cut isZero r) b m (cond (eqb w v) (says b m) found) v
   unfolding cut
   said-variable w r rest later b m found v some closed =
       ap (λ z. saidInside (cond z ([] ∷ cut isZero r) (push w (cut isZero r))) b m found v) (ne-eqb w 0 some)
@@ -100,7 +108,8 @@ module _ {n : ℕ} {es : List ℕ} (sound : SoundPrefix n es) (i : ℕ) (more : 
       by-last (yes z) =
           let apart : i ≢ length es - 1 = λ q. some (ap (at es) q ∙ z) in
           let there : suc i + (length es - 1 - suc i) ≡ length es - 1 = omega arith in
-          cut-some (length es - 1 - suc i) (drop (suc i) es) (rw (length-drop (suc i) es) (omega arith)) (getD-drop (suc i) es (length es - 1 - suc i) 0 ∙ ap (at es) there ∙ z)
+          cut-some (length es - 1 - suc i) (drop (suc i) es) (rw (length-drop (suc i) es) (omega arith))
+          (getD-drop (suc i) es (length es - 1 - suc i) 0 ∙ ap (at es) there ∙ z)
       by-last (no some′) = absurd (sound .faultless 3 (length es) (ends-inside refl refl (omega arith, some′)))
 
 -- The free level is read off the first mark.
@@ -122,16 +131,25 @@ free-of-first (e ∷ es) sound some =
     let (list, lists, q) = closed-after sound 0 (omega arith) nonzero in
     sym (ap (λ m. cond (eqb m 1) 1 0) (first-of e es list lists nonzero q))
 
+-- what is said of a variable: the number of its block, and whether that is universal
+abbrev itsLevel : ℕ → ℕ → ℕ
+itsLevel number mark = number
+
+abbrev itsKind : ℕ → ℕ → Bool
+itsKind number mark = eqb mark 2
+
 -- The tables hold what the blocks before entry i say, so that what they and the rest say is what all say.
 pub record Levelling (es : List ℕ) (i : ℕ) (opening : Bool) (mark block : ℕ) (levels : List ℕ) (universals : List Bool) : Type 0 where
   pub within : i ≤ length es
   pub opening-is : opening ≡ opens es i
   pub few : block ≤ i
-  pub sizes : (length levels ≡ 4097) × (length universals ≡ 4097)
-  pub level-so : (v : ℕ) → v < 4097 → saidFrom (λ number mark. number) opening (cut isZero (drop i es)) block mark (getD levels v 0) v ≡ level es v
-  pub universal-so : (v : ℕ) → v < 4097 → saidFrom (λ number mark. eqb mark 2) opening (cut isZero (drop i es)) block mark (getD universals v false) v ≡ isUniversal es v
+  pub sizes : LevelRows levels universals
+  pub level-so : (v : ℕ) → v < 4097 → saidAt itsLevel es i opening block mark (getD levels v 0) v ≡ level es v
+  pub universal-so : (v : ℕ) → v < 4097 → saidAt itsKind es i opening block mark (getD universals v false) v ≡ isUniversal es v
 
-pub level-none : (es levels : List ℕ) (universals : List Bool) → (length levels ≡ 4097) × (length universals ≡ 4097) → ((v : ℕ) → v < 4097 → getD levels v 0 ≡ freeLevel es) → ((v : ℕ) → v < 4097 → getD universals v false ≡ false) → Levelling es 0 true 0 0 levels universals
+pub level-none : (es levels : List ℕ) (universals : List Bool) → LevelRows levels universals
+    → ((v : ℕ) → v < 4097 → getD levels v 0 ≡ freeLevel es) → ((v : ℕ) → v < 4097 → getD universals v false ≡ false)
+    → Levelling es 0 true 0 0 levels universals
 unfolding level isUniversal blocks
 level-none es levels universals sizes free none =
     record {
@@ -139,13 +157,17 @@ level-none es levels universals sizes free none =
       opening-is = refl;
       few = omega arith;
       sizes = sizes;
-      level-so = λ v l. ap (λ f. saidOf (λ number mark. number) (cut isZero es) 1 f v) (free v l);
-      universal-so = λ v l. ap (λ f. saidOf (λ number mark. eqb mark 2) (cut isZero es) 1 f v) (none v l);
+      level-so = λ v l. ap (λ f. saidOf itsLevel (cut isZero es) 1 f v) (free v l);
+      universal-so = λ v l. ap (λ f. saidOf itsKind (cut isZero es) 1 f v) (none v l);
     }
 
-module _ {n : ℕ} {es : List ℕ} (sound : SoundPrefix n es) {i : ℕ} {opening : Bool} {mark block : ℕ} {levels : List ℕ} {universals : List Bool} (s : Levelling es i opening mark block levels universals) (more : i < length es) where
-  here : drop i es ≡ at es i ∷ drop (suc i) es
-  here = drop-cons es i 0 more
+module _ {n : ℕ} {es : List ℕ} (sound : SoundPrefix n es) {i : ℕ} {opening : Bool} {mark block : ℕ} {levels : List ℕ} {universals : List Bool}
+    (s : Levelling es i opening mark block levels universals) (more : i < length es) where
+  -- what is said from this entry on, by whether a block may open here
+  here : {A : Type 0} (says : ℕ → ℕ → A) (o : Bool) (found : A) (v : ℕ) → opening ≡ o
+      → saidAt says es i opening block mark found v ≡ saidFrom says o (cut isZero (at es i ∷ drop (suc i) es)) block mark found v
+  here says o found v q =
+      ap (λ o. saidAt says es i o block mark found v) q ∙ ap (λ r. saidFrom says o (cut isZero r) block mark found v) (drop-cons es i 0 more)
 
   pub level-mark : opening ≡ true → Levelling es (i + 1) false (at es i) (block + 1) levels universals
   level-mark open′ =
@@ -157,13 +179,13 @@ module _ {n : ℕ} {es : List ℕ} (sound : SoundPrefix n es) {i : ℕ} {opening
         opening-is = sym (ne-eqb (at es i) 0 some);
         few = omega arith;
         sizes = s .sizes;
-        level-so = λ v l. said (λ number mark. number) v (getD levels v 0) some ∙ s .level-so v l;
-        universal-so = λ v l. said (λ number mark. eqb mark 2) v (getD universals v false) some ∙ s .universal-so v l;
+        level-so = λ v l. said itsLevel v (getD levels v 0) some ∙ s .level-so v l;
+        universal-so = λ v l. said itsKind v (getD universals v false) some ∙ s .universal-so v l;
       }
     where
-      said : {A : Type 0} (says : ℕ → ℕ → A) (v : ℕ) (found : A) → at es i ≢ 0 → saidFrom says false (cut isZero (drop (suc i) es)) (suc block) (at es i) found v ≡ saidFrom says opening (cut isZero (drop i es)) block mark found v
-      said says v found some =
-          sym (ap (λ o. saidFrom says o (cut isZero (drop i es)) block mark found v) open′ ∙ ap (λ r. saidFrom says true (cut isZero r) block mark found v) here ∙ said-mark says (at es i) (drop (suc i) es) block mark found v some)
+      said : {A : Type 0} (says : ℕ → ℕ → A) (v : ℕ) (found : A) → at es i ≢ 0
+          → saidAt says es (suc i) false (suc block) (at es i) found v ≡ saidAt says es i opening block mark found v
+      said says v found some = sym (here says true found v open′ ∙ said-mark says (at es i) (drop (suc i) es) block mark found v some)
 
   pub level-close : opening ≡ false → at es i ≡ 0 → Levelling es (i + 1) true mark block levels universals
   level-close shut none =
@@ -174,45 +196,53 @@ module _ {n : ℕ} {es : List ℕ} (sound : SoundPrefix n es) {i : ℕ} {opening
         opening-is = sym (eq-eqb (at es i) 0 none);
         few = omega arith;
         sizes = s .sizes;
-        level-so = λ v l. said (λ number mark. number) v (getD levels v 0) ∙ s .level-so v l;
-        universal-so = λ v l. said (λ number mark. eqb mark 2) v (getD universals v false) ∙ s .universal-so v l;
+        level-so = λ v l. said itsLevel v (getD levels v 0) ∙ s .level-so v l;
+        universal-so = λ v l. said itsKind v (getD universals v false) ∙ s .universal-so v l;
       }
     where
-      said : {A : Type 0} (says : ℕ → ℕ → A) (v : ℕ) (found : A) → saidFrom says true (cut isZero (drop (suc i) es)) block mark found v ≡ saidFrom says opening (cut isZero (drop i es)) block mark found v
-      said says v found =
-          sym (ap (λ o. saidFrom says o (cut isZero (drop i es)) block mark found v) shut ∙ ap (λ r. saidFrom says false (cut isZero r) block mark found v) here ∙ said-close says (at es i) (drop (suc i) es) block mark found v none)
+      said : {A : Type 0} (says : ℕ → ℕ → A) (v : ℕ) (found : A)
+          → saidAt says es (suc i) true block mark found v ≡ saidAt says es i opening block mark found v
+      said says v found = sym (here says false found v shut ∙ said-close says (at es i) (drop (suc i) es) block mark found v none)
 
-  pub level-variable : opening ≡ false → at es i ≢ 0 → Levelling es (i + 1) opening mark block (set levels (at es i) block) (set universals (at es i) (eqb mark 2))
+  pub level-variable : opening ≡ false → at es i ≢ 0
+      → Levelling es (i + 1) opening mark block (set levels (at es i) block) (set universals (at es i) (eqb mark 2))
   level-variable shut some =
       let few = s .few in
       let small = variable-small sound i more (sym (s .opening-is) ∙ shut) some in
       let (rest, later, closed) = closed-after sound i more some in
+      let level : (v : ℕ) → getD (set levels (at es i) block) v 0 ≡ cond (eqb (at es i) v) block (getD levels v 0) =
+      λ v. getD-set levels (at es i) v block 0 (rw (s .sizes .0) small) in
+      let kind : (v : ℕ) → getD (set universals (at es i) (eqb mark 2)) v false ≡ cond (eqb (at es i) v) (eqb mark 2) (getD universals v false) =
+      λ v. getD-set universals (at es i) v (eqb mark 2) false (rw (s .sizes .1) small) in
       rw (add-one i)
       record {
         within = more;
         opening-is = shut ∙ sym (ne-eqb (at es i) 0 some);
         few = omega arith;
         sizes = (length-set levels (at es i) block ∙ s .sizes .0, length-set universals (at es i) (eqb mark 2) ∙ s .sizes .1);
-        level-so = λ v l. said (λ number mark. number) v (getD levels v 0) (getD-set levels (at es i) v block 0 (rw (s .sizes .0) small)) rest later closed ∙ s .level-so v l;
-        universal-so = λ v l. said (λ number mark. eqb mark 2) v (getD universals v false) (getD-set universals (at es i) v (eqb mark 2) false (rw (s .sizes .1) small)) rest later closed ∙ s .universal-so v l;
+        level-so = λ v l. said itsLevel v (getD levels v 0) (level v) rest later closed ∙ s .level-so v l;
+        universal-so = λ v l. said itsKind v (getD universals v false) (kind v) rest later closed ∙ s .universal-so v l;
       }
     where
-      said : {A : Type 0} (says : ℕ → ℕ → A) (v : ℕ) (found : A) {stored : A} → stored ≡ cond (eqb (at es i) v) (says block mark) found → (rest : List ℕ) (later : List (List ℕ)) → cut isZero (drop (suc i) es) ≡ rest ∷ later → saidFrom says opening (cut isZero (drop (suc i) es)) block mark stored v ≡ saidFrom says opening (cut isZero (drop i es)) block mark found v
+      said : {A : Type 0} (says : ℕ → ℕ → A) (v : ℕ) (found : A) {stored : A} → stored ≡ cond (eqb (at es i) v) (says block mark) found
+          → (rest : List ℕ) (later : List (List ℕ)) → cut isZero (drop (suc i) es) ≡ rest ∷ later
+          → saidAt says es (suc i) opening block mark stored v ≡ saidAt says es i opening block mark found v
       said says v found {stored} q rest later closed =
-          ap (λ o. saidFrom says o (cut isZero (drop (suc i) es)) block mark stored v) shut
-          ∙ ap (λ f. saidFrom says false (cut isZero (drop (suc i) es)) block mark f v) q
-          ∙ sym (said-variable says (at es i) (drop (suc i) es) rest later block mark found v some closed)
-          ∙ sym (ap (λ o. saidFrom says o (cut isZero (drop i es)) block mark found v) shut ∙ ap (λ r. saidFrom says false (cut isZero r) block mark found v) here)
+          ap (λ o. saidAt says es (suc i) o block mark stored v) shut
+          ∙ ap (λ f. saidAt says es (suc i) false block mark f v) q
+          ∙ sym (here says false found v shut ∙ said-variable says (at es i) (drop (suc i) es) rest later block mark found v some closed)
 
 -- At the end the tables hold what all blocks say.
-pub levelled : {es : List ℕ} {i : ℕ} {opening : Bool} {mark block : ℕ} {levels : List ℕ} {universals : List Bool} → Levelling es i opening mark block levels universals → length es ≤ i → Levelled es levels universals
+pub levelled : {es : List ℕ} {i : ℕ} {opening : Bool} {mark block : ℕ} {levels : List ℕ} {universals : List Bool}
+    → Levelling es i opening mark block levels universals → length es ≤ i → Levelled es levels universals
 unfolding cut
 levelled {es} {i} {opening} {mark} {block} {levels} {universals} s done =
     record {
       sizes = s .sizes;
-      level-is = λ v l. sym (ended (λ number mark. number) v (getD levels v 0)) ∙ s .level-so v (omega arith);
-      universal-is = λ v l. sym (ended (λ number mark. eqb mark 2) v (getD universals v false)) ∙ s .universal-so v (omega arith);
+      level-is = λ v l. sym (ended itsLevel v (getD levels v 0)) ∙ s .level-so v (omega arith);
+      universal-is = λ v l. sym (ended itsKind v (getD universals v false)) ∙ s .universal-so v (omega arith);
     }
   where
-    ended : {A : Type 0} (says : ℕ → ℕ → A) (v : ℕ) (found : A) → saidFrom says opening (cut isZero (drop i es)) block mark found v ≡ found
-    ended says v found = ap (λ r. saidFrom says opening (cut isZero r) block mark found v) (drop-of-length-le es done) ∙ said-end says opening block mark found v
+    ended : {A : Type 0} (says : ℕ → ℕ → A) (v : ℕ) (found : A) → saidAt says es i opening block mark found v ≡ found
+    ended says v found =
+        ap (λ r. saidFrom says opening (cut isZero r) block mark found v) (drop-of-length-le es done) ∙ said-end says opening block mark found v

@@ -13,8 +13,9 @@ use lib.Seq.{getD-take, getD-drop, drop-drop, length-take-le}
 use Rattle.terms.specs.Literals.{variableOf}
 use Rattle.formula.specs.Tables.{literalAt, cut}
 use Rattle.formula.specs.Meaning.{clauses, isZero}
-use Rattle.formula.specs.Lookup.{NextZero, Stands, beginOf, InRows}
-use Rattle.formula.specs.declared.clauses.Found.the-variants.{At, Nowhere}
+use Rattle.formula.specs.Lookup.{NextZero, Stands, InRows}
+use Rattle.formula.specs.Clause.{beginOf}
+use Rattle.formula.specs.declared.clauses.Span.the-variants.{At, Nowhere}
 use Rattle.formula.proofs.Cuts.{cut-closed, cut-unclosed}
 
 isNought : ℤ → Bool
@@ -25,7 +26,8 @@ at-rest : (ls : List ℤ) (start e : ℕ) → variableOf (literalAt (drop start 
 at-rest ls start e = ap variableOf (getD-drop start ls e (pos 0))
 
 -- Up to the next 0 stands the next clause, and after it the clauses that follow.
-pub clauses-closed : (ls : List ℤ) (start z : ℕ) → NextZero ls start z → z < length ls → clauses (drop start ls) ≡ take (z - start) (drop start ls) ∷ clauses (drop (z + 1) ls)
+pub clauses-closed : (ls : List ℤ) (start z : ℕ) → NextZero ls start z → z < length ls
+    → clauses (drop start ls) ≡ take (z - start) (drop start ls) ∷ clauses (drop (z + 1) ls)
 unfolding clauses isNought
 clauses-closed ls start z next l =
     let from = next .from in
@@ -41,7 +43,8 @@ pub clauses-unclosed : (ls : List ℤ) (start z : ℕ) → NextZero ls start z �
 unfolding clauses isNought
 clauses-unclosed ls start z next l =
     cut-unclosed isNought (pos 0) (drop start ls)
-    (λ e before. let short = rw (length-drop start ls) at before in ne-eqb _ 0 (λ q. next .literals (start + e) (omega arith) (omega arith) (sym (at-rest ls start e) ∙ q)))
+    (λ e before. let short = rw (length-drop start ls) at before in
+    ne-eqb _ 0 (λ q. next .literals (start + e) (omega arith) (omega arith) (sym (at-rest ls start e) ∙ q)))
 
 -- past its first element a list is its tail
 after-first : {A : Type 0} (x : A) (xs : List A) (k : ℕ) (d : A) → k ≢ 0 → getD (x ∷ xs) k d ≡ getD xs (k - 1) d
@@ -76,7 +79,8 @@ module _ {ls : List ℤ} {asked start left : ℕ} (p : Passed ls asked start lef
       ap (λ cs. beginOf cs left) q ∙ begin-after _ (clauses (drop (z + 1) ls)) left some in
       let from = next .from in
       let size : length (take (z - start) (drop start ls)) ≡ z - start = length-take-le _ (drop start ls) (rw (length-drop start ls) (omega arith)) in
-      record { within = omega arith; count = omega arith; same = p .same ∙ ap (λ cs. getD cs left []) q ∙ after-first _ (clauses (drop (z + 1) ls)) left [] some; begins = omega arith }
+      let rest = ap (λ cs. getD cs left []) q ∙ after-first _ (clauses (drop (z + 1) ls)) left [] some in
+      record { within = omega arith; count = omega arith; same = p .same ∙ rest; begins = omega arith }
 
   pub stands-here : (z : ℕ) → NextZero ls start z → z < length ls → left ≡ 0 → Stands ls asked (At start z)
   unfolding Stands beginOf
@@ -84,8 +88,10 @@ module _ {ls : List ℤ} {asked start left : ℕ} (p : Passed ls asked start lef
       let q = clauses-closed ls start z next l in
       let some : length (clauses (drop start ls)) ≡ suc (length (clauses (drop (z + 1) ls))) = ap length q in
       let counted = p .count in
-      let begun : beginOf (clauses ls) asked ≡ start + beginOf (clauses (drop start ls)) 0 = p .begins ∙ ap (λ k. start + beginOf (clauses (drop start ls)) k) none in
-      (next .from, omega arith, omega arith, sym (p .same ∙ ap (λ k. getD (clauses (drop start ls)) k []) none ∙ ap (λ cs. getD cs 0 []) q), sym (begun ∙ add-zero start))
+      let begun : beginOf (clauses ls) asked ≡ start + beginOf (clauses (drop start ls)) 0 =
+      p .begins ∙ ap (λ k. start + beginOf (clauses (drop start ls)) k) none in
+      let same = p .same ∙ ap (λ k. getD (clauses (drop start ls)) k []) none ∙ ap (λ cs. getD cs 0 []) q in
+      (next .from, omega arith, omega arith, sym same, sym (begun ∙ add-zero start))
 
   pub stands-nowhere : clauses (drop start ls) ≡ [] → Stands ls asked Nowhere
   unfolding Stands
@@ -95,5 +101,6 @@ module _ {ls : List ℤ} {asked start left : ℕ} (p : Passed ls asked start lef
 pub part-rows : (ls : List ℤ) (start z : ℕ) → z ≤ length ls → InRows ls → InRows (take (z - start) (drop start ls))
 part-rows ls start z l all e h =
     let short : e < z - start = omega (arith, length-take (z - start) (drop start ls), h) in
-    let at : literalAt (take (z - start) (drop start ls)) e ≡ literalAt ls (start + e) = getD-take (z - start) (drop start ls) e (pos 0) short ∙ getD-drop start ls e (pos 0) in
+    let at : literalAt (take (z - start) (drop start ls)) e ≡ literalAt ls (start + e) =
+    getD-take (z - start) (drop start ls) e (pos 0) short ∙ getD-drop start ls e (pos 0) in
     rw (ap variableOf at) (all (start + e) (omega arith))

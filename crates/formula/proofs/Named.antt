@@ -37,7 +37,8 @@ module _ {es : List ℕ} {i : ℕ} {named : List Bool} (s : Named es i named) wh
   named-more here fits = record {
     size = length-set named (at es i) true ∙ s .size;
     names = λ v t. by-dec v t (ℕ-discrete v (at es i));
-    all = below-suc (λ b. VariableAt es b → getD (set named (at es i) true) (at es b) false ≡ true) i (λ b l var. kept (at es b) (s .all b l var) (ℕ-discrete (at es b) (at es i))) (λ _. stored);
+    all = below-suc (λ b. VariableAt es b → getD (set named (at es i) true) (at es b) false ≡ true) i
+        (λ b l var. kept (at es b) (s .all b l var) (ℕ-discrete (at es b) (at es i))) (λ _. stored);
   }
     where
       stored : getD (set named (at es i) true) (at es i) false ≡ true

@@ -54,9 +54,12 @@ named? es v = go (before (length es))
     Before m = (e : ℕ) × (e < m) × VariableAt es e × (at es e ≡ v)
 
     later : (m : ℕ) → (Before m → ⊥) → Before (suc m) → (VariableAt es m × (at es m ≡ v) → ⊥) → ⊥
-    later m none (e, less, there, is) not = by-cases (ℕ-discrete e m) (λ q. not (subst (λ (k : ℕ). VariableAt es k × (at es k ≡ v)) q (there, is))) (λ other. none (e, omega arith, there, is))
+    later m none (e, less, there, is) not =
+        by-cases (ℕ-discrete e m) (λ q. not (subst (λ (k : ℕ). VariableAt es k × (at es k ≡ v)) q (there, is)))
+        (λ other. none (e, omega arith, there, is))
 
-    here : (m : ℕ) → Dec (m < length es) → (b : Bool) → opens es m ≡ b → Dec (at es m ≡ 0) → Dec (at es m ≡ v) → (Before m → ⊥) → Before (suc m) ⊎ (Before (suc m) → ⊥)
+    here : (m : ℕ) → Dec (m < length es) → (b : Bool) → opens es m ≡ b → Dec (at es m ≡ 0) → Dec (at es m ≡ v) → (Before m → ⊥)
+        → Before (suc m) ⊎ (Before (suc m) → ⊥)
     here m (yes l) false shut (no some) (yes is) none = inl (m, omega arith, (l, shut, some), is)
     here m (no l) b q z d none = inr (λ k. let (e, less, there, is) = k in let within = there .0 in none (e, omega arith, there, is))
     here m (yes l) true open′ z d none = inr (λ k. later m none k (λ there. true≢false (sym open′ ∙ there .0 .1)))
@@ -65,7 +68,9 @@ named? es v = go (before (length es))
 
     before : (m : ℕ) → Before m ⊎ (Before m → ⊥)
     before zero = inr (λ k. let (e, less, there, is) = k in omega arith)
-    before (suc m) = ⊎-elim (λ k. let (e, less, there, is) = k in inl (e, omega arith, there, is)) (here m (decLe (suc m) (length es)) (opens es m) refl (ℕ-discrete (at es m) 0) (ℕ-discrete (at es m) v)) (before m)
+    before (suc m) =
+        ⊎-elim (λ k. let (e, less, there, is) = k in inl (e, omega arith, there, is))
+        (here m (decLe (suc m) (length es)) (opens es m) refl (ℕ-discrete (at es m) 0) (ℕ-discrete (at es m) v)) (before m)
 
     go : Before (length es) ⊎ (Before (length es) → ⊥) → NamedFrom es 0 v ⊎ (NamedFrom es 0 v → ⊥)
     go (inl k) = let (e, less, there, is) = k in inl (e, omega arith, there, is)
@@ -104,10 +109,12 @@ module _ {n : ℕ} {es : List ℕ} (sound : SoundPrefix n es) where
   pub once : (e f : ℕ) → VariableAt es e → VariableAt es f → e < f → at es e ≢ at es f
   once e f at-e at-f l q = sound .faultless 8 f (named-before e refl at-f l at-e q)
 
-  moved : {i m b : ℕ} {o : Bool} {levels : List ℕ} {universals : List Bool} → Levelling es (i + 1) o m b levels universals → b ≡ marksBefore es (suc i) → Levelling es (suc i) (opens es (suc i)) m (marksBefore es (suc i)) levels universals
+  moved : {i m b : ℕ} {o : Bool} {levels : List ℕ} {universals : List Bool} → Levelling es (i + 1) o m b levels universals
+      → b ≡ marksBefore es (suc i) → Levelling es (suc i) (opens es (suc i)) m (marksBefore es (suc i)) levels universals
   moved {i} {m} {b} {o} {levels} {universals} s q =
       let one : Levelling es (suc i) o m b levels universals = subst (λ (k : ℕ). Levelling es k o m b levels universals) (add-one i) s in
-      let two : Levelling es (suc i) (opens es (suc i)) m b levels universals = subst (λ (t : Bool). Levelling es (suc i) t m b levels universals) (one .opening-is) one in
+      let two : Levelling es (suc i) (opens es (suc i)) m b levels universals =
+      subst (λ (t : Bool). Levelling es (suc i) t m b levels universals) (one .opening-is) one in
       subst (λ (k : ℕ). Levelling es (suc i) (opens es (suc i)) m k levels universals) q two
 
   module _ (i : ℕ) (more : i < length es) (p : Placed i) where
@@ -136,7 +143,8 @@ module _ {n : ℕ} {es : List ℕ} (sound : SoundPrefix n es) where
           universals = _;
           so = moved (level-variable sound (p .so) more shut some) (sym (ap (λ b. cond b (suc (marksBefore es i)) (marksBefore es i)) shut));
           placed = λ e l at-e. before e l at-e (ℕ-discrete e i);
-          free = λ v l unnamed. getD-set-other (p .levels) (at es i) v (marksBefore es i) 0 (λ q. unnamed i (omega arith) there (sym q)) ∙ p .free v l (λ e k at-e. unnamed e (omega arith) at-e);
+          free = λ v l unnamed. getD-set-other (p .levels) (at es i) v (marksBefore es i) 0 (λ q. unnamed i (omega arith) there (sym q))
+              ∙ p .free v l (λ e k at-e. unnamed e (omega arith) at-e);
         }
       where
         there : VariableAt es i
@@ -146,14 +154,19 @@ module _ {n : ℕ} {es : List ℕ} (sound : SoundPrefix n es) where
         before e l at-e (yes q) =
             let small = variable-small sound i more shut some in
             let size = p .so .sizes .0 in
-            subst (λ (k : ℕ). getD (set (p .levels) (at es i) (marksBefore es i)) (at es k) 0 ≡ marksBefore es k) (sym q) (getD-set-same (p .levels) (at es i) (marksBefore es i) 0 (omega arith))
-        before e l at-e (no other) = getD-set-other (p .levels) (at es i) (at es e) (marksBefore es i) 0 (once e i at-e there (omega arith)) ∙ p .placed e (omega arith) at-e
+            subst (λ (k : ℕ). getD (set (p .levels) (at es i) (marksBefore es i)) (at es k) 0 ≡ marksBefore es k) (sym q)
+            (getD-set-same (p .levels) (at es i) (marksBefore es i) 0 (omega arith))
+        before e l at-e (no other) =
+            getD-set-other (p .levels) (at es i) (at es e) (marksBefore es i) 0 (once e i at-e there (omega arith)) ∙ p .placed e (omega arith) at-e
 
     passed-on : (b : Bool) → opens es i ≡ b → Dec (at es i ≡ 0) → Placed (suc i)
     passed-on true open′ d =
-        kept (at es i) _ false (level-mark sound (p .so) more open′) (add-one (marksBefore es i) ∙ sym (ap (λ b. cond b (suc (marksBefore es i)) (marksBefore es i)) open′)) (λ there. true≢false (sym open′ ∙ there .1))
+        kept (at es i) _ false (level-mark sound (p .so) more open′)
+        (add-one (marksBefore es i) ∙ sym (ap (λ b. cond b (suc (marksBefore es i)) (marksBefore es i)) open′))
+        (λ there. true≢false (sym open′ ∙ there .1))
     passed-on false shut (yes none) =
-        kept (p .mark) _ true (level-close sound (p .so) more shut none) (sym (ap (λ b. cond b (suc (marksBefore es i)) (marksBefore es i)) shut)) (λ there. there .2 none)
+        kept (p .mark) _ true (level-close sound (p .so) more shut none) (sym (ap (λ b. cond b (suc (marksBefore es i)) (marksBefore es i)) shut))
+        (λ there. there .2 none)
     passed-on false shut (no some) = named shut some
 
   all-placed : (i : ℕ) → i ≤ length es → Placed i
@@ -162,7 +175,8 @@ module _ {n : ℕ} {es : List ℕ} (sound : SoundPrefix n es) where
         mark = 0;
         levels = replicate 4097 (freeLevel es);
         universals = replicate 4097 false;
-        so = level-none es (replicate 4097 (freeLevel es)) (replicate 4097 false) (length-replicate 4097 (freeLevel es), length-replicate 4097 false) (λ v k. getD-replicate 4097 v (freeLevel es) 0 k) (λ v k. getD-replicate 4097 v false false k);
+        so = level-none es (replicate 4097 (freeLevel es)) (replicate 4097 false) (length-replicate 4097 (freeLevel es), length-replicate 4097 false)
+            (λ v k. getD-replicate 4097 v (freeLevel es) 0 k) (λ v k. getD-replicate 4097 v false false k);
         placed = λ e k. absurd (omega arith);
         free = λ v k unnamed. getD-replicate 4097 v (freeLevel es) 0 k;
       }
@@ -199,8 +213,13 @@ module _ {n : ℕ} {es : List ℕ} (sound : SoundPrefix n es) where
 
   -- no level is more than the number of blocks
   pub level-most : (v : ℕ) → v ≤ 4096 → level es v ≤ marksBefore es (length es)
-  level-most v small = ⊎-elim (λ d. let (e, _, there, is) = d in let own = sym (ap (level es) is) ∙ level-at e there in let rise = marks-rise es e (length es) (let l = there .0 in omega arith) in omega arith)
-      (λ none. let own = level-free v small none in let most = free-within es in omega arith) (named? es v)
+  level-most v small = ⊎-elim placed (λ none. let own = level-free v small none in let most = free-within es in omega arith) (named? es v)
+    where
+      placed : NamedFrom es 0 v → level es v ≤ marksBefore es (length es)
+      placed (e, _, there, is) =
+          let own = sym (ap (level es) is) ∙ level-at e there in
+          let rise = marks-rise es e (length es) (let l = there .0 in omega arith) in
+          omega arith
 
   -- an accepted prefix ends between two blocks
   pub closed-end : (i : ℕ) → length es ≤ i → opens es i ≡ true
@@ -210,4 +229,5 @@ module _ {n : ℕ} {es : List ℕ} (sound : SoundPrefix n es) where
       last : ¬ (length es ≤ i) → at es i ≡ 0
       last within =
           let is : length es - 1 ≡ i = omega arith in
-          by-cases (ℕ-discrete (at es i) 0) (λ z. z) (λ some. absurd (sound .faultless 3 (length es) (ends-inside refl refl (omega arith, λ z. some (sym (ap (at es) is) ∙ z)))))
+          by-cases (ℕ-discrete (at es i) 0) (λ z. z)
+          (λ some. absurd (sound .faultless 3 (length es) (ends-inside refl refl (omega arith, λ z. some (sym (ap (at es) is) ∙ z)))))

@@ -11,7 +11,8 @@ use borrow.Author.Tests.{eqb-true, eq-eqb}
 use lib.IntN.{ℤ, pos, negsuc}
 use lib.ListN.{length, getD, set, replicate, length-set, length-replicate, getD-replicate, List·getD-eq-default}
 use lib.Seq.{getD-set-same, getD-set-other}
-use Rattle.terms.specs.Literals.{variableOf, rowOf, otherRow}
+use Rattle.terms.specs.Literals.{variableOf}
+use Rattle.terms.specs.LiteralRows.{rowOf, otherRow}
 use Rattle.terms.proofs.Common.{below-suc, clash}
 use Rattle.formula.specs.Tables.{literalAt}
 use Rattle.formula.specs.Meaning.{opposite, denied, alwaysTrue, connected}
@@ -68,7 +69,10 @@ pub pairs-false : (ls : List ℤ) → ((d e : ℕ) → d < e → e < length ls �
 unfolding alwaysTrue
 pairs-false [] none = refl
 pairs-false (a ∷ ls) none =
-    rw (denied-false a ls (λ e l. none 0 (suc e) (omega arith) (omega arith)), pairs-false ls (λ d e l m. none (suc d) (suc e) (omega arith) (omega arith))) refl
+    rw (
+      denied-false a ls (λ e l. none 0 (suc e) (omega arith) (omega arith)),
+      pairs-false ls (λ d e l m. none (suc d) (suc e) (omega arith) (omega arith)),
+    ) refl
 
 -- A higher limit, and a table of zeros.
 pub stamps-more : {seen : List ℕ} {limit more : ℕ} → Stamps seen limit → limit ≤ more → Stamps seen more
@@ -113,8 +117,12 @@ module _ {ls : List ℤ} {seen : List ℕ} {stamp i : ℕ} (rows : InRows ls) (p
       rw (add-one i)
       record {
         within = more;
-        stamps = record { size = length-set seen at stamp ∙ p .stamps .size; below = λ row. by-cases (ℕ-discrete row at) (λ e. rw (e, here) (omega arith)) (λ ne. rw (there row ne) (p .stamps .below row)) };
-        stamped = λ row q. by-cases (ℕ-discrete row at) (λ e. (i, omega arith, sym e)) (λ ne. let (e, l, is) = p .stamped row (sym (there row ne) ∙ q) in (e, omega arith, is));
+        stamps = record {
+          size = length-set seen at stamp ∙ p .stamps .size;
+          below = λ row. by-cases (ℕ-discrete row at) (λ e. rw (e, here) (omega arith)) (λ ne. rw (there row ne) (p .stamps .below row));
+        };
+        stamped = λ row q. by-cases (ℕ-discrete row at) (λ e. (i, omega arith, sym e))
+            (λ ne. let (e, l, is) = p .stamped row (sym (there row ne) ∙ q) in (e, omega arith, is));
         marked = below-suc (λ e. getD (set seen at stamp) (rowOf (literalAt ls e)) 0 ≡ stamp) i
             (λ e l. by-cases (ℕ-discrete (rowOf (literalAt ls e)) at) (λ q. rw (q) here) (λ ne. there (rowOf (literalAt ls e)) ne ∙ p .marked e l)) here;
         clean = below-suc (λ e. (d : ℕ) → d < e → opposite (literalAt ls d) (literalAt ls e) ≡ false) i (p .clean) apart;

@@ -1,18 +1,15 @@
 -- What a call may rely on once n, the lengths and the prefix are accepted.
 use Prim.Native.Nat.{ℕ}
-use mathlib.Core.Path.{refl, ap}
+use mathlib.Core.Path.{refl}
 use mathlib.Core.List.{List, [], _∷_, _++_}
-use mathlib.Core.Logic.{inl, inr, by-cases}
+use mathlib.Core.Logic.{inl, by-cases}
 use native.Mathlib.Decide.{decLe}
 use native.Mathlib.Omega.{arith}
 use lib.IntN.{ℤ}
 use lib.ListN.{length}
-use Rattle.terms.specs.Literals.{variableOf}
 use Rattle.terms.specs.Refusals.{Causes, NoneOf}
 use Rattle.formula.specs.Causes.{ClauseCause, prefixOrder, checkOrder}
 use Rattle.formula.specs.Levels.{SoundPrefix}
-use Rattle.formula.specs.Lookup.{SoundClauses}
-use Rattle.formula.specs.Tables.{literalAt}
 
 -- No cause among the first of a call, whatever is looked at after them: n and the prefix are sound.
 pub sound-prefix : {n : ℕ} {es : List ℕ} (entries : ℕ) (more : List Causes) → NoneOf (prefixOrder n es entries ++ more) → SoundPrefix n es
@@ -25,12 +22,3 @@ sound-prefix {n} {es} entries more none =
 
 pub sound-check : {n : ℕ} {es : List ℕ} {ls : List ℤ} → NoneOf (checkOrder n es ls) → SoundPrefix n es
 sound-check {n} {ls = ls} none = sound-prefix (length ls) (ClauseCause n ls ∷ []) none
-
-pub sound-clauses : {n : ℕ} {es : List ℕ} {ls : List ℤ} → NoneOf (checkOrder n es ls) → SoundClauses ls
-sound-clauses {n} {ls = ls} none =
-    record {
-      short = by-cases (decLe (length ls) 16384) (λ l. l) (λ l. absurd (none .1 .0 2 0 (refl, refl, inr (omega arith))));
-      rows = λ e l.
-          by-cases (decLe (variableOf (literalAt ls e)) n) (λ low. omega (arith, sound-check {ls = ls} none .few))
-          (λ over. absurd (none .1 .1 .1 .0 10 e (ClauseCause.outside refl l (λ z. let q = ap variableOf z in omega arith) (omega arith))));
-    }

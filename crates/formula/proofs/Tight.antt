@@ -1,4 +1,4 @@
--- The promises of check and of the clause calls leave nothing open: two outcomes that they allow for one input are equal.
+-- The promises of the clause calls leave nothing open: two outcomes that they allow for one input are equal.
 use Prim.Native.Nat.{ℕ}
 use mathlib.Core.Path.{_≡_, sym, _∙_}
 use mathlib.Core.List.{List}
@@ -6,11 +6,8 @@ use lib.IntN.{ℤ}
 use Rattle.terms.specs.declared.Verdict.{Verdict}
 use Rattle.terms.specs.Refusals.{Judged}
 use Rattle.terms.proofs.Verdicts.{judged-unique, first-or-none}
-use Rattle.formula.specs.Causes.{checkOrder, clauseOrder}
-use Rattle.formula.specs.Lookup.{ClausePart, accepted, refused}
-
-pub check-tight : (n : ℕ) (es : List ℕ) (ls : List ℤ) (v w : Verdict) → Judged (checkOrder n es ls) v → Judged (checkOrder n es ls) w → v ≡ w
-check-tight n es ls = judged-unique (checkOrder n es ls)
+use Rattle.formula.specs.Causes.{clauseOrder}
+use Rattle.formula.specs.Clause.{ClausePart, accepted, refused}
 
 pub clause-verdict-tight : (n : ℕ) (ls : List ℤ) (asked : ℕ) (v w : Verdict) → Judged (clauseOrder n ls asked) v → Judged (clauseOrder n ls asked) w → v ≡ w
 clause-verdict-tight n ls asked = judged-unique (clauseOrder n ls asked)

@@ -1,4 +1,5 @@
--- The causes of refusals 1 to 11, and of 13 for a clause number, line by line as the table of document 01 has them, and the orders in which check and the clause call look for them.
+-- The causes of refusals 1 to 11, and of 13 for a clause number, line by line as the table of document 01 has them, and the orders in which check
+-- and the clause call look for them.
 use Prim.Native.Nat.{ℕ, suc, _<_, _≤_}
 use mathlib.Core.Path.{_≡_}
 use mathlib.Core.List.{List, [], _∷_, _++_}
@@ -9,7 +10,7 @@ use Rattle.terms.specs.Limits.{mostVariables, mostBlocks, prefixEntries, clause
 use Rattle.terms.specs.Literals.{variableOf}
 use Rattle.terms.specs.Refusals.{Causes, At0}
 use Rattle.formula.specs.Meaning.{clauses}
-use Rattle.formula.specs.Tables.{at, literalAt, MarkAt, VariableAt, CloseAt, LastMark, marksBefore, EndsInside}
+use Rattle.formula.specs.Tables.{at, literalAt, MarkAt, VariableAt, CloseAt, NearestMark, marksBefore, EndsInside}
 
 -- 1: n over 4,096
 abbrev pub VariableCount : ℕ → Causes
@@ -29,7 +30,7 @@ pub data PrefixCause (n : ℕ) (es : List ℕ) (number e : ℕ) : Type 0 where
   -- 4: mark not 1 or 2
   no-mark : number ≡ 4 → MarkAt es e → at es e ≢ 1 → at es e ≢ 2 → PrefixCause n es number e
   -- 5: mark equals the block before
-  same-mark : (b : ℕ) → number ≡ 5 → MarkAt es e → LastMark es b e → at es b ≡ at es e → PrefixCause n es number e
+  same-mark : (b : ℕ) → number ≡ 5 → MarkAt es e → NearestMark es b e → at es b ≡ at es e → PrefixCause n es number e
   -- 6: mark of a 65th block
   too-many-blocks : number ≡ 6 → MarkAt es e → marksBefore es e ≡ mostBlocks → PrefixCause n es number e
   -- 7: prefix variable outside 1 to n
@@ -46,7 +47,8 @@ pub data ClauseCause (n : ℕ) (ls : List ℤ) (number e : ℕ) : Type 0 where
   -- 11: clause table ends inside a clause; place its length
   ends-inside : number ≡ 11 → e ≡ length ls → EndsInside (pos 0) ls → ClauseCause n ls number e
 
--- what every call that takes a prefix looks at first: 1, 2, prefix from the left; beside it so many clause entries are lent, 0 where a call takes none
+-- what every call that takes a prefix looks at first: 1, 2, prefix from the left; beside it so many clause entries are lent, 0 where a call takes
+-- none
 abbrev pub prefixOrder : ℕ → List ℕ → ℕ → List Causes
 prefixOrder n es entries = VariableCount n ∷ At0 2 (PrefixLong es ⊎ ClausesLong entries) ∷ PrefixCause n es ∷ []
 

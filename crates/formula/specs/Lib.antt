@@ -1,7 +1,10 @@
+-- What a reader has to believe.
 pub mod Lent
 pub mod Tables
 pub mod Meaning
 pub mod Causes
+pub mod Clause
+-- Inner, which nobody needs to believe.
 pub mod Scan
 pub mod Lookup
 pub mod Levels

@@ -49,6 +49,6 @@ abbrev pub marksBefore : List ℕ → ℕ → ℕ
 marksBefore es zero = 0
 marksBefore es (suc e) = cond (opens es e) (suc (marksBefore es e)) (marksBefore es e)
 
--- b is the last mark before entry e
-abbrev pub LastMark : List ℕ → ℕ → ℕ → Type 0
-LastMark es b e = (b < e) × (opens es b ≡ true) × ((c : ℕ) → b < c → c < e → opens es c ≡ false)
+-- b is the mark before entry e that is nearest to it
+abbrev pub NearestMark : List ℕ → ℕ → ℕ → Type 0
+NearestMark es b e = (b < e) × (opens es b ≡ true) × ((c : ℕ) → b < c → c < e → opens es c ≡ false)

@@ -17,7 +17,7 @@ ghost use Rattle.formula.specs.Lookup.{NextZero, Stands};
 
 // The literal at entry i; 0 past the end.
 pub fn literal_at(clauses: &[i32], i: usize) -> Literal
-    ensures { λ r. ⌜ r .0 ≡ literalAt (now (clauses .entry)) i ⌝ }
+    ensures read { λ r. ⌜ r .0 ≡ literalAt (now (clauses .entry)) i ⌝ }
 {
     if i < clauses.len() {
         Literal::new(clauses[i])
@@ -28,14 +28,14 @@ pub fn literal_at(clauses: &[i32], i: usize) -> Literal
 
 // The variable of the literal at entry i; 0 for the 0 that closes a clause, and past the end.
 pub fn variable_at(clauses: &[i32], i: usize) -> Variable
-    ensures { λ r. ⌜ r .0 ≡ variableOf (literalAt (now (clauses .entry)) i) ⌝ }
+    ensures read { λ r. ⌜ r .0 ≡ variableOf (literalAt (now (clauses .entry)) i) ⌝ }
 {
     literal_at(clauses, i).variable()
 }
 
 // The first cause of a refusal in the clause table of a formula with n variables.
 pub fn check_clauses(n: u32, clauses: &[i32]) -> Verdict
-    ensures { λ r. ⌜ Judged (ClauseCause n (now (clauses .entry)) ∷ []) r ⌝ }
+    ensures judged { λ r. ⌜ Judged (ClauseCause n (now (clauses .entry)) ∷ []) r ⌝ }
 {
     let end = clauses.len();
     let at = first_over(n, clauses);
@@ -55,7 +55,7 @@ pub fn check_clauses(n: u32, clauses: &[i32]) -> Verdict
 
 // The first entry with a variable over n; the end of the table where there is none.
 fn first_over(n: u32, clauses: &[i32]) -> usize
-    ensures { λ r. ⌜ FirstOver n (now (clauses .entry)) r ⌝ }
+    ensures first { λ r. ⌜ FirstOver n (now (clauses .entry)) r ⌝ }
 {
     if !any_over(n, clauses) {
         return clauses.len();
@@ -73,7 +73,7 @@ fn first_over(n: u32, clauses: &[i32]) -> usize
 
 // Whether some entry has a variable over n. No entry ends the pass, so that many are looked at together.
 fn any_over(n: u32, clauses: &[i32]) -> bool
-    ensures { λ r. ⌜ (r ≡ false → AllUpto n (now (clauses .entry)) (length (now (clauses .entry)))) ⌝ }
+    ensures none { λ r. ⌜ (r ≡ false → AllUpto n (now (clauses .entry)) (length (now (clauses .entry)))) ⌝ }
 {
     let mut over = false;
     let mut i = 0;
@@ -91,7 +91,7 @@ fn any_over(n: u32, clauses: &[i32]) -> bool
 
 // The first entry from `start` on with a 0; the end of the table where there is none.
 pub fn next_zero(clauses: &[i32], start: usize) -> usize
-    ensures { λ r. ⌜ NextZero (now (clauses .entry)) start r ⌝ }
+    ensures next { λ r. ⌜ NextZero (now (clauses .entry)) start r ⌝ }
 {
     let mut i = start;
     while i < clauses.len() {
@@ -105,27 +105,27 @@ pub fn next_zero(clauses: &[i32], start: usize) -> usize
 }
 
 // Where a clause stands: its first entry, and the entry of the 0 that closes it.
-pub enum Found {
+pub enum Span {
     At { start: usize, end: usize },
     Nowhere,
 }
 
 // Where the clause with the number `asked` stands, counted from 0.
-pub fn find(clauses: &[i32], asked: u32) -> Found
-    ensures { λ r. ⌜ Stands (now (clauses .entry)) asked r ⌝ }
+pub fn find(clauses: &[i32], asked: u32) -> Span
+    ensures stands { λ r. ⌜ Stands (now (clauses .entry)) asked r ⌝ }
 {
     let mut start = 0;
     let mut left = asked;
     while start < clauses.len() {
         let end = next_zero(clauses, start);
         if clauses.len() <= end {
-            return Found::Nowhere;
+            return Span::Nowhere;
         }
         if left == 0 {
-            return Found::At { start, end };
+            return Span::At { start, end };
         }
         left -= 1;
         start = end + 1;
     }
-    Found::Nowhere
+    Span::Nowhere
 }

@@ -9,8 +9,10 @@ ghost use Rattle.formula.specs.Lookup.{InRows, Stamps};
 // Whether a clause has both signs of one variable. The row of each literal passed gets the stamp, and every row held a lesser one before: so
 // one table serves clause after clause, with a greater stamp each time.
 pub fn always_true(clause: &[i32], seen: &mut [u16], stamp: u16) -> bool
-    requires { ⌜ InRows (now clause) × Stamps (now seen) stamp ⌝ }
-    ensures { λ r. ⌜ (r ≡ alwaysTrue (now (clause .entry))) × Stamps (now (seen .exit)) (stamp + 1) ⌝ }
+    requires rows { ⌜ InRows (now clause) ⌝ }
+    requires stamps { ⌜ Stamps (now seen) stamp ⌝ }
+    ensures truth { λ r. ⌜ r ≡ alwaysTrue (now (clause .entry)) ⌝ }
+    ensures stamped { λ r. ⌜ Stamps (now (seen .exit)) (stamp + 1) ⌝ }
 {
     let mut i = 0;
     while i < clause.len() {

@@ -12,7 +12,8 @@ use Rattle.grammar.specs.declared.Stage.the-variants.{Opening, Body}
 use Rattle.grammar.specs.declared.Mark.the-variants.{Unmarked}
 use Rattle.tokens.specs.declared.Spelt.the-variants.{Missing}
 use Rattle.tokens.specs.Words.{LF, LETTER-A, LETTER-E, pieces, allDigits, isNumber, numberOf, plainItem, itemOf, entry, entriesOf}
-use Rattle.grammar.specs.Grammar.{variables, literals, CommentLine, ProblemLine, QuantifierLine, e-line, a-line, ClauseLine, literals-line, Line, a-comment, the-problem, a-block, a-clause, TooMany, too-many, Fault, outside, unended, many}
+use Rattle.grammar.specs.Grammar.{variables, literals, CommentLine, ProblemLine, QuantifierLine, e-line, a-line, ClauseLine, literals-line, Line}
+use Rattle.grammar.specs.Grammar.{a-comment, the-problem, a-block, a-clause, TooMany, too-many, Fault, outside, unended, many}
 use Rattle.tokens.specs.Places.{past, isSpace, inLine, front, later, lineAt, afterAt, wordsAt, Passed, WholeRow, NoRow, unread, endless-row}
 use Rattle.tokens.specs.Expected.{Goes, SpeltIs}
 use Rattle.grammar.specs.Steps.{NoOpening, no-opening, endless-line, MarkIs, MarkAt, e-mark, a-mark, WholeBlock, Went}
@@ -51,7 +52,11 @@ module _ (text : List ℕ) (at : ℕ) where
   last-line h e =
       let left = length-drop at text in
       let f = filled-last (drop at text) (omega arith) e in
-      record { byte = f .first; bytes = f .rest; is = front-later LF (drop at text) ∙ ap (λ (l : List ℕ). l ∷ afterAt text at) (f .is) ∙ ap (λ (ls : List (List ℕ)). (f .first ∷ f .rest) ∷ ls) e }
+      record {
+        byte = f .first;
+        bytes = f .rest;
+        is = front-later LF (drop at text) ∙ ap (λ (l : List ℕ). l ∷ afterAt text at) (f .is) ∙ ap (λ (ls : List (List ℕ)). (f .first ∷ f .rest) ∷ ls) e;
+      }
 
   pub line-then : {left : List (List ℕ)} → afterAt text at ≡ left → pieces LF (drop at text) ≡ lineAt text at ∷ left
   line-then e = front-later LF (drop at text) ∙ ap (λ (ls : List (List ℕ)). lineAt text at ∷ ls) e
@@ -65,38 +70,46 @@ module _ (stage : Stage) (text : List ℕ) (at : ℕ) where
   fault-endless h e = let l = last-line text at h e in subst (Fault 16 stage) (sym (l .is)) (unended {stage = stage} {byte = l .byte} {bytes = l .bytes})
 
   -- a line that may not stand there
-  fault-outside : at < length text → ((after : Stage) (p : List ℕ) (c : List ℤ) → Line stage (lineAt text at) after p c → ⊥) → (TooMany stage (lineAt text at) → ⊥) → Fault 16 stage (pieces LF (drop at text))
+  fault-outside : at < length text → ((after : Stage) (p : List ℕ) (c : List ℤ) → Line stage (lineAt text at) after p c → ⊥)
+      → (TooMany stage (lineAt text at) → ⊥) → Fault 16 stage (pieces LF (drop at text))
   fault-outside h no-line no-many = go (afterAt text at) refl
     where
       go : (ls : List (List ℕ)) → afterAt text at ≡ ls → Fault 16 stage (pieces LF (drop at text))
       go [] e = fault-endless h e
       go (next ∷ more) e = subst (Fault 16 stage) (sym (line-then text at e)) (outside no-line no-many)
 
-  -- one clause line too many
-  pub fault-many : (next : ℕ) → Passed text at next → TooMany stage (lineAt text at) → Fault 17 stage (pieces LF (drop at text))
-  fault-many next passed t = subst (Fault 17 stage) (sym (line-passed text at next passed)) (many t)
+-- one clause line too many
+pub fault-many : {stage : Stage} {text : List ℕ} {at next : ℕ} → Passed text at next → TooMany stage (lineAt text at)
+    → Fault 17 stage (pieces LF (drop at text))
+fault-many {stage} {text} {at} {next} passed t = subst (Fault 17 stage) (sym (line-passed text at next passed)) (many t)
 
 -- The opening: comments and the problem line.
-no-opening-line : {line : List ℕ} → (CommentLine line → ⊥) → ((n m : ℕ) → ProblemLine line n m → ⊥) → (after : Stage) (p : List ℕ) (c : List ℤ) → Line Opening line after p c → ⊥
+no-opening-line : {line : List ℕ} → (CommentLine line → ⊥) → ((n m : ℕ) → ProblemLine line n m → ⊥) → (after : Stage) (p : List ℕ) (c : List ℤ)
+    → Line Opening line after p c → ⊥
 no-opening-line comments problems after p c (a-comment x) = comments x
 no-opening-line comments problems after p c (the-problem {line} {n} {m} x) = problems n m x
 
 no-many-opening : {line : List ℕ} (s : Stage) → s ≡ Opening → TooMany s line → ⊥
 no-many-opening s e (too-many {line} {entries} {n} {m} {k} q x) = let no : _≡_ {A = ℕ} 0 1 = cc in omega arith
 
-pub fault-opening : (text : List ℕ) (at : ℕ) → at < length text → NoOpening text at → Fault 16 Opening (pieces LF (drop at text))
-fault-opening text at h (no-opening comments problems) = fault-outside Opening text at h (no-opening-line comments problems) (no-many-opening Opening refl)
-fault-opening text at h (endless-line e) = fault-endless Opening text at h e
+outside-opening : (text : List ℕ) (at : ℕ) → at < length text → NoOpening text at → Fault 16 Opening (pieces LF (drop at text))
+outside-opening text at h (no-opening comments problems) = fault-outside Opening text at h (no-opening-line comments problems) (no-many-opening Opening refl)
+outside-opening text at h (endless-line e) = fault-endless Opening text at h e
 
-module _ (text : List ℕ) (at entries literals′ : ℕ) (before : List ℕ × List ℤ) (few-e : entries ≤ at) (few-l : literals′ ≤ at) where
+pub fault-opening : {stage : Stage} {text : List ℕ} {at : ℕ} → stage ≡ Opening → at < length text → NoOpening text at
+    → Fault 16 stage (pieces LF (drop at text))
+fault-opening {text = text} {at = at} q h strange = subst (λ (s : Stage). Fault 16 s (pieces LF (drop at text))) (sym q) (outside-opening text at h strange)
+
+module _ {text : List ℕ} {at entries literals′ : ℕ} {before : List ℕ × List ℤ} (few-e : entries ≤ at) (few-l : literals′ ≤ at) where
   -- a line that adds nothing
-  went-bare : (stage stage′ : Stage) (next : ℕ) → Line stage (lineAt text at) stage′ [] [] → Passed text at next → Went stage text at entries literals′ before before stage′ next entries literals′
-  went-bare stage stage′ next line passed =
+  went-bare : {stage stage′ : Stage} {next : ℕ} → stage ≡ Opening → Line Opening (lineAt text at) stage′ [] [] → Passed text at next
+      → Went stage text at entries literals′ before before stage′ next entries literals′
+  went-bare {stage′ = stage′} q line passed =
       let place = passed .place in
       record {
         p = [];
         c = [];
-        line = line;
+        line = subst (λ (s : Stage). Line s (lineAt text at) stage′ [] []) (sym q) line;
         passed = passed;
         entries-counted = sym (add-zero entries);
         literals-counted = sym (add-zero literals′);
@@ -106,11 +119,13 @@ module _ (text : List ℕ) (at entries literals′ : ℕ) (before : List ℕ × 
         few-literals = omega arith;
       }
 
-  pub went-comment : (next : ℕ) → CommentLine (lineAt text at) × Passed text at next → Went Opening text at entries literals′ before before Opening next entries literals′
-  went-comment next o = went-bare Opening Opening next (a-comment (o .0)) (o .1)
+  pub went-comment : {stage : Stage} {next : ℕ} → stage ≡ Opening → CommentLine (lineAt text at) × Passed text at next
+      → Went stage text at entries literals′ before before Opening next entries literals′
+  went-comment q o = went-bare q (a-comment (o .0)) (o .1)
 
-  pub went-problem : (n m next : ℕ) → ProblemLine (lineAt text at) n m × Passed text at next → Went Opening text at entries literals′ before before (Body n m 0) next entries literals′
-  went-problem n m next o = went-bare Opening (Body n m 0) next (the-problem (o .0)) (o .1)
+  pub went-problem : {stage : Stage} {n m next : ℕ} → stage ≡ Opening → ProblemLine (lineAt text at) n m × Passed text at next
+      → Went stage text at entries literals′ before before (Body n m 0) next entries literals′
+  went-problem q o = went-bare q (the-problem (o .0)) (o .1)
 
 -- The words `e` and `a` are no literals, so a line is not both a quantifier line and a clause line.
 e-clause : (more : List (List ℕ)) (es : List ℤ) → entriesOf literals ((LETTER-E ∷ []) ∷ more) ≡ some es → ⊥
@@ -126,7 +141,7 @@ exclusive {cs = cs} (e-line {line} {entries} {more} e r) (literals-line q) = e-c
 exclusive {cs = cs} (a-line {line} {entries} {more} e r) (literals-line q) = a-clause-no more cs (sym (ap (entriesOf literals) e) ∙ q)
 
 -- A line that begins with a mark.
-module _ (text : List ℕ) (at mark i : ℕ) (marked : MarkAt text at mark i) where
+module _ {text : List ℕ} {at mark i : ℕ} (marked : MarkAt text at mark i) where
   mark-goes : (R : Type 0) → ((word : List ℕ) → Goes word text at i → R) → R
   mark-goes R f = go marked
     where
@@ -163,7 +178,8 @@ module _ (text : List ℕ) (at mark i : ℕ) (marked : MarkAt text at mark i) wh
   marked-none : entriesOf variables (wordsAt text i) ≡ none → (bs : List ℕ) → QuantifierLine (lineAt text at) bs → ⊥
   marked-none r bs line = go line marked
     where
-      differ : {word : List ℕ} {more : List (List ℕ)} {es : List ℕ} → Goes word text at i → wordsAt text at ≡ word ∷ more → entriesOf variables more ≡ some es → ⊥
+      differ : {word : List ℕ} {more : List (List ℕ)} {es : List ℕ} → Goes word text at i → wordsAt text at ≡ word ∷ more
+          → entriesOf variables more ≡ some es → ⊥
       differ {word} {more} {es} g q s =
           let f = g .first in
           let m : wordsAt text i ≡ more = cc in
@@ -181,7 +197,8 @@ module _ (text : List ℕ) (at mark i : ℕ) (marked : MarkAt text at mark i) wh
       go (a-line q s) (a-mark e g) = differ g q s
 
 -- A line that does not.
-pub unmarked-none : (text : List ℕ) (at : ℕ) → SpeltIs (LETTER-E ∷ []) text at Missing → SpeltIs (LETTER-A ∷ []) text at Missing → (bs : List ℕ) → QuantifierLine (lineAt text at) bs → ⊥
+pub unmarked-none : (text : List ℕ) (at : ℕ) → SpeltIs (LETTER-E ∷ []) text at Missing → SpeltIs (LETTER-A ∷ []) text at Missing → (bs : List ℕ)
+    → QuantifierLine (lineAt text at) bs → ⊥
 unmarked-none text at no-e no-a bs (e-line {line} {entries} {more} q r) = no-e more q
 unmarked-none text at no-e no-a bs (a-line {line} {entries} {more} q r) = no-a more q
 
@@ -194,18 +211,18 @@ no-body-line blocks clauses after p c (a-clause {line} {entries} h x) = clauses 
 no-many-line : {stage : Stage} {line : List ℕ} → ((cs : List ℤ) → ClauseLine line cs → ⊥) → TooMany stage line → ⊥
 no-many-line clauses (too-many {line} {entries} e x) = clauses entries x
 
-module _ (text : List ℕ) (at n m k : ℕ) (h : at < length text) where
+module _ {text : List ℕ} {at n m k : ℕ} (h : at < length text) where
   -- a marked line after a clause line, and one whose entries are none
-  pub fault-marked : (mark i : ℕ) → MarkAt text at mark i → (k ≡ 0 → ⊥) → Fault 16 (Body n m k) (pieces LF (drop at text))
-  fault-marked mark i marked late =
-      let clauses = marked-clause text at mark i marked in
+  pub fault-marked : {mark i : ℕ} → MarkAt text at mark i → (k ≡ 0 → ⊥) → Fault 16 (Body n m k) (pieces LF (drop at text))
+  fault-marked marked late =
+      let clauses = marked-clause marked in
       fault-outside (Body n m k) text at h (no-body-line (λ bs z x. late z) clauses) (no-many-line clauses)
 
-  pub fault-block : (mark i : ℕ) → MarkAt text at mark i → NoRow variables text i → Fault 16 (Body n m k) (pieces LF (drop at text))
-  fault-block mark i marked (unread r) =
-      let clauses = marked-clause text at mark i marked in
-      fault-outside (Body n m k) text at h (no-body-line (λ bs z x. marked-none text at mark i marked r bs x) clauses) (no-many-line clauses)
-  fault-block mark i marked (endless-row e) = fault-endless (Body n m k) text at h (mark-after text at mark i marked ∙ e)
+  pub fault-block : {mark i : ℕ} → MarkAt text at mark i → NoRow variables text i → Fault 16 (Body n m k) (pieces LF (drop at text))
+  fault-block marked (unread r) =
+      let clauses = marked-clause marked in
+      fault-outside (Body n m k) text at h (no-body-line (λ bs z x. marked-none marked r bs x) clauses) (no-many-line clauses)
+  fault-block marked (endless-row e) = fault-endless (Body n m k) text at h (mark-after marked ∙ e)
 
   -- no clause line and no mark
   pub fault-clause : ((bs : List ℕ) → QuantifierLine (lineAt text at) bs → ⊥) → NoRow literals text at → Fault 16 (Body n m k) (pieces LF (drop at text))
@@ -216,17 +233,17 @@ module _ (text : List ℕ) (at n m k : ℕ) (h : at < length text) where
       no-clause e cs (literals-line q) = let no : _≡_ {A = ℕ} 0 1 = cc in omega arith
   fault-clause blocks (endless-row e) = fault-endless (Body n m k) text at h e
 
-  module _ (entries lits : ℕ) (before after : List ℕ × List ℤ) (few-e : entries ≤ at) (few-l : lits ≤ at) where
-    pub went-block : (mark i : ℕ) → MarkAt text at mark i → k ≡ 0 → (next count : ℕ) → WholeBlock mark text i entries (before .0) (after .0) next count → after .1 ≡ before .1
-        → Went (Body n m k) text at entries lits before after (Body n m k) next count lits
-    went-block mark i marked z next count w same =
+  module _ {entries lits : ℕ} {before after : List ℕ × List ℤ} (few-e : entries ≤ at) (few-l : lits ≤ at) where
+    pub went-block : {mark i next count : ℕ} → MarkAt text at mark i → k ≡ 0 → WholeBlock mark text i entries (before .0) (after .0) next count
+        → after .1 ≡ before .1 → Went (Body n m k) text at entries lits before after (Body n m k) next count lits
+    went-block {mark} {i} {next} marked z w same =
         let place = w .passed .place in
-        let on = mark-on text at mark i marked in
+        let on = mark-on marked in
         record {
           p = mark ∷ w .entries;
           c = [];
-          line = a-block z (marked-line text at mark i marked (w .entries) (w .read));
-          passed = mark-passed text at mark i marked next (w .passed);
+          line = a-block z (marked-line marked (w .entries) (w .read));
+          passed = mark-passed marked next (w .passed);
           entries-counted = w .counted;
           literals-counted = sym (add-zero lits);
           prefix-stored = w .stored;
@@ -235,14 +252,15 @@ module _ (text : List ℕ) (at n m k : ℕ) (h : at < length text) where
           few-literals = omega arith;
         }
 
-    pub went-clause : k < m → (next count : ℕ) → WholeRow literals text at lits (before .1) (after .1) next count → after .0 ≡ before .0
-        → Went (Body n m k) text at entries lits before after (Body n m (suc k)) next entries count
-    went-clause more next count w same =
+    pub went-clause : {k′ next count : ℕ} → k′ ≡ suc k → k < m → WholeRow literals text at lits (before .1) (after .1) next count → after .0 ≡ before .0
+        → Went (Body n m k) text at entries lits before after (Body n m k′) next entries count
+    went-clause one more w same =
         let place = w .passed .place in
+        let line = a-clause more (literals-line (w .read)) in
         record {
           p = [];
           c = w .entries;
-          line = a-clause more (literals-line (w .read));
+          line = subst (λ (j : ℕ). Line (Body n m k) (lineAt text at) (Body n m j) [] (w .entries)) (sym one) line;
           passed = w .passed;
           entries-counted = sym (add-zero entries);
           literals-counted = w .counted;
@@ -253,7 +271,8 @@ module _ (text : List ℕ) (at n m k : ℕ) (h : at < length text) where
         }
 
 -- The first byte but spaces is neither mark.
-pub unmarked : (text : List ℕ) (at start : ℕ) → start ≡ past isSpace text at → (getD text start 0 ≡ LETTER-E → ⊥) → (getD text start 0 ≡ LETTER-A → ⊥) → MarkIs text at Unmarked
+pub unmarked : (text : List ℕ) (at start : ℕ) → start ≡ past isSpace text at → (getD text start 0 ≡ LETTER-E → ⊥) → (getD text start 0 ≡ LETTER-A → ⊥)
+    → MarkIs text at Unmarked
 unmarked text at start is no-e no-a = (spelt-unlike text at LETTER-E (λ e. no-e (read ∙ e)), spelt-unlike text at LETTER-A (λ e. no-a (read ∙ e)))
   where
     read : getD text start 0 ≡ getD text (past isSpace text at) 0

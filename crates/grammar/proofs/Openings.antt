@@ -24,7 +24,9 @@ first-byte b bs l = rw l (front-onto b LF bs)
 
 pub comment-line : (text : List ℕ) (at : ℕ) → at < length text → getD text at 0 ≡ LETTER-C → CommentLine (lineAt text at)
 comment-line text at h e =
-    comment (ap (λ (xs : List ℕ). front (pieces LF xs)) (drop-cons text at 0 h ∙ ap (λ (b : ℕ). b ∷ drop (suc at) text) e) ∙ first-byte LETTER-C (drop (suc at) text) refl)
+    comment
+    (ap (λ (xs : List ℕ). front (pieces LF xs)) (drop-cons text at 0 h ∙ ap (λ (b : ℕ). b ∷ drop (suc at) text) e)
+    ∙ first-byte LETTER-C (drop (suc at) text) refl)
 
 pub no-comment-line : (text : List ℕ) (at : ℕ) → at < length text → (getD text at 0 ≡ LETTER-C → ⊥) → NoComment text at
 unfolding pieces front
@@ -96,7 +98,7 @@ module _ (text : List ℕ) (at : ℕ) (plain : NoComment text at) where
   pub no-p : SpeltIs p-word text at Missing → NoOpening text at
   no-p missing = no-opening plain (λ n m line. let q = problem-words line in missing (cnf-word ∷ q .number ∷ q .count ∷ []) (q .are))
 
-  module _ (i : ℕ) (p : Goes p-word text at i) where
+  module _ {i : ℕ} (p : Goes p-word text at i) where
     pub no-cnf : SpeltIs cnf-word text i Missing → NoOpening text at
     no-cnf missing =
         no-opening plain (λ n m line.
@@ -105,7 +107,7 @@ module _ (text : List ℕ) (at : ℕ) (plain : NoComment text at) where
         let f = p .first in
         missing (q .number ∷ q .count ∷ []) cc)
 
-    module _ (j : ℕ) (cnf : Goes cnf-word text i j) where
+    module _ {j : ℕ} (cnf : Goes cnf-word text i j) where
       -- what a problem line has after its first two words
       after-cnf : (n m : ℕ) → (line : ProblemLine (lineAt text at) n m) → wordsAt text j ≡ problem-words line .number ∷ problem-words line .count ∷ []
       after-cnf n m line =
@@ -120,7 +122,7 @@ module _ (text : List ℕ) (at : ℕ) (plain : NoComment text at) where
           let q = problem-words line in
           missing (q .number) (q .count ∷ []) n (after-cnf n m line) (q .number-is))
 
-      module _ (n k : ℕ) (number : Counts text j n k) where
+      module _ {n k : ℕ} (number : Counts text j n k) where
         after-number : (n m : ℕ) → (line : ProblemLine (lineAt text at) n m) → wordsAt text k ≡ problem-words line .count ∷ []
         after-number n m line =
             let a = after-cnf n m line in
@@ -133,7 +135,7 @@ module _ (text : List ℕ) (at : ℕ) (plain : NoComment text at) where
             let q = problem-words line in
             missing (q .count) [] m (after-number n m line) (q .count-is))
 
-        module _ (m l : ℕ) (count : Counts text k m l) where
+        module _ {m l : ℕ} (count : Counts text k m l) where
           line-after : afterAt text at ≡ afterAt text l
           line-after = p .after ∙ cnf .after ∙ number .goes .after ∙ count .goes .after
 

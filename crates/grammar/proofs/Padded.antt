@@ -3,8 +3,8 @@ use mathlib.Core.Path.{_≡_, refl}
 use mathlib.Core.List.{List, [], _∷_}
 use Prim.Native.Nat.{ℕ}
 use Rattle.tokens.specs.declared.Number.the-variants.{Is, Not}
-use Rattle.tokens.specs.declared.Item.the-variants.{Closing, Negated, Other}
-use Rattle.tokens.specs.Words.{SPACE, MINUS, ZERO, LETTER-E, onto, pieces, filled, words, allDigits, spelt, isNumber, numberOf, plainItem, negatedItem, itemOf, prepend, closed, entry, entriesOf}
+use Rattle.tokens.specs.Words.{Closing, Negated, Other, SPACE, MINUS, ZERO, LETTER-E, onto, pieces, filled, words, allDigits, spelt, isNumber, numberOf}
+use Rattle.tokens.specs.Words.{plainItem, negatedItem, itemOf, prepend, closed, entry, entriesOf}
 use Rattle.grammar.specs.Grammar.{QuantifierLine, e-line}
 
 -- the digits 4 and 5 as bytes, and so many zeros

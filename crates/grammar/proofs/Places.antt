@@ -21,7 +21,8 @@ unfolding pieces
 pieces-place mark [] = refl
 pieces-place mark (byte ∷ bytes) = by-mark (eqb byte mark) (pieces-place mark bytes)
   where
-    by-mark : (b : Bool) → placeAfter (pieces mark bytes) ≡ length bytes + 1 → placeAfter (cond b ([] ∷ pieces mark bytes) (onto byte (pieces mark bytes))) ≡ length (byte ∷ bytes) + 1
+    by-mark : (b : Bool) → placeAfter (pieces mark bytes) ≡ length bytes + 1
+        → placeAfter (cond b ([] ∷ pieces mark bytes) (onto byte (pieces mark bytes))) ≡ length (byte ∷ bytes) + 1
     by-mark true q = omega arith
     by-mark false q = let r = onto-place byte (pieces mark bytes) (omega arith) in omega arith
 
@@ -46,4 +47,5 @@ fault-some (many _) = (omega arith, omega arith)
 fault-some (few _) = (omega arith, omega arith)
 
 pub fault-place : (text : List ℕ) (k p : ℕ) → FaultIn text k p → (k ≤ 17) × (p ≤ length text)
-fault-place text k p f = let (low, left) = fault-some (f .fault) in let m = place-few text (f .lines) (f .left) (f .cut) left in let at = f .at in (low, omega arith)
+fault-place text k p f =
+    let (low, left) = fault-some (f .fault) in let m = place-few text (f .lines) (f .left) (f .cut) left in let at = f .at in (low, omega arith)

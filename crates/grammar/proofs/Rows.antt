@@ -13,12 +13,12 @@ use mir.Syntax.{w32}
 use mir.Val.{SFits, toZ, ofZ}
 use mir.Facts.{toZ-ofZ}
 use Rattle.terms.proofs.Common.{sets-append}
-use Rattle.tokens.specs.declared.Item.{Item}
 use Rattle.tokens.specs.declared.Row.{Row}
 use Rattle.tokens.specs.declared.Row.the-variants.{Broken, Whole}
 use Rattle.grammar.specs.Grammar.{variables}
-use Rattle.tokens.specs.Words.{Kind, prepend, closed, entry, entriesOf}
-use Rattle.tokens.specs.Places.{past, inLine, wordsAt, afterAt, Taken, Unread, wordless, strange, early, endless, Closes, WholeRow, NoRow, unread, endless-row, RowIs}
+use Rattle.tokens.specs.Words.{Item, Kind, prepend, closed, entry, entriesOf}
+use Rattle.tokens.specs.Places.{past, inLine, wordsAt, afterAt, Taken, Unread, wordless, strange, early, endless, Closes, WholeRow, NoRow, unread}
+use Rattle.tokens.specs.Places.{endless-row, RowIs}
 use Rattle.grammar.specs.Steps.{BlockIs}
 
 module _ {A : Type 0} where
@@ -56,7 +56,8 @@ module _ {A : Type 0} where
   unfolding after
   partly-none kind text at from before h = record { taken = []; read = refl; same = refl; line = refl; counted = sym (add-zero from); stored = refl; few = h }
 
-  module _ {kind : Kind A} {text : List ℕ} {at from : ℕ} {before : List A} {i row : ℕ} {table : List A} (partly : Partly kind text at from before i row table) where
+  module _ {kind : Kind A} {text : List ℕ} {at from : ℕ} {before : List A} {i row : ℕ} {table : List A}
+      (partly : Partly kind text at from before i row table) where
     abbrev done : List A
     done = partly .taken
 
@@ -65,7 +66,9 @@ module _ {A : Type 0} where
 
     -- one more store
     store : (x : A) → set table row x ≡ sets before from (done ++ (x ∷ []))
-    store x = ap (λ (k : ℕ). set table k x) (partly .counted) ∙ ap (λ (t : List A). set t (from + length done) x) (partly .stored) ∙ sym (sets-append before from done (x ∷ []))
+    store x =
+        ap (λ (k : ℕ). set table k x) (partly .counted) ∙ ap (λ (t : List A). set t (from + length done) x) (partly .stored)
+        ∙ sym (sets-append before from done (x ∷ []))
 
     count : (x : A) → row + 1 ≡ from + length (done ++ (x ∷ []))
     count x = let l = length-append done (x ∷ []) in let k = partly .counted in omega arith
@@ -76,12 +79,15 @@ module _ {A : Type 0} where
       item-read = ap (entriesOf kind) (takes .first) ∙ ap (λ (it : Item). entry kind it (wordsAt text next) (entriesOf kind (wordsAt text next))) (takes .is)
 
       -- an entry is taken and stored
-      pub partly-more : (x : A) → ((more : List (List ℕ)) (later : Option (List A)) → entry kind item more later ≡ prepend (some x) later) → (table′ : List A) → table′ ≡ set table row x
+      pub partly-more : (x : A) → ((more : List (List ℕ)) (later : Option (List A)) → entry kind item more later ≡ prepend (some x) later)
+          → (table′ : List A) → table′ ≡ set table row x
           → Partly kind text at from before next (row + 1) table′
       partly-more x is table′ put =
           record {
             taken = done ++ (x ∷ []);
-            read = partly .read ∙ ap (after done) (item-read ∙ is (wordsAt text next) (entriesOf kind (wordsAt text next))) ∙ after-one done x (entriesOf kind (wordsAt text next));
+            read =
+                partly .read ∙ ap (after done) (item-read ∙ is (wordsAt text next) (entriesOf kind (wordsAt text next)))
+                ∙ after-one done x (entriesOf kind (wordsAt text next));
             same = partly .same ∙ takes .after;
             line = partly .line ∙ takes .line;
             counted = count x;
@@ -94,7 +100,8 @@ module _ {A : Type 0} where
       partly-barred is = unread (partly .read ∙ ap (after done) (item-read ∙ is (wordsAt text next) (entriesOf kind (wordsAt text next))) ∙ after-none done)
 
     -- the closing 0
-    pub partly-whole : {next : ℕ} → Closes text i next → (table′ : List A) → table′ ≡ set table row (kind .positive 0) → WholeRow kind text at from before table′ next (row + 1)
+    pub partly-whole : {next : ℕ} → Closes text i next → (table′ : List A) → table′ ≡ set table row (kind .positive 0)
+        → WholeRow kind text at from before table′ next (row + 1)
     unfolding entriesOf entry closed
     partly-whole c table′ put =
         record {
@@ -102,7 +109,12 @@ module _ {A : Type 0} where
           read =
               partly .read ∙ ap (after done) (ap (entriesOf kind) (c .last) ∙ ap (λ (it : Item). entry kind it [] none) (c .is))
               ∙ after-some done (kind .positive 0 ∷ []);
-          passed = record { after = partly .same ∙ c .passed .after; place = c .passed .place ∙ sym (ap (λ (n : ℕ). n + 1) (partly .line)); within = c .passed .within };
+          passed =
+              record {
+                after = partly .same ∙ c .passed .after;
+                place = c .passed .place ∙ sym (ap (λ (n : ℕ). n + 1) (partly .line));
+                within = c .passed .within;
+              };
           counted = count (kind .positive 0);
           stored = put ∙ store (kind .positive 0);
           few = let f = partly .few in let o = c .on in omega arith;
@@ -115,7 +127,9 @@ module _ {A : Type 0} where
     partly-broken (strange {word} {more} e is) =
         unread (partly .read ∙ ap (after done) (ap (entriesOf kind) e ∙ ap (λ (it : Item). entry kind it more (entriesOf kind more)) is) ∙ after-none done)
     partly-broken (early {word} {next} {more} e is) =
-        unread (partly .read ∙ ap (after done) (ap (entriesOf kind) e ∙ ap (λ (it : Item). entry kind it (next ∷ more) (entriesOf kind (next ∷ more))) is) ∙ after-none done)
+        unread
+        (partly .read ∙ ap (after done) (ap (entriesOf kind) e ∙ ap (λ (it : Item). entry kind it (next ∷ more) (entriesOf kind (next ∷ more))) is)
+        ∙ after-none done)
     partly-broken (endless e) = endless-row (partly .same ∙ e)
 
 -- A literal is stored as its bits, and read back from them.
@@ -123,7 +137,8 @@ pub literal-put : (table : List ℤ) (row : ℕ) (z : ℤ) {x : ℤ} → SFits w
 literal-put table row z fits is = ap (λ (v : ℤ). set table row v) (toZ-ofZ {w = w32} {z = z} fits ∙ is)
 
 -- A mark in front of the variables.
-pub block-row : (mark : ℕ) (text : List ℕ) (at from : ℕ) (before mid after′ : List ℕ) (r : Row) → mid ≡ set before from mark → RowIs variables text at (from + 1) mid after′ r → BlockIs mark text at from before after′ r
+pub block-row : (mark : ℕ) (text : List ℕ) (at from : ℕ) (before mid after′ : List ℕ) (r : Row) → mid ≡ set before from mark
+    → RowIs variables text at (from + 1) mid after′ r → BlockIs mark text at from before after′ r
 block-row mark text at from before mid after′ Broken put row = row
 block-row mark text at from before mid after′ (Whole next count) put row =
     let counted = row .counted in
@@ -132,6 +147,8 @@ block-row mark text at from before mid after′ (Whole next count) put row =
       read = row .read;
       passed = row .passed;
       counted = omega arith;
-      stored = row .stored ∙ ap (λ (t : List ℕ). sets t (from + 1) (row .entries)) put ∙ ap (λ (k : ℕ). sets (set before from mark) k (row .entries)) (add-one from);
+      stored =
+          row .stored ∙ ap (λ (t : List ℕ). sets t (from + 1) (row .entries)) put
+          ∙ ap (λ (k : ℕ). sets (set before from mark) k (row .entries)) (add-one from);
       few = row .few;
     }

@@ -29,8 +29,10 @@ pub data ProblemLine : List ℕ → ℕ → ℕ → Type 0 where
 
 -- A quantifier line, `e` or `a`, variables or none, `0`, and its entries in the prefix table: the mark, the variables, 0.
 pub data QuantifierLine : List ℕ → List ℕ → Type 0 where
-  e-line : {line entries : List ℕ} {more : List (List ℕ)} → words line ≡ (LETTER-E ∷ []) ∷ more → entriesOf variables more ≡ some entries → QuantifierLine line (1 ∷ entries)
-  a-line : {line entries : List ℕ} {more : List (List ℕ)} → words line ≡ (LETTER-A ∷ []) ∷ more → entriesOf variables more ≡ some entries → QuantifierLine line (2 ∷ entries)
+  e-line : {line entries : List ℕ} {more : List (List ℕ)} → words line ≡ (LETTER-E ∷ []) ∷ more → entriesOf variables more ≡ some entries
+      → QuantifierLine line (1 ∷ entries)
+  a-line : {line entries : List ℕ} {more : List (List ℕ)} → words line ≡ (LETTER-A ∷ []) ∷ more → entriesOf variables more ≡ some entries
+      → QuantifierLine line (2 ∷ entries)
 
 -- A clause line, and its entries in the clause table: literals or none, 0.
 pub data ClauseLine : List ℕ → List ℤ → Type 0 where

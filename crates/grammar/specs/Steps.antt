@@ -16,12 +16,11 @@ use Rattle.grammar.specs.declared.Signed.{Signed}
 use Rattle.grammar.specs.declared.Signed.the-variants.{Unfit, Close, Literal}
 use Rattle.grammar.specs.declared.Mark.{Mark}
 use Rattle.grammar.specs.declared.Mark.the-variants.{Unmarked, Marked}
-use Rattle.tokens.specs.declared.Item.the-variants.{Plain, Negated}
 use Rattle.tokens.specs.declared.Row.{Row}
 use Rattle.tokens.specs.declared.Row.the-variants.{Broken, Whole}
 use Rattle.grammar.specs.declared.Step.{Step}
 use Rattle.grammar.specs.declared.Step.the-variants.{Wrong, On}
-use Rattle.tokens.specs.Words.{LF, LETTER-A, LETTER-E, pieces, entriesOf}
+use Rattle.tokens.specs.Words.{Plain, Negated, LF, LETTER-A, LETTER-E, pieces, entriesOf}
 use Rattle.grammar.specs.Grammar.{variables, CommentLine, ProblemLine, Line, Fault}
 use Rattle.tokens.specs.Places.{lineAt, afterAt, wordsAt, Passed, Taken, Unread, Closes, NoRow}
 use Rattle.tokens.specs.Expected.{Goes, SpeltIs}
@@ -69,7 +68,8 @@ BlockIs mark text at from before after Broken = NoRow variables text at
 BlockIs mark text at from before after (Whole next count) = WholeBlock mark text at from before after next count
 
 -- The line at a place may stand at a stage: the stage it leads to, the next line, and what it added to the tables.
-pub record Went (stage : Stage) (text : List ℕ) (at entries literals : ℕ) (before after : List ℕ × List ℤ) (stage′ : Stage) (next entries′ literals′ : ℕ) : Type 0 where
+pub record Went (stage : Stage) (text : List ℕ) (at entries literals : ℕ) (before after : List ℕ × List ℤ) (stage′ : Stage) (next entries′ literals′ : ℕ) :
+    Type 0 where
   pub p : List ℕ
   pub c : List ℤ
   pub line : Line stage (lineAt text at) stage′ p c
@@ -84,7 +84,8 @@ pub record Went (stage : Stage) (text : List ℕ) (at entries literals : ℕ) (b
 -- What a line makes of a stage and two tables, which `before` and `after` hold: a fault, or the next stage.
 abbrev pub StepIs : Stage → List ℕ → ℕ → ℕ → ℕ → List ℕ × List ℤ → List ℕ × List ℤ → Step → Type 0
 StepIs stage text at entries literals before after (Wrong number) = Fault number stage (pieces LF (drop at text))
-StepIs stage text at entries literals before after (On stage′ next entries′ literals′) = Went stage text at entries literals before after stage′ next entries′ literals′
+StepIs stage text at entries literals before after (On stage′ next entries′ literals′) =
+    Went stage text at entries literals before after stage′ next entries′ literals′
 
 -- No more clause lines have stood than were announced.
 abbrev pub Sound : Stage → Type 0

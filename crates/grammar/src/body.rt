@@ -30,8 +30,9 @@ pub fn body_at(
     clauses: &mut [i32],
     literals: usize,
 ) -> Step
-    requires { ⌜ (at < length (now text)) × (entries ≤ at) × (literals ≤ at) × (stood ≤ announced) ⌝ }
-    ensures { λ r. ⌜ StepIs (Stage.Body n announced stood) (now (text .entry)) at entries literals (now (prefix .entry), now (clauses .entry)) (now (prefix .exit), now (clauses .exit)) r ⌝ }
+    requires within { ⌜ (at < length (now text)) × (entries ≤ at) × (literals ≤ at) × (stood ≤ announced) ⌝ }
+    ensures steps { λ r. ⌜ StepIs (Stage.Body n announced stood) (now (text .entry)) at entries literals
+        (now (prefix .entry), now (clauses .entry)) (now (prefix .exit), now (clauses .exit)) r ⌝ }
 {
     match mark_at(text, at) {
         Mark::Marked { mark, next: after } => {
@@ -75,7 +76,7 @@ pub fn body_at(
 
 // Whether a line begins with `e` or `a`. Nearly all lines are clause lines, which one byte tells.
 fn mark_at(text: &[u8], at: usize) -> Mark
-    ensures { λ r. ⌜ MarkIs (now (text .entry)) at r ⌝ }
+    ensures marked { λ r. ⌜ MarkIs (now (text .entry)) at r ⌝ }
 {
     if !may_be_mark(text, at) {
         return Mark::Unmarked;
@@ -85,7 +86,7 @@ fn mark_at(text: &[u8], at: usize) -> Mark
 
 // Whether the first byte of a line but spaces is `e` or `a`.
 fn may_be_mark(text: &[u8], at: usize) -> bool
-    ensures { λ r. ⌜ (r ≡ false → MarkIs (now (text .entry)) at Unmarked) ⌝ }
+    ensures unmarked { λ r. ⌜ (r ≡ false → MarkIs (now (text .entry)) at Unmarked) ⌝ }
 {
     let start = gap_end(text, at);
     if text.len() <= start {
@@ -103,7 +104,7 @@ fn may_be_mark(text: &[u8], at: usize) -> bool
 
 // Whether the first word of a line is `e` or `a`.
 fn spelt_mark(text: &[u8], at: usize) -> Mark
-    ensures { λ r. ⌜ MarkIs (now (text .entry)) at r ⌝ }
+    ensures marked { λ r. ⌜ MarkIs (now (text .entry)) at r ⌝ }
 {
     match letter_at(text, at, LETTER_E) {
         Spelt::Spelled(next) => Mark::Marked { mark: 1, next },

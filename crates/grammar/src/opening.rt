@@ -20,8 +20,8 @@ ghost use Rattle.tokens.specs.Places.{past, inLine, lineAt};
 
 // A line before or at the problem line.
 pub fn opening_at(text: &[u8], at: usize) -> Opened
-    requires { ⌜ at < length (now text) ⌝ }
-    ensures { λ r. ⌜ OpenedIs (now (text .entry)) at r ⌝ }
+    requires within { ⌜ at < length (now text) ⌝ }
+    ensures opened { λ r. ⌜ OpenedIs (now (text .entry)) at r ⌝ }
 {
     if text[at] == LETTER_C {
         comment_at(text, at)
@@ -32,8 +32,8 @@ pub fn opening_at(text: &[u8], at: usize) -> Opened
 
 // A comment, which needs its LF.
 fn comment_at(text: &[u8], at: usize) -> Opened
-    requires { ⌜ CommentLine (lineAt (now text) at) ⌝ }
-    ensures { λ r. ⌜ OpenedIs (now (text .entry)) at r ⌝ }
+    requires comment { ⌜ CommentLine (lineAt (now text) at) ⌝ }
+    ensures opened { λ r. ⌜ OpenedIs (now (text .entry)) at r ⌝ }
 {
     let stop = line_end(text, at);
     if stop < text.len() {
@@ -45,7 +45,7 @@ fn comment_at(text: &[u8], at: usize) -> Opened
 
 // The place of the LF of the line at a place, or the text's end.
 fn line_end(text: &[u8], at: usize) -> usize
-    ensures { λ r. ⌜ r ≡ past inLine (now (text .entry)) at ⌝ }
+    ensures passed { λ r. ⌜ r ≡ past inLine (now (text .entry)) at ⌝ }
 {
     let mut i = at;
     while i < text.len() {
@@ -59,8 +59,8 @@ fn line_end(text: &[u8], at: usize) -> usize
 
 // The problem line `p cnf n m`.
 fn problem_at(text: &[u8], at: usize) -> Opened
-    requires { ⌜ NoComment (now text) at ⌝ }
-    ensures { λ r. ⌜ OpenedIs (now (text .entry)) at r ⌝ }
+    requires plain { ⌜ NoComment (now text) at ⌝ }
+    ensures opened { λ r. ⌜ OpenedIs (now (text .entry)) at r ⌝ }
 {
     let Spelt::Spelled(p) = letter_at(text, at, LETTER_P) else {
         return Opened::Misfit;

@@ -15,8 +15,8 @@ ghost use Rattle.tokens.specs.Places.{RowIs};
 
 // The entries of a quantifier line, its mark first, stored in the prefix table from a row on. The place is the one after the mark.
 pub fn block_at(text: &[u8], at: usize, mark: u32, prefix: &mut [u32], from: usize) -> Row
-    requires { ⌜ from < at ⌝ }
-    ensures { λ r. ⌜ BlockIs mark (now (text .entry)) at from (now (prefix .entry)) (now (prefix .exit)) r ⌝ }
+    requires behind { ⌜ from < at ⌝ }
+    ensures stored { λ r. ⌜ BlockIs mark (now (text .entry)) at from (now (prefix .entry)) (now (prefix .exit)) r ⌝ }
 {
     store_entry(prefix, from, mark);
     variables_at(text, at, prefix, from + 1)
@@ -24,8 +24,8 @@ pub fn block_at(text: &[u8], at: usize, mark: u32, prefix: &mut [u32], from: usi
 
 // The variables of a quantifier line and its 0, stored in the prefix table from a row on.
 pub fn variables_at(text: &[u8], at: usize, prefix: &mut [u32], from: usize) -> Row
-    requires { ⌜ from ≤ at ⌝ }
-    ensures { λ r. ⌜ RowIs variables (now (text .entry)) at from (now (prefix .entry)) (now (prefix .exit)) r ⌝ }
+    requires behind { ⌜ from ≤ at ⌝ }
+    ensures stored { λ r. ⌜ RowIs variables (now (text .entry)) at from (now (prefix .entry)) (now (prefix .exit)) r ⌝ }
 {
     let mut i = at;
     let mut row = from;
@@ -51,8 +51,8 @@ pub fn variables_at(text: &[u8], at: usize, prefix: &mut [u32], from: usize) -> 
 
 // The literals of a clause line and its 0, stored in the clause table from a row on.
 pub fn literals_at(text: &[u8], at: usize, clauses: &mut [i32], from: usize) -> Row
-    requires { ⌜ from ≤ at ⌝ }
-    ensures { λ r. ⌜ RowIs literals (now (text .entry)) at from (now (clauses .entry)) (now (clauses .exit)) r ⌝ }
+    requires behind { ⌜ from ≤ at ⌝ }
+    ensures stored { λ r. ⌜ RowIs literals (now (text .entry)) at from (now (clauses .entry)) (now (clauses .exit)) r ⌝ }
 {
     let mut i = at;
     let mut row = from;
@@ -82,7 +82,7 @@ pub fn literals_at(text: &[u8], at: usize, clauses: &mut [i32], from: usize) -> 
 // What stands next in a clause line. A literal with `-` and one without are one case, so that the loop that stores them has no branch on the sign,
 // which no processor foresees.
 fn signed_at(text: &[u8], at: usize) -> Signed
-    ensures { λ r. ⌜ SignedIs (now (text .entry)) at r ⌝ }
+    ensures read { λ r. ⌜ SignedIs (now (text .entry)) at r ⌝ }
 {
     match entry_at(text, at) {
         Entry::Unfit => Signed::Unfit,
@@ -102,7 +102,7 @@ fn signed_at(text: &[u8], at: usize) -> Signed
 
 // Stores an entry of the prefix table if the table has that row.
 fn store_entry(table: &mut [u32], row: usize, entry: u32)
-    ensures { λ _. ⌜ now (table .exit) ≡ set (now (table .entry)) row entry ⌝ }
+    ensures stored { λ _. ⌜ now (table .exit) ≡ set (now (table .entry)) row entry ⌝ }
 {
     if row < table.len() {
         table[row] = entry;
@@ -111,7 +111,7 @@ fn store_entry(table: &mut [u32], row: usize, entry: u32)
 
 // Stores an entry of the clause table if the table has that row.
 fn store_literal(table: &mut [i32], row: usize, entry: i32)
-    ensures { λ _. ⌜ now (table .exit) ≡ set (now (table .entry)) row entry ⌝ }
+    ensures stored { λ _. ⌜ now (table .exit) ≡ set (now (table .entry)) row entry ⌝ }
 {
     if row < table.len() {
         table[row] = entry;
@@ -120,8 +120,8 @@ fn store_literal(table: &mut [i32], row: usize, entry: i32)
 
 // The literal of a number word, with `-` or without.
 fn literal_of(value: u32, negative: bool) -> i32
-    requires { ⌜ value < 100000 ⌝ }
-    ensures { λ r. ⌜ r ≡ cond negative (negℤ (pos value)) (pos value) ⌝ }
+    requires small { ⌜ value < 100000 ⌝ }
+    ensures signed { λ r. ⌜ r ≡ cond negative (negℤ (pos value)) (pos value) ⌝ }
 {
     if negative {
         negated_literal(value)
@@ -132,16 +132,16 @@ fn literal_of(value: u32, negative: bool) -> i32
 
 // The literal of a number word.
 fn plain_literal(value: u32) -> i32
-    requires { ⌜ value < 100000 ⌝ }
-    ensures { λ r. ⌜ r ≡ pos value ⌝ }
+    requires small { ⌜ value < 100000 ⌝ }
+    ensures plain { λ r. ⌜ r ≡ pos value ⌝ }
 {
     value as i32
 }
 
 // The literal of a number word that carries `-`.
 fn negated_literal(value: u32) -> i32
-    requires { ⌜ value < 100000 ⌝ }
-    ensures { λ r. ⌜ r ≡ negℤ (pos value) ⌝ }
+    requires small { ⌜ value < 100000 ⌝ }
+    ensures negated { λ r. ⌜ r ≡ negℤ (pos value) ⌝ }
 {
     let literal = value as i32;
     -literal

@@ -12,13 +12,13 @@ use lib.IntN.{ℤ, pos}
 use lib.ListN.{length, getD, length-append, List·getD-append}
 use lib.Seq.{getD-append-add}
 use Rattle.terms.specs.Literals.{variableOf}
-use Rattle.terms.specs.Refusals.{None, NoneOf}
+use Rattle.terms.specs.Refusals.{None}
 use Rattle.terms.proofs.Common.{clash}
-use Rattle.formula.specs.Causes.{ClauseCause, checkOrder}
+use Rattle.formula.specs.Causes.{ClauseCause}
 use Rattle.formula.specs.Meaning.{clauses, isZero, connected}
 use Rattle.formula.specs.Tables.{literalAt, cut, push, EndsInside}
 use Rattle.tables.specs.Formula.{joined}
-use Rattle.admission.specs.Admitted.{AddedCause, clauseFirst}
+use Rattle.admission.specs.Admitted.{AddedCause}
 use Rattle.growth.specs.Grown.{many, withLast}
 
 nought : ℤ → Bool
@@ -60,12 +60,12 @@ cut-one [] some = refl
 cut-one (x ∷ xs) some = ap (λ b. cond b ([] ∷ cut nought (xs ++ (pos 0 ∷ []))) (push x (cut nought (xs ++ (pos 0 ∷ []))))) (ne-eqb (variableOf x) 0 (some 0 (omega arith)))
     ∙ ap (push x) (cut-one xs (λ e l. some (suc e) (omega arith)))
 
-module _ {n : ℕ} {es : List ℕ} {ls clause : List ℤ} (accepted : NoneOf (checkOrder n es ls)) (first : NoneOf (clauseFirst n es clause)) where
+module _ {n : ℕ} {ls clause : List ℤ} (accepted : None (ClauseCause n ls)) (first : None (AddedCause n clause)) where
   closed : EndsInside (pos 0) ls → ⊥
-  closed inside = accepted .1 .1 .1 .0 11 (length ls) (ClauseCause.ends-inside refl refl inside)
+  closed inside = accepted 11 (length ls) (ClauseCause.ends-inside refl refl inside)
 
   some-variable : (e : ℕ) → e < length clause → variableOf (literalAt clause e) ≢ 0
-  some-variable e l z = first .1 .1 .1 .0 10 e (AddedCause.outside refl l (inl z))
+  some-variable e l z = first 10 e (AddedCause.outside refl l (inl z))
 
   -- The clauses of the longer table are those of the table and the clause, which is one more ...
   pub clauses-last : clauses (withLast ls clause) ≡ clauses ls ++ (clause ∷ [])
@@ -96,16 +96,13 @@ module _ {n : ℕ} {es : List ℕ} {ls clause : List ℤ} (accepted : NoneOf (ch
       let w : k ≡ length clause + 0 = omega arith in
       inr (inr (there ∙ ap (literalAt (clause ++ (pos 0 ∷ []))) w ∙ getD-append-add clause (pos 0 ∷ []) 0 (pos 0)))))
 
-  no-clause-cause : None (ClauseCause n (withLast ls clause))
+  -- So nothing is wrong with the longer table either.
+  pub no-clause-cause : None (ClauseCause n (withLast ls clause))
   no-clause-cause k e (ClauseCause.outside q l some over) = ⊎-elim
-      (λ w. accepted .1 .1 .1 .0 10 e (ClauseCause.outside refl (w .0) (λ z. some (w .1 ∙ z)) (subst (λ (x : ℤ). n < variableOf x) (w .1) over)))
-      (⊎-elim (λ w. first .1 .1 .1 .0 10 (w .0) (AddedCause.outside refl (w .1) (inr (subst (λ (x : ℤ). n < variableOf x) (w .2) over)))) some) (entry-last e l)
+      (λ w. accepted 10 e (ClauseCause.outside refl (w .0) (λ z. some (w .1 ∙ z)) (subst (λ (x : ℤ). n < variableOf x) (w .1) over)))
+      (⊎-elim (λ w. first 10 (w .0) (AddedCause.outside refl (w .1) (inr (subst (λ (x : ℤ). n < variableOf x) (w .2) over)))) some) (entry-last e l)
   no-clause-cause k e (ClauseCause.ends-inside q p (some, last)) =
       let all = length-append ls (clause ++ (pos 0 ∷ [])) in
       let rest = length-append clause (pos 0 ∷ []) in
       let w : length (withLast ls clause) - 1 ≡ length ls + (length clause + 0) = omega arith in
       last (ap (literalAt (withLast ls clause)) w ∙ getD-append-add ls (clause ++ (pos 0 ∷ [])) (length clause + 0) (pos 0) ∙ getD-append-add clause (pos 0 ∷ []) 0 (pos 0))
-
-  -- So the longer table is accepted, if it is within the limit.
-  pub last-accepted : length (withLast ls clause) ≤ 16384 → NoneOf (checkOrder n es (withLast ls clause))
-  last-accepted small = (accepted .0, (λ k p cause. ⊎-elim (λ long. accepted .1 .0 k p (cause .0, cause .1, inl long)) (λ long. omega arith) (cause .2), (accepted .1 .1 .0, (no-clause-cause, tt))))

@@ -6,3 +6,5 @@ pub mod Appended
 pub mod Tight
 pub mod Demand3
 pub mod StrictDemand
+pub mod Agreed
+pub mod Machine

@@ -6,7 +6,9 @@ use mathlib.Core.List.{List}
 use mathlib.Core.Logic.{_↔_, Iff·trans, Iff·symm}
 use lib.IntN.{ℤ}
 use Rattle.terms.specs.declared.Filled.the-variants.{Count}
+use Rattle.formula.specs.Lent.{Formula, formulaOf}
 use Rattle.formula.specs.Meaning.{connected}
+use Rattle.joining.specs.Rules.{readAs, readBy}
 use Rattle.terms.specs.declared.Scheme.the-variants.{Strict}
 use Rattle.tables.specs.Formula.{variables, universal, Shares, SharesBy}
 use Rattle.forest.specs.Answers.{EntriesBy, MembersBy, DependsBy}
@@ -21,32 +23,46 @@ use Rattle.growth.specs.Grown.{Standing, Builds, Adds, withLast}
 use Rattle.growth.proofs.Appended.{clauses-last, joined-last}
 use Rattle.growth.proofs.Demand3.{extends, accepted, first, added-forest}
 
-module _ (n : ℕ) (es : List ℕ) where
-  abbrev X : Variables
-  X = variables n es
+-- A prefix as a rule reads it, with n.
+module _ (rule n : ℕ) (es : List ℕ) where
+  abbrev read : List ℕ
+  read = readAs rule es
 
-  module _ {ls clause : List ℤ} {s s′ s″ : Standing} {k m : ℕ} (built : Builds n es ls s s′ (Count k)) (added : Adds n es s′ clause s″ (Count m)) {x : ℕ} (alone : LeavesAlone X (Shares ls) (connected clause) x) where
+  abbrev X : Variables
+  X = variables n read
+
+  -- the formula of a clause table, and as the rule reads it
+  abbrev with : List ℤ → Formula
+  with ls = formulaOf n es ls
+
+  abbrev as-read : List ℤ → Formula
+  as-read ls = readBy rule (with ls)
+
+  module _ {ls clause : List ℤ} {s s′ s″ : Standing} {k m : ℕ}
+      (built : Builds rule (with ls) s s′ (Count k)) (added : Adds rule n es s′ clause s″ (Count m)) {x : ℕ} (alone : LeavesAlone X (Shares ls) (connected clause) x) where
     starts : (sign : Bool) (z : ℕ) → SharesBy ls sign x z → Shares ls x z
     starts sign z = shares-some sign
 
     -- What shares a clause with a literal of x stays, since the clause has no x.
     same : (sign : Bool) (z : ℕ) → SharesBy ls sign x z ↔ SharesBy (withLast ls clause) sign x z
-    same = shares-last clause (clauses-last (accepted n es built added) (first n es built added)) (alone .itself)
+    same = shares-last clause (clauses-last (accepted rule n es built added) (first rule n es built added)) (alone .itself)
 
     -- Where the clause has neither x nor any variable of its standard set, what depends on x strictly stays ...
-    pub adding-strictly : {y : ℕ} → DependsBy Strict n es ls x y ↔ DependsBy Strict n es (withLast ls clause) x y
+    pub adding-strictly : {y : ℕ} → DependsBy Strict (as-read ls) x y ↔ DependsBy Strict (as-read (withLast ls clause)) x y
     adding-strictly {y} =
         subst (λ (ds : List (List ℕ)). StrictlyDepends X (SharesBy ls) (Shares ls) x y ↔ StrictlyDepends X (SharesBy (withLast ls clause)) (Joined ds) x y)
-        (sym (joined-last (accepted n es built added) (first n es built added))) (strict-stays alone starts same)
+        (sym (joined-last (accepted rule n es built added) (first rule n es built added))) (strict-stays alone starts same)
 
-    module _ (u : universal n es x ≡ true) where
+    module _ (u : universal n read x ≡ true) where
       -- ... so does its strict set, by the tables and clauses before and after ...
-      pub adding-strict-set : {y : ℕ} → MembersBy Strict n es ls (s′ .classes) (s′ .parents) x y ↔ MembersBy Strict n es (withLast ls clause) (s″ .classes) (s″ .parents) x y
+      pub adding-strict-set : {y : ℕ} → MembersBy Strict (as-read ls) (s′ .rows) x y ↔ MembersBy Strict (as-read (withLast ls clause)) (s″ .rows) x y
       adding-strict-set =
-          let is = universal-alone n es x u in
-          Iff·trans (Iff·symm (strict-members (lawful n es) (built .leaves .1 .forest) is)) (Iff·trans adding-strictly (strict-members (lawful n es) (added-forest n es built added) is))
+          let is = universal-alone n read x u in
+          Iff·trans (Iff·symm (strict-members (lawful n read) (built .leaves .1 .forest) is))
+          (Iff·trans adding-strictly (strict-members (lawful n read) (added-forest rule n es built added) is))
 
       -- ... and so do its strict entry points.
-      pub adding-strict-entries : {e : ℕ} → EntriesBy Strict n es ls (s′ .classes) (s′ .parents) x e ↔ EntriesBy Strict n es (withLast ls clause) (s″ .classes) (s″ .parents) x e
+      pub adding-strict-entries : {e : ℕ} → EntriesBy Strict (as-read ls) (s′ .rows) x e ↔ EntriesBy Strict (as-read (withLast ls clause)) (s″ .rows) x e
       adding-strict-entries =
-          strict-entries-stay alone starts same (lawful n es) (built .leaves .1 .forest) (extends n es (connected clause) (built .leaves .1 .forest) (added .leaves .1 .forest)) (universal-alone n es x u)
+          strict-entries-stay alone starts same (lawful n read)
+          (built .leaves .1 .forest) (extends rule n es (connected clause) (built .leaves .1 .forest) (added .leaves .1 .forest)) (universal-alone n read x u)

@@ -5,35 +5,44 @@ use mathlib.Core.List.{List, [], _∷_, _++_}
 use mathlib.Core.Logic.{_⊎_}
 use lib.IntN.{ℤ, pos}
 use lib.ListN.{length}
+use denote.Ref.{RefT, now}
+use denote.Triple.Both.{Both}
 use Rattle.terms.specs.Answers.{verdictOf}
 use Rattle.terms.specs.Refusals.{Causes, At0, Judged}
 use Rattle.terms.specs.declared.Filled.{Filled}
 use Rattle.terms.specs.declared.Filled.the-variants.{Count, Refused}
-use Rattle.formula.specs.Causes.{checkOrder}
+use Rattle.formula.specs.Lent.{Formula}
+use Rattle.joining.specs.Rules.{readAs, readBy, ruledPrefix, checkOrder}
 use Rattle.formula.specs.Meaning.{clauses, connected}
 use Rattle.tables.specs.Causes.{ForestCause}
+use Rattle.tables.specs.Lent.{Rows, rowsIn, rowsOut, variablesOf}
 use Rattle.tables.specs.Formula.{variables, Shares}
 use Rattle.connection.specs.Reach.{Variables, Joined}
 use Rattle.connection.specs.Tables.{Table, row, lent, joins}
 use Rattle.connection.specs.Forest.{Forest}
 use Rattle.connection.specs.Counts.{Counted, how-many, names}
 use Rattle.loose.specs.Past.{Past}
-use Rattle.admission.specs.Admitted.{WrongTally, clauseFirst}
+use Rattle.admission.specs.Admitted.{AddedCause, WrongTally}
 use Rattle.terms.specs.declared.Tally.{Tally}
 
--- What is lent to be rewritten: the forest tables, which are class names, parents and counts, and the tally beside them.
+-- What is lent to be rewritten: the rows of a forest, and the tally beside them.
 pub record Standing : Type 0 where
-  pub classes : List ℕ
-  pub parents : List ℕ
-  pub counts : List ℕ
+  pub rows : Rows
   pub tally : Tally
 
-abbrev pub standing : List ℕ → List ℕ → List ℕ → Tally → Standing
-standing classes parents counts tally = record { classes = classes; parents = parents; counts = counts; tally = tally }
+abbrev pub standing : Rows → Tally → Standing
+standing r tally = record { rows = r; tally = tally }
+
+-- so of a call's parameters, as they were passed, and as the call leaves them
+abbrev pub standingIn : {C P N : Type 0} → Both (RefT (List ℕ)) C → Both (RefT (List ℕ)) P → Both (RefT (List ℕ)) N → Tally → Standing
+standingIn classes parents counts tally = standing (rowsIn classes parents counts) tally
+
+abbrev pub standingOut : {C P N : Type 0} → Both C (RefT (List ℕ)) → Both P (RefT (List ℕ)) → Both N (RefT (List ℕ)) → Tally → Standing
+standingOut classes parents counts tally = standing (rowsOut classes parents counts) tally
 
 -- the table of its classes and parents, and how many class names that has
 abbrev pub tableOf : Variables → Standing → Table
-tableOf X s = lent X (s .classes) (s .parents)
+tableOf X s = lent X (s .rows .classes) (s .rows .parents)
 
 abbrev pub classNames : Variables → Standing → ℕ
 classNames X s = how-many (names X (tableOf X s)) (X .count)
@@ -48,18 +57,23 @@ many ls = length (clauses ls)
 
 -- 14: a lent table shorter than n
 abbrev pub TooShort : ℕ → Standing → Type 0
-TooShort n s = (length (s .classes) < n) ⊎ ((length (s .parents) < n) ⊎ (length (s .counts) < n))
+TooShort n s = (length (s .rows .classes) < n) ⊎ ((length (s .rows .parents) < n) ⊎ (length (s .rows .counts) < n))
 
 -- the order of build: that of check, then 14
-abbrev pub buildOrder : ℕ → List ℕ → List ℤ → Standing → List Causes
-buildOrder n es ls s = checkOrder n es ls ++ (At0 14 (TooShort n s) ∷ [])
+abbrev pub buildOrder : ℕ → Formula → Standing → List Causes
+buildOrder rule f s = checkOrder rule f ++ (At0 14 (TooShort (f .n) s) ∷ [])
 
+-- 18: a tally that does not fit the rows
 abbrev pub TallyCause : Variables → Standing → Causes
 TallyCause X s = At0 18 (WrongTally (s .tally) (classNames X s) (existentials X))
 
--- the order of add: that of the clause, 12, 18
-abbrev pub addOrder : ℕ → List ℕ → Standing → List ℤ → List Causes
-addOrder n es s ls = clauseFirst n es ls ++ (ForestCause n es (s .classes) (s .parents) (s .counts) ∷ TallyCause (variables n es) s ∷ [])
+-- what add looks for behind the prefix, where that is read as es: the clause's literals from the left, 12, 18
+abbrev pub behindAdd : ℕ → List ℕ → Standing → List ℤ → List Causes
+behindAdd n es s ls = AddedCause n ls ∷ ForestCause n es (s .rows) ∷ TallyCause (variables n es) s ∷ []
+
+-- the order of add: 23, 1, 2, prefix from the left, the clause's literals from the left, 12, 18
+abbrev pub addOrder : ℕ → ℕ → List ℕ → Standing → List ℤ → List Causes
+addOrder rule n es s ls = ruledPrefix rule n es (length ls) ++ behindAdd n (readAs rule es) s ls
 
 -- the joins that the lent tables stand for, with a clause added; one that is always true adds none
 abbrev pub Extended : Variables → Table → List ℤ → ℕ → ℕ → Type 0
@@ -67,9 +81,9 @@ Extended X W ls = Joined (joins X W ++ (connected ls ∷ []))
 
 -- The lent rows of 1 to n become the forest of the joins J, with its counts; those past n stay.
 pub record Grown (X : Variables) (J : ℕ → ℕ → Type 0) (s s′ : Standing) : Type 0 where
-  pub past : Past (X .count) (s .classes) (s′ .classes) × Past (X .count) (s .parents) (s′ .parents) × Past (X .count) (s .counts) (s′ .counts)
+  pub past : Past (X .count) (s .rows .classes) (s′ .rows .classes) × Past (X .count) (s .rows .parents) (s′ .rows .parents) × Past (X .count) (s .rows .counts) (s′ .rows .counts)
   pub forest : Forest X J (tableOf X s′)
-  pub counted : Counted X (tableOf X s′) (row (X .count) (s′ .counts))
+  pub counted : Counted X (tableOf X s′) (row (X .count) (s′ .rows .counts))
 
 -- The tally of a list of so many clauses, beside its forest: all are taken, the classes left are the class names, and these and the merges sum to the existentials.
 pub record TallyOf (X : Variables) (taken : ℕ) (s : Standing) : Type 0 where
@@ -88,19 +102,24 @@ abbrev pub Leaves : Variables → (ℕ → ℕ → Type 0) → (Standing → Typ
 Leaves X J T s s′ (Count written) = (written ≡ X .count) × Grown X J s s′ × T s′
 Leaves X J T s s′ (Refused number place) = s′ ≡ s
 
--- What build promises.
-pub record Builds (n : ℕ) (es : List ℕ) (ls : List ℤ) (s s′ : Standing) (answer : Filled) : Type 0 where
-  pub judged : Judged (buildOrder n es ls s) (verdictOf answer)
-  pub leaves : Leaves (variables n es) (Shares ls) (TallyOf (variables n es) (many ls)) s s′ answer
+-- What a call promises that rewrites what stands: its refusals in their order, and what it leaves.
+pub record Rewrites (order : List Causes) (X : Variables) (J : ℕ → ℕ → Type 0) (T : Standing → Type 0) (s s′ : Standing) (answer : Filled) : Type 0 where
+  pub judged : Judged order (verdictOf answer)
+  pub leaves : Leaves X J T s s′ answer
 
--- What add leaves: the forest of the joins which the lent tables stand for, with the clause added, and the tally with the clause taken.
-abbrev pub AddLeaves : Variables → Standing → List ℤ → Standing → Filled → Type 0
-AddLeaves X s ls = Leaves X (Extended X (tableOf X s) ls) (Took X s) s
+-- What build promises: the forest of the clauses, by the prefix as the rule reads it, and the tally of their list.
+abbrev pub Builds : ℕ → Formula → Standing → Standing → Filled → Type 0
+Builds rule f s =
+    Rewrites (buildOrder rule f s) (variablesOf (readBy rule f)) (Shares (f .clauses)) (TallyOf (variablesOf (readBy rule f)) (many (f .clauses))) s
+
+-- What add leaves by a prefix that is read: the forest of the joins which the lent tables stand for, with the clause added, and the tally with the
+-- clause taken.
+abbrev pub AddsBehind : List Causes → Variables → Standing → List ℤ → Standing → Filled → Type 0
+AddsBehind order X s ls = Rewrites order X (Extended X (tableOf X s) ls) (Took X s) s
 
 -- What add promises.
-pub record Adds (n : ℕ) (es : List ℕ) (s : Standing) (ls : List ℤ) (s′ : Standing) (answer : Filled) : Type 0 where
-  pub judged : Judged (addOrder n es s ls) (verdictOf answer)
-  pub leaves : AddLeaves (variables n es) s ls s′ answer
+abbrev pub Adds : ℕ → ℕ → List ℕ → Standing → List ℤ → Standing → Filled → Type 0
+Adds rule n es s ls = AddsBehind (addOrder rule n es s ls) (variables n (readAs rule es)) s ls
 
 -- A clause table with a clause put last.
 abbrev pub withLast : List ℤ → List ℤ → List ℤ

@@ -1,8 +1,9 @@
-// A clause added to lent tables: they and the tally are judged before the first write, the clause is put in, and the counts and the tally follow.
+// A clause added to lent tables by an accepted prefix: it, the tables and the tally are judged before the first write, the clause is put in, and the
+// counts and the tally follow.
 
-use crate::Tallied;
 use crate::counted;
 use crate::refused;
+use admission::clause::check_added;
 use admission::tallying::disagrees;
 use admission::tallying::take;
 use levelling::fill_levels;
@@ -10,11 +11,12 @@ use settling::counts::recount;
 use settling::counts::take_census;
 use settling::put_in;
 use tables::checking::check_forest;
+use terms::Tallied;
 use terms::Tally;
+use terms::Variable;
 use terms::Verdict;
 ghost use mathlib.Core.Path.{_≡_};
 ghost use mathlib.Core.List.{[], _∷_};
-ghost use Rattle.terms.specs.Answers.{verdictOf};
 ghost use Rattle.terms.specs.Refusals.{Judged};
 ghost use Rattle.formula.specs.Levels.{SoundPrefix};
 ghost use Rattle.formula.specs.Lookup.{InRows};
@@ -23,12 +25,13 @@ ghost use Rattle.connection.specs.Counts.{how-many, names};
 ghost use Rattle.tables.specs.Causes.{ForestCause};
 ghost use Rattle.tables.specs.Counting.{FormedBy};
 ghost use Rattle.tables.specs.Formula.{variables};
-ghost use Rattle.growth.specs.Grown.{standing, TallyCause, Extended, AddLeaves};
+ghost use Rattle.tables.specs.Lent.{rowsIn};
+ghost use Rattle.growth.specs.Grown.{standingIn, standingOut, TallyCause, behindAdd, Extended, AddsBehind};
 ghost use Rattle.settling.specs.Rows.{Rowed, Recounted};
 ghost use Rattle.growth.specs.Rows.{Room};
 
-// Adds a clause, once the prefix and the clause are accepted.
-pub fn add_sound(
+// Adds a clause by an accepted prefix: the clause is judged first.
+pub fn add_read(
     n: u32,
     prefix: &[u32],
     classes: &mut [u32],
@@ -37,9 +40,32 @@ pub fn add_sound(
     tally: Tally,
     clause: &[i32],
 ) -> Tallied
-    requires { ⌜ SoundPrefix n (now prefix) × InRows (now clause) ⌝ }
-    ensures judged { λ r. ⌜ Judged (ForestCause n (now (prefix .entry)) (now (classes .entry)) (now (parents .entry)) (now (counts .entry)) ∷ TallyCause (variables n (now (prefix .entry))) (standing (now (classes .entry)) (now (parents .entry)) (now (counts .entry)) tally) ∷ []) (verdictOf (r .answer)) ⌝ }
-    ensures leaves { λ r. ⌜ AddLeaves (variables n (now (prefix .entry))) (standing (now (classes .entry)) (now (parents .entry)) (now (counts .entry)) tally) (now (clause .entry)) (standing (now (classes .exit)) (now (parents .exit)) (now (counts .exit)) (r .tally)) (r .answer) ⌝ }
+    requires sound { ⌜ SoundPrefix n (now prefix) ⌝ }
+    ensures added { λ r. ⌜ AddsBehind (behindAdd n (now (prefix .entry)) (standingIn classes parents counts tally) (now (clause .entry)))
+        (variables n (now (prefix .entry))) (standingIn classes parents counts tally) (now (clause .entry))
+        (standingOut classes parents counts (r .tally)) (r .answer) ⌝ }
+{
+    match check_added(n, clause) {
+        Verdict::Refused(number, place) => refused(number, place, tally),
+        Verdict::Accepted => add_sound(n, prefix, classes, parents, counts, tally, clause),
+    }
+}
+
+// Adds an accepted clause: the tables are judged next.
+fn add_sound(
+    n: u32,
+    prefix: &[u32],
+    classes: &mut [u32],
+    parents: &mut [u32],
+    counts: &mut [u32],
+    tally: Tally,
+    clause: &[i32],
+) -> Tallied
+    requires sound { ⌜ SoundPrefix n (now prefix) × InRows (now clause) ⌝ }
+    ensures added { λ r. ⌜ AddsBehind (ForestCause n (now (prefix .entry)) (rowsIn classes parents counts)
+        ∷ TallyCause (variables n (now (prefix .entry))) (standingIn classes parents counts tally) ∷ [])
+        (variables n (now (prefix .entry))) (standingIn classes parents counts tally) (now (clause .entry))
+        (standingOut classes parents counts (r .tally)) (r .answer) ⌝ }
 {
     match tables_verdict(n, prefix, classes, parents, counts) {
         Verdict::Refused(number, place) => refused(number, place, tally),
@@ -55,11 +81,11 @@ fn tables_verdict(
     parents: &[u32],
     counts: &[u32],
 ) -> Verdict
-    requires { ⌜ SoundPrefix n (now prefix) ⌝ }
-    ensures { λ r. ⌜ Judged (ForestCause n (now (prefix .entry)) (now (classes .entry)) (now (parents .entry)) (now (counts .entry)) ∷ []) r ⌝ }
+    requires sound { ⌜ SoundPrefix n (now prefix) ⌝ }
+    ensures judged { λ r. ⌜ Judged (ForestCause n (now (prefix .entry)) (rowsIn classes parents counts) ∷ []) r ⌝ }
 {
-    let mut levels = [0u32; 4097];
-    let mut universals = [false; 4097];
+    let mut levels = [0u32; Variable::ROWS];
+    let mut universals = [false; Variable::ROWS];
     fill_levels(prefix, &mut levels, &mut universals);
     check_forest(n, prefix, &levels, &universals, classes, parents, counts)
 }
@@ -74,9 +100,11 @@ fn add_formed(
     tally: Tally,
     clause: &[i32],
 ) -> Tallied
-    requires { ⌜ SoundPrefix n (now prefix) × InRows (now clause) × Room n (now classes) (now parents) (now counts) × FormedBy n (now prefix) (now classes) (now parents) ⌝ }
-    ensures judged { λ r. ⌜ Judged (TallyCause (variables n (now (prefix .entry))) (standing (now (classes .entry)) (now (parents .entry)) (now (counts .entry)) tally) ∷ []) (verdictOf (r .answer)) ⌝ }
-    ensures leaves { λ r. ⌜ AddLeaves (variables n (now (prefix .entry))) (standing (now (classes .entry)) (now (parents .entry)) (now (counts .entry)) tally) (now (clause .entry)) (standing (now (classes .exit)) (now (parents .exit)) (now (counts .exit)) (r .tally)) (r .answer) ⌝ }
+    requires sound { ⌜ SoundPrefix n (now prefix) × InRows (now clause) ⌝ }
+    requires rows { ⌜ Room n (now classes) (now parents) (now counts) × FormedBy n (now prefix) (now classes) (now parents) ⌝ }
+    ensures added { λ r. ⌜ AddsBehind (TallyCause (variables n (now (prefix .entry))) (standingIn classes parents counts tally) ∷ [])
+        (variables n (now (prefix .entry))) (standingIn classes parents counts tally) (now (clause .entry))
+        (standingOut classes parents counts (r .tally)) (r .answer) ⌝ }
 {
     let seen = take_census(n, classes);
     if disagrees(tally, seen.names, seen.existentials) {
@@ -96,10 +124,15 @@ fn extend(
     counts: &mut [u32],
     clause: &[i32],
 ) -> u32
-    requires { ⌜ SoundPrefix n (now prefix) × InRows (now clause) × Room n (now classes) (now parents) (now counts) × FormedBy n (now prefix) (now classes) (now parents) ⌝ }
-    ensures { λ r. ⌜ Rowed (variables n (now (prefix .entry))) (Extended (variables n (now (prefix .entry))) (lent (variables n (now (prefix .entry))) (now (classes .entry)) (now (parents .entry))) (now (clause .entry))) (now (classes .entry)) (now (parents .entry)) (now (classes .exit)) (now (parents .exit)) ⌝ }
-    ensures { λ r. ⌜ Recounted n (now (prefix .entry)) (now (classes .exit)) (now (parents .exit)) (now (counts .entry)) (now (counts .exit)) ⌝ }
-    ensures { λ r. ⌜ r ≡ how-many (names (variables n (now (prefix .entry))) (lent (variables n (now (prefix .entry))) (now (classes .exit)) (now (parents .exit)))) n ⌝ }
+    requires sound { ⌜ SoundPrefix n (now prefix) × InRows (now clause) ⌝ }
+    requires rows { ⌜ Room n (now classes) (now parents) (now counts) × FormedBy n (now prefix) (now classes) (now parents) ⌝ }
+    ensures rows { λ r. ⌜ Rowed (variables n (now (prefix .entry)))
+        (Extended (variables n (now (prefix .entry))) (lent (variables n (now (prefix .entry))) (now (classes .entry)) (now (parents .entry)))
+        (now (clause .entry)))
+        (now (classes .entry)) (now (parents .entry)) (now (classes .exit)) (now (parents .exit)) ⌝ }
+    ensures counts { λ r. ⌜ Recounted n (now (prefix .entry)) (now (classes .exit)) (now (parents .exit)) (now (counts .entry)) (now (counts .exit)) ⌝ }
+    ensures left { λ r. ⌜ r ≡ how-many (names (variables n (now (prefix .entry)))
+        (lent (variables n (now (prefix .entry))) (now (classes .exit)) (now (parents .exit)))) n ⌝ }
 {
     put_in(n, prefix, classes, parents, clause);
     recount(n, prefix, classes, parents, counts);

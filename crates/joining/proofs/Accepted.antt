@@ -39,20 +39,25 @@ abbrev Goes : ℕ → Bool → ℕ → ℕ → List ℕ → List ℕ → Type 0
 Goes n true zero count names es = prefixPasses n (rest true 0 es) true false 0 count names ≡ true
 Goes n true (suc last) count names es = prefixPasses n (rest true (suc last) es) false false (suc last) count names ≡ true
 Goes n false zero count names es = startsZero es ≡ true → prefixPasses n (rest false 0 es) true false 0 count names ≡ true
-Goes n false (suc last) count names es = (fresh : Bool) → (fresh ≡ true → startsZero es ≡ false) → prefixPasses n (rest false (suc last) es) false fresh (suc last) count names ≡ true
+Goes n false (suc last) count names es =
+    (fresh : Bool) → (fresh ≡ true → startsZero es ≡ false) → prefixPasses n (rest false (suc last) es) false fresh (suc last) count names ≡ true
 
 -- the 0 that closes the block before, and a mark that begins one
-begun : (n last mark count : ℕ) (names more : List ℕ) → IsMark mark → newMark mark last more ≡ true → count ≢ 64 → Goes n false mark (suc count) names more → Goes n true last count names (mark ∷ more)
+begun : (n last mark count : ℕ) (names more : List ℕ) → IsMark mark → newMark mark last more ≡ true → count ≢ 64
+    → Goes n false mark (suc count) names more → Goes n true last count names (mark ∷ more)
 unfolding prefixPasses rest closing
 begun n last zero count names more good new few on = absurd (mark-some zero good refl)
 begun n zero (suc m) count names more good new few on =
     let (f, other) = new-mark (suc m) 0 more new in
-    ap (λ b. prefixPasses n (cond b (suc m ∷ rest false (suc m) more) (rest false 0 more)) true false 0 count names) new ∙ both-true (good-mark (suc m) 0 count good other few) (on true (λ _. f))
+    ap (λ b. prefixPasses n (cond b (suc m ∷ rest false (suc m) more) (rest false 0 more)) true false 0 count names) new
+    ∙ both-true (good-mark (suc m) 0 count good other few) (on true (λ _. f))
 begun n (suc last) (suc m) count names more good new few on =
     let (f, other) = new-mark (suc m) (suc last) more new in
-    ap (λ b. prefixPasses n (cond b (0 ∷ suc m ∷ rest false (suc m) more) (rest false (suc last) more)) false false (suc last) count names) new ∙ both-true (good-mark (suc m) (suc last) count good other few) (on true (λ _. f))
+    ap (λ b. prefixPasses n (cond b (0 ∷ suc m ∷ rest false (suc m) more) (rest false (suc last) more)) false false (suc last) count names) new
+    ∙ both-true (good-mark (suc m) (suc last) count good other few) (on true (λ _. f))
 
-went-on : (n last mark count : ℕ) (names more : List ℕ) → IsMark mark → newMark mark last more ≡ false → Goes n false last count names more → Goes n true last count names (mark ∷ more)
+went-on : (n last mark count : ℕ) (names more : List ℕ) → IsMark mark → newMark mark last more ≡ false → Goes n false last count names more
+    → Goes n true last count names (mark ∷ more)
 unfolding rest closing
 went-on n zero mark count names more good old on =
     ap (λ b. prefixPasses n (cond b (mark ∷ rest false mark more) (rest false 0 more)) true false 0 count names) old ∙ on (starts (startsZero more) refl)
@@ -61,7 +66,8 @@ went-on n zero mark count names more good old on =
     starts true q = q
     starts false q = absurd (mark-some mark good (old-mark mark 0 more q old))
 went-on n (suc last) mark count names more good old on =
-    ap (λ b. prefixPasses n (cond b (0 ∷ mark ∷ rest false mark more) (rest false (suc last) more)) false false (suc last) count names) old ∙ on false (λ t. absurd (clash t refl))
+    ap (λ b. prefixPasses n (cond b (0 ∷ mark ∷ rest false mark more) (rest false (suc last) more)) false false (suc last) count names) old
+    ∙ on false (λ t. absurd (clash t refl))
 
 closed : (n last count : ℕ) (names more : List ℕ) → Goes n true last count names more → Goes n false last count names (0 ∷ more)
 unfolding rest startsZero
@@ -72,12 +78,14 @@ closed n (suc last) count names more on = inside
     inside true stale = absurd (clash refl (stale refl))
     inside false stale = on
 
-named : (n last count v : ℕ) (names more : List ℕ) → v ≢ 0 → v ≤ n → has names v ≡ false → Goes n false last count (v ∷ names) more → Goes n false last count names (v ∷ more)
+named : (n last count v : ℕ) (names more : List ℕ) → v ≢ 0 → v ≤ n → has names v ≡ false → Goes n false last count (v ∷ names) more
+    → Goes n false last count names (v ∷ more)
 unfolding prefixPasses rest startsZero
 named n zero count v names more some low new on = λ t. absurd (some (eqb-true v 0 t))
 named n (suc last) count v names more some low new on = λ fresh stale.
     ap (λ b. prefixPasses n (cond b (rest true (suc last) more) (v ∷ rest false (suc last) more)) false fresh (suc last) count names) (ne-eqb v 0 some)
-    ∙ ap (λ b. cond b (not fresh && prefixPasses n (rest false (suc last) more) true false (suc last) count names) (leb v n && not (has names v) && prefixPasses n (rest false (suc last) more) false false (suc last) count (v ∷ names))) (ne-eqb v 0 some)
+    ∙ ap (λ b. cond b (not fresh && prefixPasses n (rest false (suc last) more) true false (suc last) count names)
+    (leb v n && not (has names v) && prefixPasses n (rest false (suc last) more) false false (suc last) count (v ∷ names))) (ne-eqb v 0 some)
     ∙ both-true (both-true (le-leb v n low) (ap not new)) (on false (λ t. absurd (clash t refl)))
 
 goes : {n : ℕ} {opening : Bool} {last count : ℕ} {names es : List ℕ} → Passes n opening last count names es → Goes n opening last count names es
@@ -94,4 +102,5 @@ pub joined-accepted : {n : ℕ} {es : List ℕ} → n ≤ 4096 → length (joine
 unfolding clausesPass
 joined-accepted {n} {es} few short none =
     let d = passes none in
-    accepts n (joinedPrefix es) [] few short (omega arith) (sym (ap (λ (r : List ℕ). prefixPasses n r true false 0 0 []) (rest-joined d)) ∙ goes d) refl .1 .1 .0
+    accepts n (joinedPrefix es) [] few short (omega arith) (sym (ap (λ (r : List ℕ). prefixPasses n r true false 0 0 []) (rest-joined d)) ∙ goes d)
+    refl .1 .1 .0

@@ -11,7 +11,7 @@ use lib.ListN.{drop}
 use Rattle.formula.specs.Meaning.{blocks, markOf, isZero}
 use Rattle.formula.specs.Tables.{cut, push}
 use Rattle.joining.specs.Joined.{inFront, joinedBlocks, tableOf, joinedPrefix}
-use Rattle.joining.proofs.Passing.{by-test}
+use Rattle.terms.proofs.Common.{by-test}
 
 -- no entry of a block is 0, and so of all blocks
 abbrev Whole : List ℕ → Type 0
@@ -33,7 +33,9 @@ blocks-whole (entry ∷ more) = go (ℕ-discrete entry 0) (blocks-whole more)
   where
     go : Dec (entry ≡ 0) → AllWhole (cut isZero more) → AllWhole (cond (isZero entry) ([] ∷ cut isZero more) (push entry (cut isZero more)))
     go (yes z) all = subst (λ (b : Bool). AllWhole (cond b ([] ∷ cut isZero more) (push entry (cut isZero more)))) (sym (eq-eqb entry 0 z)) (tt, all)
-    go (no some) all = subst (λ (b : Bool). AllWhole (cond b ([] ∷ cut isZero more) (push entry (cut isZero more)))) (sym (ne-eqb entry 0 some)) (push-whole entry (cut isZero more) some all)
+    go (no some) all =
+        subst (λ (b : Bool). AllWhole (cond b ([] ∷ cut isZero more) (push entry (cut isZero more)))) (sym (ne-eqb entry 0 some))
+        (push-whole entry (cut isZero more) some all)
 
 append-whole : (xs ys : List ℕ) → Whole xs → Whole ys → Whole (xs ++ ys)
 append-whole [] ys p q = q
@@ -50,7 +52,8 @@ front-whole (mark ∷ []) later w all = all
 front-whole (mark ∷ v ∷ variables) [] w all = (w, tt)
 front-whole (mark ∷ v ∷ variables) (next ∷ later) w all =
     by-test (eqb mark (markOf next))
-    (λ t. subst (λ (b : Bool). AllWhole (cond b ((mark ∷ v ∷ (variables ++ drop 1 next)) ∷ later) ((mark ∷ v ∷ variables) ∷ next ∷ later))) (sym t) ((w .0, (w .1 .0, append-whole variables (drop 1 next) (w .1 .1) (rest-whole next (all .0)))), all .1))
+    (λ t. subst (λ (b : Bool). AllWhole (cond b ((mark ∷ v ∷ (variables ++ drop 1 next)) ∷ later) ((mark ∷ v ∷ variables) ∷ next ∷ later))) (sym t)
+    ((w .0, (w .1 .0, append-whole variables (drop 1 next) (w .1 .1) (rest-whole next (all .0)))), all .1))
     (λ f. subst (λ (b : Bool). AllWhole (cond b ((mark ∷ v ∷ (variables ++ drop 1 next)) ∷ later) ((mark ∷ v ∷ variables) ∷ next ∷ later))) (sym f) (w, all))
 
 joined-whole : (bs : List (List ℕ)) → AllWhole bs → AllWhole (joinedBlocks bs)
@@ -63,7 +66,8 @@ cut-block : (block table : List ℕ) → Whole block → cut isZero (block ++ (0
 unfolding cut
 cut-block [] table w = refl
 cut-block (entry ∷ more) table w =
-    ap (λ b. cond b ([] ∷ cut isZero (more ++ (0 ∷ table))) (push entry (cut isZero (more ++ (0 ∷ table))))) (ne-eqb entry 0 (w .0)) ∙ ap (push entry) (cut-block more table (w .1))
+    ap (λ b. cond b ([] ∷ cut isZero (more ++ (0 ∷ table))) (push entry (cut isZero (more ++ (0 ∷ table))))) (ne-eqb entry 0 (w .0))
+    ∙ ap (push entry) (cut-block more table (w .1))
 
 cut-table : (bs : List (List ℕ)) → AllWhole bs → cut isZero (tableOf bs) ≡ bs
 unfolding cut tableOf

@@ -10,7 +10,7 @@ pub mod Accepted
 pub mod Written
 -- The order of refusals under a rule.
 pub mod Orders
-pub mod Exchange
+pub mod Reading
 -- Where rule 1 accepts, both agree.
 pub mod Agreement
 -- Worked examples.

@@ -11,7 +11,7 @@ use lib.Dec.{eqb}
 use lib.ListN.{length, drop, drop-of-length-le}
 use lib.Seq.{drop-cons}
 use Rattle.terms.specs.Refusals.{None}
-use Rattle.terms.proofs.Common.{clash}
+use Rattle.terms.proofs.Common.{by-test, clash}
 use Rattle.formula.specs.Meaning.{has}
 use Rattle.formula.specs.Scan.{IsMark}
 use Rattle.formula.specs.Tables.{at, opens, VariableAt}
@@ -32,15 +32,13 @@ newMark mark last more = not (startsZero more) && not (eqb mark last)
 -- begun, and the variables named so far.
 pub data Passes (n : ℕ) : Bool → ℕ → ℕ → List ℕ → List ℕ → Type 0 where
   no-more : {last count : ℕ} {names : List ℕ} → Passes n true last count names []
-  begin : {mark last count : ℕ} {names more : List ℕ} → IsMark mark → newMark mark last more ≡ true → count ≢ 64 → Passes n false mark (suc count) names more → Passes n true last count names (mark ∷ more)
-  go-on : {mark last count : ℕ} {names more : List ℕ} → IsMark mark → newMark mark last more ≡ false → Passes n false last count names more → Passes n true last count names (mark ∷ more)
+  begin : {mark last count : ℕ} {names more : List ℕ} → IsMark mark → newMark mark last more ≡ true → count ≢ 64
+      → Passes n false mark (suc count) names more → Passes n true last count names (mark ∷ more)
+  go-on : {mark last count : ℕ} {names more : List ℕ} → IsMark mark → newMark mark last more ≡ false → Passes n false last count names more
+      → Passes n true last count names (mark ∷ more)
   close-block : {last count : ℕ} {names more : List ℕ} → Passes n true last count names more → Passes n false last count names (0 ∷ more)
-  name : {v last count : ℕ} {names more : List ℕ} → v ≢ 0 → v ≤ n → has names v ≡ false → Passes n false last count (v ∷ names) more → Passes n false last count names (v ∷ more)
-
--- a test, with what it came out as
-pub by-test : {P : Type 0} (b : Bool) → (b ≡ true → P) → (b ≡ false → P) → P
-by-test true yes′ no′ = yes′ refl
-by-test false yes′ no′ = no′ refl
+  name : {v last count : ℕ} {names more : List ℕ} → v ≢ 0 → v ≤ n → has names v ≡ false → Passes n false last count (v ∷ names) more
+      → Passes n false last count names (v ∷ more)
 
 -- the two ways to say that a block is empty
 pub starts-empty : (es : List ℕ) (i : ℕ) → startsZero (drop (suc i) es) ≡ emptyAt es i
@@ -82,7 +80,8 @@ module _ {n : ℕ} {es : List ℕ} (none : None (JoinedCause n es)) where
   State : ℕ → List ℕ → Type 0
   State i names = Passes n (opens es i) (lastMark es i) (begunBefore es i) names (drop i es)
 
-  after-mark : (i : ℕ) (names : List ℕ) → i < length es → opens es i ≡ true → State (suc i) names → Passes n true (lastMark es i) (begunBefore es i) names (at es i ∷ drop (suc i) es)
+  after-mark : (i : ℕ) (names : List ℕ) → i < length es → opens es i ≡ true → State (suc i) names
+      → Passes n true (lastMark es i) (begunBefore es i) names (at es i ∷ drop (suc i) es)
   unfolding State
   after-mark i names more open′ later = by-test (newMark (at es i) (lastMark es i) (drop (suc i) es)) begun going
     where
@@ -90,11 +89,14 @@ module _ {n : ℕ} {es : List ℕ} (none : None (JoinedCause n es)) where
       new-is = ap (λ b. not b && not (eqb (at es i) (lastMark es i))) (starts-empty es i)
 
       -- the next state by what the mark did
-      next : (new : Bool) → beginsAfter es i (lastMark es i) ≡ new → Passes n false (cond new (at es i) (lastMark es i)) (cond new (suc (begunBefore es i)) (begunBefore es i)) names (drop (suc i) es)
+      next : (new : Bool) → beginsAfter es i (lastMark es i) ≡ new
+          → Passes n false (cond new (at es i) (lastMark es i)) (cond new (suc (begunBefore es i)) (begunBefore es i)) names (drop (suc i) es)
       next new q =
           subst (λ (c : ℕ). Passes n false (cond new (at es i) (lastMark es i)) c names (drop (suc i) es)) (begun-next es i new (begins-open es i open′ ∙ q))
-          (subst (λ (l : ℕ). Passes n false l (begunBefore es (suc i)) names (drop (suc i) es)) (last-next es i open′ ∙ ap (λ b. cond b (at es i) (lastMark es i)) q)
-          (subst (λ (b : Bool). Passes n b (lastMark es (suc i)) (begunBefore es (suc i)) names (drop (suc i) es)) (ne-eqb (at es i) 0 (mark-some (at es i) (mark-is i more open′))) later))
+          (subst (λ (l : ℕ). Passes n false l (begunBefore es (suc i)) names (drop (suc i) es))
+          (last-next es i open′ ∙ ap (λ b. cond b (at es i) (lastMark es i)) q)
+          (subst (λ (b : Bool). Passes n b (lastMark es (suc i)) (begunBefore es (suc i)) names (drop (suc i) es))
+          (ne-eqb (at es i) 0 (mark-some (at es i) (mark-is i more open′))) later))
 
       begun : newMark (at es i) (lastMark es i) (drop (suc i) es) ≡ true → Passes n true (lastMark es i) (begunBefore es i) names (at es i ∷ drop (suc i) es)
       begun q =
@@ -115,9 +117,11 @@ module _ {n : ℕ} {es : List ℕ} (none : None (JoinedCause n es)) where
 
     after-close : at es i ≡ 0 → State (suc i) names → Passes n false (lastMark es i) (begunBefore es i) names (at es i ∷ drop (suc i) es)
     after-close z state =
-        subst (λ (e : ℕ). Passes n false (lastMark es i) (begunBefore es i) names (e ∷ drop (suc i) es)) (sym z) (close-block (stays true names (eq-eqb (at es i) 0 z) state))
+        subst (λ (e : ℕ). Passes n false (lastMark es i) (begunBefore es i) names (e ∷ drop (suc i) es)) (sym z)
+        (close-block (stays true names (eq-eqb (at es i) 0 z) state))
 
-    after-name : i < length es → at es i ≢ 0 → Named i names → State (suc i) (at es i ∷ names) → Passes n false (lastMark es i) (begunBefore es i) names (at es i ∷ drop (suc i) es)
+    after-name : i < length es → at es i ≢ 0 → Named i names → State (suc i) (at es i ∷ names)
+        → Passes n false (lastMark es i) (begunBefore es i) names (at es i ∷ drop (suc i) es)
     unfolding Named
     after-name more some so state =
         let low : ¬ (n < at es i) = λ over. none 7 i (JoinedCause.outside refl (more, shut, some) over) in
@@ -136,11 +140,14 @@ module _ {n : ℕ} {es : List ℕ} (none : None (JoinedCause n es)) where
       let more : i < length es = omega arith in
       subst (Passes n (opens es i) (lastMark es i) (begunBefore es i) names) (sym (drop-cons es i 0 more))
       (by-test (opens es i)
-      (λ t. subst (λ (b : Bool). Passes n b (lastMark es i) (begunBefore es i) names (at es i ∷ drop (suc i) es)) (sym t) (after-mark i names more t (passes-from m (suc i) names (omega arith) (named-later i names so))))
+      (λ t. subst (λ (b : Bool). Passes n b (lastMark es i) (begunBefore es i) names (at es i ∷ drop (suc i) es)) (sym t)
+      (after-mark i names more t (passes-from m (suc i) names (omega arith) (named-later i names so))))
       (λ f. subst (λ (b : Bool). Passes n b (lastMark es i) (begunBefore es i) names (at es i ∷ drop (suc i) es)) (sym f)
-      (inside f (passes-from m (suc i) names (omega arith) (named-later i names so)) (λ var. passes-from m (suc i) (at es i ∷ names) (omega arith) (named-here i names var so)) (ℕ-discrete (at es i) 0))))
+      (inside f (passes-from m (suc i) names (omega arith) (named-later i names so))
+      (λ var. passes-from m (suc i) (at es i ∷ names) (omega arith) (named-here i names var so)) (ℕ-discrete (at es i) 0))))
     where
-      inside : opens es i ≡ false → State (suc i) names → (VariableAt es i → State (suc i) (at es i ∷ names)) → Dec (at es i ≡ 0) → Passes n false (lastMark es i) (begunBefore es i) names (at es i ∷ drop (suc i) es)
+      inside : opens es i ≡ false → State (suc i) names → (VariableAt es i → State (suc i) (at es i ∷ names)) → Dec (at es i ≡ 0)
+          → Passes n false (lastMark es i) (begunBefore es i) names (at es i ∷ drop (suc i) es)
       inside f closed named (yes z) = after-close i names f z closed
       inside f closed named (no some) = let more : i < length es = omega arith in after-name i names f more some so (named (more, f, some))
 

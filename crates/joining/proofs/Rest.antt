@@ -7,16 +7,17 @@ use mathlib.Core.Logic.{_≢_}
 use borrow.Author.Tests.{eq-eqb, ne-eqb, eqb-true}
 use lib.Dec.{eqb}
 use lib.ListN.{drop}
-use Rattle.terms.proofs.Common.{clash}
+use Rattle.terms.proofs.Common.{clash, by-test}
 use Rattle.formula.specs.Meaning.{blocks, markOf, isZero}
 use Rattle.formula.specs.Scan.{IsMark}
 use Rattle.formula.specs.Tables.{cut, push}
 use Rattle.joining.specs.Joined.{inFront, joinedBlocks, tableOf, joinedPrefix}
 use Rattle.joining.specs.Writing.{closing}
 use Rattle.joining.proofs.Scanned.{mark-some}
-use Rattle.joining.proofs.Passing.{startsZero, newMark, Passes, no-more, begin, go-on, close-block, name, by-test}
+use Rattle.joining.proofs.Passing.{startsZero, newMark, Passes, no-more, begin, go-on, close-block, name}
 
--- What is still to be written for what is left of a prefix, by whether a block may open and by the mark of the block that is not closed yet, 0 if there is none.
+-- What is still to be written for what is left of a prefix, by whether a block may open and by the mark of the block that is not closed yet, 0 if
+-- there is none.
 unfoldable pub rest : Bool → ℕ → List ℕ → List ℕ
 rest opening last [] = closing last
 rest true last (entry ∷ more) = cond (newMark entry last more) (closing last ++ (entry ∷ rest false entry more)) (rest false last more)
@@ -47,7 +48,8 @@ in-front (suc m) v variables (next ∷ others) some = by-test (eqb (suc m) (mark
           more = variables ++ drop 1 next;
           later = others;
           is = ap (λ b. cond b ((suc m ∷ v ∷ (variables ++ drop 1 next)) ∷ others) ((suc m ∷ v ∷ variables) ∷ next ∷ others)) q;
-          table = ap (λ (r : List ℕ). v ∷ r) (append-assoc variables (drop 1 next) (0 ∷ tableOf others)) ∙ sym (ap (λ b. (v ∷ variables) ++ cond b (drop 1 next ++ (0 ∷ tableOf others)) (0 ∷ tableOf (next ∷ others))) q);
+          table = ap (λ (r : List ℕ). v ∷ r) (append-assoc variables (drop 1 next) (0 ∷ tableOf others))
+              ∙ sym (ap (λ b. (v ∷ variables) ++ cond b (drop 1 next ++ (0 ∷ tableOf others)) (0 ∷ tableOf (next ∷ others))) q);
         }
 
     other : eqb (suc m) (markOf next) ≡ false → InFront (suc m) v variables (next ∷ others)
@@ -60,22 +62,28 @@ in-front (suc m) v variables (next ∷ others) some = by-test (eqb (suc m) (mark
         }
 
 -- behind a block with another mark it is a block of its own, and behind one with the same mark it goes on with that
-pub laid-new : (last mark v : ℕ) (variables : List ℕ) (joined : List (List ℕ)) → mark ≢ 0 → mark ≢ last → laid last (inFront (mark ∷ v ∷ variables) joined) ≡ closing last ++ (mark ∷ ((v ∷ variables) ++ laid mark joined))
+pub laid-new : (last mark v : ℕ) (variables : List ℕ) (joined : List (List ℕ)) → mark ≢ 0 → mark ≢ last
+    → laid last (inFront (mark ∷ v ∷ variables) joined) ≡ closing last ++ (mark ∷ ((v ∷ variables) ++ laid mark joined))
 unfolding laid tableOf closing
 laid-new zero mark v variables joined some other =
     let f = in-front mark v variables joined some in
     ap tableOf (f .is) ∙ ap (λ (r : List ℕ). mark ∷ r) (f .table)
 laid-new (suc last) mark v variables joined some other =
     let f = in-front mark v variables joined some in
-    ap (laid (suc last)) (f .is) ∙ ap (λ b. cond b ((v ∷ f .more) ++ (0 ∷ tableOf (f .later))) (0 ∷ tableOf ((mark ∷ v ∷ f .more) ∷ f .later))) (ne-eqb (suc last) mark (λ q. other (sym q)))
+    ap (laid (suc last)) (f .is)
+    ∙ ap (λ b. cond b ((v ∷ f .more) ++ (0 ∷ tableOf (f .later))) (0 ∷ tableOf ((mark ∷ v ∷ f .more) ∷ f .later)))
+    (ne-eqb (suc last) mark (λ q. other (sym q)))
     ∙ ap (λ (r : List ℕ). 0 ∷ mark ∷ r) (f .table)
 
-pub laid-same : (mark v : ℕ) (variables : List ℕ) (joined : List (List ℕ)) → mark ≢ 0 → laid mark (inFront (mark ∷ v ∷ variables) joined) ≡ (v ∷ variables) ++ laid mark joined
+pub laid-same : (mark v : ℕ) (variables : List ℕ) (joined : List (List ℕ)) → mark ≢ 0
+    → laid mark (inFront (mark ∷ v ∷ variables) joined) ≡ (v ∷ variables) ++ laid mark joined
 unfolding laid tableOf
 laid-same zero v variables joined some = absurd (some refl)
 laid-same (suc m) v variables joined some =
     let f = in-front (suc m) v variables joined some in
-    ap (laid (suc m)) (f .is) ∙ ap (λ b. cond b ((v ∷ f .more) ++ (0 ∷ tableOf (f .later))) (0 ∷ tableOf ((suc m ∷ v ∷ f .more) ∷ f .later))) (eq-eqb (suc m) (suc m) refl) ∙ f .table
+    ap (laid (suc m)) (f .is)
+    ∙ ap (λ b. cond b ((v ∷ f .more) ++ (0 ∷ tableOf (f .later))) (0 ∷ tableOf ((suc m ∷ v ∷ f .more) ∷ f .later))) (eq-eqb (suc m) (suc m) refl)
+    ∙ f .table
 
 -- Inside a block the first of what is left are its variables.
 record Inside (last : ℕ) (es : List ℕ) : Type 0 where
@@ -99,17 +107,20 @@ pub blocks-cons : (entry : ℕ) (more : List ℕ) → entry ≢ 0 → blocks (en
 unfolding blocks cut
 blocks-cons entry more some = ap (λ b. cond b ([] ∷ cut isZero more) (push entry (cut isZero more))) (ne-eqb entry 0 some)
 
-opened : (last mark : ℕ) (more : List ℕ) → IsMark mark → newMark mark last more ≡ true → Inside mark more → rest true last (mark ∷ more) ≡ laid last (joinedBlocks (blocks (mark ∷ more)))
+opened : (last mark : ℕ) (more : List ℕ) → IsMark mark → newMark mark last more ≡ true → Inside mark more
+    → rest true last (mark ∷ more) ≡ laid last (joinedBlocks (blocks (mark ∷ more)))
 unfolding rest joinedBlocks
 opened last mark more good new s =
     let (f, other) = new-mark mark last more new in
     let (v, vs, has) = s .some f in
-    let whole : blocks (mark ∷ more) ≡ (mark ∷ v ∷ vs) ∷ s .later = blocks-cons mark more (mark-some mark good) ∙ ap (push mark) (s .is) ∙ ap (λ (r : List ℕ). (mark ∷ r) ∷ s .later) has in
+    let whole : blocks (mark ∷ more) ≡ (mark ∷ v ∷ vs) ∷ s .later =
+    blocks-cons mark more (mark-some mark good) ∙ ap (push mark) (s .is) ∙ ap (λ (r : List ℕ). (mark ∷ r) ∷ s .later) has in
     ap (λ b. cond b (closing last ++ (mark ∷ rest false mark more)) (rest false last more)) new
     ∙ ap (λ (r : List ℕ). closing last ++ (mark ∷ r)) (s .left ∙ ap (λ (r : List ℕ). r ++ laid mark (joinedBlocks (s .later))) has)
     ∙ sym (ap (λ (bs : List (List ℕ)). laid last (joinedBlocks bs)) whole ∙ laid-new last mark v vs (joinedBlocks (s .later)) (mark-some mark good) other)
 
-went-on : (last mark : ℕ) (more : List ℕ) → IsMark mark → newMark mark last more ≡ false → Inside last more → rest true last (mark ∷ more) ≡ laid last (joinedBlocks (blocks (mark ∷ more)))
+went-on : (last mark : ℕ) (more : List ℕ) → IsMark mark → newMark mark last more ≡ false → Inside last more
+    → rest true last (mark ∷ more) ≡ laid last (joinedBlocks (blocks (mark ∷ more)))
 unfolding rest joinedBlocks inFront
 went-on last mark more good old s =
     ap (λ b. cond b (closing last ++ (mark ∷ rest false mark more)) (rest false last more)) old ∙ s .left ∙ by-test (startsZero more) dropped again
@@ -127,7 +138,8 @@ went-on last mark more good old s =
         let (v, vs, has) = s .some f in
         let same = old-mark mark last more f old in
         ap (λ (r : List ℕ). r ++ laid last (joinedBlocks (s .later))) has
-        ∙ subst (λ (l : ℕ). (v ∷ vs) ++ laid l (joinedBlocks (s .later)) ≡ laid l (inFront (mark ∷ v ∷ vs) (joinedBlocks (s .later)))) same (sym (laid-same mark v vs (joinedBlocks (s .later)) (mark-some mark good)))
+        ∙ subst (λ (l : ℕ). (v ∷ vs) ++ laid l (joinedBlocks (s .later)) ≡ laid l (inFront (mark ∷ v ∷ vs) (joinedBlocks (s .later)))) same
+        (sym (laid-same mark v vs (joinedBlocks (s .later)) (mark-some mark good)))
         ∙ sym (ap (λ (bs : List (List ℕ)). laid last (joinedBlocks bs)) (whole ∙ ap (λ (r : List ℕ). (mark ∷ r) ∷ s .later) has))
 
 -- What is left to write is the table of the joined blocks, behind what is not closed yet.

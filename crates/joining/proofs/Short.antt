@@ -73,7 +73,9 @@ rest-most : {n : ℕ} {opening : Bool} {last count : ℕ} {names es : List ℕ} 
 unfolding rest
 rest-most {n} {names = names} no-more many few = let most = named-most names n in omega arith
 rest-most (begin {mark} {last} {count} {names} {more} good new room d) many few =
-    let is = ap (λ (b : Bool). length (cond b (closing last ++ (mark ∷ rest false mark more)) (rest false last more))) new ∙ length-append (closing last) (mark ∷ rest false mark more) in
+    let is =
+    ap (λ (b : Bool). length (cond b (closing last ++ (mark ∷ rest false mark more)) (rest false last more))) new
+    ∙ length-append (closing last) (mark ∷ rest false mark more) in
     let one = closing-one mark (mark-some mark good) in
     let later = rest-most d many (omega arith) in
     omega arith

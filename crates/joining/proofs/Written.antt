@@ -44,13 +44,24 @@ pub record Writing (es : List ℕ) (most i : ℕ) (opening : Bool) (last count :
   pub pending : opening ≡ true → last ≢ 0 → count < i
   pub written : rest true 0 es ≡ take count out ++ rest opening last (drop i es)
 
-pub write-none : {n : ℕ} {es : List ℕ} → None (JoinedCause n es) → (out : List ℕ) → length (joinedPrefix es) ≤ length out → Writing es (length out) 0 true 0 0 out
+pub write-none : {n : ℕ} {es : List ℕ} → None (JoinedCause n es) → (out : List ℕ) → length (joinedPrefix es) ≤ length out
+    → Writing es (length out) 0 true 0 0 out
 write-none none out wide =
     let joined = ap length (rest-joined (passes none)) in
-    record { within = omega arith; size = refl; wide = omega arith; fits = omega arith; opening-is = refl; room = omega arith; pending = λ _ some. absurd (some refl); written = refl }
+    record {
+      within = omega arith;
+      size = refl;
+      wide = omega arith;
+      fits = omega arith;
+      opening-is = refl;
+      room = omega arith;
+      pending = λ _ some. absurd (some refl);
+      written = refl;
+    }
 
 -- so there is room for what is still to be written
-left : {es : List ℕ} {most i : ℕ} {opening : Bool} {last count : ℕ} {out : List ℕ} → Writing es most i opening last count out → count + length (rest opening last (drop i es)) ≤ most
+left : {es : List ℕ} {most i : ℕ} {opening : Bool} {last count : ℕ} {out : List ℕ} → Writing es most i opening last count out
+    → count + length (rest opening last (drop i es)) ≤ most
 left {es} {most} {i} {opening} {last} {count} {out} s =
     let fits = s .fits in
     let size = s .size in
@@ -59,7 +70,8 @@ left {es} {most} {i} {opening} {last} {count} {out} s =
     let front = length-take-le count out (omega arith) in
     omega arith
 
-module _ {n : ℕ} {es : List ℕ} {most i : ℕ} {opening : Bool} {last count : ℕ} {out : List ℕ} (none : None (JoinedCause n es)) (s : Writing es most i opening last count out) (more : i < length es) where
+module _ {n : ℕ} {es : List ℕ} {most i : ℕ} {opening : Bool} {last count : ℕ} {out : List ℕ} (none : None (JoinedCause n es))
+    (s : Writing es most i opening last count out) (more : i < length es) where
   -- what is still to be written, by what the entry is
   here : rest opening last (drop i es) ≡ rest opening last (at es i ∷ drop (suc i) es)
   here = ap (rest opening last) (drop-cons es i 0 more)
@@ -68,11 +80,14 @@ module _ {n : ℕ} {es : List ℕ} {most i : ℕ} {opening : Bool} {last count :
     mark-there : at es i ≢ 0
     mark-there = mark-some (at es i) (mark-is none i more (sym (s .opening-is) ∙ open′))
 
-    at-mark : (new : Bool) → new ≡ beginsAfter es i last → rest opening last (drop i es) ≡ cond new (closing last ++ (at es i ∷ rest false (at es i) (drop (suc i) es))) (rest false last (drop (suc i) es))
+    at-mark : (new : Bool) → new ≡ beginsAfter es i last
+        → rest opening last (drop i es) ≡ cond new (closing last ++ (at es i ∷ rest false (at es i) (drop (suc i) es)))
+        (rest false last (drop (suc i) es))
     unfolding rest
     at-mark new is =
         here ∙ ap (λ (o : Bool). rest o last (at es i ∷ drop (suc i) es)) open′
-        ∙ ap (λ b. cond b (closing last ++ (at es i ∷ rest false (at es i) (drop (suc i) es))) (rest false last (drop (suc i) es))) (ap (λ b. not b && not (eqb (at es i) last)) (starts-empty es i) ∙ sym is)
+        ∙ ap (λ b. cond b (closing last ++ (at es i ∷ rest false (at es i) (drop (suc i) es))) (rest false last (drop (suc i) es)))
+        (ap (λ b. not b && not (eqb (at es i) last)) (starts-empty es i) ∙ sym is)
 
     pub mark-room : true ≡ beginsAfter es i last → count + length (closing last) < most
     mark-room is =
@@ -131,9 +146,12 @@ module _ {n : ℕ} {es : List ℕ} {most i : ℕ} {opening : Bool} {last count :
         }
 
   module _ (shut : opening ≡ false) where
-    inside : rest opening last (drop i es) ≡ cond (eqb (at es i) 0) (rest true last (drop (suc i) es)) (at es i ∷ rest false last (drop (suc i) es))
+    inside : (b : Bool) → eqb (at es i) 0 ≡ b
+        → rest opening last (drop i es) ≡ cond b (rest true last (drop (suc i) es)) (at es i ∷ rest false last (drop (suc i) es))
     unfolding rest
-    inside = here ∙ ap (λ (o : Bool). rest o last (at es i ∷ drop (suc i) es)) shut
+    inside b q =
+        here ∙ ap (λ (o : Bool). rest o last (at es i ∷ drop (suc i) es)) shut
+        ∙ ap (λ b. cond b (rest true last (drop (suc i) es)) (at es i ∷ rest false last (drop (suc i) es))) q
 
     -- A 0 is written when the next block begins.
     pub write-close : at es i ≡ 0 → Writing es most (i + 1) true last count out
@@ -148,12 +166,12 @@ module _ {n : ℕ} {es : List ℕ} {most i : ℕ} {opening : Bool} {last count :
           opening-is = sym (eq-eqb (at es i) 0 z);
           room = omega arith;
           pending = λ _ _. omega arith;
-          written = s .written ∙ ap (λ (r : List ℕ). take count out ++ r) (inside ∙ ap (λ b. cond b (rest true last (drop (suc i) es)) (at es i ∷ rest false last (drop (suc i) es))) (eq-eqb (at es i) 0 z));
+          written = s .written ∙ ap (λ (r : List ℕ). take count out ++ r) (inside true (eq-eqb (at es i) 0 z));
         }
 
     pub name-room : at es i ≢ 0 → count < most
     name-room some =
-        let there = ap length (inside ∙ ap (λ b. cond b (rest true last (drop (suc i) es)) (at es i ∷ rest false last (drop (suc i) es))) (ne-eqb (at es i) 0 some)) in
+        let there = ap length (inside false (ne-eqb (at es i) 0 some)) in
         let all = left s in
         omega arith
 
@@ -172,7 +190,7 @@ module _ {n : ℕ} {es : List ℕ} {most i : ℕ} {opening : Bool} {last count :
           opening-is = sym (ne-eqb (at es i) 0 some);
           room = omega arith;
           pending = λ shut. absurd (clash shut refl);
-          written = s .written ∙ ap (λ (r : List ℕ). take count out ++ r) (inside ∙ ap (λ b. cond b (rest true last (drop (suc i) es)) (at es i ∷ rest false last (drop (suc i) es))) (ne-eqb (at es i) 0 some))
+          written = s .written ∙ ap (λ (r : List ℕ). take count out ++ r) (inside false (ne-eqb (at es i) 0 some))
               ∙ sym (append-assoc (take count out) (at es i ∷ []) (rest false last (drop (suc i) es)))
               ∙ ap (λ (r : List ℕ). r ++ rest false last (drop (suc i) es)) (sym (take-suc-set out count (at es i) fits));
         }
@@ -181,7 +199,8 @@ module _ {n : ℕ} {es : List ℕ} {most i : ℕ} {opening : Bool} {last count :
     pub write-variable : at es i ≢ 0 → Writing es most (i + 1) opening last (count + 1) (set out count (at es i))
     write-variable some = subst (λ (o : Bool). Writing es most (i + 1) o last (count + 1) (set out count (at es i))) (sym shut) (stored some)
 
-module _ {n : ℕ} {es : List ℕ} {most i : ℕ} {opening : Bool} {last count : ℕ} {out : List ℕ} (none : None (JoinedCause n es)) (s : Writing es most i opening last count out) (done : length es ≤ i) where
+module _ {n : ℕ} {es : List ℕ} {most i : ℕ} {opening : Bool} {last count : ℕ} {out : List ℕ} (none : None (JoinedCause n es))
+    (s : Writing es most i opening last count out) (done : length es ≤ i) where
   -- What is left is the 0 of the last block.
   only-close : rest opening last (drop i es) ≡ closing last
   unfolding rest

@@ -1,3 +1,5 @@
+-- The reading rules: Joined and Rules are what to believe, Writing and Reading are inner.
 pub mod Joined
 pub mod Rules
 pub mod Writing
+pub mod Reading

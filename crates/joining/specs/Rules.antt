@@ -5,12 +5,12 @@ use mathlib.Core.Bool.{Bool, true, false, cond, not, _&&_}
 use mathlib.Core.List.{List, [], _∷_, _++_}
 use mathlib.Core.Logic.{_⊎_, _≢_}
 use lib.Dec.{eqb, ltb}
-use lib.IntN.{ℤ}
 use lib.ListN.{length}
 use Rattle.terms.specs.Limits.{mostBlocks}
 use Rattle.terms.specs.Refusals.{Causes, At0}
 use Rattle.formula.specs.Tables.{at, opens, MarkAt, VariableAt, EndsInside}
-use Rattle.formula.specs.Causes.{VariableCount, PrefixLong, ClausesLong, PrefixCause, checkOrder}
+use Rattle.formula.specs.Causes.{VariableCount, PrefixLong, ClausesLong, PrefixCause, ClauseCause}
+use Rattle.formula.specs.Lent.{Formula, formulaOf}
 use Rattle.joining.specs.Joined.{joinedPrefix}
 
 -- how a rule reads a prefix: rule 2 drops and joins, rule 1 takes it as it stands
@@ -68,17 +68,10 @@ NoRule rule = (rule ≢ 1) × (rule ≢ 2)
 abbrev pub ruledPrefix : ℕ → ℕ → List ℕ → ℕ → List Causes
 ruledPrefix rule n es entries = At0 23 (NoRule rule) ∷ VariableCount n ∷ At0 2 (PrefixLong es ⊎ ClausesLong entries) ∷ PrefixCauseBy rule n es ∷ []
 
--- what a call's order has after 1, 2 and the prefix
-abbrev pub afterPrefix : List Causes → List Causes
-afterPrefix [] = []
-afterPrefix (count ∷ []) = []
-afterPrefix (count ∷ lengths ∷ []) = []
-afterPrefix (count ∷ lengths ∷ prefix ∷ later) = later
+-- a formula as a rule reads it: its prefix as the rule reads that, and all else as it is lent
+abbrev pub readBy : ℕ → Formula → Formula
+readBy rule f = formulaOf (f .n) (readAs rule (f .prefix)) (f .clauses)
 
--- The order of a call under a rule: what stands first is looked for in the prefix as it is lent, and all that follows in the call's own order as there.
-abbrev pub underRule : ℕ → ℕ → List ℕ → ℕ → List Causes → List Causes
-underRule rule n es entries order = ruledPrefix rule n es entries ++ afterPrefix order
-
--- the order of check under a rule
-abbrev pub checkOrderUnder : ℕ → ℕ → List ℕ → List ℤ → List Causes
-checkOrderUnder rule n es ls = underRule rule n es (length ls) (checkOrder n (readAs rule es) ls)
+-- the order of check under a rule: 23, 1, 2, prefix from the left, clause literals from the left
+abbrev pub checkOrder : ℕ → Formula → List Causes
+checkOrder rule f = ruledPrefix rule (f .n) (f .prefix) (length (f .clauses)) ++ (ClauseCause (f .n) (f .clauses) ∷ [])

@@ -6,12 +6,7 @@ use mathlib.Core.List.{List, [], _∷_, _++_}
 use mathlib.Core.Logic.{_⊎_, _≢_}
 use lib.ListN.{length, take}
 use Rattle.terms.specs.Limits.{mostBlocks}
-use Rattle.terms.specs.Refusals.{FirstOf, NoneOf}
-use Rattle.terms.specs.declared.Filled.{Filled}
-use Rattle.terms.specs.declared.Filled.the-variants.{Count, Refused}
 use Rattle.formula.specs.Scan.{IsMark}
-use Rattle.formula.specs.Causes.{prefixOrder}
-use Rattle.joining.specs.Rules.{ruledPrefix, readAs}
 
 -- The number of what is wrong with an entry as a mark, or 0: `new` says whether it begins a block, and `count` blocks have begun already.
 pub data MarkFault (entry : ℕ) (new : Bool) (count number : ℕ) : Type 0 where
@@ -29,9 +24,3 @@ pub record Put (more out out′ : List ℕ) (count count′ : ℕ) : Type 0 wher
   pub size : length out′ ≡ length out
   pub end : count′ ≡ count + length more
   pub written : take count′ out′ ≡ take count out ++ more
-
--- What joining a prefix by a rule other than 1 comes to: the prefix as the rule reads it stands in front, and no cause of the first in the order holds.
-abbrev pub Joins : ℕ → ℕ → List ℕ → ℕ → List ℕ → Filled → Type 0
-Joins rule n es entries out′ (Count count) =
-    NoneOf (ruledPrefix rule n es entries) × NoneOf (prefixOrder n (readAs rule es) entries) × (count ≤ length out′) × (take count out′ ≡ readAs rule es)
-Joins rule n es entries out′ (Refused number place) = FirstOf (ruledPrefix rule n es entries) number place

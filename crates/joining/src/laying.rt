@@ -12,9 +12,10 @@ ghost use Rattle.joining.specs.Writing.{closing, Put};
 
 // Writes an accepted prefix with its empty blocks dropped and its neighbours joined, and gives the count of entries written.
 pub fn lay_out(prefix: &[u32], out: &mut [u32]) -> usize
-    requires { ⌜ ((n : ℕ) × None (JoinedCause n (now prefix))) ⌝ }
-    requires { ⌜ length (joinedPrefix (now prefix)) ≤ length (now out) ⌝ }
-    ensures { λ r. ⌜ (r ≤ length (now (out .exit))) × (take r (now (out .exit)) ≡ joinedPrefix (now (prefix .entry))) ⌝ }
+    requires accepted { ⌜ ((n : ℕ) × None (JoinedCause n (now prefix))) ⌝ }
+    requires room { ⌜ length (joinedPrefix (now prefix)) ≤ length (now out) ⌝ }
+    ensures within { λ r. ⌜ r ≤ length (now (out .exit)) ⌝ }
+    ensures written { λ r. ⌜ take r (now (out .exit)) ≡ joinedPrefix (now (prefix .entry)) ⌝ }
 {
     let mut opens = true;
     let mut last: u32 = 0;
@@ -47,8 +48,9 @@ pub fn lay_out(prefix: &[u32], out: &mut [u32]) -> usize
 
 // Closes the block with the mark `last`, where there is one, and gives the count of entries with the 0.
 fn close(last: u32, out: &mut [u32], count: usize) -> usize
-    requires { ⌜ ((last ≢ 0 → count < length (now out))) × (count ≤ length (now out)) ⌝ }
-    ensures { λ r. ⌜ Put (closing last) (now (out .entry)) (now (out .exit)) count r ⌝ }
+    requires room { ⌜ (last ≢ 0 → count < length (now out)) ⌝ }
+    requires within { ⌜ count ≤ length (now out) ⌝ }
+    ensures put { λ r. ⌜ Put (closing last) (now (out .entry)) (now (out .exit)) count r ⌝ }
 {
     if last == 0 {
         return count;

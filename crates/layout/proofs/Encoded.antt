@@ -61,9 +61,11 @@ module _ (file : List ℕ) (bytes : Bytes file) where
       let others : rest ≡ (low + 256 * rest) / 256 = omega arith in
       let next : suc p + width ≡ p + suc width = omega arith in
       drop-cons file p 0 (omega arith)
-      ∙ ap₂ (λ (x : ℕ) (xs : List ℕ). x ∷ xs) first (number-stands width (suc p) (omega arith) ∙ ap₂ (λ (k : ℕ) (at : ℕ). numberBytes width k ++ drop at file) others next)
+      ∙ ap₂ (λ (x : ℕ) (xs : List ℕ). x ∷ xs) first
+      (number-stands width (suc p) (omega arith) ∙ ap₂ (λ (k : ℕ) (at : ℕ). numberBytes width k ++ drop at file) others next)
 
-  numbers-stand : (width many p : ℕ) → p + width * many ≤ length file → drop p file ≡ bytesOf width (numbersAt width file p many) ++ drop (p + width * many) file
+  numbers-stand : (width many p : ℕ) → p + width * many ≤ length file
+      → drop p file ≡ bytesOf width (numbersAt width file p many) ++ drop (p + width * many) file
   unfolding bytesOf numbersAt
   numbers-stand width zero p within = let q : p ≡ p + width * 0 = omega arith in ap (λ (k : ℕ). drop k file) q
   numbers-stand width (suc many) p within =
@@ -76,7 +78,8 @@ module _ (file : List ℕ) (bytes : Bytes file) where
       ∙ sym (append-assoc one others (drop (p + width * suc many) file))
 
   -- a record with just these numbers, which the end of the file does not cut, and what comes behind it
-  pub record-stands : (width p : ℕ) (numbers : List ℕ) → Holds width file p numbers → nextAt file p ≤ length file → drop p file ≡ recordBytes (kindAt file p) (bytesOf width numbers) ++ drop (nextAt file p) file
+  pub record-stands : (width p : ℕ) (numbers : List ℕ) → Holds width file p numbers → nextAt file p ≤ length file
+      → drop p file ≡ recordBytes (kindAt file p) (bytesOf width numbers) ++ drop (nextAt file p) file
   unfolding recordBytes sizeAt kindAt nextAt
   record-stands width p numbers holds within =
       let payload = bytesOf width numbers in
@@ -87,8 +90,11 @@ module _ (file : List ℕ) (bytes : Bytes file) where
       let two : p + 4 + 2 ≡ p + 6 = omega arith in
       let end : p + 6 + width * length numbers ≡ nextAt file p = omega arith in
       let long : sizeAt file p ≡ length payload = is ∙ sym (bytes-length width numbers) in
-      let inner = numbers-stand width (length numbers) (p + 6) (omega arith) ∙ ap₂ (λ (xs : List ℕ) (k : ℕ). bytesOf width xs ++ drop k file) (holds .values) end in
+      let inner = numbers-stand width (length numbers) (p + 6) (omega arith)
+      ∙ ap₂ (λ (xs : List ℕ) (k : ℕ). bytesOf width xs ++ drop k file) (holds .values) end in
       number-stands 4 p (omega arith)
-      ∙ ap (λ (xs : List ℕ). size ++ xs) (number-stands 2 (p + 4) (omega arith) ∙ ap (λ (xs : List ℕ). kind ++ xs) (ap (λ (k : ℕ). drop k file) two ∙ inner) ∙ sym (append-assoc kind payload back))
+      ∙ ap (λ (xs : List ℕ). size ++ xs)
+      (number-stands 2 (p + 4) (omega arith) ∙ ap (λ (xs : List ℕ). kind ++ xs) (ap (λ (k : ℕ). drop k file) two ∙ inner)
+      ∙ sym (append-assoc kind payload back))
       ∙ sym (append-assoc size (kind ++ payload) back)
       ∙ ap (λ (k : ℕ). (numberBytes 4 k ++ (kind ++ payload)) ++ back) long

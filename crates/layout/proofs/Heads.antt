@@ -9,6 +9,7 @@ use borrow.Author.Tests.{ltb-true, ltb-false, eqb-true, eqb-false, ne-eqb}
 use lib.Dec.{ltb, eqb}
 use Rattle.tables.specs.Rows.{Tells}
 use Rattle.records.specs.Numbers.{numberAt}
+use Rattle.records.specs.Layout.{prefixKind, clausesKind, rowsKind, setsKind, closingKind}
 use Rattle.records.specs.Places.{sizeAt, kindAt, nextAt, mayFollow}
 use Rattle.layout.specs.Laid.{WrongSize}
 
@@ -33,28 +34,34 @@ module _ (file : List ℕ) (at : ℕ) where
 
 -- A payload length of a kind, by the test of that kind.
 module _ (kind size : ℕ) (even : size % 2 ≡ 0) where
-  pub tells-count : kind ≡ 1 → Tells (ltb size 2) (WrongSize kind size)
+  pub tells-count : kind ≡ prefixKind → Tells (ltb size 2) (WrongSize kind size)
   tells-count is = go (ltb size 2) refl
     where
       go : (b : Bool) → ltb size 2 ≡ b → Tells b (WrongSize kind size)
       go true e = inr (inl (is, ltb-true size 2 e))
-      go false e = ⊎-elim (λ o. o even) (⊎-elim (λ w. let a = ltb-false size 2 e in let l = w .1 in omega arith) (⊎-elim (λ w. let q = w .0 in omega arith) (λ w. let q = w .0 in omega arith)))
+      go false e =
+          ⊎-elim (λ o. o even) (⊎-elim (λ w. let a = ltb-false size 2 e in let l = w .1 in omega arith)
+          (⊎-elim (λ w. let q = w .0 in omega arith) (λ w. let q = w .0 in omega arith)))
 
-  pub tells-literals : kind ≡ 2 → Tells (not (eqb (size % 4) 0)) (WrongSize kind size)
+  pub tells-literals : kind ≡ clausesKind → Tells (not (eqb (size % 4) 0)) (WrongSize kind size)
   tells-literals is = go (eqb (size % 4) 0) refl
     where
       go : (b : Bool) → eqb (size % 4) 0 ≡ b → Tells (not b) (WrongSize kind size)
-      go true e = ⊎-elim (λ o. o even) (⊎-elim (λ w. let q = w .0 in omega arith) (⊎-elim (λ w. w .1 (eqb-true (size % 4) 0 e)) (λ w. let q = w .0 in omega arith)))
+      go true e =
+          ⊎-elim (λ o. o even)
+          (⊎-elim (λ w. let q = w .0 in omega arith) (⊎-elim (λ w. w .1 (eqb-true (size % 4) 0 e)) (λ w. let q = w .0 in omega arith)))
       go false e = inr (inr (inl (is, eqb-false (size % 4) 0 e)))
 
-  pub tells-word : kind ≡ 65535 → Tells (not (eqb size 2)) (WrongSize kind size)
+  pub tells-word : kind ≡ closingKind → Tells (not (eqb size 2)) (WrongSize kind size)
   tells-word is = go (eqb size 2) refl
     where
       go : (b : Bool) → eqb size 2 ≡ b → Tells (not b) (WrongSize kind size)
-      go true e = ⊎-elim (λ o. o even) (⊎-elim (λ w. let q = w .0 in omega arith) (⊎-elim (λ w. let q = w .0 in omega arith) (λ w. w .1 (eqb-true size 2 e))))
+      go true e =
+          ⊎-elim (λ o. o even)
+          (⊎-elim (λ w. let q = w .0 in omega arith) (⊎-elim (λ w. let q = w .0 in omega arith) (λ w. w .1 (eqb-true size 2 e))))
       go false e = inr (inr (inr (is, eqb-false size 2 e)))
 
-  pub tells-other : kind ≢ 1 → kind ≢ 2 → kind ≢ 65535 → WrongSize kind size → ⊥
+  pub tells-other : kind ≢ prefixKind → kind ≢ clausesKind → kind ≢ closingKind → WrongSize kind size → ⊥
   tells-other a b c = ⊎-elim (λ o. o even) (⊎-elim (λ w. a (w .0)) (⊎-elim (λ w. b (w .0)) (λ w. c (w .0))))
 
 -- Which kind may follow, by the kind before.
@@ -63,26 +70,28 @@ module _ (before kind : ℕ) where
   or-none true = refl
   or-none false = refl
 
-  pub after-start : before ≡ 0 → mayFollow before kind ≡ eqb kind 1
+  pub after-start : before ≡ 0 → mayFollow before kind ≡ eqb kind prefixKind
   unfolding mayFollow
-  after-start e = rw e (or-none (eqb kind 1))
+  after-start e = rw e (or-none (eqb kind prefixKind))
 
-  pub after-prefix : before ≡ 1 → mayFollow before kind ≡ eqb kind 2
+  pub after-prefix : before ≡ prefixKind → mayFollow before kind ≡ eqb kind clausesKind
   unfolding mayFollow
-  after-prefix e = rw e (or-none (eqb kind 2))
+  after-prefix e = rw e (or-none (eqb kind clausesKind))
 
-  pub after-clauses : before ≡ 2 → mayFollow before kind ≡ eqb kind 3
+  pub after-clauses : before ≡ clausesKind → mayFollow before kind ≡ eqb kind rowsKind
   unfolding mayFollow
-  after-clauses e = rw e (or-none (eqb kind 3))
+  after-clauses e = rw e (or-none (eqb kind rowsKind))
 
-  pub after-rows : before ≡ 3 → mayFollow before kind ≡ eqb kind 4 || eqb kind 65535
+  pub after-rows : before ≡ rowsKind → mayFollow before kind ≡ eqb kind setsKind || eqb kind closingKind
   unfolding mayFollow
-  after-rows e = rw e (or-none (eqb kind 4 || eqb kind 65535))
+  after-rows e = rw e (or-none (eqb kind setsKind || eqb kind closingKind))
 
-  pub after-sets : before ≡ 4 → mayFollow before kind ≡ eqb kind 65535
+  pub after-sets : before ≡ setsKind → mayFollow before kind ≡ eqb kind closingKind
   unfolding mayFollow
   after-sets e = rw e
 
-  pub after-other : before ≢ 0 → before ≢ 1 → before ≢ 2 → before ≢ 3 → before ≢ 4 → mayFollow before kind ≡ false
+  pub after-other : before ≢ 0 → before ≢ prefixKind → before ≢ clausesKind → before ≢ rowsKind → before ≢ setsKind
+      → mayFollow before kind ≡ false
   unfolding mayFollow
-  after-other a b c d e = rw (ne-eqb before 0 a, ne-eqb before 1 b, ne-eqb before 2 c, ne-eqb before 3 d, ne-eqb before 4 e)
+  after-other a b c d e =
+      rw (ne-eqb before 0 a, ne-eqb before prefixKind b, ne-eqb before clausesKind c, ne-eqb before rowsKind d, ne-eqb before setsKind e)

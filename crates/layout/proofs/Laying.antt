@@ -30,16 +30,21 @@ module _ (file : List ℕ) (none : NoneOf (fileOrder file)) where
   follows {before} {place} r other = record { goes-on = on; may = may-be (mayFollow before (kindAt file place)) refl; fits = whole }
     where
       on : place < length file
-      on = by-cases (decLt place (length file)) (λ l. l) (λ l. absurd (none .1 .1 .0 20 place (missing before refl r (let w = reached-within file r in omega arith) other)))
+      on =
+          by-cases (decLt place (length file)) (λ l. l)
+          (λ l. absurd (none .1 .1 .0 20 place (missing before refl r (let w = reached-within file r in omega arith) other)))
 
       may-be : (b : Bool) → mayFollow before (kindAt file place) ≡ b → mayFollow before (kindAt file place) ≡ true
       may-be true e = e
       may-be false e = absurd (none .1 .1 .0 20 place (wrong before refl r on e))
 
       whole : nextAt file place ≤ length file
-      whole = by-cases (decLt (length file) (nextAt file place)) (λ l. absurd (none .1 .0 19 place (cut refl (record { before = before; reached = r; goes-on = on }) l))) (λ l. omega arith)
+      whole =
+          by-cases (decLt (length file) (nextAt file place))
+          (λ l. absurd (none .1 .0 19 place (cut refl (record { before = before; reached = r; goes-on = on }) l))) (λ l. omega arith)
 
-  pub next-reached : {before place kind : ℕ} → Reached file before place → Follows before place → kindAt file place ≡ kind → (next : ℕ) → next ≡ nextAt file place → Reached file kind next
+  pub next-reached : {before place kind : ℕ} → Reached file before place → Follows before place → kindAt file place ≡ kind → (next : ℕ)
+      → next ≡ nextAt file place → Reached file kind next
   next-reached {before} {place} r f is next at = behind before place r (f .fits) (sym is) at
 
   -- The kinds 1, 2 and 3 in their order, and what stands behind them.
@@ -50,13 +55,17 @@ module _ (file : List ℕ) (none : NoneOf (fileOrder file)) where
   second-reached = next-reached (start refl refl) (follows (start refl refl) (λ q. omega arith)) first-kind (secondAt file) (second-is file)
 
   pub second-kind : kindAt file (secondAt file) ≡ clausesKind
-  second-kind = let f = follows second-reached (λ q. omega arith) in eqb-true (kindAt file (secondAt file)) 2 (sym (after-prefix 1 (kindAt file (secondAt file)) refl) ∙ f .may)
+  second-kind =
+      let f = follows second-reached (λ q. omega arith) in
+      eqb-true (kindAt file (secondAt file)) 2 (sym (after-prefix 1 (kindAt file (secondAt file)) refl) ∙ f .may)
 
   pub third-reached : Reached file 2 (thirdAt file)
   third-reached = next-reached second-reached (follows second-reached (λ q. omega arith)) second-kind (thirdAt file) (third-is file)
 
   pub third-kind : kindAt file (thirdAt file) ≡ rowsKind
-  third-kind = let f = follows third-reached (λ q. omega arith) in eqb-true (kindAt file (thirdAt file)) 3 (sym (after-clauses 2 (kindAt file (thirdAt file)) refl) ∙ f .may)
+  third-kind =
+      let f = follows third-reached (λ q. omega arith) in
+      eqb-true (kindAt file (thirdAt file)) 3 (sym (after-clauses 2 (kindAt file (thirdAt file)) refl) ∙ f .may)
 
   pub fourth-reached : Reached file 3 (fourthAt file)
   fourth-reached = next-reached third-reached (follows third-reached (λ q. omega arith)) third-kind (fourthAt file) (fourth-is file)
@@ -67,10 +76,16 @@ module _ (file : List ℕ) (none : NoneOf (fileOrder file)) where
       let last = follows fourth-reached (λ q. omega arith) .fits in
       let first = follows (start refl refl) (λ q. omega arith) in
       record {
-        counted = by-cases (decLt (sizeAt file 0) 2) (λ l. absurd (none .1 .0 19 0 (no-count refl (record { before = 0; reached = start refl refl; goes-on = first .goes-on }) first-kind l))) (λ l. omega arith);
+        counted =
+            by-cases (decLt (sizeAt file 0) 2)
+            (λ l. absurd (none .1 .0 19 0 (no-count refl (record { before = 0; reached = start refl refl; goes-on = first .goes-on }) first-kind l)))
+            (λ l. omega arith);
         ends = omega arith;
       }
 
 -- Once a file is not too long, its records and its sum decide.
-pub size-then : (file : List ℕ) → length file ≤ fileBytes → (v : Verdict) → Judged (RecordCause file ∷ OrderCause file ∷ At0 21 (SumsToZero file → ⊥) ∷ []) v → Judged (fileOrder file) v
-size-then file fits v judged = accepted-then (At0 19 (TooLarge file) ∷ []) (RecordCause file ∷ OrderCause file ∷ At0 21 (SumsToZero file → ⊥) ∷ []) v refl (at0-none 19 (λ l. omega arith), tt) judged
+pub size-then : (file : List ℕ) → length file ≤ fileBytes → (v : Verdict)
+    → Judged (RecordCause file ∷ OrderCause file ∷ At0 21 (SumsToZero file → ⊥) ∷ []) v → Judged (fileOrder file) v
+size-then file fits v judged =
+    accepted-then (At0 19 (TooLarge file) ∷ []) (RecordCause file ∷ OrderCause file ∷ At0 21 (SumsToZero file → ⊥) ∷ []) v refl
+    (at0-none 19 (λ l. omega arith), tt) judged

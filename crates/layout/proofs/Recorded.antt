@@ -18,13 +18,16 @@ use Rattle.records.proofs.Changed.{Bytes}
 use Rattle.layout.proofs.Heads.{after-rows, after-sets, after-other}
 use Rattle.layout.proofs.Walks.{reached-within}
 use Rattle.layout.proofs.Spans.{prefix-length, numbers-length, second-is, third-is, fourth-is}
-use Rattle.layout.proofs.Laying.{Follows, follows, next-reached, first-kind, second-reached, second-kind, third-reached, third-kind, fourth-reached, file-laid}
+use Rattle.layout.proofs.Laying.{Follows, follows, next-reached, first-kind, second-reached, second-kind, third-reached, third-kind}
+use Rattle.layout.proofs.Laying.{fourth-reached, file-laid}
 use Rattle.layout.proofs.Encoded.{two-fits, literals-same, record-stands}
 
 module _ (file : List ℕ) (bytes : Bytes file) (none : NoneOf (fileOrder file)) where
   -- the length of a record is even
   even-size : {before place : ℕ} → Reached file before place → place < length file → sizeAt file place % 2 ≡ 0
-  even-size {before} {place} r on = by-cases (ℕ-discrete (sizeAt file place % 2) 0) (λ e. e) (λ o. absurd (none .1 .0 19 place (odd refl (record { before = before; reached = r; goes-on = on }) o)))
+  even-size {before} {place} r on =
+      by-cases (ℕ-discrete (sizeAt file place % 2) 0) (λ e. e)
+      (λ o. absurd (none .1 .0 19 place (odd refl (record { before = before; reached = r; goes-on = on }) o)))
 
   -- what the records of kinds 1 and 2 hold
   prefix-held : Holds 2 file 0 (countIn file ∷ prefixIn file)
@@ -41,7 +44,8 @@ module _ (file : List ℕ) (bytes : Bytes file) (none : NoneOf (fileOrder file))
   whole-literals : sizeAt file (secondAt file) % 4 ≡ 0
   whole-literals =
       let f = follows file none (second-reached file none) (λ q. omega arith) in
-      by-cases (ℕ-discrete (sizeAt file (secondAt file) % 4) 0) (λ e. e) (λ o. absurd (none .1 .0 19 (secondAt file) (part-literal refl (record { before = 1; reached = second-reached file none; goes-on = f .goes-on }) (second-kind file none) o)))
+      by-cases (ℕ-discrete (sizeAt file (secondAt file) % 4) 0) (λ e. e) (λ o. absurd (none .1 .0 19 (secondAt file)
+      (part-literal refl (record { before = 1; reached = second-reached file none; goes-on = f .goes-on }) (second-kind file none) o)))
 
   clauses-held : Holds 4 file (secondAt file) (map literalNumber (clausesIn file))
   unfolding clausesIn
@@ -56,21 +60,27 @@ module _ (file : List ℕ) (bytes : Bytes file) (none : NoneOf (fileOrder file))
       }
 
   -- the last record
-  closing-held : {before place : ℕ} → Reached file before place → place < length file → kindAt file place ≡ closingKind → Holds 2 file place (numberAt 2 file (payloadAt place) ∷ [])
+  closing-held : {before place : ℕ} → Reached file before place → place < length file → kindAt file place ≡ closingKind
+      → Holds 2 file place (numberAt 2 file (payloadAt place) ∷ [])
   unfolding numbersAt
   closing-held {before} {place} r on is =
       record {
-        size = by-cases (ℕ-discrete (sizeAt file place) 2) (λ e. e) (λ o. absurd (none .1 .0 19 place (no-word refl (record { before = before; reached = r; goes-on = on }) is o)));
+        size =
+            by-cases (ℕ-discrete (sizeAt file place) 2) (λ e. e)
+            (λ o. absurd (none .1 .0 19 place (no-word refl (record { before = before; reached = r; goes-on = on }) is o)));
         values = refl;
       }
 
   -- nothing stands behind it
-  closing-stands : {before place : ℕ} → Reached file before place → Follows file none before place → kindAt file place ≡ closingKind → drop place file ≡ closingRecord (numberAt 2 file (payloadAt place))
+  closing-stands : {before place : ℕ} → Reached file before place → Follows file none before place → kindAt file place ≡ closingKind
+      → drop place file ≡ closingRecord (numberAt 2 file (payloadAt place))
   unfolding closingRecord bytesOf
   closing-stands {before} {place} r f is =
       let word = numberBytes 2 (numberAt 2 file (payloadAt place)) in
       let last = next-reached file none r f is (nextAt file place) refl in
-      let over : nextAt file place < length file → ⊥ = λ on. none .1 .1 .0 20 (nextAt file place) (wrong closingKind refl last on (after-other closingKind (kindAt file (nextAt file place)) (λ q. omega arith) (λ q. omega arith) (λ q. omega arith) (λ q. omega arith) (λ q. omega arith))) in
+      let over : nextAt file place < length file → ⊥ = λ on. none .1 .1 .0 20 (nextAt file place) (wrong closingKind refl last on
+      (after-other closingKind (kindAt file (nextAt file place)) (λ q. omega arith) (λ q. omega arith) (λ q. omega arith) (λ q. omega arith)
+      (λ q. omega arith))) in
       let end : length file ≤ nextAt file place = by-cases (decLt (nextAt file place) (length file)) (λ on. absurd (over on)) (λ off. omega arith) in
       record-stands file bytes 2 place (numberAt 2 file (payloadAt place) ∷ []) (closing-held r (f .goes-on) is) (f .fits)
       ∙ ap (λ (xs : List ℕ). recordBytes (kindAt file place) (word ++ []) ++ xs) (drop-of-length-le file end)
@@ -96,7 +106,8 @@ module _ (file : List ℕ) (bytes : Bytes file) (none : NoneOf (fileOrder file))
       let held : Holds 2 file (fourthAt file) numbers = record { size = omega arith; values = ap (numbersAt 2 file (payloadAt (fourthAt file))) long } in
       let five = next-reached file none four f kind (nextAt file (fourthAt file)) refl in
       let g = follows file none five (λ q. omega arith) in
-      let last = eqb-true (kindAt file (nextAt file (fourthAt file))) closingKind (sym (after-sets setsKind (kindAt file (nextAt file (fourthAt file))) refl) ∙ g .may) in
+      let last = eqb-true (kindAt file (nextAt file (fourthAt file))) closingKind
+      (sym (after-sets setsKind (kindAt file (nextAt file (fourthAt file))) refl) ∙ g .may) in
       with-sets (bytesOf 2 numbers) (numberAt 2 file (payloadAt (nextAt file (fourthAt file))))
       (record-stands file bytes 2 (fourthAt file) numbers held (f .fits)
       ∙ ap (λ (xs : List ℕ). recordBytes (kindAt file (fourthAt file)) (bytesOf 2 numbers) ++ xs) (closing-stands five g last)
@@ -104,7 +115,8 @@ module _ (file : List ℕ) (bytes : Bytes file) (none : NoneOf (fileOrder file))
   behind-rows false is =
       let four = fourth-reached file none in
       let f = follows file none four (λ q. omega arith) in
-      plain (numberAt 2 file (payloadAt (fourthAt file))) (two-fits file bytes (payloadAt (fourthAt file))) (closing-stands four f (go (kindAt file (fourthAt file)) is (sym (after-rows rowsKind (kindAt file (fourthAt file)) refl) ∙ f .may)))
+      plain (numberAt 2 file (payloadAt (fourthAt file))) (two-fits file bytes (payloadAt (fourthAt file)))
+      (closing-stands four f (go (kindAt file (fourthAt file)) is (sym (after-rows rowsKind (kindAt file (fourthAt file)) refl) ∙ f .may)))
     where
       go : (kind : ℕ) → eqb kind setsKind ≡ false → eqb kind setsKind || eqb kind closingKind ≡ true → kind ≡ closingKind
       go kind other may = eqb-true kind closingKind (ap (λ (b : Bool). b || eqb kind closingKind) (sym other) ∙ may)
@@ -114,7 +126,8 @@ module _ (file : List ℕ) (bytes : Bytes file) (none : NoneOf (fileOrder file))
     abbrev pub head : List ℕ
     head = prefixRecord (countIn file) (prefixIn file) ++ (clausesRecord (clausesIn file) ++ rowsRecord classes parents counts)
 
-    pub head-then : (back : List ℕ) → head ++ back ≡ prefixRecord (countIn file) (prefixIn file) ++ (clausesRecord (clausesIn file) ++ (rowsRecord classes parents counts ++ back))
+    pub head-then : (back : List ℕ)
+        → head ++ back ≡ prefixRecord (countIn file) (prefixIn file) ++ (clausesRecord (clausesIn file) ++ (rowsRecord classes parents counts ++ back))
     head-then back =
         let p = prefixRecord (countIn file) (prefixIn file) in
         let c = clausesRecord (clausesIn file) in

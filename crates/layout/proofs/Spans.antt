@@ -7,6 +7,7 @@ use lib.Dec.{eqb}
 use lib.ListN.{length, length-map}
 use Rattle.records.specs.Numbers.{numberAt, numbersAt, literalOf}
 use Rattle.records.specs.Places.{sizeAt, kindAt, nextAt, payloadAt, secondAt, thirdAt, fourthAt, hasSets, countIn, prefixIn, clausesIn}
+use Rattle.records.specs.Layout.{setsKind}
 use Rattle.records.specs.Causes.{fileBytes}
 use Rattle.layout.specs.Laid.{Laid}
 use Rattle.layout.proofs.Heads.{next-read}
@@ -35,7 +36,7 @@ module _ (file : List ℕ) where
   unfolding countIn
   count-read e = e
 
-  pub sets-read : hasSets file ≡ eqb (kindAt file (fourthAt file)) 4
+  pub sets-read : hasSets file ≡ eqb (kindAt file (fourthAt file)) setsKind
   unfolding hasSets
   sets-read = refl
 
@@ -62,4 +63,15 @@ module _ (file : List ℕ) where
       let a = next-read file 0 in
       let e = next-read file (fourthAt file) in
       let l = laid .ends in
-      record { first = second-is ∙ a; second = third-is ∙ next-read file (secondAt file); third = fourth-is ∙ next-read file (thirdAt file); fourth = omega arith }
+      record {
+        first = second-is ∙ a;
+        second = third-is ∙ next-read file (secondAt file);
+        third = fourth-is ∙ next-read file (thirdAt file);
+        fourth = omega arith;
+      }
+
+  -- so that each of them begins within it
+  pub laid-near : Laid file → (secondAt file ≤ fileBytes) × (thirdAt file ≤ fileBytes) × (fourthAt file ≤ fileBytes)
+  laid-near laid =
+      let e = laid-ends laid in
+      (omega (arith, e .second, e .third, e .fourth), omega (arith, e .third, e .fourth), omega (arith, e .fourth))

@@ -21,7 +21,9 @@ pub going-none : (width from many : ℕ) → Going width from many 0 from
 going-none width from many = record { within = omega arith; place = ap (λ (k : ℕ). from + width * k) (sub-none many) }
 
 width-more : (width many i : ℕ) → i < many → width * (many - i) ≡ width + width * (many - (i + 1))
-width-more width many i l = let q : many - i ≡ (many - (i + 1)) + 1 = omega arith in ap (λ (k : ℕ). width * k) q ∙ (let e : width * ((many - (i + 1)) + 1) ≡ width + width * (many - (i + 1)) = omega arith in e)
+width-more width many i l =
+    let q : many - i ≡ (many - (i + 1)) + 1 = omega arith in
+    ap (λ (k : ℕ). width * k) q ∙ (let e : width * ((many - (i + 1)) + 1) ≡ width + width * (many - (i + 1)) = omega arith in e)
 
 module _ {width from many i at : ℕ} (g : Going width from many i at) (l : i < many) where
   pub going-more : Going width from many (i + 1) (at + width)
@@ -31,7 +33,8 @@ module _ {width from many i at : ℕ} (g : Going width from many i at) (l : i < 
   going-small most small = let w = width-more width many i l in let p = g .place in omega arith
 
 -- One number more.
-numbers-more : (width : ℕ) (file : List ℕ) (at many i : ℕ) → i < many → numbersAt width file at (many - i) ≡ numberAt width file at ∷ numbersAt width file (at + width) (many - (i + 1))
+numbers-more : (width : ℕ) (file : List ℕ) (at many i : ℕ) → i < many
+    → numbersAt width file at (many - i) ≡ numberAt width file at ∷ numbersAt width file (at + width) (many - (i + 1))
 unfolding numbersAt
 numbers-more width file at many i l = let q : many - i ≡ suc (many - (i + 1)) = omega arith in ap (numbersAt width file at) q
 
@@ -85,12 +88,15 @@ module _ (width : ℕ) (file : List ℕ) (from : ℕ) (table : List ℕ) where
   left-none = let q = ap (numbersAt width file from) (sub-none (length table)) in (λ e. sym q ∙ e, λ e. q ∙ e)
 
   module _ (i at : ℕ) (h : Left i at) where
-    heads : i < length table → (numbersAt width file at (length table - i) ≡ drop i table) → _≡_ {A = List ℕ} (numberAt width file at ∷ numbersAt width file (at + width) (length table - (i + 1))) (getD table i 0 ∷ drop (suc i) table)
+    heads : i < length table → (numbersAt width file at (length table - i) ≡ drop i table)
+        → _≡_ {A = List ℕ} (numberAt width file at ∷ numbersAt width file (at + width) (length table - (i + 1))) (getD table i 0 ∷ drop (suc i) table)
     heads l e = sym (numbers-more width file at (length table) i l) ∙ e ∙ drop-cons table i 0 l
 
     pub left-more : i < length table → numberAt width file at ≡ getD table i 0 → Left (i + 1) (at + width)
     left-more l same = (
-      λ e. h .0 (numbers-more width file at (length table) i l ∙ ap (λ (x : ℕ). x ∷ numbersAt width file (at + width) (length table - (i + 1))) same ∙ ap (λ (xs : List ℕ). getD table i 0 ∷ xs) (e ∙ ap (λ (k : ℕ). drop k table) (add-one i)) ∙ sym (drop-cons table i 0 l)),
+      λ e.
+          h .0 (numbers-more width file at (length table) i l ∙ ap (λ (x : ℕ). x ∷ numbersAt width file (at + width) (length table - (i + 1))) same
+          ∙ ap (λ (xs : List ℕ). getD table i 0 ∷ xs) (e ∙ ap (λ (k : ℕ). drop k table) (add-one i)) ∙ sym (drop-cons table i 0 l)),
       λ all. tail-eq-of-cons-eq (heads l (h .1 all)) ∙ sym (ap (λ (k : ℕ). drop k table) (add-one i)),
     )
 

@@ -1,4 +1,5 @@
--- The places at which the records of a file begin: they stand one behind the other, so that a walk from the beginning meets every one, and each has one kind before it.
+-- The places at which the records of a file begin: they stand one behind the other, so that a walk from the beginning meets every one, and each has
+-- one kind before it.
 use Prim.Native.Nat.{ℕ, _+_, _<_, _≤_}
 use mathlib.Core.Path.{_≡_, refl, sym, ap, _∙_, subst}
 use mathlib.Core.Bool.{true, false}
@@ -12,7 +13,7 @@ use Rattle.terms.proofs.Common.{clash}
 use Rattle.terms.proofs.Verdicts.{first-at}
 use Rattle.records.specs.Layout.{closingKind}
 use Rattle.records.specs.Places.{sizeAt, kindAt, nextAt, Reached, start, behind, RecordAt, mayFollow}
-use Rattle.records.specs.Causes.{RecordCause, cut, odd, no-count, part-literal, no-word, OrderCause, wrong, missing}
+use Rattle.records.specs.Causes.{fileBytes, RecordCause, cut, odd, no-count, part-literal, no-word, OrderCause, wrong, missing}
 use Rattle.layout.specs.Laid.{WrongSize}
 
 module _ (file : List ℕ) where
@@ -80,13 +81,18 @@ module _ (file : List ℕ) where
   reached-within (behind earlier p r fits k z) = omega arith
 
   -- What holds of every place before one, and of that one, holds of every place before the next.
-  pub further : {b at : ℕ} (P : ℕ → Type 0) → Reached file b at → ((e : ℕ) → e < at → P e) → P at → (b′ e : ℕ) → Reached file b′ e → e < nextAt file at → P e
+  pub further : {b at : ℕ} (P : ℕ → Type 0) → Reached file b at → ((e : ℕ) → e < at → P e) → P at → (b′ e : ℕ)
+      → Reached file b′ e → e < nextAt file at → P e
   further {at = at} P r clean here b′ e r′ l = go (apart r′ r)
     where
       go : Apart e at → P e
       go (same s) = subst P (sym s) here
       go (before m) = let n = next-past e in clean e (omega arith)
       go (after m) = absurd (omega arith)
+
+  -- A record of a file that is not too long begins near enough to be read.
+  pub record-near : {at : ℕ} → length file ≤ fileBytes → RecordAt file at → at < fileBytes
+  record-near short r = omega (arith, r .goes-on)
 
   -- Every cause of 19 stands at a record.
   pub record-cause : {k e : ℕ} → RecordCause file k e → (k ≡ 19) × RecordAt file e
@@ -97,12 +103,16 @@ module _ (file : List ℕ) where
   record-cause (no-word n r _ _) = (n, r)
 
   -- One record: what is wrong with it, and what is if its length fits the file.
-  pub wrong-record : {at kind size : ℕ} → RecordAt file at → kind ≡ kindAt file at → size ≡ sizeAt file at → WrongSize kind size → RecordCause file 19 at
+  pub wrong-record : {at kind size : ℕ} → RecordAt file at → kind ≡ kindAt file at → size ≡ sizeAt file at → WrongSize kind size
+      → RecordCause file 19 at
   wrong-record {at} {kind} r k s w =
-      let w′ : WrongSize (kindAt file at) (sizeAt file at) = subst (λ (x : ℕ). WrongSize x (sizeAt file at)) k (subst (λ (x : ℕ). WrongSize kind x) s w) in
-      ⊎-elim (λ o. odd refl r o) (⊎-elim (λ c. no-count refl r (c .0) (c .1)) (⊎-elim (λ c. part-literal refl r (c .0) (c .1)) (λ c. no-word refl r (c .0) (c .1)))) w′
+      let w′ : WrongSize (kindAt file at) (sizeAt file at) =
+      subst (λ (x : ℕ). WrongSize x (sizeAt file at)) k (subst (λ (x : ℕ). WrongSize kind x) s w) in
+      ⊎-elim (λ o. odd refl r o)
+      (⊎-elim (λ c. no-count refl r (c .0) (c .1)) (⊎-elim (λ c. part-literal refl r (c .0) (c .1)) (λ c. no-word refl r (c .0) (c .1)))) w′
 
-  pub right-record : {at kind size : ℕ} → kind ≡ kindAt file at → size ≡ sizeAt file at → nextAt file at ≤ length file → (WrongSize kind size → ⊥) → RecordCause file 19 at → ⊥
+  pub right-record : {at kind size : ℕ} → kind ≡ kindAt file at → size ≡ sizeAt file at → nextAt file at ≤ length file
+      → (WrongSize kind size → ⊥) → RecordCause file 19 at → ⊥
   right-record {at} {kind} {size} k s fits not cause = go cause
     where
       not′ : WrongSize (kindAt file at) (sizeAt file at) → ⊥
@@ -141,7 +151,8 @@ module _ (file : List ℕ) where
           reached = behind (s .kind) at (s .reached) (shaped-fits l none) refl is;
           clean = λ e lt k cause.
               let r = record-cause cause .1 in
-              further (λ (p : ℕ). (k : ℕ) → RecordCause file k p → ⊥) (s .reached) (s .clean) (λ k c. none (subst (λ (x : ℕ). RecordCause file x at) (record-cause c .0) c)) (r .before) e (r .reached) (omega arith) k cause;
+              further (λ (p : ℕ). (k : ℕ) → RecordCause file k p → ⊥) (s .reached) (s .clean)
+              (λ k c. none (subst (λ (x : ℕ). RecordCause file x at) (record-cause c .0) c)) (r .before) e (r .reached) (omega arith) k cause;
         }
 
     pub shaped-all : length file ≤ at → None (RecordCause file)
@@ -164,7 +175,9 @@ module _ (file : List ℕ) where
     ordered-fault l no′ = first-at (o .clean) (wrong kind refl (o .reached) l no′) (λ k c. let q = order-number c in omega arith)
 
     pub ordered-missing : length file ≤ at → kind ≢ closingKind → First (OrderCause file) 20 at
-    ordered-missing over no′ = first-at (o .clean) (missing kind refl (o .reached) (let w = reached-within (o .reached) in omega arith) no′) (λ k c. let q = order-number c in omega arith)
+    ordered-missing over no′ =
+        first-at (o .clean) (missing kind refl (o .reached) (let w = reached-within (o .reached) in omega arith) no′)
+        (λ k c. let q = order-number c in omega arith)
 
     pub ordered-all : length file ≤ at → kind ≡ closingKind → None (OrderCause file)
     ordered-all over is k e (wrong b n r l no′) = o .clean e (omega arith) k (wrong b n r l no′)
@@ -175,9 +188,12 @@ module _ (file : List ℕ) where
 
     module _ (whole : None (RecordCause file)) where
       pub whole-fits : at < length file → nextAt file at ≤ length file
-      whole-fits l = by-cases (decLt (length file) (nextAt file at)) (λ over. absurd (whole 19 at (cut refl (record { before = kind; reached = o .reached; goes-on = l }) over))) (λ low. omega arith)
+      whole-fits l =
+          by-cases (decLt (length file) (nextAt file at))
+          (λ over. absurd (whole 19 at (cut refl (record { before = kind; reached = o .reached; goes-on = l }) over))) (λ low. omega arith)
 
-      pub ordered-more : (next : ℕ) → next ≡ nextAt file at → at < length file → mayFollow kind (kindAt file at) ≡ true → Ordered next (kindAt file at)
+      pub ordered-more : (next : ℕ) → next ≡ nextAt file at → at < length file → mayFollow kind (kindAt file at) ≡ true
+          → Ordered next (kindAt file at)
       ordered-more next is l yes′ =
           let fits = whole-fits l in
           record { reached = behind kind at (o .reached) fits refl is; clean = go }
@@ -197,4 +213,5 @@ module _ (file : List ℕ) where
           go : (e : ℕ) → e < next → (k : ℕ) → OrderCause file k e → ⊥
           go e lt k cause =
               let r = place-of cause in
-              further (λ (p : ℕ). (k : ℕ) → OrderCause file k p → ⊥) (o .reached) (o .clean) (λ k c. here k at refl c) (r .0) e (r .1) (omega arith) k cause
+              further (λ (p : ℕ). (k : ℕ) → OrderCause file k p → ⊥) (o .reached) (o .clean) (λ k c. here k at refl c) (r .0) e (r .1)
+              (omega arith) k cause

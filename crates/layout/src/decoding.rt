@@ -3,6 +3,7 @@
 use crate::places::clause_entries;
 use crate::places::prefix_entries;
 use crate::places::second_at;
+use records::Record;
 use records::numbers::four_at;
 use records::numbers::literal_of;
 use records::numbers::two_at;
@@ -19,8 +20,8 @@ ghost use Rattle.layout.specs.Widths.{Width};
 
 // The number of two or four bytes at a place.
 fn number_in(file: &[u8], width: usize, at: usize) -> u32
-    requires { ⌜ Width width × (at < 4294967294) ⌝ }
-    ensures { λ r. ⌜ r ≡ numberAt width (now (file .entry)) at ⌝ }
+    requires near { ⌜ Width width × (at < 4294967294) ⌝ }
+    ensures read { λ r. ⌜ r ≡ numberAt width (now (file .entry)) at ⌝ }
 {
     if width == 2 {
         two_at(file, at)
@@ -31,8 +32,8 @@ fn number_in(file: &[u8], width: usize, at: usize) -> u32
 
 // So many numbers from a place on, stored in front in a table.
 pub fn fill_numbers(file: &[u8], width: usize, from: usize, many: usize, table: &mut [u32])
-    requires { ⌜ Width width × (from + width * many < 4294967294) × (many ≤ length (now table)) ⌝ }
-    ensures { λ r. ⌜ now (table .exit) ≡ sets (now (table .entry)) 0 (numbersAt width (now (file .entry)) from many) ⌝ }
+    requires room { ⌜ Width width × (from + width * many < 4294967294) × (many ≤ length (now table)) ⌝ }
+    ensures stored { λ r. ⌜ now (table .exit) ≡ sets (now (table .entry)) 0 (numbersAt width (now (file .entry)) from many) ⌝ }
 {
     let mut i = 0;
     let mut at = from;
@@ -45,8 +46,8 @@ pub fn fill_numbers(file: &[u8], width: usize, from: usize, many: usize, table: 
 
 // So many literals from a place on, stored in front in a clause table.
 fn fill_literals(file: &[u8], from: usize, many: usize, table: &mut [i32])
-    requires { ⌜ (from + 4 * many < 4294967294) × (many ≤ length (now table)) ⌝ }
-    ensures { λ r. ⌜ now (table .exit) ≡ sets (now (table .entry)) 0 (map literalOf (numbersAt 4 (now (file .entry)) from many)) ⌝ }
+    requires room { ⌜ (from + 4 * many < 4294967294) × (many ≤ length (now table)) ⌝ }
+    ensures stored { λ r. ⌜ now (table .exit) ≡ sets (now (table .entry)) 0 (map literalOf (numbersAt 4 (now (file .entry)) from many)) ⌝ }
 {
     let mut i = 0;
     let mut at = from;
@@ -60,21 +61,22 @@ fn fill_literals(file: &[u8], from: usize, many: usize, table: &mut [i32])
 
 // The prefix and the clauses of the file, stored in front in tables.
 pub fn fill_formula(file: &[u8], prefix: &mut [u32], clauses: &mut [i32])
-    requires { ⌜ Laid (now file) × (length (prefixIn (now file)) ≤ length (now prefix)) × (length (clausesIn (now file)) ≤ length (now clauses)) ⌝ }
-    ensures { λ r. ⌜ now (prefix .exit) ≡ sets (now (prefix .entry)) 0 (prefixIn (now (file .entry))) ⌝ }
-    ensures { λ r. ⌜ now (clauses .exit) ≡ sets (now (clauses .entry)) 0 (clausesIn (now (file .entry))) ⌝ }
+    requires room { ⌜ Laid (now file) × (length (prefixIn (now file)) ≤ length (now prefix))
+        × (length (clausesIn (now file)) ≤ length (now clauses)) ⌝ }
+    ensures prefix { λ r. ⌜ now (prefix .exit) ≡ sets (now (prefix .entry)) 0 (prefixIn (now (file .entry))) ⌝ }
+    ensures clauses { λ r. ⌜ now (clauses .exit) ≡ sets (now (clauses .entry)) 0 (clausesIn (now (file .entry))) ⌝ }
 {
     let entries = prefix_entries(file);
     fill_numbers(file, 2, 8, entries, prefix);
     let second = second_at(file);
     let literals = clause_entries(file);
-    fill_literals(file, second + 6, literals, clauses);
+    fill_literals(file, second + Record::HEAD, literals, clauses);
 }
 
 // Whether a table has the numbers from a place on.
 pub fn same_numbers(file: &[u8], width: usize, from: usize, table: &[u32]) -> bool
-    requires { ⌜ Width width × (from + width * length (now table) < 4294967294) ⌝ }
-    ensures { λ r. ⌜ Tells r (numbersAt width (now (file .entry)) from (length (now (table .entry))) ≡ now (table .entry)) ⌝ }
+    requires near { ⌜ Width width × (from + width * length (now table) < 4294967294) ⌝ }
+    ensures told { λ r. ⌜ Tells r (numbersAt width (now (file .entry)) from (length (now (table .entry))) ≡ now (table .entry)) ⌝ }
 {
     let mut i = 0;
     let mut at = from;

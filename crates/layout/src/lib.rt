@@ -3,10 +3,10 @@
 pub mod decoding;
 pub mod places;
 
+use places::kind_at;
 use places::next_at;
-use records::FILE_BYTES;
-use records::numbers::four_at;
-use records::numbers::two_at;
+use places::size_at;
+use records::Record;
 use records::sums::sum_words;
 use terms::Verdict;
 ghost use Prim.Native.Nat.{_≤_};
@@ -22,9 +22,9 @@ ghost use Rattle.layout.specs.Laid.{WrongSize};
 
 // The first cause of refusals 19 to 21 in a file.
 pub fn layout_verdict(file: &[u8]) -> Verdict
-    ensures { λ r. ⌜ Judged (fileOrder (now (file .entry))) r ⌝ }
+    ensures judged { λ r. ⌜ Judged (fileOrder (now (file .entry))) r ⌝ }
 {
-    if FILE_BYTES < file.len() {
+    if Record::FILE_BYTES < file.len() {
         return Verdict::Refused(19, 0);
     }
     match shape_verdict(file) {
@@ -35,8 +35,8 @@ pub fn layout_verdict(file: &[u8]) -> Verdict
 
 // Refusals 20 and 21, once every record is whole.
 fn order_and_sum(file: &[u8]) -> Verdict
-    requires { ⌜ (length (now file) ≤ fileBytes) × None (RecordCause (now file)) ⌝ }
-    ensures { λ r. ⌜ Judged (OrderCause (now (file .entry)) ∷ At0 21 (SumsToZero (now (file .entry)) → ⊥) ∷ []) r ⌝ }
+    requires whole { ⌜ (length (now file) ≤ fileBytes) × None (RecordCause (now file)) ⌝ }
+    ensures judged { λ r. ⌜ Judged (OrderCause (now (file .entry)) ∷ At0 21 (SumsToZero (now (file .entry)) → ⊥) ∷ []) r ⌝ }
 {
     match order_verdict(file) {
         Verdict::Refused(number, place) => Verdict::Refused(number, place),
@@ -51,8 +51,8 @@ fn order_and_sum(file: &[u8]) -> Verdict
 
 // The first record that is cut, or whose length does not fit its kind.
 fn shape_verdict(file: &[u8]) -> Verdict
-    requires { ⌜ length (now file) ≤ fileBytes ⌝ }
-    ensures { λ r. ⌜ Judged (RecordCause (now (file .entry)) ∷ []) r ⌝ }
+    requires short { ⌜ length (now file) ≤ fileBytes ⌝ }
+    ensures judged { λ r. ⌜ Judged (RecordCause (now (file .entry)) ∷ []) r ⌝ }
 {
     let mut at = 0;
     while at < file.len() {
@@ -66,31 +66,36 @@ fn shape_verdict(file: &[u8]) -> Verdict
 
 // Whether the record at a place is cut by the end of the file, or its length does not fit its kind.
 fn bad_record(file: &[u8], at: usize) -> bool
-    requires { ⌜ (length (now file) ≤ fileBytes) × RecordAt (now file) at ⌝ }
-    ensures { λ r. ⌜ Tells r (RecordCause (now (file .entry)) 19 at) ⌝ }
+    requires begins { ⌜ (length (now file) ≤ fileBytes) × RecordAt (now file) at ⌝ }
+    ensures told { λ r. ⌜ Tells r (RecordCause (now (file .entry)) 19 at) ⌝ }
 {
     if file.len() < next_at(file, at) {
         return true;
     }
-    let size = four_at(file, at);
-    let kind = two_at(file, at + 4);
-    wrong_size(kind, size)
+    let size = size_at(file, at);
+    let kind = kind_at(file, at);
+    wrong_size(Record {
+        kind: kind,
+        size: size,
+    })
 }
 
-// Whether a payload length does not fit a kind.
-fn wrong_size(kind: u32, size: u32) -> bool
-    ensures { λ r. ⌜ Tells r (WrongSize kind size) ⌝ }
+// Whether the payload length of a head does not fit its kind.
+fn wrong_size(head: Record) -> bool
+    ensures told { λ r. ⌜ Tells r (WrongSize (head .kind) (head .size)) ⌝ }
 {
+    let kind = head.kind;
+    let size = head.size;
     if size % 2 != 0 {
         return true;
     }
-    if kind == 1 {
+    if kind == Record::PREFIX {
         return size < 2;
     }
-    if kind == 2 {
+    if kind == Record::CLAUSES {
         return size % 4 != 0;
     }
-    if kind == 65535 {
+    if kind == Record::CLOSING {
         return size != 2;
     }
     false
@@ -98,46 +103,46 @@ fn wrong_size(kind: u32, size: u32) -> bool
 
 // The first record of a kind that may not come there, or the end of the file where a kind is missing.
 fn order_verdict(file: &[u8]) -> Verdict
-    requires { ⌜ (length (now file) ≤ fileBytes) × None (RecordCause (now file)) ⌝ }
-    ensures { λ r. ⌜ Judged (OrderCause (now (file .entry)) ∷ []) r ⌝ }
+    requires whole { ⌜ (length (now file) ≤ fileBytes) × None (RecordCause (now file)) ⌝ }
+    ensures judged { λ r. ⌜ Judged (OrderCause (now (file .entry)) ∷ []) r ⌝ }
 {
     let mut at = 0;
-    let mut before: u32 = 0;
+    let mut before = Record::START;
     while at < file.len() {
-        let kind = two_at(file, at + 4);
+        let kind = kind_at(file, at);
         if !may_follow(before, kind) {
             return Verdict::Refused(20, at);
         }
         before = kind;
         at = next_at(file, at);
     }
-    if before == 65535 {
+    if before == Record::CLOSING {
         return Verdict::Accepted;
     }
     Verdict::Refused(20, at)
 }
 
-// Whether a kind may come behind a kind, 0 for the beginning of the file.
+// Whether a kind may come behind a kind, or as the first.
 fn may_follow(before: u32, kind: u32) -> bool
-    ensures { λ r. ⌜ r ≡ mayFollow before kind ⌝ }
+    ensures told { λ r. ⌜ r ≡ mayFollow before kind ⌝ }
 {
-    if before == 0 {
-        return kind == 1;
+    if before == Record::START {
+        return kind == Record::PREFIX;
     }
-    if before == 1 {
-        return kind == 2;
+    if before == Record::PREFIX {
+        return kind == Record::CLAUSES;
     }
-    if before == 2 {
-        return kind == 3;
+    if before == Record::CLAUSES {
+        return kind == Record::ROWS;
     }
-    if before == 3 {
-        if kind == 4 {
+    if before == Record::ROWS {
+        if kind == Record::SETS {
             return true;
         }
-        return kind == 65535;
+        return kind == Record::CLOSING;
     }
-    if before == 4 {
-        return kind == 65535;
+    if before == Record::SETS {
+        return kind == Record::CLOSING;
     }
     false
 }

@@ -1,17 +1,16 @@
 // Levels and quantifiers of all variables, from one pass over an accepted prefix.
 
-ghost use Prim.Native.Nat.{ℕ, _<_};
+use terms::Variable;
+ghost use Prim.Native.Nat.{ℕ};
 ghost use mathlib.Core.Path.{_≡_};
-ghost use mathlib.Core.Bool.{false};
-ghost use lib.ListN.{length, getD};
-ghost use Rattle.formula.specs.Levels.{SoundPrefix, Levelled};
+ghost use Rattle.formula.specs.Levels.{SoundPrefix, LevelRows, AllFree, Levelled};
 ghost use Rattle.formula.specs.Meaning.{freeLevel};
 
 // Fills row v with the level of the variable v, and with whether v is universal, for every number up to the limit.
 pub fn fill_levels(prefix: &[u32], levels: &mut [u32], universals: &mut [bool])
-    requires { ⌜ ((n : ℕ) × SoundPrefix n (now prefix)) ⌝ }
-    requires { ⌜ (length (now levels) ≡ 4097) × (length (now universals) ≡ 4097) ⌝ }
-    ensures { λ r. ⌜ Levelled (now (prefix .entry)) (now (levels .exit)) (now (universals .exit)) ⌝ }
+    requires sound { ⌜ ((n : ℕ) × SoundPrefix n (now prefix)) ⌝ }
+    requires rows { ⌜ LevelRows (now levels) (now universals) ⌝ }
+    ensures levelled { λ r. ⌜ Levelled (now (prefix .entry)) (now (levels .exit)) (now (universals .exit)) ⌝ }
 {
     let free = free_level(prefix);
     all_free(free, levels, universals);
@@ -20,8 +19,8 @@ pub fn fill_levels(prefix: &[u32], levels: &mut [u32], universals: &mut [bool])
 
 // The level of a variable in no block: 1 if the first block is existential, else 0.
 fn free_level(prefix: &[u32]) -> u32
-    requires { ⌜ ((n : ℕ) × SoundPrefix n (now prefix)) ⌝ }
-    ensures { λ r. ⌜ r ≡ freeLevel (now (prefix .entry)) ⌝ }
+    requires sound { ⌜ ((n : ℕ) × SoundPrefix n (now prefix)) ⌝ }
+    ensures free { λ r. ⌜ r ≡ freeLevel (now (prefix .entry)) ⌝ }
 {
     if prefix.len() == 0 {
         return 0;
@@ -31,12 +30,11 @@ fn free_level(prefix: &[u32]) -> u32
 
 // Every variable as a free one.
 fn all_free(free: u32, levels: &mut [u32], universals: &mut [bool])
-    requires { ⌜ (length (now levels) ≡ 4097) × (length (now universals) ≡ 4097) ⌝ }
-    ensures { λ r. ⌜ ((v : ℕ) → v < 4097 → getD (now (levels .exit)) v 0 ≡ free) ⌝ }
-    ensures { λ r. ⌜ ((v : ℕ) → v < 4097 → getD (now (universals .exit)) v false ≡ false) ⌝ }
+    requires rows { ⌜ LevelRows (now levels) (now universals) ⌝ }
+    ensures all { λ r. ⌜ AllFree free (now (levels .exit)) (now (universals .exit)) ⌝ }
 {
     let mut v = 0;
-    while v < 4097 {
+    while v < Variable::ROWS {
         levels[v] = free;
         universals[v] = false;
         v += 1;
@@ -45,11 +43,10 @@ fn all_free(free: u32, levels: &mut [u32], universals: &mut [bool])
 
 // Enters the level and the quantifier of every variable that a block names.
 fn name_levels(prefix: &[u32], levels: &mut [u32], universals: &mut [bool])
-    requires { ⌜ ((n : ℕ) × SoundPrefix n (now prefix)) ⌝ }
-    requires { ⌜ (length (now levels) ≡ 4097) × (length (now universals) ≡ 4097) ⌝ }
-    requires { ⌜ ((v : ℕ) → v < 4097 → getD (now levels) v 0 ≡ freeLevel (now prefix)) ⌝ }
-    requires { ⌜ ((v : ℕ) → v < 4097 → getD (now universals) v false ≡ false) ⌝ }
-    ensures { λ r. ⌜ Levelled (now (prefix .entry)) (now (levels .exit)) (now (universals .exit)) ⌝ }
+    requires sound { ⌜ ((n : ℕ) × SoundPrefix n (now prefix)) ⌝ }
+    requires rows { ⌜ LevelRows (now levels) (now universals) ⌝ }
+    requires free { ⌜ AllFree (freeLevel (now prefix)) (now levels) (now universals) ⌝ }
+    ensures levelled { λ r. ⌜ Levelled (now (prefix .entry)) (now (levels .exit)) (now (universals .exit)) ⌝ }
 {
     let mut opens = true;
     let mut mark: u32 = 0;

@@ -11,8 +11,8 @@ ghost use Rattle.lines.specs.Lines.{numbers, headLine, universalLine, re
 
 // `vars N blocks B clauses C strict`
 pub fn head_line(out: &mut [u8], n: u32, blocks: u32, clauses: u32) -> usize
-    requires { ⌜ (n < 100000) × (blocks < 100000) × (clauses < 100000) ⌝ }
-    ensures { λ r. ⌜ Stored 65536 (headLine n blocks clauses) (now (out .entry)) (now (out .exit)) 0 r ⌝ }
+    requires small { ⌜ (n < 100000) × (blocks < 100000) × (clauses < 100000) ⌝ }
+    ensures stored { λ r. ⌜ Stored 65536 (headLine n blocks clauses) (now (out .entry)) (now (out .exit)) 0 r ⌝ }
 {
     let a = put_named(out, 0, b"vars ", n);
     let b = put_named(out, a, b" blocks ", blocks);
@@ -22,8 +22,8 @@ pub fn head_line(out: &mut [u8], n: u32, blocks: u32, clauses: u32) -> usize
 
 // `X level L entries .. set ..`
 pub fn universal_line(out: &mut [u8], x: u32, level: u32, entries: &[u32], set: &[u32]) -> usize
-    requires { ⌜ (x < 100000) × (level < 100000) × Small (now entries) × Small (now set) ⌝ }
-    ensures { λ r. ⌜ Stored 65536 (universalLine x level (now (entries .entry)) (now (set .entry))) (now (out .entry)) (now (out .exit)) 0 r ⌝ }
+    requires small { ⌜ (x < 100000) × (level < 100000) × Small (now entries) × Small (now set) ⌝ }
+    ensures stored { λ r. ⌜ Stored 65536 (universalLine x level (now (entries .entry)) (now (set .entry))) (now (out .entry)) (now (out .exit)) 0 r ⌝ }
 {
     let a = put_named(out, 0, b"", x);
     let b = put_named(out, a, b" level ", level);
@@ -34,8 +34,8 @@ pub fn universal_line(out: &mut [u8], x: u32, level: u32, entries: &[u32], set: 
 
 // `refused R at P`
 pub fn refused_line(out: &mut [u8], number: u32, place: u32) -> usize
-    requires { ⌜ (number < 100000) × (place < 100000) ⌝ }
-    ensures { λ r. ⌜ Stored 65536 (refusedLine number place) (now (out .entry)) (now (out .exit)) 0 r ⌝ }
+    requires small { ⌜ (number < 100000) × (place < 100000) ⌝ }
+    ensures stored { λ r. ⌜ Stored 65536 (refusedLine number place) (now (out .entry)) (now (out .exit)) 0 r ⌝ }
 {
     let a = put_named(out, 0, b"refused ", number);
     let b = put_named(out, a, b" at ", place);
@@ -44,8 +44,8 @@ pub fn refused_line(out: &mut [u8], number: u32, place: u32) -> usize
 
 // A word and a number.
 fn put_named(out: &mut [u8], at: usize, word: &[u8], value: u32) -> usize
-    requires { ⌜ (at < 100000) × (length (now word) < 10) × (value < 100000) ⌝ }
-    ensures { λ r. ⌜ Stored 16 (now (word .entry) ++ decimal value) (now (out .entry)) (now (out .exit)) at r ⌝ }
+    requires small { ⌜ (at < 100000) × (length (now word) < 10) × (value < 100000) ⌝ }
+    ensures stored { λ r. ⌜ Stored 16 (now (word .entry) ++ decimal value) (now (out .entry)) (now (out .exit)) at r ⌝ }
 {
     let next = put_word(out, at, word);
     put_number(out, next, value)
@@ -53,8 +53,8 @@ fn put_named(out: &mut [u8], at: usize, word: &[u8], value: u32) -> usize
 
 // A word and the numbers of a list.
 fn put_list(out: &mut [u8], at: usize, word: &[u8], list: &[u32]) -> usize
-    requires { ⌜ (at < 100000) × (length (now word) < 10) × Small (now list) ⌝ }
-    ensures { λ r. ⌜ Stored 28700 (now (word .entry) ++ numbers (now (list .entry))) (now (out .entry)) (now (out .exit)) at r ⌝ }
+    requires small { ⌜ (at < 100000) × (length (now word) < 10) × Small (now list) ⌝ }
+    ensures stored { λ r. ⌜ Stored 28700 (now (word .entry) ++ numbers (now (list .entry))) (now (out .entry)) (now (out .exit)) at r ⌝ }
 {
     let next = put_word(out, at, word);
     put_numbers(out, next, list)
@@ -62,8 +62,8 @@ fn put_list(out: &mut [u8], at: usize, word: &[u8], list: &[u32]) -> usize
 
 // A word, byte by byte.
 fn put_word(out: &mut [u8], at: usize, word: &[u8]) -> usize
-    requires { ⌜ (at < 4294900000) × (length (now word) < 100) ⌝ }
-    ensures { λ r. ⌜ Wrote (now (word .entry)) (now (out .entry)) (now (out .exit)) at r ⌝ }
+    requires small { ⌜ (at < 4294900000) × (length (now word) < 100) ⌝ }
+    ensures wrote { λ r. ⌜ Wrote (now (word .entry)) (now (out .entry)) (now (out .exit)) at r ⌝ }
 {
     let mut i = 0;
     let mut next = at;
@@ -76,8 +76,8 @@ fn put_word(out: &mut [u8], at: usize, word: &[u8]) -> usize
 
 // Numbers, each after a space.
 fn put_numbers(out: &mut [u8], at: usize, list: &[u32]) -> usize
-    requires { ⌜ (at < 1000000) × Small (now list) ⌝ }
-    ensures { λ r. ⌜ Wrote (numbers (now (list .entry))) (now (out .entry)) (now (out .exit)) at r ⌝ }
+    requires small { ⌜ (at < 1000000) × Small (now list) ⌝ }
+    ensures wrote { λ r. ⌜ Wrote (numbers (now (list .entry))) (now (out .entry)) (now (out .exit)) at r ⌝ }
 {
     let mut i = 0;
     let mut next = at;

@@ -24,7 +24,8 @@ module _ {A : Type 0} (isNought : A → Bool) (nought : A) where
   cut-length [] = refl
   cut-length (a ∷ table) = by-test (isNought a) (cut-length table)
     where
-      by-test : (b : Bool) → length (cut isNought table) ≡ zeros table → length (cond b ([] ∷ cut isNought table) (push a (cut isNought table))) ≡ cond b (suc (zeros table)) (zeros table)
+      by-test : (b : Bool) → length (cut isNought table) ≡ zeros table
+          → length (cond b ([] ∷ cut isNought table) (push a (cut isNought table))) ≡ cond b (suc (zeros table)) (zeros table)
       by-test true rest = ap suc rest
       by-test false rest = push-length a (cut isNought table) ∙ rest
 
@@ -37,25 +38,24 @@ module _ {A : Type 0} (isNought : A → Bool) (nought : A) where
   pub counted-none : (table : List A) → Counted table 0 0
   counted-none table = record { within = omega arith; most = omega arith; all = omega arith }
 
-  pub counted-zero : (table : List A) (count i : ℕ) → Counted table count i → i < length table → isNought (getD table i nought) ≡ true → Counted table (count + 1) (i + 1)
+  -- One entry more: the count grows with a 0, and stays with any other.
+  pub counted-next : (table : List A) (count i : ℕ) (b : Bool) → Counted table count i → i < length table → isNought (getD table i nought) ≡ b
+      → Counted table (cond b (count + 1) count) (i + 1)
   unfolding zeros
-  counted-zero table count i c more here =
-      let left = c .all in
-      let most = c .most in
-      let step : zeros (drop i table) ≡ suc (zeros (drop (suc i) table)) = ap zeros (drop-cons table i nought more) ∙ ap (λ b. cond b (suc (zeros (drop (suc i) table))) (zeros (drop (suc i) table))) here in
-      let next : zeros (drop (i + 1) table) ≡ zeros (drop (suc i) table) = ap (λ j. zeros (drop j table)) (add-one i) in
-      record { within = omega arith; most = omega arith; all = omega arith }
+  counted-next table count i b c more here =
+      by-test b
+      (ap zeros (drop-cons table i nought more) ∙ ap (λ b. cond b (suc (zeros (drop (suc i) table))) (zeros (drop (suc i) table))) here)
+      (ap (λ j. zeros (drop j table)) (add-one i)) (c .most) (c .all)
+    where
+      by-test : (b : Bool) → zeros (drop i table) ≡ cond b (suc (zeros (drop (suc i) table))) (zeros (drop (suc i) table))
+          → zeros (drop (i + 1) table) ≡ zeros (drop (suc i) table) → count ≤ i → count + zeros (drop i table) ≡ zeros table
+          → Counted table (cond b (count + 1) count) (i + 1)
+      by-test true step next most all = record { within = omega arith; most = omega arith; all = omega arith }
+      by-test false step next most all = record { within = omega arith; most = omega arith; all = omega arith }
 
-  pub counted-other : (table : List A) (count i : ℕ) → Counted table count i → i < length table → isNought (getD table i nought) ≡ false → Counted table count (i + 1)
-  unfolding zeros
-  counted-other table count i c more here =
-      let left = c .all in
-      let most = c .most in
-      let step : zeros (drop i table) ≡ zeros (drop (suc i) table) = ap zeros (drop-cons table i nought more) ∙ ap (λ b. cond b (suc (zeros (drop (suc i) table))) (zeros (drop (suc i) table))) here in
-      let next : zeros (drop (i + 1) table) ≡ zeros (drop (suc i) table) = ap (λ j. zeros (drop j table)) (add-one i) in
-      record { within = omega arith; most = omega arith; all = omega arith }
-
-  pub counted-all : (table : List A) (count i : ℕ) → Counted table count i → length table ≤ i → (count ≡ length (cut isNought table)) × (count ≤ length table)
+  -- Behind the last entry all are.
+  pub counted-all : (table : List A) (count i : ℕ) → Counted table count i → length table ≤ i
+      → (count ≡ length (cut isNought table)) × (count ≤ length table)
   unfolding zeros
   counted-all table count i c done =
       let left = c .all in

@@ -1,24 +1,24 @@
 -- What is printed of a universal: the numbers that are listed are few and small, and stand in front of the tables that they were written into, as
 -- a line does in its buffer; and a sole entry point is listed as its flag would list it.
-use Prim.Native.Nat.{ℕ, zero, suc, _+_, _/_, _%_, _≤_, _<_}
+use Prim.Native.Nat.{ℕ, zero, suc, _+_, _≤_, _<_}
 use mathlib.Core.Path.{_≡_, refl, sym, ap, _∙_, subst}
-use mathlib.Core.Bool.{Bool, false}
+use mathlib.Core.Bool.{Bool, true, false}
 use mathlib.Core.List.{List, [], _∷_, List·Memᴰ, List·Memᴰ·head, List·Memᴰ·tail, List·Memᴰ·not-nil, List·Memᴰ·eq-of-singleton}
 use mathlib.Core.Logic.{_≢_}
 use native.Mathlib.Nat.{not-suc-le-zero, le-of-suc-le-suc}
 use native.Mathlib.Omega.{arith}
 use lib.ListN.{length, getD, take, drop, replicate, length-replicate}
 use lib.Seq.{sets, sets-eq, length-sets, take-at}
-use Rattle.connection.specs.Listed.{Listed}
-use Rattle.connection.proofs.Listed.{listed-one}
+use Rattle.terms.specs.Listed.{Listed}
+use Rattle.terms.proofs.Listed.{listed-one}
 use Rattle.picking.specs.declared.Asked.the-variants.{Points}
 use Rattle.picking.specs.Picked.{pick, picked, NoneUpto}
 use Rattle.picking.proofs.Picked.{picked-most, picked-flag, picked-listed}
-use Rattle.soles.specs.Soles.{Is}
-use Rattle.runs.specs.Runs.{Run, Leads, only}
+use Rattle.threads.specs.SoleTops.{Is}
+use Rattle.runs.specs.Runs.{Run, only}
 use Rattle.runs.proofs.Linked.{run-one, only-set, only-own}
 use Rattle.lines.specs.Lines.{Small, Stored}
-use Rattle.listing.specs.Listing.{Front}
+use Rattle.listing.specs.Listing.{lineBytes, LineIn}
 use Rattle.listing.specs.Inner.{soleList}
 
 -- what stands at an index is in the list
@@ -36,66 +36,83 @@ picked-small f n few =
     }
 
 -- What is stored in front of a table stands there.
-front : (before : List ℕ) {after : List ℕ} {found : ℕ} (list : List ℕ) → found ≡ length list → length list ≤ length before → after ≡ sets before 0 list → take found after ≡ list
-front before {found = found} list counted room stored = ap (take found) (stored ∙ sets-eq list before 0 (omega arith)) ∙ take-at list (drop (0 + length list) before) found (sym counted)
+front : (before : List ℕ) {after : List ℕ} {found : ℕ} (list : List ℕ) → found ≡ length list → length list ≤ length before
+    → after ≡ sets before 0 list → take found after ≡ list
+front before {found = found} list counted room stored =
+    ap (take found) (stored ∙ sets-eq list before 0 (omega arith)) ∙ take-at list (drop (0 + length list) before) found (sym counted)
 
 -- There is room for what is picked in a table of 4,096 rows, and nothing is picked before the first number ...
-pub picked-room : (f : ℕ → Bool) (n : ℕ) → n ≤ 4096 → ((0 ≤ n) × NoneUpto f 0) × (0 + length (picked f n) ≤ length (replicate {A = ℕ} 4096 0))
-picked-room f n few = let most = picked-most f n in let long = length-replicate {A = ℕ} 4096 0 in ((omega arith, λ v low high. absurd (omega arith)), omega arith)
+pub picked-room : (f : ℕ → Bool) (n : ℕ) → n ≤ 4096
+    → ((0 ≤ n) × NoneUpto f 0) × (0 + length (picked f n) ≤ length (replicate {A = ℕ} 4096 0))
+picked-room f n few =
+    let most = picked-most f n in
+    let long = length-replicate {A = ℕ} 4096 0 in
+    ((omega arith, λ v low high. absurd (omega arith)), omega arith)
 
 -- ... so that it stands in front of that table once it is written.
-pub picked-front : (f : ℕ → Bool) (n : ℕ) → n ≤ 4096 → {after : List ℕ} {end : ℕ} → end ≡ 0 + length (picked f n) → after ≡ sets (replicate 4096 0) 0 (picked f n) → (end ≤ length after) × (take end after ≡ picked f n)
+pub picked-front : (f : ℕ → Bool) (n : ℕ) → n ≤ 4096 → {after : List ℕ} {end : ℕ} → end ≡ 0 + length (picked f n)
+    → after ≡ sets (replicate 4096 0) 0 (picked f n) → (end ≤ length after) × (take end after ≡ picked f n)
 picked-front f n few {after} {end} counted stored =
     let most = picked-most f n in
     let long = length-replicate {A = ℕ} 4096 0 in
     let size = ap length stored ∙ length-sets (replicate 4096 0) 0 (picked f n) in
     (omega arith, front (replicate 4096 0) {found = end} (picked f n) (omega arith) (omega arith) stored)
 
--- The same of the bytes of a line, where there is room for them all.
-pub line-front : {P : List ℕ → Type 0} (bytes : List ℕ) {before after : List ℕ} {end : ℕ} → P bytes → 65536 ≤ length before → Stored 65536 bytes before after 0 end → Front P before after end
+-- So do the bytes of a line, where there is room for them all.
+pub line-front : {P : List ℕ → Type 0} (bytes : List ℕ) {before after : List ℕ} {end : ℕ} → P bytes → lineBytes ≤ length before
+    → Stored lineBytes bytes before after 0 end → LineIn P before after end
 line-front {P} bytes {before} {after} {end} p room s =
     let size = s .wrote .end in
     let near = s .near in
     let q : take end after ≡ bytes = front before {found = end} bytes (omega arith) (omega arith) (s .wrote .stored) in
-    record { says = subst P (sym q) p; stored = subst (λ b. Stored 65536 b before after 0 end) (sym q) s }
+    record { says = subst P (sym q) p; stored = subst (λ b. Stored lineBytes b before after 0 end) (sym q) s }
 
--- The run to which a row leads, written into a table of 4,096 rows.
-module _ (links : List ℕ) (row : ℕ) (own : (list : List ℕ) × Leads links row list × Small list) {table : List ℕ} (written : (list : List ℕ) × Run links (row % 65536) list × (table ≡ sets (replicate 4096 0) 0 list)) where
-  -- It stands in front of it, with as many numbers as the row counts ...
-  pub run-front : (list : List ℕ) → Leads links row list → take (row / 65536) table ≡ list
-  run-front list leads =
-      let (_, counts, small) = own in
-      let (other, run, stored) = written in
+-- A run of so many numbers, few and small, written into a table of 4,096 rows.
+module _ (links : List ℕ) (head size : ℕ) (own : (list : List ℕ) × Run links head list × (size ≡ length list) × Small list) {table : List ℕ}
+    (written : (list : List ℕ) × Run links head list × (table ≡ sets (replicate 4096 0) 0 list)) where
+  -- It fits the table ...
+  pub run-room : size ≤ length table
+  run-room =
+      let (_, _, counts, small) = own in
+      let (other, _, stored) = written in
       let few = small .few in
-      let size = counts .1 in
-      let counted = leads .1 in
       let long = length-replicate {A = ℕ} 4096 0 in
-      front (replicate 4096 0) list counted (omega arith) (stored ∙ ap (sets (replicate 4096 0) 0) (run-one links (row % 65536) other list run (leads .0)))
+      let same = ap length stored ∙ length-sets (replicate 4096 0) 0 other in
+      omega arith
+
+  -- ... and stands in front of it, whole ...
+  pub run-front : (list : List ℕ) → Run links head list → take size table ≡ list
+  run-front list run =
+      let (first, runs, counts, small) = own in
+      let (other, way, stored) = written in
+      let few = small .few in
+      let long = length-replicate {A = ℕ} 4096 0 in
+      let same = ap length (run-one links head first list runs run) in
+      let all = stored ∙ ap (sets (replicate 4096 0) 0) (run-one links head other list way run) in
+      front (replicate 4096 0) {found = size} list (omega arith) (omega arith) all
 
   -- ... and can be printed.
-  pub run-small : Small (take (row / 65536) table)
-  run-small = let (list, leads, small) = own in subst Small (sym (run-front list leads)) small
+  pub run-small : Small (take size table)
+  run-small = let (list, run, _, small) = own in subst Small (sym (run-front list run)) small
 
--- Where there is no entry point the list of the sole one is empty ...
+-- The first numbers of the list of one, none where that is 0, are the list of a sole entry point ...
 pub sole-none : (top : ℕ) → top ≡ 0 → [] ≡ soleList top
 unfolding soleList
 sole-none zero z = refl
 sole-none (suc top) z = absurd (omega arith)
 
--- ... and else it is that one.
 pub sole-one : (top : ℕ) → top ≢ 0 → top ∷ [] ≡ soleList top
 unfolding soleList
 sole-one zero some = absurd (some refl)
 sole-one (suc top) some = refl
 
--- Either list can be printed.
-pub none-small : Small []
-none-small = record { few = omega arith; short = λ i more. absurd (not-suc-le-zero more) }
-
-pub one-small : (top : ℕ) → top ≤ 4096 → Small (top ∷ [])
-one-small top low = record { few = omega arith; short = λ i more. at i more }
+-- ... which can be printed.
+pub sole-small : (top : ℕ) → top ≤ 4096 → Small (soleList top)
+unfolding soleList
+sole-small zero low = record { few = omega arith; short = λ i more. absurd (not-suc-le-zero more) }
+sole-small (suc top) low = record { few = omega arith; short = λ i more. at i more }
   where
-    at : (i : ℕ) → i < 1 → getD (top ∷ []) i 0 < 100000
+    at : (i : ℕ) → i < 1 → getD (suc top ∷ []) i 0 < 100000
     at zero more = omega arith
     at (suc i) more = absurd (omega arith)
 
@@ -103,12 +120,19 @@ one-small top low = record { few = omega arith; short = λ i more. at i more }
 sole-listed : (top : ℕ) → Listed (Is top) (soleList top)
 unfolding soleList
 sole-listed zero = record { ascending = tt; each = λ v m. absurd (List·Memᴰ·not-nil m); all = λ v p. absurd (p .1 (p .0)) }
-sole-listed (suc top) = record { ascending = (λ b m. absurd (List·Memᴰ·not-nil m), tt); each = λ v m. let q = List·Memᴰ·eq-of-singleton m in (q, λ z. omega arith); all = λ v p. List·Memᴰ·head (p .0) }
+sole-listed (suc top) =
+    record {
+      ascending = (λ b m. absurd (List·Memᴰ·not-nil m), tt);
+      each = λ v m. let q = List·Memᴰ·eq-of-singleton m in (q, λ z. omega arith);
+      all = λ v p. List·Memᴰ·head (p .0);
+    }
 
 -- ... and so has what is picked where only its flag is set.
 pub sole-picked : (n : ℕ) (tops : List ℕ) (top : ℕ) → n ≤ 4096 → top ≤ n → soleList top ≡ picked (pick Points n (only top) tops) n
 unfolding pick
 sole-picked n tops top few low =
+    let flagged : (e : ℕ) → Is top e → getD (only top) e false ≡ true =
+    λ e p. ap (λ t. getD (only t) e false) (sym (p .0)) ∙ only-own e (p .1) (let q = p .0 in omega arith) in
     listed-one {P = Is top} (soleList top) (picked (pick Points n (only top) tops) n) (sole-listed top)
     (picked-listed (pick Points n (only top) tops) n (λ e p. let q = p .0 in let some = p .1 in (omega arith, omega arith))
-    (λ e a b. (λ t. let (q, some, _) = only-set top e t in (q, some), λ p. ap (λ t. getD (only t) e false) (sym (p .0)) ∙ only-own e (p .1) (omega arith))))
+    (λ e a b. (λ t. let (q, some, _) = only-set top e t in (q, some), flagged e)))

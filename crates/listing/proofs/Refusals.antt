@@ -8,6 +8,7 @@ use lib.IntN.{ℤ}
 use lib.ListN.{length}
 use Rattle.terms.specs.Refusals.{At0, FirstOf}
 use Rattle.formula.specs.Causes.{PrefixCause, ClauseCause}
+use Rattle.formula.specs.Lent.{Formula}
 use Rattle.formula.proofs.Places.{prefix-place, clause-place}
 use Rattle.growth.specs.Grown.{Standing, buildOrder}
 use Rattle.grammar.specs.Grammar.{FaultIn}
@@ -30,13 +31,18 @@ clause-digits : {n : ℕ} {ls : List ℤ} (number place : ℕ) → length ls ≤
 clause-digits number place l cause = let (low, within) = clause-place number place cause in (omega arith, omega arith)
 
 -- So no refusal of build is longer: by the time that a table is looked at its length is within its limit.
-pub build-digits : (n : ℕ) (es : List ℕ) (ls : List ℤ) (s : Standing) (number place : ℕ) → FirstOf (buildOrder n es ls s) number place → Digits number place
-build-digits n es ls s number place (inl f) = at0-digits 1 (omega arith) (f .holds)
-build-digits n es ls s number place (inr (_, inl f)) = at0-digits 2 (omega arith) (f .holds)
-build-digits n es ls s number place (inr (_, inr (short, inl f))) = let long : ¬ (8192 < length es) = λ l. short 2 0 (refl, refl, inl l) in prefix-digits number place (omega arith) (f .holds)
-build-digits n es ls s number place (inr (_, inr (short, inr (_, inl f)))) = let long : ¬ (16384 < length ls) = λ l. short 2 0 (refl, refl, inr l) in clause-digits number place (omega arith) (f .holds)
-build-digits n es ls s number place (inr (_, inr (_, inr (_, inr (_, inl f))))) = at0-digits 14 (omega arith) (f .holds)
-build-digits n es ls s number place (inr (_, inr (_, inr (_, inr (_, inr (_, none)))))) = absurd none
+pub build-digits : (f : Formula) (s : Standing) (number place : ℕ) → FirstOf (buildOrder 1 f s) number place → Digits number place
+build-digits f s number place (inl c) = at0-digits 23 (omega arith) (c .holds)
+build-digits f s number place (inr (_, inl c)) = at0-digits 1 (omega arith) (c .holds)
+build-digits f s number place (inr (_, inr (_, inl c))) = at0-digits 2 (omega arith) (c .holds)
+build-digits f s number place (inr (_, inr (_, inr (short, inl c)))) =
+    let long : ¬ (8192 < length (f .prefix)) = λ l. short 2 0 (refl, refl, inl l) in
+    prefix-digits number place (omega arith) (c .holds)
+build-digits f s number place (inr (_, inr (_, inr (short, inr (_, inl c))))) =
+    let long : ¬ (16384 < length (f .clauses)) = λ l. short 2 0 (refl, refl, inr l) in
+    clause-digits number place (omega arith) (c .holds)
+build-digits f s number place (inr (_, inr (_, inr (_, inr (_, inr (_, inl c)))))) = at0-digits 14 (omega arith) (c .holds)
+build-digits f s number place (inr (_, inr (_, inr (_, inr (_, inr (_, inr (_, none))))))) = absurd none
 
 -- A fault stands within the text.
 fault-digits : (text : List ℕ) (number place : ℕ) → length text ≤ 65536 → FaultIn text number place → Digits number place
@@ -51,8 +57,11 @@ room-digits (no-room-prefix _ _) = (omega arith, omega arith)
 room-digits (no-room-clauses _ _) = (omega arith, omega arith)
 
 -- So no refusal of read is longer.
-pub read-digits : (text prefix : List ℕ) (clauses : List ℤ) (number place : ℕ) → FirstOf (readOrder text prefix clauses) number place → Digits number place
+pub read-digits : (text prefix : List ℕ) (clauses : List ℤ) (number place : ℕ) → FirstOf (readOrder text prefix clauses) number place
+    → Digits number place
 read-digits text prefix clauses number place (inl f) = overlong-digits (f .holds)
-read-digits text prefix clauses number place (inr (short, inl f)) = let long : ¬ (65536 < length text) = λ l. short 15 65536 (overlong l) in fault-digits text number place (omega arith) (f .holds)
+read-digits text prefix clauses number place (inr (short, inl f)) =
+    let long : ¬ (65536 < length text) = λ l. short 15 65536 (overlong l) in
+    fault-digits text number place (omega arith) (f .holds)
 read-digits text prefix clauses number place (inr (_, inr (_, inl f))) = room-digits (f .holds)
 read-digits text prefix clauses number place (inr (_, inr (_, inr (_, none)))) = absurd none

@@ -7,16 +7,17 @@ use Rattle.formula.specs.Meaning.{level}
 use Rattle.connection.specs.Tables.{lent}
 use Rattle.tables.specs.Formula.{variables}
 use Rattle.tables.specs.Counting.{FormedBy}
+use Rattle.tables.specs.Lent.{Rows}
 use Rattle.searching.specs.Search.{TopRows}
 use Rattle.picking.specs.declared.Asked.the-variants.{Points, Set}
 use Rattle.picking.specs.Picked.{pick, picked}
 use Rattle.lines.specs.Lines.{universalLine}
 
--- What the rows of tops stand for: forest tables that are well formed by a prefix, of which they are the tops over the level of x.
-pub record TopsOf (n : ℕ) (es classes parents : List ℕ) (x floor : ℕ) (tops : List ℕ) : Type 0 where
-  pub formed : FormedBy n es classes parents
+-- What the rows of tops stand for: rows of a forest that are well formed by a prefix, of which they are the tops over the level of x.
+pub record TopsOf (n : ℕ) (es : List ℕ) (r : Rows) (x floor : ℕ) (tops : List ℕ) : Type 0 where
+  pub formed : FormedBy n es (r .classes) (r .parents)
   pub low : floor ≡ level es x
-  pub rows : TopRows (variables n es) (lent (variables n es) classes parents) floor tops
+  pub rows : TopRows (variables n es) (lent (variables n es) (r .classes) (r .parents)) floor tops
 
 -- the line of x by flags: the flagged numbers, and the variables that have a flagged top
 abbrev pub flaggedLine : ℕ → List ℕ → List Bool → ℕ → ℕ → List ℕ

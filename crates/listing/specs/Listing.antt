@@ -5,26 +5,33 @@ use mathlib.Core.Path.{_≡_}
 use mathlib.Core.List.{List}
 use lib.IntN.{ℤ}
 use lib.ListN.{length, take}
+use Rattle.terms.specs.declared.Scheme.the-variants.{Strict}
+use Rattle.terms.specs.Listed.{Listed}
+use Rattle.formula.specs.Lent.{Formula}
 use Rattle.formula.specs.Meaning.{blocks, clauses, level}
-use Rattle.connection.specs.Listed.{Listed}
-use Rattle.forest.specs.Answers.{Entries, Members}
+use Rattle.tables.specs.Lent.{Rows}
+use Rattle.forest.specs.Answers.{EntriesBy, MembersBy}
 use Rattle.lines.specs.Lines.{headLine, universalLine, Stored}
+
+-- the bytes of a buffer that has room for every line
+abbrev pub lineBytes : ℕ
+lineBytes = 65536
 
 -- the first line of a formula: n, the number of its blocks and the number of its clauses
 abbrev pub HeadOf : ℕ → List ℕ → List ℤ → List ℕ → Type 0
 HeadOf n es ls bytes = bytes ≡ headLine n (length (blocks es)) (length (clauses ls))
 
--- The line of the universal x of a formula, by forest tables: its number, its level, its entry points and its set, each list ascending. The
+-- The line of the universal x of a formula, by the rows of a forest: its number, its level, its entry points and its set, each list ascending. The
 -- program names no scheme, so that entry points and set are the strict ones.
-pub record LineOf (n : ℕ) (es : List ℕ) (ls : List ℤ) (classes parents : List ℕ) (x : ℕ) (bytes : List ℕ) : Type 0 where
+pub record LineOf (f : Formula) (r : Rows) (x : ℕ) (bytes : List ℕ) : Type 0 where
   pub entries : List ℕ
   pub set : List ℕ
-  pub entries-are : Listed (Entries n es ls classes parents x) entries
-  pub set-is : Listed (Members n es ls classes parents x) set
-  pub is : bytes ≡ universalLine x (level es x) entries set
+  pub entries-are : Listed (EntriesBy Strict f r x) entries
+  pub set-is : Listed (MembersBy Strict f r x) set
+  pub is : bytes ≡ universalLine x (level (f .prefix) x) entries set
 
 -- A line, of which P says what it is, was stored from the start of a buffer on: the bytes up to its end are the line, and those behind it are
 -- as they were.
-pub record Front (P : List ℕ → Type 0) (before after : List ℕ) (end : ℕ) : Type 0 where
+pub record LineIn (P : List ℕ → Type 0) (before after : List ℕ) (end : ℕ) : Type 0 where
   pub says : P (take end after)
-  pub stored : Stored 65536 (take end after) before after 0 end
+  pub stored : Stored lineBytes (take end after) before after 0 end

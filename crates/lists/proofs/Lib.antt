@@ -1,7 +1,5 @@
 -- The laws of dependency lists, in reading order.
-pub mod Named
+pub mod Placed
 pub mod Checked
 pub mod Ordering
-pub mod Under
 pub mod Agreement
-pub mod Sample

@@ -1,100 +1,70 @@
--- The orders of the calls from those of a call under a rule, with what is judged beside the prefix.
-use Prim.Native.Nat.{ℕ, _≤_, _-_}
-use mathlib.Core.Path.{_≡_, refl, sym, subst}
-use mathlib.Core.Bool.{Bool, true, false, cond}
-use mathlib.Core.List.{List, _∷_, _++_}
+-- Orders of calls that take lists: where the lists are not too long, what comes before them is what check looks at; and else 23, 1 or 2 is first.
+use Prim.Native.Nat.{ℕ, _≤_}
+use mathlib.Core.Path.{refl}
+use mathlib.Core.List.{List, [], _∷_, _++_}
 use mathlib.Core.Logic.{_⊎_, inl, inr, ⊎-elim, by-cases}
 use native.Mathlib.Decide.{decLe}
 use native.Mathlib.Omega.{arith}
-use borrow.Author.Tests.{ltb-true, lt-ltb}
-use lib.Dec.{ltb}
-use lib.IntN.{ℤ}
-use lib.ListN.{length, take, drop}
+use lib.ListN.{length}
 use Rattle.terms.specs.Refusals.{Causes, At0, FirstOf, NoneOf}
 use Rattle.terms.specs.declared.Filled.{Filled}
 use Rattle.terms.specs.declared.Filled.the-variants.{Count, Refused}
 use Rattle.terms.specs.declared.Verdict.{Verdict}
+use Rattle.terms.proofs.Orders.{Carries, same-order, one-more, behind}
 use Rattle.terms.proofs.Verdicts.{refused-first}
-use Rattle.formula.specs.Causes.{VariableCount, PrefixLong, ClausesLong, prefixOrder, checkOrder}
-use Rattle.joining.specs.Rules.{readAs, PrefixCauseBy, NoRule, ruledPrefix}
-use Rattle.joining.specs.Writing.{Joins}
-use Rattle.joining.proofs.Exchange.{Carries, same-order, one-more, under-one, under-two}
-use Rattle.lists.specs.Causes.{ListsLong, listedPrefix}
-use Rattle.lists.specs.Inner.{judgedEntries, formulaOrder}
+use Rattle.formula.specs.Causes.{VariableCount, PrefixLong, ClausesLong, ClauseCause}
+use Rattle.formula.specs.Lent.{Formula}
+use Rattle.joining.specs.Reading.{ReadsFormula}
+use Rattle.joining.specs.Rules.{PrefixCauseBy, NoRule, ruledPrefix}
+use Rattle.lists.specs.Lists.{listEntries}
+use Rattle.lists.specs.Causes.{ListsLong, listedPrefix, listedFormula}
+use Rattle.lists.specs.Inner.{ReadsListed, LongRefused}
 
--- What is judged beside the prefix passes the limit where the clauses or the lists pass theirs.
-many : (a b : ℕ) → ClausesLong (judgedEntries a b) → ClausesLong a ⊎ ListsLong b
-many a b = go (ltb 16384 b) refl
-  where
-    go : (t : Bool) → ltb 16384 b ≡ t → ClausesLong (cond t 16385 a) → ClausesLong a ⊎ ListsLong b
-    go true q long = inr (ltb-true 16384 b q)
-    go false q long = inl long
+module _ (rule : ℕ) (f : Formula) (entries : ℕ) where
+  -- 23 and 1, which both orders have first, and what each has as 2
+  abbrev front : List Causes
+  front = At0 23 (NoRule rule) ∷ VariableCount (f .n) ∷ []
 
-pub clauses-many : (a b : ℕ) → ClausesLong a → ClausesLong (judgedEntries a b)
-clauses-many a b long = go (ltb 16384 b)
-  where
-    go : (t : Bool) → ClausesLong (cond t 16385 a)
-    go true = omega arith
-    go false = long
+  abbrev Long : Type 0
+  Long = PrefixLong (f .prefix) ⊎ ClausesLong (length (f .clauses))
 
-pub lists-many : (a b : ℕ) → ListsLong b → ClausesLong (judgedEntries a b)
-lists-many a b long = subst (λ (t : Bool). ClausesLong (cond t 16385 a)) (sym (lt-ltb 16384 b long)) (omega arith)
+  abbrev Longer : Type 0
+  Longer = PrefixLong (f .prefix) ⊎ (ClausesLong (length (f .clauses)) ⊎ ListsLong entries)
 
-module _ (es : List ℕ) (ls : List ℤ) (ds : List ℕ) where
-  abbrev pub beside : ℕ
-  beside = judgedEntries (length ls) (length ds)
+  longer : Long → Longer
+  longer = ⊎-elim inl (λ long. inr (inl long))
 
-  one-long : PrefixLong es ⊎ ClausesLong beside → PrefixLong es ⊎ (ClausesLong (length ls) ⊎ ListsLong (length ds))
-  one-long (inl long) = inl long
-  one-long (inr long) = inr (many (length ls) (length ds) long)
+  -- Where nothing stands against what is looked at first, the lists are short.
+  pub short-lists : (later : List Causes) → NoneOf (listedPrefix rule f entries ++ later) → entries ≤ listEntries
+  short-lists later none =
+      by-cases (decLe entries listEntries) (λ l. l) (λ over. absurd (none .1 .1 .0 2 0 (refl, refl, inr (inr (let l : ListsLong entries = omega arith in l)))))
 
-  both-long : PrefixLong es ⊎ (ClausesLong (length ls) ⊎ ListsLong (length ds)) → PrefixLong es ⊎ ClausesLong beside
-  both-long (inl long) = inl long
-  both-long (inr (inl long)) = inr (clauses-many (length ls) (length ds) long)
-  both-long (inr (inr long)) = inr (lists-many (length ls) (length ds) long)
+  -- Lists that are too long are refused before the prefix is judged.
+  pub long-refused : ListsLong entries → (number : ℕ) → LongRefused rule (f .n) number → FirstOf (listedFormula rule f entries) number 0
+  long-refused over number first =
+      let order = behind front (one-more (At0 2 (Unit {0})) (At0 2 Longer) (λ k p c. (c .0, c .1, inr (inr over))) (λ k p c. (c .0, c .1, tt)) (same-order [])) in
+      refused-first (front ++ (At0 2 Longer ∷ [])) (PrefixCauseBy rule (f .n) (f .prefix) ∷ ClauseCause (f .n) (f .clauses) ∷ [])
+      {v = Verdict.Refused number 0} refl (order .first number 0 first)
 
-  module _ (rule n : ℕ) (later : List Causes) where
-    -- so the order of a call under a rule is that of a call that takes lists, and back
-    pub to-listed : Carries (ruledPrefix rule n es beside ++ later) (listedPrefix rule n es ls ds ++ later)
-    to-listed =
-        one-more (At0 23 (NoRule rule)) (At0 23 (NoRule rule)) (λ k p c. c) (λ k p c. c)
-        (one-more (VariableCount n) (VariableCount n) (λ k p c. c) (λ k p c. c)
-        (one-more (At0 2 (PrefixLong es ⊎ ClausesLong beside)) (At0 2 (PrefixLong es ⊎ (ClausesLong (length ls) ⊎ ListsLong (length ds)))) (λ k p c. (c .0, c .1, one-long (c .2))) (λ k p c. (c .0, c .1, both-long (c .2)))
-        (same-order (PrefixCauseBy rule n es ∷ later))))
+  module _ (short : entries ≤ listEntries) where
+    no-longer : Longer → Long
+    no-longer = ⊎-elim inl (⊎-elim inr (λ over. absurd (omega arith)))
 
-    pub from-listed : Carries (listedPrefix rule n es ls ds ++ later) (ruledPrefix rule n es beside ++ later)
-    from-listed =
-        one-more (At0 23 (NoRule rule)) (At0 23 (NoRule rule)) (λ k p c. c) (λ k p c. c)
-        (one-more (VariableCount n) (VariableCount n) (λ k p c. c) (λ k p c. c)
-        (one-more (At0 2 (PrefixLong es ⊎ (ClausesLong (length ls) ⊎ ListsLong (length ds)))) (At0 2 (PrefixLong es ⊎ ClausesLong beside)) (λ k p c. (c .0, c .1, both-long (c .2))) (λ k p c. (c .0, c .1, one-long (c .2)))
-        (same-order (PrefixCauseBy rule n es ∷ later))))
+    -- so where they are short one order says what the other says
+    pub to-listed : (later : List Causes)
+        → Carries (ruledPrefix rule (f .n) (f .prefix) (length (f .clauses)) ++ later) (listedPrefix rule f entries ++ later)
+    to-listed later =
+        behind front (one-more (At0 2 Long) (At0 2 Longer) (λ k p c. (c .0, c .1, longer (c .2))) (λ k p c. (c .0, c .1, no-longer (c .2)))
+        (same-order (PrefixCauseBy rule (f .n) (f .prefix) ∷ later)))
 
-  -- A promise by an order and by the prefix as it is read, which goes over from one order to another: from the call on the prefix as it is read to the call
-  -- under a rule.
-  module _ (S : List Causes → List ℕ → Type 0) (carry : (order order′ : List Causes) (read : List ℕ) → Carries order order′ → S order read → S order′ read) (later : List ℕ → List Causes) (rule n : ℕ) where
-    pub listed-one : rule ≡ 1 → S (prefixOrder n es beside ++ later es) es → S (listedPrefix rule n es ls ds ++ later (readAs rule es)) (readAs rule es)
-    listed-one is holds =
-        carry (ruledPrefix rule n es beside ++ later (readAs rule es)) (listedPrefix rule n es ls ds ++ later (readAs rule es)) (readAs rule es)
-        (to-listed rule n (later (readAs rule es))) (under-one S carry later rule n es beside is holds)
+    pub from-listed : (later : List Causes)
+        → Carries (listedPrefix rule f entries ++ later) (ruledPrefix rule (f .n) (f .prefix) (length (f .clauses)) ++ later)
+    from-listed later =
+        behind front (one-more (At0 2 Longer) (At0 2 Long) (λ k p c. (c .0, c .1, no-longer (c .2))) (λ k p c. (c .0, c .1, longer (c .2)))
+        (same-order (PrefixCauseBy rule (f .n) (f .prefix) ∷ later)))
 
-    pub listed-two : (out : List ℕ) (count : ℕ) {v : Filled} {entries : ℕ} → v ≡ Count count → entries ≡ beside → Joins rule n es entries out v
-        → S (prefixOrder n (take (count - 0) (drop 0 out)) beside ++ later (take (count - 0) (drop 0 out))) (take (count - 0) (drop 0 out))
-        → S (listedPrefix rule n es ls ds ++ later (readAs rule es)) (readAs rule es)
-    listed-two out count {v} {entries} is same joined holds =
-        carry (ruledPrefix rule n es beside ++ later (readAs rule es)) (listedPrefix rule n es ls ds ++ later (readAs rule es)) (readAs rule es)
-        (to-listed rule n (later (readAs rule es)))
-        (under-two S carry later rule n es beside out count (subst (λ (k : ℕ). Joins rule n es k out (Count count)) same (subst (Joins rule n es entries out) is joined)) holds)
-
-  pub listed-refused : (rule n : ℕ) (later : List Causes) (out : List ℕ) (number place : ℕ) {v : Filled} {entries : ℕ} → v ≡ Refused number place → entries ≡ beside → Joins rule n es entries out v → FirstOf (listedPrefix rule n es ls ds ++ later) number place
-  listed-refused rule n later out number place {v} {entries} is same joined =
-      to-listed rule n later .first number place
-      (refused-first (ruledPrefix rule n es beside) later {v = Verdict.Refused number place} refl (subst (λ (k : ℕ). Joins rule n es k out (Refused number place)) same (subst (Joins rule n es entries out) is joined)))
-
--- Where nothing is refused before the lists, nothing is by check, and the lists are short.
-pub check-accepts : (n : ℕ) (es : List ℕ) (ls : List ℤ) (entries : ℕ) → NoneOf (formulaOrder n es ls entries) → NoneOf (checkOrder n es ls)
-check-accepts n es ls entries (one, (two, rest)) =
-    (one, ((λ k e cause. two k e (cause .0, cause .1, ⊎-elim inl (λ long. inr (clauses-many (length ls) entries long)) (cause .2))), rest))
-
-pub lists-short : (n : ℕ) (es : List ℕ) (ls : List ℤ) (entries : ℕ) → NoneOf (formulaOrder n es ls entries) → entries ≤ 16384
-lists-short n es ls entries none =
-    by-cases (decLe entries 16384) (λ l. l) (λ over. absurd (none .1 .0 2 0 (refl, refl, inr (lists-many (length ls) entries (omega arith)))))
+    -- and a formula that is read is read beside them
+    pub read-beside : (table : List ℕ) (v : Filled) → ReadsFormula rule f table v → ReadsListed rule f entries table v
+    read-beside table (Count count) (none, sound, hand, clauses) =
+        (to-listed (ClauseCause (f .n) (f .clauses) ∷ []) .none none, sound, hand, (clauses, short))
+    read-beside table (Refused number place) first = to-listed (ClauseCause (f .n) (f .clauses) ∷ []) .first number place first

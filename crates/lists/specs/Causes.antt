@@ -4,14 +4,12 @@ use mathlib.Core.Path.{_≡_}
 use mathlib.Core.Bool.{false}
 use mathlib.Core.List.{List, [], _∷_, _++_}
 use mathlib.Core.Logic.{_⊎_}
-use lib.IntN.{ℤ}
 use lib.ListN.{length}
 use Rattle.terms.specs.Refusals.{Causes, At0}
 use Rattle.formula.specs.Tables.{at, MarkAt, VariableAt, EndsInside}
 use Rattle.formula.specs.Causes.{VariableCount, PrefixLong, ClausesLong, ClauseCause}
+use Rattle.formula.specs.Lent.{Formula}
 use Rattle.tables.specs.Formula.{universal}
-use Rattle.forest.specs.Causes.{NotUniversal}
-use Rattle.forest.specs.Listed.{TooLong}
 use Rattle.joining.specs.Rules.{readAs, PrefixCauseBy, NoRule}
 use Rattle.lists.specs.Lists.{listEntries, OneList, InBlock}
 
@@ -33,15 +31,17 @@ pub data ListCause (n : ℕ) (es ds : List ℕ) (number e : ℕ) : Type 0 where
   -- 11: table of lists ends inside a list; place its length
   ends-inside : number ≡ 11 → e ≡ length ds → EndsInside 0 ds → ListCause n es ds number e
 
--- what the calls look at first: 23 before all others, 1, 2, prefix from the left by the rule
-abbrev pub listedPrefix : ℕ → ℕ → List ℕ → List ℤ → List ℕ → List Causes
-listedPrefix rule n es ls ds =
-    At0 23 (NoRule rule) ∷ VariableCount n ∷ At0 2 (PrefixLong es ⊎ (ClausesLong (length ls) ⊎ ListsLong (length ds))) ∷ PrefixCauseBy rule n es ∷ []
+-- what the calls look at first, where so many entries of lists are lent: 23 before all others, 1, 2, prefix from the left by the rule
+abbrev pub listedPrefix : ℕ → Formula → ℕ → List Causes
+listedPrefix rule f entries =
+    At0 23 (NoRule rule) ∷ VariableCount (f .n)
+    ∷ At0 2 (PrefixLong (f .prefix) ⊎ (ClausesLong (length (f .clauses)) ⊎ ListsLong entries))
+    ∷ PrefixCauseBy rule (f .n) (f .prefix) ∷ []
 
--- the order of the call that only judges: then clause literals from the left, and lists from the left by the prefix as it is read
-abbrev pub checkListsOrder : ℕ → ℕ → List ℕ → List ℤ → List ℕ → List Causes
-checkListsOrder rule n es ls ds = listedPrefix rule n es ls ds ++ (ClauseCause n ls ∷ ListCause n (readAs rule es) ds ∷ [])
+-- and all that they look at before the lists: then clause literals from the left
+abbrev pub listedFormula : ℕ → Formula → ℕ → List Causes
+listedFormula rule f entries = listedPrefix rule f entries ++ (ClauseCause (f .n) (f .clauses) ∷ [])
 
--- and 13 and 14, for the call that lists the numbers of which P holds
-abbrev pub setOrder : ℕ → ℕ → List ℕ → List ℤ → List ℕ → ℕ → (ℕ → Type 0) → List ℕ → List Causes
-setOrder rule n es ls ds x P before = checkListsOrder rule n es ls ds ++ (At0 13 (NotUniversal n (readAs rule es) x) ∷ At0 14 (TooLong P before) ∷ [])
+-- the order of the call that only judges: then lists from the left, by the prefix as the rule reads it
+abbrev pub checkListsOrder : ℕ → Formula → List ℕ → List Causes
+checkListsOrder rule f ds = listedFormula rule f (length ds) ++ (ListCause (f .n) (readAs rule (f .prefix)) ds ∷ [])

@@ -1,44 +1,55 @@
 -- What the inner functions promise. What a reader must believe of the calls is in Lists, Causes and Answers.
-use Prim.Native.Nat.{ℕ}
+use Prim.Native.Nat.{ℕ, _+_, _≤_, _<_}
 use mathlib.Core.Path.{_≡_}
-use mathlib.Core.Bool.{Bool, true, false, cond}
-use mathlib.Core.List.{List, [], _∷_, _++_}
-use lib.Dec.{ltb}
-use lib.IntN.{ℤ}
-use lib.ListN.{length, getD}
-use Rattle.terms.specs.Refusals.{Causes, At0}
+use mathlib.Core.Bool.{Bool, true, false}
+use mathlib.Core.List.{List, [], _∷_}
+use mathlib.Core.Logic.{_≢_}
+use lib.ListN.{length, getD, set}
+use Rattle.terms.specs.Limits.{variableRows}
+use Rattle.terms.specs.Refusals.{At0, FirstOf}
 use Rattle.terms.specs.declared.Filled.{Filled}
-use Rattle.formula.specs.Causes.{ClauseCause, prefixOrder}
-use Rattle.terms.specs.declared.Scheme.{Scheme}
-use Rattle.forest.specs.Causes.{NotUniversal}
-use Rattle.forest.specs.Listed.{TooLong, Listing}
-use Rattle.lists.specs.Lists.{listEntries, InBlock, DependsOnBy}
-use Rattle.lists.specs.Causes.{ListCause}
+use Rattle.formula.specs.Causes.{VariableCount}
+use Rattle.formula.specs.Lent.{Formula}
+use Rattle.formula.specs.Lookup.{SoundClauses}
+use Rattle.formula.specs.Tables.{at}
+use Rattle.tables.specs.Tabled.{universalIn}
+use Rattle.joining.specs.Reading.{Reads}
+use Rattle.joining.specs.Rules.{NoRule}
+use Rattle.lists.specs.Lists.{listEntries, InBlock}
+use Rattle.lists.specs.Causes.{listedFormula}
 
--- the entries that are judged beside the prefix: those of the clauses, or one more than there may be if the lists pass their own limit
-abbrev pub judgedEntries : ℕ → ℕ → ℕ
-judgedEntries clauses lists = cond (ltb listEntries lists) 16385 clauses
+-- What a formula is read as beside lists of so many entries: it is refused, or it is sound as the rule reads it, and the lists are not too long.
+abbrev pub ReadsListed : ℕ → Formula → ℕ → List ℕ → Filled → Type 0
+ReadsListed rule f entries =
+    Reads (listedFormula rule f entries) (SoundClauses (f .clauses) × (entries ≤ listEntries)) rule (f .n) (f .prefix)
 
--- the orders for a prefix as it is read
-abbrev pub formulaOrder : ℕ → List ℕ → List ℤ → ℕ → List Causes
-formulaOrder n es ls entries = prefixOrder n es (judgedEntries (length ls) entries) ++ (ClauseCause n ls ∷ [])
-
-abbrev pub judgedOrder : ℕ → List ℕ → List ℤ → List ℕ → List Causes
-judgedOrder n es ls ds = formulaOrder n es ls (length ds) ++ (ListCause n es ds ∷ [])
-
-abbrev pub listsOrder : ℕ → List ℕ → List ℕ → ℕ → List Causes
-listsOrder n es ds x = ListCause n es ds ∷ At0 13 (NotUniversal n es x) ∷ []
-
-abbrev pub enterOrder : ℕ → List ℕ → List ℤ → List ℕ → ℕ → List Causes
-enterOrder n es ls ds x = formulaOrder n es ls (length ds) ++ listsOrder n es ds x
-
--- the set of x for a prefix as it is read
-abbrev pub SetRead : Scheme → ℕ → List ℕ → List ℤ → List ℕ → ℕ → List ℕ → List ℕ → Filled → Type 0
-SetRead scheme n es ls ds x before =
-    Listing (enterOrder n es ls ds x ++ (At0 14 (TooLong (DependsOnBy scheme n es ls ds x) before) ∷ [])) (DependsOnBy scheme n es ls ds x) before
+-- the first number of a call whose lists are too long: 23, 1, and else 2
+abbrev pub LongRefused : ℕ → ℕ → ℕ → Type 0
+LongRefused rule n number = FirstOf (At0 23 (NoRule rule) ∷ VariableCount n ∷ At0 2 (Unit {0}) ∷ []) number 0
 
 -- the flags tell which variables are in a block
 pub record Places (es : List ℕ) (placed : List Bool) : Type 0 where
-  pub size : length placed ≡ 4097
+  pub size : length placed ≡ variableRows
   pub each : (v : ℕ) → getD placed v false ≡ true → InBlock es v
   pub all : (v : ℕ) → InBlock es v → getD placed v false ≡ true
+
+-- y may open a list: it is a variable of the formula that is not placed yet
+abbrev pub MayOpen : ℕ → List Bool → ℕ → Type 0
+MayOpen n placed y = (y ≢ 0) × (y ≤ n) × (getD placed y false ≡ false)
+
+-- x may follow in the list whose first universal stands at `start`: it is universal, and the place behind its last entry is not in that list
+abbrev pub MayFollow : ℕ → List Bool → List ℕ → ℕ → ℕ → Type 0
+MayFollow n universals last start x = (universalIn n universals x ≡ true) × (getD last x 0 ≤ start)
+
+-- From entry `start` up to `end` stand universals of one list, and nothing is wrong with them: the table has the place behind each afterwards.
+pub data PassedTo (n : ℕ) (universals : List Bool) (ds : List ℕ) (start : ℕ) (last : List ℕ) : ℕ → List ℕ → Type 0 where
+  none-passed : PassedTo n universals ds start last start last
+  one-passed : (e : ℕ) {seen : List ℕ} → PassedTo n universals ds start last e seen → e < length ds → MayFollow n universals seen start (at ds e)
+      → PassedTo n universals ds start last (e + 1) (set seen (at ds e) (e + 1))
+
+-- so far as `end`, where the table of lists ends, or an entry stands that may not follow
+pub record Passes (n : ℕ) (universals : List Bool) (ds : List ℕ) (start : ℕ) (last last′ : List ℕ) (end : ℕ) : Type 0 where
+  pub from : start ≤ end
+  pub within : end ≤ length ds
+  pub passed : PassedTo n universals ds start last end last′
+  pub stops : end < length ds → MayFollow n universals last′ start (at ds end) → ⊥

@@ -1,16 +1,11 @@
--- Dependency lists as lent, a table of y, its universals, 0; which existentials have x in their list; and what depends on x by them (request 12).
+-- Dependency lists as lent, a table of y, its universals, 0, and which existentials have x in their list (request 12).
 use Prim.Native.Nat.{ℕ, _≤_, _<_}
 use mathlib.Core.Path.{_≡_}
-use mathlib.Core.Bool.{Bool, true, false}
+use mathlib.Core.Bool.{true, false}
 use mathlib.Core.List.{List}
 use mathlib.Core.Logic.{_⊎_}
-use lib.IntN.{ℤ}
 use Rattle.formula.specs.Tables.{at, opens, MarkAt, VariableAt}
 use Rattle.formula.specs.Meaning.{level, isExistential}
-use Rattle.connection.specs.Reach.{Reach, Follows}
-use Rattle.tables.specs.Formula.{Shares, SharesBy}
-use Rattle.terms.specs.declared.Scheme.{Scheme}
-use Rattle.terms.specs.declared.Scheme.the-variants.{Standard, Strict}
 
 -- the most entries of a table of lists
 abbrev pub listEntries : ℕ
@@ -37,17 +32,3 @@ pub record Given (ds : List ℕ) (x y : ℕ) : Type 0 where
 pub record ListHas (n : ℕ) (es ds : List ℕ) (x y : ℕ) : Type 0 where
   pub existential : isExistential n es y ≡ true
   pub listed : (InBlock es y × (level es x < level es y)) ⊎ Given ds x y
-
--- y depends on x: x is in y's list, and y is reached from x through existentials whose lists have x
-pub record DependsOn (n : ℕ) (es : List ℕ) (ls : List ℤ) (ds : List ℕ) (x y : ℕ) : Type 0 where
-  pub listed : ListHas n es ds x y
-  pub reached : Reach (Shares ls) (ListHas n es ds x) x y
-
--- and strictly: so reached first through a clause with x, and so reached first through a clause with its negation
-pub record StrictlyDependsOn (n : ℕ) (es : List ℕ) (ls : List ℤ) (ds : List ℕ) (x y : ℕ) : Type 0 where
-  pub by : (sign : Bool) → Follows (SharesBy ls sign) (Shares ls) (ListHas n es ds x) x y
-
--- by a scheme
-abbrev pub DependsOnBy : Scheme → ℕ → List ℕ → List ℤ → List ℕ → ℕ → ℕ → Type 0
-DependsOnBy Standard n es ls ds x = DependsOn n es ls ds x
-DependsOnBy Strict n es ls ds x = StrictlyDependsOn n es ls ds x

@@ -1,131 +1,72 @@
-// What is refused before x is looked at: n, lengths, prefix and clauses, and the table of lists, which is scanned once from the left for 25, 26 and 11.
+// The table of lists judged by an accepted prefix: it is scanned once from the left, list by list, for 25, 26 and 11.
 
-use crate::Dependent;
-use checks::prefix::prefix_verdict;
-use formula::clauses::check_clauses;
 use levelling::fill_levels;
 use tables::rows::universal_at;
-use terms::Literal;
 use terms::Variable;
 use terms::Verdict;
 ghost use Prim.Native.Nat.{ℕ, _≤_};
 ghost use mathlib.Core.Path.{_≡_};
 ghost use mathlib.Core.Bool.{false};
 ghost use mathlib.Core.List.{[], _∷_};
-ghost use mathlib.Core.Logic.{_≢_};
 ghost use lib.ListN.{length, getD};
+ghost use Rattle.terms.specs.Limits.{mostVariables, variableRows};
 ghost use Rattle.terms.specs.Refusals.{Judged};
 ghost use Rattle.formula.specs.Levels.{SoundPrefix};
-ghost use Rattle.tables.specs.Formula.{universalIn, universal};
+ghost use Rattle.tables.specs.Tabled.{universalIn};
+ghost use Rattle.tables.specs.Formula.{universal};
 ghost use Rattle.tables.specs.Rows.{Tells};
+ghost use Rattle.lists.specs.Lists.{listEntries};
 ghost use Rattle.lists.specs.Causes.{ListCause};
-ghost use Rattle.lists.specs.Inner.{Places, judgedEntries, formulaOrder, judgedOrder};
+ghost use Rattle.lists.specs.Inner.{Places, MayOpen, MayFollow, Passes};
 
-// Refusals 1, 2 and those of prefix, clauses and lists, for a prefix as it is read.
-pub fn read_verdict(n: u32, prefix: &[u32], clauses: &[i32], lists: &[u32]) -> Verdict
-    ensures { λ r. ⌜ Judged (judgedOrder n (now (prefix .entry)) (now (clauses .entry)) (now (lists .entry))) r ⌝ }
+// The refusals of the lists, by an accepted prefix.
+pub fn lists_verdict(n: u32, prefix: &[u32], lists: &[u32]) -> Verdict
+    requires sound { ⌜ SoundPrefix n (now prefix) ⌝ }
+    requires short { ⌜ length (now lists) ≤ listEntries ⌝ }
+    ensures judged { λ r. ⌜ Judged (ListCause n (now (prefix .entry)) (now (lists .entry)) ∷ []) r ⌝ }
 {
-    match formula_verdict(n, prefix, clauses, lists.len()) {
-        Verdict::Refused(number, place) => Verdict::Refused(number, place),
-        Verdict::Accepted => sound_verdict(n, prefix, lists),
-    }
-}
-
-// Refusals 1, 2 and those of prefix and clauses. Beside them so many entries of lists are lent.
-pub fn formula_verdict(n: u32, prefix: &[u32], clauses: &[i32], entries: usize) -> Verdict
-    ensures { λ r. ⌜ Judged (formulaOrder n (now (prefix .entry)) (now (clauses .entry)) entries) r ⌝ }
-{
-    match prefix_verdict(n, prefix, judged_entries(clauses.len(), entries)) {
-        Verdict::Refused(number, place) => Verdict::Refused(number, place),
-        Verdict::Accepted => check_clauses(n, clauses),
-    }
-}
-
-// How many entries are judged beside the prefix, where the limit is that of clauses: if the lists pass their own, one more than there may be.
-pub fn judged_entries(clauses: usize, lists: usize) -> usize
-    ensures { λ r. ⌜ r ≡ judgedEntries clauses lists ⌝ }
-{
-    if Dependent::ENTRIES < lists {
-        return Literal::ENTRIES + 1;
-    }
-    clauses
-}
-
-// The refusals of the lists, once the prefix is accepted.
-fn sound_verdict(n: u32, prefix: &[u32], lists: &[u32]) -> Verdict
-    requires { ⌜ SoundPrefix n (now prefix) × (length (now lists) ≤ 16384) ⌝ }
-    ensures { λ r. ⌜ Judged (ListCause n (now (prefix .entry)) (now (lists .entry)) ∷ []) r ⌝ }
-{
-    let mut levels = [0u32; 4097];
-    let mut universals = [false; 4097];
+    let mut levels = [0u32; Variable::ROWS];
+    let mut universals = [false; Variable::ROWS];
     fill_levels(prefix, &mut levels, &mut universals);
     check_lists(n, prefix, &universals, lists)
 }
 
-// The first cause of a refusal in the table of lists. One table has what is placed so far, in a block or with a list, and one, for each universal, the
-// place behind its last entry, which tells whether that stands in the list that is open.
+// The first cause of a refusal in the table of lists, one list after another. One table has what is placed so far, in a block or with a list, and one, for
+// each universal, the place behind its last entry, which tells whether that stands in the list that is open.
 pub fn check_lists(n: u32, prefix: &[u32], universals: &[bool], lists: &[u32]) -> Verdict
-    requires { ⌜ SoundPrefix n (now prefix) × (length (now lists) ≤ 16384) × ((v : ℕ) → universalIn n (now universals) v ≡ universal n (now prefix) v) ⌝ }
-    ensures { λ r. ⌜ Judged (ListCause n (now (prefix .entry)) (now (lists .entry)) ∷ []) r ⌝ }
+    requires sound { ⌜ SoundPrefix n (now prefix) ⌝ }
+    requires short { ⌜ length (now lists) ≤ listEntries ⌝ }
+    requires universals { ⌜ ((v : ℕ) → universalIn n (now universals) v ≡ universal n (now prefix) v) ⌝ }
+    ensures judged { λ r. ⌜ Judged (ListCause n (now (prefix .entry)) (now (lists .entry)) ∷ []) r ⌝ }
 {
-    let mut placed = [false; 4097];
+    let mut placed = [false; Variable::ROWS];
     place_blocks(prefix, &mut placed);
-    let mut last = [0u32; 4097];
-    let mut opens = true;
-    let mut opened: u32 = 0;
-    let mut i: usize = 0;
+    let mut last = [0u32; Variable::ROWS];
+    let mut i = 0;
     while i < lists.len() {
         let entry = lists[i];
-        if opens {
-            if !may_open(n, &placed, entry) {
-                return Verdict::Refused(25, i);
-            }
-            placed[entry as usize] = true;
-            i += 1;
-            opened = i as u32;
-            opens = false;
-        } else if entry == 0 {
-            i += 1;
-            opens = true;
-        } else {
-            if !universal_at(n, universals, Variable::new(entry)) {
-                return Verdict::Refused(26, i);
-            }
-            if opened < last[entry as usize] {
-                return Verdict::Refused(26, i);
-            }
-            i += 1;
-            last[entry as usize] = i as u32;
+        if !may_open(n, &placed, entry) {
+            return Verdict::Refused(25, i);
         }
+        placed[entry as usize] = true;
+        let end = pass_universals(n, universals, lists, i + 1, &mut last);
+        if lists.len() <= end {
+            return Verdict::Refused(11, end);
+        }
+        if lists[end] != 0 {
+            return Verdict::Refused(26, end);
+        }
+        i = end + 1;
     }
-    if opens {
-        Verdict::Accepted
-    } else {
-        Verdict::Refused(11, i)
-    }
-}
-
-// Whether an entry may open a list: a variable of the formula that is not placed yet.
-fn may_open(n: u32, placed: &[bool], entry: u32) -> bool
-    requires { ⌜ (n ≤ 4096) × (length (now placed) ≡ 4097) ⌝ }
-    ensures { λ r. ⌜ Tells r ((entry ≢ 0) × (entry ≤ n) × (getD (now (placed .entry)) entry false ≡ false)) ⌝ }
-{
-    if entry == 0 {
-        return false;
-    }
-    if n < entry {
-        return false;
-    }
-    if placed[entry as usize] {
-        return false;
-    }
-    true
+    Verdict::Accepted
 }
 
 // Flags every variable that a block names.
 fn place_blocks(prefix: &[u32], placed: &mut [bool])
-    requires { ⌜ ((n : ℕ) × SoundPrefix n (now prefix)) × (length (now placed) ≡ 4097) × ((v : ℕ) → getD (now placed) v false ≡ false) ⌝ }
-    ensures { λ r. ⌜ Places (now (prefix .entry)) (now (placed .exit)) ⌝ }
+    requires sound { ⌜ ((n : ℕ) × SoundPrefix n (now prefix)) ⌝ }
+    requires rows { ⌜ length (now placed) ≡ variableRows ⌝ }
+    requires blank { ⌜ ((v : ℕ) → getD (now placed) v false ≡ false) ⌝ }
+    ensures placed { λ r. ⌜ Places (now (prefix .entry)) (now (placed .exit)) ⌝ }
 {
     let mut opens = true;
     let mut i = 0;
@@ -142,4 +83,64 @@ fn place_blocks(prefix: &[u32], placed: &mut [bool])
             i += 1;
         }
     }
+}
+
+// Whether an entry may open a list: a variable of the formula that is not placed yet.
+fn may_open(n: u32, placed: &[bool], entry: u32) -> bool
+    requires few { ⌜ n ≤ mostVariables ⌝ }
+    requires rows { ⌜ length (now placed) ≡ variableRows ⌝ }
+    ensures told { λ r. ⌜ Tells r (MayOpen n (now (placed .entry)) entry) ⌝ }
+{
+    if entry == 0 {
+        return false;
+    }
+    if n < entry {
+        return false;
+    }
+    if placed[entry as usize] {
+        return false;
+    }
+    true
+}
+
+// Passes the universals of a list from `start` on, as far as nothing is wrong with them, and gives the place behind the last: the 0 that closes the list,
+// which is no universal, an entry with which something is wrong, or the end of the table.
+fn pass_universals(
+    n: u32,
+    universals: &[bool],
+    lists: &[u32],
+    start: usize,
+    last: &mut [u32],
+) -> usize
+    requires few { ⌜ n ≤ mostVariables ⌝ }
+    requires short { ⌜ length (now lists) ≤ listEntries ⌝ }
+    requires rows { ⌜ length (now last) ≡ variableRows ⌝ }
+    requires within { ⌜ start ≤ length (now lists) ⌝ }
+    ensures passes { λ r. ⌜ Passes n (now (universals .entry)) (now (lists .entry)) start (now (last .entry)) (now (last .exit)) r ⌝ }
+{
+    let mut i = start;
+    while i < lists.len() {
+        let entry = lists[i];
+        if !may_follow(n, universals, last, start as u32, entry) {
+            return i;
+        }
+        i += 1;
+        last[entry as usize] = i as u32;
+    }
+    i
+}
+
+// Whether an entry may follow in the list whose first universal stands at `start`: a universal that the list does not have yet.
+fn may_follow(n: u32, universals: &[bool], last: &[u32], start: u32, entry: u32) -> bool
+    requires few { ⌜ n ≤ mostVariables ⌝ }
+    requires rows { ⌜ length (now last) ≡ variableRows ⌝ }
+    ensures told { λ r. ⌜ Tells r (MayFollow n (now (universals .entry)) (now (last .entry)) start entry) ⌝ }
+{
+    if !universal_at(n, universals, Variable::new(entry)) {
+        return false;
+    }
+    if start < last[entry as usize] {
+        return false;
+    }
+    true
 }

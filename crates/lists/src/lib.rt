@@ -1,13 +1,16 @@
 // Dependency lists: some existentials stand in no block and have a list of the universals that they may depend on. A table of lists is judged beside prefix
-// and clauses.
+// and clauses, under a reading rule.
 
 pub mod checking;
+pub mod reading;
 
-use checking::judged_entries;
-use checking::read_verdict;
-use joining::join;
+use checking::lists_verdict;
+use joining::as_read;
+use reading::read_listed;
 use terms::Filled;
+use terms::Level;
 use terms::Verdict;
+ghost use Rattle.formula.specs.Lent.{formulaIn};
 ghost use Rattle.lists.specs.Answers.{ListsChecked};
 
 // An existential that has a list of its own.
@@ -21,23 +24,14 @@ impl Dependent {
 // Whether a formula with dependency lists keeps every rule, with its prefix read by a rule: refused with the first cause of 23, of refusals 1 to 11, and
 // of 25, 26 and 11 in the lists; accepted where there is none.
 pub fn check(rule: u32, n: u32, prefix: &[u32], clauses: &[i32], lists: &[u32]) -> Verdict
-    ensures { λ r. ⌜ ListsChecked rule n (now (prefix .entry)) (now (clauses .entry)) (now (lists .entry)) r ⌝ }
+    ensures judged { λ r. ⌜ ListsChecked rule (formulaIn n prefix clauses) (now (lists .entry)) r ⌝ }
 {
-    if rule == 1 {
-        return read_verdict(n, prefix, clauses, lists);
-    }
-    let mut read = [0u32; 4224];
-    match join(
-        rule,
-        n,
-        prefix,
-        judged_entries(clauses.len(), lists.len()),
-        &mut read,
-    ) {
+    let mut joined = [0u32; Level::JOINED];
+    match read_listed(rule, n, prefix, clauses, lists.len(), &mut joined) {
         Filled::Refused(number, place) => Verdict::Refused(number, place),
         Filled::Count(count) => {
-            let end = count as usize;
-            read_verdict(n, &read[0..end], clauses, lists)
+            let read = as_read(rule, prefix, &joined, count);
+            lists_verdict(n, read, lists)
         }
     }
 }

@@ -6,18 +6,21 @@ use layout::places::clause_entries;
 use layout::places::has_sets;
 use layout::places::prefix_entries;
 use layout::places::third_at;
-use records::Loaded;
+use records::Record;
 use records::numbers::two_at;
+use terms::Loaded;
 ghost use Prim.Native.Nat.{_≤_};
 ghost use mathlib.Core.Path.{_≡_};
 ghost use lib.ListN.{length};
 ghost use lib.Seq.{sets};
+ghost use Rattle.tables.specs.Lent.{rows};
 ghost use Rattle.tables.specs.Rows.{Tells};
-ghost use Rattle.records.specs.Places.{countIn};
-ghost use Rattle.records.specs.Causes.{lentTables};
+ghost use Rattle.records.specs.Places.{countIn, formulaHeld};
+ghost use Rattle.records.specs.Causes.{lentTables, lentIn, lentOut, Roomy};
+ghost use Rattle.records.specs.Promises.{storedIn};
 ghost use Rattle.layout.specs.Laid.{Laid};
-ghost use Rattle.verifying.specs.Verified.{classesIn, parentsIn, countsIn};
-ghost use Rattle.loading.specs.Inner.{Room, saidOf, stored};
+ghost use Rattle.verifying.specs.Verified.{classesIn, parentsIn, countsIn, rowsHeld};
+ghost use Rattle.loading.specs.Inner.{saidOf};
 
 // Whether every lent table is long enough.
 pub fn has_room(
@@ -28,8 +31,8 @@ pub fn has_room(
     parents: &[u32],
     counts: &[u32],
 ) -> bool
-    requires { ⌜ Laid (now file) ⌝ }
-    ensures { λ r. ⌜ Tells r (Room (now (file .entry)) (lentTables (now (prefix .entry)) (now (clauses .entry)) (now (classes .entry)) (now (parents .entry)) (now (counts .entry)))) ⌝ }
+    requires laid { ⌜ Laid (now file) ⌝ }
+    ensures told { λ r. ⌜ Tells r (Roomy (formulaHeld (now (file .entry))) (lentIn prefix clauses classes parents counts)) ⌝ }
 {
     if prefix.len() < prefix_entries(file) {
         return false;
@@ -37,7 +40,7 @@ pub fn has_room(
     if clauses.len() < clause_entries(file) {
         return false;
     }
-    let n = two_at(file, 6) as usize;
+    let n = two_at(file, Record::HEAD) as usize;
     if classes.len() < n {
         return false;
     }
@@ -59,9 +62,11 @@ pub fn fill_lent(
     parents: &mut [u32],
     counts: &mut [u32],
 ) -> Loaded
-    requires { ⌜ Laid (now file) × Room (now file) (lentTables (now prefix) (now clauses) (now classes) (now parents) (now counts)) ⌝ }
-    ensures { λ r. ⌜ lentTables (now (prefix .exit)) (now (clauses .exit)) (now (classes .exit)) (now (parents .exit)) (now (counts .exit)) ≡ stored (now (file .entry)) (lentTables (now (prefix .entry)) (now (clauses .entry)) (now (classes .entry)) (now (parents .entry)) (now (counts .entry))) ⌝ }
-    ensures { λ r. ⌜ r ≡ saidOf (now (file .entry)) ⌝ }
+    requires room { ⌜ Laid (now file) × Roomy (formulaHeld (now file))
+        (lentTables (now prefix) (now clauses) (rows (now classes) (now parents) (now counts))) ⌝ }
+    ensures stored { λ r. ⌜ lentOut prefix clauses classes parents counts
+        ≡ storedIn (lentIn prefix clauses classes parents counts) (formulaHeld (now (file .entry))) (rowsHeld (now (file .entry))) ⌝ }
+    ensures said { λ r. ⌜ r ≡ saidOf (now (file .entry)) ⌝ }
 {
     fill_formula(file, prefix, clauses);
     fill_rows(file, classes, parents, counts);
@@ -70,13 +75,14 @@ pub fn fill_lent(
 
 // The rows of the file, stored.
 fn fill_rows(file: &[u8], classes: &mut [u32], parents: &mut [u32], counts: &mut [u32])
-    requires { ⌜ Laid (now file) × (countIn (now file) ≤ length (now classes)) × (countIn (now file) ≤ length (now parents)) × (countIn (now file) ≤ length (now counts)) ⌝ }
-    ensures { λ r. ⌜ now (classes .exit) ≡ sets (now (classes .entry)) 0 (classesIn (now (file .entry))) ⌝ }
-    ensures { λ r. ⌜ now (parents .exit) ≡ sets (now (parents .entry)) 0 (parentsIn (now (file .entry))) ⌝ }
-    ensures { λ r. ⌜ now (counts .exit) ≡ sets (now (counts .entry)) 0 (countsIn (now (file .entry))) ⌝ }
+    requires room { ⌜ Laid (now file) × (countIn (now file) ≤ length (now classes)) × (countIn (now file) ≤ length (now parents))
+        × (countIn (now file) ≤ length (now counts)) ⌝ }
+    ensures classes { λ r. ⌜ now (classes .exit) ≡ sets (now (classes .entry)) 0 (classesIn (now (file .entry))) ⌝ }
+    ensures parents { λ r. ⌜ now (parents .exit) ≡ sets (now (parents .entry)) 0 (parentsIn (now (file .entry))) ⌝ }
+    ensures counts { λ r. ⌜ now (counts .exit) ≡ sets (now (counts .entry)) 0 (countsIn (now (file .entry))) ⌝ }
 {
-    let n = two_at(file, 6) as usize;
-    let first = third_at(file) + 6;
+    let n = two_at(file, Record::HEAD) as usize;
+    let first = third_at(file) + Record::HEAD;
     let many = 4 * n;
     fill_numbers(file, 4, first, n, classes);
     fill_numbers(file, 4, first + many, n, parents);
@@ -85,10 +91,10 @@ fn fill_rows(file: &[u8], classes: &mut [u32], parents: &mut [u32], counts: &mut
 
 // What the file has: n, how many entries prefix and clauses have, and whether sets are there.
 fn said_of(file: &[u8]) -> Loaded
-    requires { ⌜ Laid (now file) ⌝ }
-    ensures { λ r. ⌜ r ≡ saidOf (now (file .entry)) ⌝ }
+    requires laid { ⌜ Laid (now file) ⌝ }
+    ensures said { λ r. ⌜ r ≡ saidOf (now (file .entry)) ⌝ }
 {
-    let n = two_at(file, 6);
+    let n = two_at(file, Record::HEAD);
     let entries = prefix_entries(file);
     let literals = clause_entries(file);
     let with_sets = has_sets(file);

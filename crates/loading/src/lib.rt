@@ -4,10 +4,10 @@ mod filling;
 
 use filling::fill_lent;
 use filling::has_room;
-use records::Loaded;
+use terms::Loaded;
 use terms::Verdict;
 use verifying::file_verdict;
-ghost use Rattle.records.specs.Causes.{lentTables};
+ghost use Rattle.records.specs.Causes.{lentIn, lentOut};
 ghost use Rattle.records.specs.Promises.{Loads};
 ghost use Rattle.layout.specs.Laid.{Laid};
 ghost use Rattle.loading.specs.Inner.{LoadsRight};
@@ -23,7 +23,8 @@ pub fn load(
     parents: &mut [u32],
     counts: &mut [u32],
 ) -> Loaded
-    ensures { λ r. ⌜ Loads rule (now (file .entry)) (lentTables (now (prefix .entry)) (now (clauses .entry)) (now (classes .entry)) (now (parents .entry)) (now (counts .entry))) (lentTables (now (prefix .exit)) (now (clauses .exit)) (now (classes .exit)) (now (parents .exit)) (now (counts .exit))) r ⌝ }
+    ensures loaded { λ r. ⌜ Loads rule (now (file .entry)) (lentIn prefix clauses classes parents counts)
+        (lentOut prefix clauses classes parents counts) r ⌝ }
 {
     match file_verdict(rule, file) {
         Verdict::Refused(number, place) => Loaded::Refused(number, place),
@@ -31,7 +32,7 @@ pub fn load(
     }
 }
 
-// The same, once the file is verified: what it has is stored where there is room for it.
+// Stores what a verified file has in the lent tables, where they have room for it.
 fn load_right(
     file: &[u8],
     prefix: &mut [u32],
@@ -40,8 +41,9 @@ fn load_right(
     parents: &mut [u32],
     counts: &mut [u32],
 ) -> Loaded
-    requires { ⌜ Laid (now file) ⌝ }
-    ensures { λ r. ⌜ LoadsRight (now (file .entry)) (lentTables (now (prefix .entry)) (now (clauses .entry)) (now (classes .entry)) (now (parents .entry)) (now (counts .entry))) (lentTables (now (prefix .exit)) (now (clauses .exit)) (now (classes .exit)) (now (parents .exit)) (now (counts .exit))) r ⌝ }
+    requires laid { ⌜ Laid (now file) ⌝ }
+    ensures loaded { λ r. ⌜ LoadsRight (now (file .entry)) (lentIn prefix clauses classes parents counts)
+        (lentOut prefix clauses classes parents counts) r ⌝ }
 {
     if !has_room(file, prefix, clauses, classes, parents, counts) {
         return Loaded::Refused(14, 0);

@@ -1,3 +1,4 @@
--- The definitions of loose rows: what stays of lent rows, which promises of build and add cite, and what the inner functions do, which only proofs rest on.
+-- To be believed, since the promises of build and add cite it: what stays of lent rows.
 pub mod Past
+-- Inner, which only proofs rest on: what each pass makes of loose rows.
 pub mod Rows

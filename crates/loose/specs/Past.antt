@@ -1,4 +1,4 @@
--- Lent rows past n.
+-- To be believed: lent rows past n stay.
 use Prim.Native.Nat.{ℕ, _≤_}
 use mathlib.Core.Path.{_≡_}
 use mathlib.Core.List.{List}

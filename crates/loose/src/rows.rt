@@ -1,23 +1,25 @@
-// Passes over the rows: the rows of no clause, exact class rows of loose ones, and the rows written out.
+// Passes over loose rows: the rows of no clause, lent rows read in, all clauses put in, exact class rows out of loose ones, and the rows written out.
 
 use formula::clauses::next_zero;
 use stars::put;
 use tables::rows::row_of;
+use terms::Literal;
 use terms::Variable;
 ghost use Prim.Native.Nat.{ℕ, _≤_, _<_};
 ghost use mathlib.Core.Path.{_≡_};
 ghost use mathlib.Core.List.{[]};
 ghost use lib.ListN.{length, getD};
+ghost use Rattle.terms.specs.Limits.{mostVariables, variableRows};
 ghost use Rattle.connection.specs.Tables.{row};
 ghost use Rattle.tables.specs.Formula.{joined};
 ghost use Rattle.formula.specs.Lookup.{SoundClauses};
 ghost use Rattle.formula.specs.Meaning.{clauses as Meaning·clauses};
 ghost use Rattle.loose.specs.Rows.{EndsAt, Holds, Settled, Written};
 
-// Each existential in a class of its own, with no parents. The rows past n, where there is none, hold 0 already.
+// The rows of no clause: each existential in a class of its own, with no parent. The rows past n, where there is none, hold 0 already.
 pub fn singles(n: u32, depths: &[u32], classes: &mut [u32], parents: &mut [u32])
-    requires { ⌜ EndsAt n (now depths) × EndsAt n (now classes) × EndsAt n (now parents) × (getD (now depths) 0 0 ≡ 0) ⌝ }
-    ensures { λ r. ⌜ Holds (now (depths .entry)) (now (classes .exit)) (now (parents .exit)) [] ⌝ }
+    requires tables { ⌜ EndsAt n (now depths) × EndsAt n (now classes) × EndsAt n (now parents) × (getD (now depths) 0 0 ≡ 0) ⌝ }
+    ensures single { λ r. ⌜ Holds (now (depths .entry)) (now (classes .exit)) (now (parents .exit)) [] ⌝ }
 {
     let mut v: u32 = 0;
     while v <= n {
@@ -36,8 +38,8 @@ pub fn singles(n: u32, depths: &[u32], classes: &mut [u32], parents: &mut [u32])
 
 // Reads lent rows into a table with row v for the variable v. The rows past n hold 0 already.
 pub fn load(n: u32, rows: &[u32], table: &mut [u32])
-    requires { ⌜ EndsAt n (now table) ⌝ }
-    ensures { λ r. ⌜ ((v : ℕ) → getD (now (table .exit)) v 0 ≡ row n (now (rows .entry)) v) ⌝ }
+    requires table { ⌜ EndsAt n (now table) ⌝ }
+    ensures read { λ r. ⌜ ((v : ℕ) → getD (now (table .exit)) v 0 ≡ row n (now (rows .entry)) v) ⌝ }
 {
     let mut v: u32 = 0;
     while v <= n {
@@ -50,11 +52,12 @@ pub fn load(n: u32, rows: &[u32], table: &mut [u32])
 
 // Puts in every clause of a table, one after the other, and gives how many there are.
 pub fn put_all(depths: &[u32], classes: &mut [u32], parents: &mut [u32], clauses: &[i32]) -> u32
-    requires { ⌜ Holds (now depths) (now classes) (now parents) [] × SoundClauses (now clauses) ⌝ }
-    ensures { λ r. ⌜ Holds (now (depths .entry)) (now (classes .exit)) (now (parents .exit)) (joined (now (clauses .entry))) ⌝ }
-    ensures { λ r. ⌜ r ≡ length (Meaning·clauses (now (clauses .entry))) ⌝ }
+    requires single { ⌜ Holds (now depths) (now classes) (now parents) [] ⌝ }
+    requires clauses { ⌜ SoundClauses (now clauses) ⌝ }
+    ensures holds { λ r. ⌜ Holds (now (depths .entry)) (now (classes .exit)) (now (parents .exit)) (joined (now (clauses .entry))) ⌝ }
+    ensures number { λ r. ⌜ r ≡ length (Meaning·clauses (now (clauses .entry))) ⌝ }
 {
-    let mut seen = [0u16; 8194];
+    let mut seen = [0u16; Literal::ROWS];
     let mut taken: u32 = 0;
     let mut start = 0;
     while start < clauses.len() {
@@ -77,10 +80,11 @@ pub fn put_all(depths: &[u32], classes: &mut [u32], parents: &mut [u32], clauses
     taken
 }
 
-// Makes every class row name its class: it points to a lower row, which is exact already, or to itself. Those past n, which hold 0, do so already.
+// Makes every class row name its class, from the lowest up: each points to a lower row, which is exact already, or to itself. Those past n hold 0.
 pub fn settle(n: u32, classes: &mut [u32])
-    requires { ⌜ EndsAt n (now classes) × ((u : ℕ) → getD (now classes) u 0 ≤ u) ⌝ }
-    ensures { λ r. ⌜ Settled (now (classes .entry)) (now (classes .exit)) ⌝ }
+    requires table { ⌜ EndsAt n (now classes) ⌝ }
+    requires falling { ⌜ ((u : ℕ) → getD (now classes) u 0 ≤ u) ⌝ }
+    ensures settled { λ r. ⌜ Settled (now (classes .entry)) (now (classes .exit)) ⌝ }
 {
     let mut v = 0;
     while v <= n as usize {
@@ -90,11 +94,13 @@ pub fn settle(n: u32, classes: &mut [u32])
     }
 }
 
-// Writes the rows of 1 to n out: the class rows, and for each parent its class.
+// Writes the settled rows of 1 to n out into lent ones: the class rows into `rows`, and for each parent its class into `ups`.
 pub fn write_out(n: u32, classes: &[u32], parents: &[u32], rows: &mut [u32], ups: &mut [u32])
-    requires { ⌜ (length (now classes) ≡ 4097) × (length (now parents) ≡ 4097) × ((u : ℕ) → getD (now parents) u 0 < 4097) ⌝ }
-    requires { ⌜ (n ≤ 4096) × (n ≤ length (now rows)) × (n ≤ length (now ups)) ⌝ }
-    ensures { λ r. ⌜ Written n (now (classes .entry)) (now (parents .entry)) (now (rows .entry)) (now (rows .exit)) (now (ups .entry)) (now (ups .exit)) ⌝ }
+    requires tables { ⌜ (length (now classes) ≡ variableRows) × (length (now parents) ≡ variableRows)
+        × ((u : ℕ) → getD (now parents) u 0 < variableRows) ⌝ }
+    requires room { ⌜ (n ≤ mostVariables) × (n ≤ length (now rows)) × (n ≤ length (now ups)) ⌝ }
+    ensures written { λ r. ⌜ Written n (now (classes .entry)) (now (parents .entry)) (now (rows .entry)) (now (rows .exit))
+        (now (ups .entry)) (now (ups .exit)) ⌝ }
 {
     let mut v: u32 = 0;
     while v < n {

@@ -66,10 +66,13 @@ opposite-other (negsuc v) = refl
 -- What a list has stands at some place.
 pub mem-at : {A : Type 0} (d a : A) (list : List A) → List·Memᴰ a list ↔ ((i : ℕ) × (i < length list) × (getD list i d ≡ a))
 mem-at d a [] = (λ m. absurd (List·Memᴰ·not-nil m), λ h. absurd (let l = h .1 in omega arith))
-mem-at d a (b ∷ list) =
-    (λ m. ⊎-elim (λ q. (0, omega arith, sym q)) (λ m′. let (i, less, q) = mem-at d a list .0 m′ in (suc i, omega arith, q)) (List·Memᴰ·cases-cons m), λ h. back (h .0) (h .1) (h .2) (mem-at d a list .1))
+mem-at d a (b ∷ list) = (
+  λ m. ⊎-elim (λ q. (0, omega arith, sym q)) (λ m′. let (i, less, q) = mem-at d a list .0 m′ in (suc i, omega arith, q)) (List·Memᴰ·cases-cons m),
+  λ h. back (h .0) (h .1) (h .2) (mem-at d a list .1),
+)
   where
-    back : (i : ℕ) → i < suc (length list) → getD (b ∷ list) i d ≡ a → ((i : ℕ) × (i < length list) × (getD list i d ≡ a) → List·Memᴰ a list) → List·Memᴰ a (b ∷ list)
+    back : (i : ℕ) → i < suc (length list) → getD (b ∷ list) i d ≡ a
+        → ((i : ℕ) × (i < length list) × (getD list i d ≡ a) → List·Memᴰ a list) → List·Memᴰ a (b ∷ list)
     back zero less q later = List·Memᴰ·head (sym q)
     back (suc i) less q later = List·Memᴰ·tail (later (i, omega arith, q))
 
@@ -107,7 +110,13 @@ shares-signed {ls} {x} {y} j =
     let here : List·Memᴰ x (connected clause) = subst (List·Memᴰ x) (sym is) (j .left) in
     let (z, mz, vz) = Memᴰ·of-map variableOf clause (subst (List·Memᴰ x) (connected-all clause (connected-open clause x here)) here) in
     let (sign, q) = sign-of z in
-    either sign (record { clause = clause; listed = m; literal = subst (λ l. List·Memᴰ l clause) (q ∙ ap (signed sign) vz) mz; connects = subst (List·Memᴰ y) (sym is) (j .right) })
+    either sign
+    (record {
+      clause = clause;
+      listed = m;
+      literal = subst (λ l. List·Memᴰ l clause) (q ∙ ap (signed sign) vz) mz;
+      connects = subst (List·Memᴰ y) (sym is) (j .right);
+    })
   where
     either : (sign : Bool) → SharesBy ls sign x y → SharesBy ls true x y ⊎ SharesBy ls false x y
     either true s = inl s
@@ -119,7 +128,8 @@ module _ (ls : List ℤ) (start x : ℕ) where
   sided-none sign h = let a = h .from in let b = h .before in omega arith
 
   module _ (i : ℕ) (low : start ≤ i) where
-    pub sided-here : (side : Side) (z : ℤ) → z ≡ literalAt ls i → variableOf z ≡ x → Sided side (λ sign. z ≡ signed sign (variableOf z)) → Sided side (λ sign. HasLiteral ls start (i + 1) (signed sign x))
+    pub sided-here : (side : Side) (z : ℤ) → z ≡ literalAt ls i → variableOf z ≡ x → Sided side (λ sign. z ≡ signed sign (variableOf z))
+        → Sided side (λ sign. HasLiteral ls start (i + 1) (signed sign x))
     sided-here side z is own s = go side s
       where
         here : (sign : Bool) → z ≡ signed sign (variableOf z) → HasLiteral ls start (i + 1) (signed sign x)
@@ -130,7 +140,8 @@ module _ (ls : List ℤ) (start x : ℕ) where
         go Side.Positive s = here true s
         go Side.Negative s = here false s
 
-    pub sided-past : (side : Side) → variableOf (literalAt ls i) ≢ x → Sided side (λ sign. HasLiteral ls start i (signed sign x)) → Sided side (λ sign. HasLiteral ls start (i + 1) (signed sign x))
+    pub sided-past : (side : Side) → variableOf (literalAt ls i) ≢ x → Sided side (λ sign. HasLiteral ls start i (signed sign x))
+        → Sided side (λ sign. HasLiteral ls start (i + 1) (signed sign x))
     sided-past side other s = go side s
       where
         longer : (sign : Bool) → HasLiteral ls start i (signed sign x) → HasLiteral ls start (i + 1) (signed sign x)
@@ -138,7 +149,8 @@ module _ (ls : List ℤ) (start x : ℕ) where
 
         shorter : (sign : Bool) → HasLiteral ls start (i + 1) (signed sign x) → HasLiteral ls start i (signed sign x)
         shorter sign h =
-            by-cases (ℕ-discrete (h .place) i) (λ q. absurd (other (ap (λ e. variableOf (literalAt ls e)) (sym q) ∙ ap variableOf (h .is) ∙ signed-variable sign x)))
+            by-cases (ℕ-discrete (h .place) i)
+            (λ q. absurd (other (ap (λ e. variableOf (literalAt ls e)) (sym q) ∙ ap variableOf (h .is) ∙ signed-variable sign x)))
             (λ ne. record { place = h .place; from = h .from; before = let b = h .before in omega arith; is = h .is })
 
         go : (side : Side) → Sided side (λ sign. HasLiteral ls start i (signed sign x)) → Sided side (λ sign. HasLiteral ls start (i + 1) (signed sign x))

@@ -21,7 +21,8 @@ flags-are b f v l =
     (λ t. ⊎-elim (λ o. absurd (clash o (b .blank v))) (λ p. p) (here .0 t), λ p. here .1 (inr p))
 
 -- The tops by either sign are flagged.
-pub entering-either : {n : ℕ} (tops : List ℕ) (P : Bool → ℕ → Type 0) {old new : List Bool} → Blank old → Flagged (Via n tops (λ y. By Signs.Either (λ sign. P sign y))) old new
+pub entering-either : {n : ℕ} (tops : List ℕ) (P : Bool → ℕ → Type 0) {old new : List Bool} → Blank old
+    → Flagged (Via n tops (λ y. By Signs.Either (λ sign. P sign y))) old new
     → Entering n (λ e. Takes Scheme.Standard (λ sign. Via n tops (P sign) e)) tops tops new
 entering-either tops P blank f =
     record {
@@ -30,7 +31,8 @@ entering-either tops P blank f =
     }
 
 -- The tops by one sign are all that is left in the rows, and of these the tops by the other are flagged.
-module _ {n : ℕ} (tops kept : List ℕ) (P : Bool → ℕ → Type 0) {blank first cleared new : List Bool} (b : Blank blank) (f : Flagged (Via n tops (P true)) blank first)
+module _ {n : ℕ} (tops kept : List ℕ) (P : Bool → ℕ → Type 0) {blank first cleared new : List Bool} (b : Blank blank)
+    (f : Flagged (Via n tops (P true)) blank first)
     (k : (v : ℕ) → row n kept v ≡ ifFlagged first (row n tops v)) (b′ : Blank cleared) (g : Flagged (Via n kept (P false)) cleared new) where
   -- a row that is left has a top that is flagged by the first sign
   left-row : (v e : ℕ) → row n kept v ≡ e → e ≢ 0 → (getD first e false ≡ true) × (row n tops v ≡ e)
@@ -44,10 +46,18 @@ module _ {n : ℕ} (tops kept : List ℕ) (P : Bool → ℕ → Type 0) {blank f
   left-tells : (e : ℕ) → e ≤ 4096 → (getD new e false ≡ true) ↔ (Via n tops (P true) e × Via n tops (P false) e)
   unfolding ifFlagged
   left-tells e l = (
-    λ q. let t = flags-are b′ g e l .0 q in let (one, is) = left-row (t .for) e (t .is) (t .some) in (flags-are b f e l .0 one, record { for = t .for; holds = t .holds; is = is; some = t .some }),
+    λ q. let t = flags-are b′ g e l .0 q in
+        let (one, is) = left-row (t .for) e (t .is) (t .some) in
+        (flags-are b f e l .0 one, record { for = t .for; holds = t .holds; is = is; some = t .some }),
     λ s. let (p, q) = s in
         let one = flags-are b f e l .1 p in
-        flags-are b′ g e l .1 (record { for = q .for; holds = q .holds; is = k (q .for) ∙ ap (λ d. cond (getD first d false) d 0) (q .is) ∙ ap (λ c. cond c e 0) one; some = q .some }),
+        flags-are b′ g e l .1
+        (record {
+          for = q .for;
+          holds = q .holds;
+          is = k (q .for) ∙ ap (λ d. cond (getD first d false) d 0) (q .is) ∙ ap (λ c. cond c e 0) one;
+          some = q .some;
+        }),
   )
 
   pub entering-both : Entering n (λ e. Takes Scheme.Strict (λ sign. Via n tops (P sign) e)) tops kept new
@@ -79,10 +89,18 @@ nothing false = refl
 
 pub keeping-none : (n : ℕ) (flags : List Bool) (old : List ℕ) → Keeping n flags old old 0
 unfolding ifFlagged
-keeping-none n flags old = record { size = refl; most = omega arith; done = λ v l. let z : v ≡ 0 = omega arith in row-none n old v z ∙ sym (ap (ifFlagged flags) (row-none n old v z) ∙ nothing (getD flags 0 false)); rest = λ v l. refl }
+keeping-none n flags old =
+    record {
+      size = refl;
+      most = omega arith;
+      done = λ v l.
+          let z : v ≡ 0 = omega arith in
+          row-none n old v z ∙ sym (ap (ifFlagged flags) (row-none n old v z) ∙ nothing (getD flags 0 false));
+      rest = λ v l. refl;
+    }
 
 module _ {n : ℕ} {flags : List Bool} {old tops : List ℕ} {passed : ℕ} (k : Keeping n flags old tops passed) where
-  module _ (more : passed < n) (v top : ℕ) {b : Bool} (is : v ≡ passed + 1) (read : top ≡ row n tops v) (told : b ≡ getD flags top false) where
+  module _ (more : passed < n) {v top : ℕ} {b : Bool} (is : v ≡ passed + 1) (read : top ≡ row n tops v) (told : b ≡ getD flags top false) where
     -- a row stays as it was if its top is flagged
     pub keeping-same : b ≡ true → Keeping n flags old tops (passed + 1)
     unfolding ifFlagged
@@ -97,22 +115,28 @@ module _ {n : ℕ} {flags : List Bool} {old tops : List ℕ} {passed : ℕ} (k :
         }
 
   -- and is 0 if it is not
-  pub keeping-out : n ≤ length old → passed < n → (v top : ℕ) {b : Bool} → v ≡ passed + 1 → top ≡ row n tops v → b ≡ getD flags top false → b ≡ false → Keeping n flags old (set tops passed 0) (passed + 1)
+  pub keeping-out : n ≤ length old → passed < n → {v top : ℕ} {b : Bool} → v ≡ passed + 1 → top ≡ row n tops v → b ≡ getD flags top false
+      → b ≡ false → Keeping n flags old (set tops passed 0) (passed + 1)
   unfolding ifFlagged
-  keeping-out long more v top is read told no′ =
+  keeping-out long more {v} is read told no′ =
       let at : v - 1 ≡ passed = omega arith in
       let some : v ≢ 0 = λ z. omega arith in
-      let stored : row n (set tops passed 0) v ≡ 0 = subst (λ i. row n (set tops i 0) v ≡ 0) at (row-stored n tops v 0 some (omega arith) (let q = k .size in omega arith)) in
-      let kept : (w : ℕ) → w ≢ v → row n (set tops passed 0) w ≡ row n tops w = λ w other. subst (λ i. row n (set tops i 0) w ≡ row n tops w) at (row-kept n tops v 0 w some other) in
+      let stored : row n (set tops passed 0) v
+      ≡ 0 = subst (λ i. row n (set tops i 0) v ≡ 0) at (row-stored n tops v 0 some (omega arith) (let q = k .size in omega arith)) in
+      let kept : (w : ℕ) → w ≢ v
+      → row n (set tops passed 0) w ≡ row n tops w = λ w other. subst (λ i. row n (set tops i 0) w ≡ row n tops w) at (row-kept n tops v 0 w some other) in
       record {
         size = length-set tops passed 0 ∙ k .size;
         most = omega arith;
         done = λ w l. by-cases (decLe w passed) (λ low. kept w (λ q. omega arith) ∙ k .done w low) (λ over. let q : w ≡ v = omega arith in
             let same = k .rest w (omega arith) in
-            ap (row n (set tops passed 0)) q ∙ stored ∙ sym (ap (λ c. cond c (row n old w) 0) (ap (λ d. getD flags d false) (sym same ∙ ap (row n tops) q ∙ sym read) ∙ sym told ∙ no′)));
+            ap (row n (set tops passed 0)) q ∙ stored
+            ∙ sym (ap (λ c. cond c (row n old w) 0) (ap (λ d. getD flags d false) (sym same ∙ ap (row n tops) q ∙ sym read) ∙ sym told ∙ no′)));
         rest = λ w l. kept w (λ q. omega arith) ∙ k .rest w (omega arith);
       }
 
   pub keeping-all : n ≤ passed → (v : ℕ) → row n tops v ≡ ifFlagged flags (row n old v)
   unfolding ifFlagged
-  keeping-all done v = by-cases (decLe v passed) (k .done v) (λ l. let over : n < v = omega arith in row-over n tops v over ∙ sym (ap (ifFlagged flags) (row-over n old v over) ∙ nothing (getD flags 0 false)))
+  keeping-all done v =
+      by-cases (decLe v passed) (k .done v)
+      (λ l. let over : n < v = omega arith in row-over n tops v over ∙ sym (ap (ifFlagged flags) (row-over n old v over) ∙ nothing (getD flags 0 false)))

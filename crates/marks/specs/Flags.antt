@@ -1,4 +1,5 @@
--- Flags of the tops of what shares a clause with x, by either sign of x or by both. What a reader must believe of the calls is in the definitions of `forest`.
+-- Flags of the tops of what shares a clause with x, by either sign of x or by both. What a reader must believe of the calls is in the definitions
+-- of `forest`.
 use Prim.Native.Nat.{ℕ, _-_, _≤_, _<_}
 use mathlib.Core.Path.{_≡_}
 use mathlib.Core.Bool.{Bool, true, false, cond}
@@ -7,9 +8,11 @@ use mathlib.Core.Logic.{_⊎_, _≢_, _↔_}
 use lib.IntN.{ℤ}
 use lib.ListN.{length, getD, take, drop}
 use Rattle.terms.specs.Literals.{variableOf}
+use Rattle.terms.specs.Limits.{variableRows}
 use Rattle.formula.specs.Meaning.{connected}
 use Rattle.formula.specs.Tables.{literalAt}
 use Rattle.connection.specs.Tables.{row}
+use Rattle.tables.specs.Formula.{SharesBy}
 use Rattle.marks.specs.declared.Side.{Side}
 use Rattle.marks.specs.declared.Side.the-variants.{Neither, Positive, Negative}
 use Rattle.marks.specs.declared.Signs.{Signs}
@@ -76,7 +79,7 @@ pub record Via (n : ℕ) (tops : List ℕ) (P : ℕ → Type 0) (e : ℕ) : Type
 
 -- a table of flags with none set
 pub record Blank (flags : List Bool) : Type 0 where
-  pub size : length flags ≡ 4097
+  pub size : length flags ≡ variableRows
   pub blank : (v : ℕ) → getD flags v false ≡ false
 
 -- a top that is flagged, and 0 in place of any other
@@ -87,3 +90,7 @@ ifFlagged flags top = cond (getD flags top false) top 0
 pub record Entering (n : ℕ) (P : ℕ → Type 0) (entries tops : List ℕ) (flags : List Bool) : Type 0 where
   pub tells : (e : ℕ) → e ≤ 4096 → (getD flags e false ≡ true) ↔ P e
   pub same : (y : ℕ) → getD flags (row n tops y) false ≡ getD flags (row n entries y) false
+
+-- what is flagged are the tops that a scheme takes of the variables that share a clause with x
+abbrev pub SharedBy : Scheme → ℕ → List ℤ → ℕ → List ℕ → List ℕ → List Bool → Type 0
+SharedBy scheme n ls x entries tops flags = Entering n (λ e. Takes scheme (λ sign. Via n entries (SharesBy ls sign x) e)) entries tops flags

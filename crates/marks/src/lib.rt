@@ -13,11 +13,12 @@ ghost use mathlib.Core.Path.{_≡_};
 ghost use mathlib.Core.Bool.{false};
 ghost use lib.ListN.{length, getD};
 ghost use Rattle.terms.specs.Literals.{variableOf};
+ghost use Rattle.terms.specs.Limits.{variableRows};
 ghost use Rattle.formula.specs.Lookup.{NextZero, SoundClauses, Stamps};
 ghost use Rattle.connection.specs.Tables.{row};
 ghost use Rattle.terms.specs.declared.Scheme.the-variants.{Strict};
 ghost use Rattle.tables.specs.Formula.{signed, SharesBy};
-ghost use Rattle.marks.specs.Flags.{Has, HasLiteral, Sided, By, sideBy, Connects, Flagged, Takes, Via, Blank, ifFlagged, Entering};
+ghost use Rattle.marks.specs.Flags.{Has, HasLiteral, Sided, By, sideBy, Connects, Flagged, Via, Blank, ifFlagged, SharedBy};
 
 // In which sign a clause has x. One that is not always true has it in one sign only.
 pub enum Side {
@@ -49,8 +50,8 @@ pub fn flag_entries(
     tops: &mut [u32],
     flags: &mut [bool],
 )
-    requires { ⌜ SoundClauses (now clauses) × (length (now flags) ≡ 4097) × (n ≤ length (now tops)) ⌝ }
-    ensures { λ r. ⌜ Entering n (λ e. Takes scheme (λ sign. Via n (now (tops .entry)) (SharesBy (now (clauses .entry)) sign (x .0)) e)) (now (tops .entry)) (now (tops .exit)) (now (flags .exit)) ⌝ }
+    requires sound { ⌜ SoundClauses (now clauses) × (length (now flags) ≡ variableRows) × (n ≤ length (now tops)) ⌝ }
+    ensures entered { λ r. ⌜ SharedBy scheme n (now (clauses .entry)) (x .0) (now (tops .entry)) (now (tops .exit)) (now (flags .exit)) ⌝ }
 {
     clear_flags(flags);
     match scheme {
@@ -61,7 +62,7 @@ pub fn flag_entries(
 
 // Takes back every flag.
 fn clear_flags(flags: &mut [bool])
-    ensures { λ r. ⌜ ((v : ℕ) → getD (now (flags .exit)) v false ≡ false) ⌝ }
+    ensures cleared { λ r. ⌜ ((v : ℕ) → getD (now (flags .exit)) v false ≡ false) ⌝ }
 {
     let mut i = 0;
     while i < flags.len() {
@@ -72,8 +73,8 @@ fn clear_flags(flags: &mut [bool])
 
 // Flags the tops that both signs of x have: those by the one are all that is left in the rows when those by the other are flagged.
 fn flag_both(n: u32, clauses: &[i32], x: Variable, tops: &mut [u32], flags: &mut [bool])
-    requires { ⌜ SoundClauses (now clauses) × Blank (now flags) × (n ≤ length (now tops)) ⌝ }
-    ensures { λ r. ⌜ Entering n (λ e. Takes Strict (λ sign. Via n (now (tops .entry)) (SharesBy (now (clauses .entry)) sign (x .0)) e)) (now (tops .entry)) (now (tops .exit)) (now (flags .exit)) ⌝ }
+    requires sound { ⌜ SoundClauses (now clauses) × Blank (now flags) × (n ≤ length (now tops)) ⌝ }
+    ensures entered { λ r. ⌜ SharedBy Strict n (now (clauses .entry)) (x .0) (now (tops .entry)) (now (tops .exit)) (now (flags .exit)) ⌝ }
 {
     flag_signs(Signs::Positive, n, clauses, x, tops, flags);
     keep_flagged(n, flags, tops);
@@ -83,8 +84,8 @@ fn flag_both(n: u32, clauses: &[i32], x: Variable, tops: &mut [u32], flags: &mut
 
 // Takes every top that is not flagged out of the rows.
 fn keep_flagged(n: u32, flags: &[bool], tops: &mut [u32])
-    requires { ⌜ n ≤ length (now tops) ⌝ }
-    ensures { λ r. ⌜ ((v : ℕ) → row n (now (tops .exit)) v ≡ ifFlagged (now (flags .entry)) (row n (now (tops .entry)) v)) ⌝ }
+    requires enough { ⌜ n ≤ length (now tops) ⌝ }
+    ensures kept { λ r. ⌜ ((v : ℕ) → row n (now (tops .exit)) v ≡ ifFlagged (now (flags .entry)) (row n (now (tops .entry)) v)) ⌝ }
 {
     let mut passed: u32 = 0;
     while passed < n {
@@ -101,10 +102,11 @@ fn keep_flagged(n: u32, flags: &[bool], tops: &mut [u32])
 
 // Flags the tops of the variables that share a clause with x, where it has one of the signs.
 fn flag_signs(signs: Signs, n: u32, clauses: &[i32], x: Variable, tops: &[u32], flags: &mut [bool])
-    requires { ⌜ SoundClauses (now clauses) ⌝ }
-    ensures { λ r. ⌜ Flagged (Via n (now (tops .entry)) (λ y. By signs (λ sign. SharesBy (now (clauses .entry)) sign (x .0) y))) (now (flags .entry)) (now (flags .exit)) ⌝ }
+    requires sound { ⌜ SoundClauses (now clauses) ⌝ }
+    ensures flagged { λ r. ⌜ Flagged (Via n (now (tops .entry)) (λ y. By signs (λ sign. SharesBy (now (clauses .entry)) sign (x .0) y)))
+        (now (flags .entry)) (now (flags .exit)) ⌝ }
 {
-    let mut seen = [0u16; 8194];
+    let mut seen = [0u16; Literal::ROWS];
     let mut start = 0;
     while start < clauses.len() {
         let scan = scan_clause(clauses, start, x);
@@ -124,7 +126,7 @@ fn flag_signs(signs: Signs, n: u32, clauses: &[i32], x: Variable, tops: &[u32], 
 
 // Whether the side of a clause is one of the signs.
 pub fn has_sign(signs: Signs, side: Side) -> bool
-    ensures { λ r. ⌜ r ≡ sideBy signs side ⌝ }
+    ensures told { λ r. ⌜ r ≡ sideBy signs side ⌝ }
 {
     match side {
         Side::Neither => false,
@@ -143,7 +145,8 @@ pub fn has_sign(signs: Signs, side: Side) -> bool
 
 // Where the clause from `start` on ends, and in which sign it has the variable x.
 fn scan_clause(clauses: &[i32], start: usize, x: Variable) -> Scan
-    ensures { λ r. ⌜ NextZero (now (clauses .entry)) start (r .end) × Sided (r .side) (λ sign. HasLiteral (now (clauses .entry)) start (r .end) (signed sign (x .0))) ⌝ }
+    ensures scanned { λ r. ⌜ NextZero (now (clauses .entry)) start (r .end)
+        × Sided (r .side) (λ sign. HasLiteral (now (clauses .entry)) start (r .end) (signed sign (x .0))) ⌝ }
 {
     let mut side = Side::Neither;
     let mut i = start;
@@ -165,7 +168,7 @@ fn scan_clause(clauses: &[i32], start: usize, x: Variable) -> Scan
 
 // The sign of a literal.
 pub fn side_of(literal: Literal) -> Side
-    ensures { λ r. ⌜ Sided r (λ sign. literal .0 ≡ signed sign (variableOf (literal .0))) ⌝ }
+    ensures sided { λ r. ⌜ Sided r (λ sign. literal .0 ≡ signed sign (variableOf (literal .0))) ⌝ }
 {
     if literal.0 < 0 {
         return Side::Negative;
@@ -183,9 +186,9 @@ fn flag_clause(
     flags: &mut [bool],
     seen: &mut [u16],
 )
-    requires { ⌜ SoundClauses (now clauses) × NextZero (now clauses) start end × (end < length (now clauses)) × Stamps (now seen) (start + 1) ⌝ }
-    ensures { λ r. ⌜ Flagged (Via n (now (tops .entry)) (Connects (now (clauses .entry)) start end)) (now (flags .entry)) (now (flags .exit)) ⌝ }
-    ensures { λ r. ⌜ Stamps (now (seen .exit)) (end + 1 + 1) ⌝ }
+    requires sound { ⌜ SoundClauses (now clauses) × NextZero (now clauses) start end × (end < length (now clauses)) × Stamps (now seen) (start + 1) ⌝ }
+    ensures flagged { λ r. ⌜ Flagged (Via n (now (tops .entry)) (Connects (now (clauses .entry)) start end)) (now (flags .entry)) (now (flags .exit)) ⌝ }
+    ensures stamped { λ r. ⌜ Stamps (now (seen .exit)) (end + 1 + 1) ⌝ }
 {
     let stamp = (end + 1) as u16;
     if always_true(&clauses[start..end], seen, stamp) {
@@ -196,7 +199,8 @@ fn flag_clause(
 
 // Flags the tops of the variables of the entries from `start` up to the next 0.
 pub fn flag_after(n: u32, clauses: &[i32], start: usize, tops: &[u32], flags: &mut [bool])
-    ensures { λ r. ⌜ ((z : ℕ) × NextZero (now (clauses .entry)) start z × Flagged (Via n (now (tops .entry)) (Has (now (clauses .entry)) start z)) (now (flags .entry)) (now (flags .exit))) ⌝ }
+    ensures flagged { λ r. ⌜ ((z : ℕ) × NextZero (now (clauses .entry)) start z
+        × Flagged (Via n (now (tops .entry)) (Has (now (clauses .entry)) start z)) (now (flags .entry)) (now (flags .exit))) ⌝ }
 {
     let mut i = start;
     while i < clauses.len() {
@@ -216,7 +220,7 @@ pub fn flag_after(n: u32, clauses: &[i32], start: usize, tops: &[u32], flags: &m
 
 // Flags v; a v past the end of the table is passed over.
 fn flag(flags: &mut [bool], v: Variable)
-    ensures { λ r. ⌜ Flagged (λ w. w ≡ v .0) (now (flags .entry)) (now (flags .exit)) ⌝ }
+    ensures flagged { λ r. ⌜ Flagged (λ w. w ≡ v .0) (now (flags .entry)) (now (flags .exit)) ⌝ }
 {
     let at = v.0 as usize;
     if at < flags.len() {

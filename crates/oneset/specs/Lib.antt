@@ -1,2 +1,3 @@
+-- What the inner functions of this crate promise.
 pub mod Places
 pub mod Put

@@ -15,7 +15,7 @@ use Rattle.connection.specs.Reach.{Variables}
 use Rattle.forest.specs.Causes.{NotDeeper}
 use Rattle.tables.specs.Formula.{variables}
 use Rattle.tables.proofs.Agreeing.{Same, same-back}
-use Rattle.joining.proofs.Exchange.{carry-judged, one-more, same-order}
+use Rattle.terms.proofs.Orders.{carry-judged, one-more, same-order}
 use Rattle.paths.specs.Paths.{Deep}
 use Rattle.paths.specs.Causes.{PathCause, empty, without-x, always-true, apart, without-y}
 

@@ -38,7 +38,15 @@ pub record Filling (ls : List ℤ) (begins : List ℕ) (count start : ℕ) : Typ
   pub rows : (k : ℕ) → k < count → Begin ls k (getD begins k 0)
 
 pub fill-none : (ls : List ℤ) (begins : List ℕ) → length begins ≡ 16384 → Filling ls begins 0 0
-fill-none ls begins size = record { within = omega arith; few = omega arith; whole = omega arith; same = λ k. ap (λ j. getD (clauses ls) j []) (zero-add k); size = size; rows = λ k l. absurd (omega arith) }
+fill-none ls begins size = record {
+  within = omega arith;
+  few = omega arith;
+  whole = omega arith;
+  same = λ k. ap (λ j. getD (clauses ls) j [])
+      (zero-add k);
+  size = size;
+  rows = λ k l. absurd (omega arith);
+}
 
 module _ {ls : List ℤ} {begins : List ℕ} {count start : ℕ} (f : Filling ls begins count start) (short : length ls ≤ 16384) where
   -- One clause more.

@@ -142,7 +142,9 @@ module _ (X : Variables) (ls : List ℤ) (x y : ℕ) (path : List ℕ) where
   scan-judged zero i q some clean = (fails-never clean some (λ l. omega arith), tt)
   scan-judged (suc m) i q some clean = go (fails i) (fails-tells i (omega arith)) (λ next. scan-judged m (suc i) (omega arith) some next)
     where
-      go : (b : Bool) → Tells b (PathCause X ls x y path 24 i) → (Clean (PathCause X ls x y path) (suc i) → Judged (PathCause X ls x y path ∷ []) (scan m (suc i))) → Judged (PathCause X ls x y path ∷ []) (cond b (Refused 24 i) (scan m (suc i)))
+      go : (b : Bool) → Tells b (PathCause X ls x y path 24 i)
+          → (Clean (PathCause X ls x y path) (suc i) → Judged (PathCause X ls x y path ∷ []) (scan m (suc i))) → Judged (PathCause X ls x y path ∷ [])
+          (cond b (Refused 24 i) (scan m (suc i)))
       go true cause on = inl (fails-first clean cause)
       go false none on = on (rw (← add-one i) (clean-more clean none))
 

@@ -61,7 +61,8 @@ module _ {X : Variables} {ls : List ℤ} {x y : ℕ} {path : List ℕ} where
   not-joined (suc e) l not′ = apart e refl refl l (λ s. not′ (Joins.next e refl s))
 
   -- An entry with none of the faults has no cause.
-  pub no-cause : {k i : ℕ} → i < length path → alwaysTrue (clauseAt ls (at path i)) ≡ false → Joins X ls x path i → (suc i ≡ length path → HasVariable ls (at path i) y) → PathCause X ls x y path k i → ⊥
+  pub no-cause : {k i : ℕ} → i < length path → alwaysTrue (clauseAt ls (at path i)) ≡ false → Joins X ls x path i
+      → (suc i ≡ length path → HasVariable ls (at path i) y) → PathCause X ls x y path k i → ⊥
   no-cause l plain joins last (empty _ _ q) = omega arith
   no-cause l plain (Joins.first _ h) last (without-x _ p _ not′) = not′ h
   no-cause l plain (Joins.next e q _) last (without-x _ p _ not′) = omega arith
@@ -103,7 +104,8 @@ module _ {ls : List ℤ} {path stamps : List ℕ} {i start end : ℕ} (w : Walke
   walk-more {stamp} {new} is s =
       record {
         size = s .size ∙ w .size;
-        true-ones = λ v k q. ⊎-elim (λ same. w .true-ones v k (sym same ∙ q)) (λ here. let e : at path i ≡ k = let t = here .1 in omega arith in subst (λ j. HasVariable ls j v) e (from-has f v .1 (here .0))) (s .others v);
+        true-ones = λ v k q. ⊎-elim (λ same. w .true-ones v k (sym same ∙ q))
+            (λ here. let e : at path i ≡ k = let t = here .1 in omega arith in subst (λ j. HasVariable ls j v) e (from-has f v .1 (here .0))) (s .others v);
         before = λ e q v h.
             let same : e ≡ i = omega arith in
             s .marked v (from-has f v .0 (subst (λ j. HasVariable ls (at path j) v) same h)) ∙ is ∙ add-one (at path i) ∙ ap (λ j. suc (at path j)) (sym same);
@@ -122,11 +124,23 @@ module _ {ls : List ℤ} {path stamps : List ℕ} {i start end : ℕ} (w : Walke
   pub joins-next : (X : Variables) (x : ℕ) (b : Bool) {stamp : ℕ} → i ≢ 0 → stamp ≡ at path (i - 1) + 1 → Tells b (Meets X ls start end x stamps stamp) → Tells b (Joins X ls x path i)
   joins-next X x true {stamp} some is m =
       let q : i ≡ suc (i - 1) = omega arith in
-      Joins.next (i - 1) q (record { variable = m .variable; deep = m .deep; left = w .true-ones (m .variable) (at path (i - 1)) (m .stamped ∙ is ∙ add-one (at path (i - 1))); right = from-has f (m .variable) .1 (m .here) })
+      Joins.next (i - 1) q (record {
+        variable = m .variable;
+        deep = m .deep;
+        left = w .true-ones (m .variable) (at path (i - 1))
+            (m .stamped ∙ is ∙ add-one (at path (i - 1)));
+        right = from-has f (m .variable) .1 (m .here);
+      })
   joins-next X x false {stamp} some is m = go
     where
       go : Joins X ls x path i → ⊥
       go (Joins.first z _) = some z
       go (Joins.next e q s) =
           let same : e ≡ i - 1 = omega arith in
-          m (record { variable = s .variable; here = from-has f (s .variable) .0 (s .right); deep = s .deep; stamped = w .before e q (s .variable) (s .left) ∙ ap (λ j. suc (at path j)) same ∙ sym (is ∙ add-one (at path (i - 1))) })
+          m (record {
+            variable = s .variable;
+            here = from-has f (s .variable) .0 (s .right);
+            deep = s .deep;
+            stamped = w .before e q (s .variable)
+                (s .left) ∙ ap (λ j. suc (at path j)) same ∙ sym (is ∙ add-one (at path (i - 1)));
+          })

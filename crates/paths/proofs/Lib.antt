@@ -9,8 +9,6 @@ pub mod Agreeing
 -- Causes told by computing; accepted exactly if acceptable.
 pub mod Deciding
 pub mod Acceptance
--- A verdict under a rule.
-pub mod Ruled
 -- Where acceptable paths lead, and the demands of request 8.
 pub mod Reached
 pub mod Demands

@@ -103,7 +103,8 @@ module _ {X : Variables} {ls : List ℤ} {x : ℕ} where
             by-cases (decLt (suc i) (length path)) (λ less. subst₂ (Shared X ls x) (sym (old i (omega arith))) (sym (old (suc i) less)) (a .neighbours i less))
             (λ over. let q : suc i ≡ length path = omega arith in
             let p : i ≡ length path - 1 = omega arith in
-            subst₂ (Shared X ls x) (sym (old i (omega arith) ∙ ap (at path) p)) (sym (ap (at (path ++ (n .number ∷ []))) q ∙ new)) (record { variable = u; deep = d; left = a .last; right = n .left }));
+            subst₂ (Shared X ls x) (sym (old i (omega arith) ∙ ap (at path) p)) (sym (ap (at (path ++ (n .number ∷ []))) q ∙ new))
+            (record { variable = u; deep = d; left = a .last; right = n .left }));
         not-true = λ i l.
             by-cases (decLt i (length path)) (λ less. subst (λ k. alwaysTrue (clauseAt ls k) ≡ false) (sym (old i less)) (a .not-true i less))
             (λ over. let q : i ≡ length path = omega arith in subst (λ k. alwaysTrue (clauseAt ls k) ≡ false) (sym (ap (at (path ++ (n .number ∷ []))) q ∙ new)) (n .plain));

@@ -1,5 +1,5 @@
--- The path check on formula A of document 01 under rule 1, by computing: n 9, blocks e 1 2, a 3, e 4 5, a 6, e 7 8 9, clauses {3 4 7} {-4 8} {6 9} {5 9} {1 5}, and
--- an always-true clause {3 8 -8} put last, which has the number 5.
+-- The path check on formula A of document 01 under rule 1, by computing: n 9, blocks e 1 2, a 3, e 4 5, a 6, e 7 8 9, clauses {3 4 7} {-4 8} {6 9}
+-- {5 9} {1 5}, and an always-true clause {3 8 -8} put last, which has the number 5.
 use Prim.Native.Nat.{ℕ, zero, suc}
 use mathlib.Core.Path.{_≡_, refl, subst}
 use mathlib.Core.Bool.{Bool, true, _&&_}
@@ -15,15 +15,15 @@ use Rattle.terms.proofs.Verdicts.{at0-first, at0-none, accepted-then}
 use Rattle.terms.specs.Refusals.{At0, NoneOf, Judged}
 use Rattle.terms.specs.declared.Verdict.{Verdict}
 use Rattle.terms.specs.declared.Verdict.the-variants.{Accepted, Refused}
-use Rattle.formula.specs.Causes.{checkOrder}
+use Rattle.formula.specs.Lent.{Formula, formulaOf}
 use Rattle.formula.specs.Meaning.{blocks, clauses, opposite, denied, alwaysTrue, freeLevel, level, isUniversal, isExistential}
 use Rattle.formula.specs.Tables.{cut}
 use Rattle.formula.proofs.Accepts.{goodMark, prefixPasses, clausesPass, accepts}
 use Rattle.connection.proofs.Choice.{both}
 use Rattle.connection.specs.Search.{has}
+use Rattle.joining.specs.Rules.{readAs, checkOrder}
 use Rattle.tables.specs.Formula.{variables, universal}
-use Rattle.paths.specs.Causes.{Misnamed, NumberOver, PathCause, pairOrder, pathOrderUnder}
-use Rattle.paths.proofs.Ruled.{path-one}
+use Rattle.paths.specs.Causes.{Misnamed, NumberOver, PathCause, pairOrder, PathJudged}
 use Rattle.paths.proofs.Deciding.{hasVariable, isDeep, common, shares, joins, fails, scan, judge, judge-judged}
 
 abbrev es : List ℕ
@@ -33,9 +33,12 @@ abbrev ls : List ℤ
 ls =
     pos 3 ∷ pos 4 ∷ pos 7 ∷ pos 0 ∷ negsuc 3 ∷ pos 8 ∷ pos 0 ∷ pos 6 ∷ pos 9 ∷ pos 0 ∷ pos 5 ∷ pos 9 ∷ pos 0 ∷ pos 1 ∷ pos 5 ∷ pos 0 ∷ pos 3 ∷ pos 8 ∷ negsuc 7 ∷ pos 0 ∷ []
 
-accepted : NoneOf (checkOrder 9 es ls)
+abbrev formula-A : Formula
+formula-A = formulaOf 9 es ls
+
+accepted : NoneOf (checkOrder 1 formula-A)
 unfolding goodMark prefixPasses clausesPass
-accepted = accepts 9 es ls (lit≤ tt) (lit≤ tt) (lit≤ tt) refl refl
+accepted = (at0-none 23 (λ w. w .0 refl), accepts 9 es ls (lit≤ tt) (lit≤ tt) (lit≤ tt) refl refl)
 
 -- all numbers of a path are below a count
 unfoldable below : ℕ → List ℕ → Bool
@@ -48,6 +51,11 @@ none-over count [] t (i, l, high) = omega arith
 none-over count (k ∷ path) t (zero, l, high) = let low = ltb-true k count (both (ltb k count) (below count path) t .0) in omega arith
 none-over count (k ∷ path) t (suc i, l, high) = none-over count path (both (ltb k count) (below count path) t .1) (i, omega arith, high)
 
+-- What is judged behind check is the verdict of the call, since A is accepted.
+behind-check : (x y : ℕ) (path : List ℕ) (verdict : Verdict) → Judged (pairOrder formula-A x y path) verdict → PathJudged 1 formula-A x y path verdict
+unfolding readAs
+behind-check x y path verdict = accepted-then (checkOrder 1 formula-A) (pairOrder formula-A x y path) {v = Accepted} verdict refl accepted
+
 -- What antt computes of a pair and a path: nothing is refused as 13, and the verdict on the path.
 record Computed (x y : ℕ) (path : List ℕ) (verdict : Verdict) : Type 0 where
   of-universal : universal 9 es x ≡ true
@@ -57,40 +65,40 @@ record Computed (x y : ℕ) (path : List ℕ) (verdict : Verdict) : Type 0 where
   judged : judge (variables 9 es) ls x y path ≡ verdict
 
 -- Then that is the verdict of the call.
-by-computing : {x y : ℕ} (path : List ℕ) (verdict : Verdict) → Computed x y path verdict → Judged (pathOrderUnder 1 9 es ls x y path) verdict
+by-computing : {x y : ℕ} (path : List ℕ) (verdict : Verdict) → Computed x y path verdict → PathJudged 1 formula-A x y path verdict
 by-computing {x} {y} path verdict c =
-    path-one 1 9 es ls x y path verdict refl
-    (accepted-then (checkOrder 9 es ls) (pairOrder 9 es ls x y path) {v = Accepted} verdict refl accepted
-    (accepted-then (At0 13 (Misnamed 9 es ls x y path) ∷ []) (PathCause (variables 9 es) ls x y path ∷ []) {v = Accepted} verdict refl (at0-none 13 right, tt)
-    (subst (Judged (PathCause (variables 9 es) ls x y path ∷ [])) (c .judged) (judge-judged (variables 9 es) ls x y path))))
+    behind-check x y path verdict
+    (accepted-then (At0 13 (Misnamed formula-A x y path) ∷ []) (PathCause (variables 9 es) ls x y path ∷ []) {v = Accepted} verdict refl
+    (at0-none 13 right, tt) (subst (Judged (PathCause (variables 9 es) ls x y path ∷ [])) (c .judged) (judge-judged (variables 9 es) ls x y path)))
   where
-    right : Misnamed 9 es ls x y path → ⊥
-    right = ⊎-elim (λ no′. clash (c .of-universal) no′) (⊎-elim (⊎-elim (λ no′. clash (c .of-existential) no′) (λ low. let high = ltb-true (level es x) (level es y) (c .deeper) in omega arith)) (none-over (length (clauses ls)) path (c .known)))
+    right : Misnamed formula-A x y path → ⊥
+    right =
+        ⊎-elim (λ no′. clash (c .of-universal) no′)
+        (⊎-elim (⊎-elim (λ no′. clash (c .of-existential) no′) (λ low. let high = ltb-true (level es x) (level es y) (c .deeper) in omega arith))
+        (none-over (length (clauses ls)) path (c .known)))
 
 -- What is refused as 13.
-refused-13 : (x y : ℕ) (path : List ℕ) → Misnamed 9 es ls x y path → Judged (pathOrderUnder 1 9 es ls x y path) (Refused 13 0)
-refused-13 x y path wrong =
-    path-one 1 9 es ls x y path (Refused 13 0) refl
-    (accepted-then (checkOrder 9 es ls) (pairOrder 9 es ls x y path) {v = Accepted} (Refused 13 0) refl accepted (inl (at0-first 13 wrong)))
+refused-13 : (x y : ℕ) (path : List ℕ) → Misnamed formula-A x y path → PathJudged 1 formula-A x y path (Refused 13 0)
+refused-13 x y path wrong = behind-check x y path (Refused 13 0) (inl (at0-first 13 wrong))
 
 pub record Sampled : Type 0 where
   -- {3 4 7} {-4 8} share 4
-  pub path-3-8 : Judged (pathOrderUnder 1 9 es ls 3 8 (0 ∷ 1 ∷ [])) Accepted
+  pub path-3-8 : PathJudged 1 formula-A 3 8 (0 ∷ 1 ∷ []) Accepted
   -- the first has not 3, the last has not 8, and no clause at all
-  pub without-3 : Judged (pathOrderUnder 1 9 es ls 3 8 (1 ∷ [])) (Refused 24 0)
-  pub without-8 : Judged (pathOrderUnder 1 9 es ls 3 8 (0 ∷ [])) (Refused 24 0)
-  pub no-clause : Judged (pathOrderUnder 1 9 es ls 3 8 []) (Refused 24 0)
+  pub without-3 : PathJudged 1 formula-A 3 8 (1 ∷ []) (Refused 24 0)
+  pub without-8 : PathJudged 1 formula-A 3 8 (0 ∷ []) (Refused 24 0)
+  pub no-clause : PathJudged 1 formula-A 3 8 [] (Refused 24 0)
   -- {3 4 7} {5 9} share nothing, and fail at the second
-  pub apart-3-8 : Judged (pathOrderUnder 1 9 es ls 3 8 (0 ∷ 3 ∷ 1 ∷ [])) (Refused 24 1)
+  pub apart-3-8 : PathJudged 1 formula-A 3 8 (0 ∷ 3 ∷ 1 ∷ []) (Refused 24 1)
   -- {3 8 -8} has both, and is always true
-  pub always-true-3-8 : Judged (pathOrderUnder 1 9 es ls 3 8 (5 ∷ [])) (Refused 24 0)
+  pub always-true-3-8 : PathJudged 1 formula-A 3 8 (5 ∷ []) (Refused 24 0)
   -- {5 9} {1 5} share 5, which is not deeper than 6
-  pub path-6-9 : Judged (pathOrderUnder 1 9 es ls 6 9 (2 ∷ 3 ∷ [])) Accepted
-  pub shallow-6-9 : Judged (pathOrderUnder 1 9 es ls 6 9 (2 ∷ 3 ∷ 4 ∷ 3 ∷ [])) (Refused 24 2)
+  pub path-6-9 : PathJudged 1 formula-A 6 9 (2 ∷ 3 ∷ []) Accepted
+  pub shallow-6-9 : PathJudged 1 formula-A 6 9 (2 ∷ 3 ∷ 4 ∷ 3 ∷ []) (Refused 24 2)
   -- 13 comes before 24: a clause number that is too large, an x that is not universal, a y that is not deeper
-  pub number-over : Judged (pathOrderUnder 1 9 es ls 3 8 (1 ∷ 6 ∷ [])) (Refused 13 0)
-  pub no-universal : Judged (pathOrderUnder 1 9 es ls 4 8 (1 ∷ [])) (Refused 13 0)
-  pub not-deeper : Judged (pathOrderUnder 1 9 es ls 6 5 (2 ∷ 3 ∷ [])) (Refused 13 0)
+  pub number-over : PathJudged 1 formula-A 3 8 (1 ∷ 6 ∷ []) (Refused 13 0)
+  pub no-universal : PathJudged 1 formula-A 4 8 (1 ∷ []) (Refused 13 0)
+  pub not-deeper : PathJudged 1 formula-A 6 5 (2 ∷ 3 ∷ []) (Refused 13 0)
 
 pub sampled : Sampled
 unfolding blocks clauses opposite denied alwaysTrue freeLevel level isUniversal isExistential cut has universal below hasVariable isDeep common shares joins fails scan judge

@@ -2,9 +2,11 @@
 
 use formula::clauses::next_zero;
 use formula::truth::always_true;
+use terms::Literal;
 ghost use Prim.Native.Nat.{_+_, _<_};
 ghost use mathlib.Core.Path.{_≡_};
 ghost use lib.ListN.{length};
+ghost use Rattle.terms.specs.Limits.{clauseEntries};
 ghost use Rattle.formula.specs.Lookup.{NextZero, SoundClauses, Stamps};
 ghost use Rattle.formula.specs.Meaning.{clauses as Meaning·clauses};
 ghost use Rattle.tables.specs.Rows.{Tells};
@@ -13,10 +15,10 @@ ghost use Rattle.paths.specs.Walk.{Rows, RowOf};
 
 // Fills the row of each clause: 0 where it is always true, and else one more than the entry with which it begins. Gives the count of the clauses.
 pub fn fill_begins(clauses: &[i32], begins: &mut [u16]) -> usize
-    requires { ⌜ SoundClauses (now clauses) × (length (now begins) ≡ 16384) ⌝ }
-    ensures { λ r. ⌜ (r ≡ length (Meaning·clauses (now (clauses .entry)))) × Rows (now (clauses .entry)) (now (begins .exit)) r ⌝ }
+    requires room { ⌜ SoundClauses (now clauses) × (length (now begins) ≡ clauseEntries) ⌝ }
+    ensures filled { λ r. ⌜ (r ≡ length (Meaning·clauses (now (clauses .entry)))) × Rows (now (clauses .entry)) (now (begins .exit)) r ⌝ }
 {
-    let mut seen = [0u16; 8194];
+    let mut seen = [0u16; Literal::ROWS];
     let mut count = 0;
     let mut start = 0;
     while start < clauses.len() {
@@ -33,8 +35,8 @@ pub fn fill_begins(clauses: &[i32], begins: &mut [u16]) -> usize
 
 // The row of the clause from start up to end, which `seen` is for telling whether it is always true.
 fn row_of(clauses: &[i32], start: usize, end: usize, seen: &mut [u16]) -> u16
-    requires { ⌜ SoundClauses (now clauses) × NextZero (now clauses) start end × (end < length (now clauses)) × Stamps (now seen) (start + 1) ⌝ }
-    ensures { λ r. ⌜ RowOf (now (clauses .entry)) start end r × Stamps (now (seen .exit)) (end + 1 + 1) ⌝ }
+    requires there { ⌜ SoundClauses (now clauses) × NextZero (now clauses) start end × (end < length (now clauses)) × Stamps (now seen) (start + 1) ⌝ }
+    ensures own { λ r. ⌜ RowOf (now (clauses .entry)) start end r × Stamps (now (seen .exit)) (end + 1 + 1) ⌝ }
 {
     let stamp = (end + 1) as u16;
     if always_true(&clauses[start..end], seen, stamp) {
@@ -45,7 +47,7 @@ fn row_of(clauses: &[i32], start: usize, end: usize, seen: &mut [u16]) -> u16
 
 // Whether some entry of a path is not below the count of the clauses.
 pub fn some_over(path: &[u32], count: usize) -> bool
-    ensures { λ r. ⌜ Tells r (NumberOver count (now (path .entry))) ⌝ }
+    ensures told { λ r. ⌜ Tells r (NumberOver count (now (path .entry))) ⌝ }
 {
     let mut i = 0;
     while i < path.len() {

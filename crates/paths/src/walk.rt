@@ -10,11 +10,12 @@ ghost use mathlib.Core.Path.{_≡_};
 ghost use mathlib.Core.Bool.{false};
 ghost use mathlib.Core.List.{[], _∷_};
 ghost use lib.ListN.{length, getD};
+ghost use Rattle.terms.specs.Limits.{variableRows};
 ghost use Rattle.terms.specs.Refusals.{Judged};
 ghost use Rattle.formula.specs.Lookup.{NextZero, SoundClauses};
 ghost use Rattle.formula.specs.Meaning.{alwaysTrue};
 ghost use Rattle.formula.specs.Tables.{at};
-ghost use Rattle.tables.specs.Formula.{tabled};
+ghost use Rattle.tables.specs.Tabled.{tabled};
 ghost use Rattle.tables.specs.Rows.{Tells};
 ghost use Rattle.marks.specs.Flags.{Has};
 ghost use Rattle.paths.specs.Paths.{clauseAt, Deep};
@@ -32,13 +33,14 @@ pub fn follow(
     y: Variable,
     path: &[u32],
 ) -> Verdict
-    requires { ⌜ SoundClauses (now clauses) × Known (now clauses) (now begins) (now path) ⌝ }
-    ensures { λ r. ⌜ Judged (PathCause (tabled n (now (levels .entry)) (now (universals .entry))) (now (clauses .entry)) (x .0) (y .0) (now (path .entry)) ∷ []) r ⌝ }
+    requires known { ⌜ SoundClauses (now clauses) × Known (now clauses) (now begins) (now path) ⌝ }
+    ensures judged { λ r. ⌜ Judged (PathCause (tabled n (now (levels .entry)) (now (universals .entry)))
+        (now (clauses .entry)) (x .0) (y .0) (now (path .entry)) ∷ []) r ⌝ }
 {
     if path.len() == 0 {
         return Verdict::Refused(24, 0);
     }
-    let mut stamps = [0u16; 4097];
+    let mut stamps = [0u16; Variable::ROWS];
     let mut i = 0;
     while i < path.len() {
         if fails_at(
@@ -74,8 +76,9 @@ fn fails_at(
     stamps: &[u16],
     i: usize,
 ) -> bool
-    requires { ⌜ Known (now clauses) (now begins) (now path) × Walked (now clauses) (now path) (now stamps) i × (i < length (now path)) ⌝ }
-    ensures { λ r. ⌜ Tells r (PathCause (tabled n (now (levels .entry)) (now (universals .entry))) (now (clauses .entry)) (x .0) (y .0) (now (path .entry)) 24 i) ⌝ }
+    requires walked { ⌜ Known (now clauses) (now begins) (now path) × Walked (now clauses) (now path) (now stamps) i × (i < length (now path)) ⌝ }
+    ensures told { λ r. ⌜ Tells r (PathCause (tabled n (now (levels .entry)) (now (universals .entry)))
+        (now (clauses .entry)) (x .0) (y .0) (now (path .entry)) 24 i) ⌝ }
 {
     let number = path[i];
     let row = begins[number as usize];
@@ -104,9 +107,9 @@ fn goes_on(
     stamps: &[u16],
     i: usize,
 ) -> bool
-    requires { ⌜ ((end : ℕ) × StandsFrom (now clauses) (at (now path) i) start end) × Walked (now clauses) (now path) (now stamps) i ⌝ }
-    requires { ⌜ Small (now path) × (i < length (now path)) ⌝ }
-    ensures { λ r. ⌜ Tells r (Joins (tabled n (now (levels .entry)) (now (universals .entry))) (now (clauses .entry)) (x .0) (now (path .entry)) i) ⌝ }
+    requires walked { ⌜ ((end : ℕ) × StandsFrom (now clauses) (at (now path) i) start end) × Walked (now clauses) (now path) (now stamps) i ⌝ }
+    requires within { ⌜ Small (now path) × (i < length (now path)) ⌝ }
+    ensures told { λ r. ⌜ Tells r (Joins (tabled n (now (levels .entry)) (now (universals .entry))) (now (clauses .entry)) (x .0) (now (path .entry)) i) ⌝ }
 {
     if i == 0 {
         return has_variable(clauses, start, x);
@@ -117,7 +120,7 @@ fn goes_on(
 
 // Whether the clause from `start` on has the variable v.
 fn has_variable(clauses: &[i32], start: usize, v: Variable) -> bool
-    ensures { λ r. ⌜ ((end : ℕ) → NextZero (now (clauses .entry)) start end → Tells r (Has (now (clauses .entry)) start end (v .0))) ⌝ }
+    ensures told { λ r. ⌜ ((end : ℕ) → NextZero (now (clauses .entry)) start end → Tells r (Has (now (clauses .entry)) start end (v .0))) ⌝ }
 {
     let mut i = start;
     while i < clauses.len() {
@@ -144,7 +147,8 @@ fn meets(
     stamps: &[u16],
     stamp: u16,
 ) -> bool
-    ensures { λ r. ⌜ ((end : ℕ) → NextZero (now (clauses .entry)) start end → Tells r (Meets (tabled n (now (levels .entry)) (now (universals .entry))) (now (clauses .entry)) start end (x .0) (now (stamps .entry)) stamp)) ⌝ }
+    ensures told { λ r. ⌜ ((end : ℕ) → NextZero (now (clauses .entry)) start end → Tells r (Meets (tabled n (now (levels .entry)) (now (universals .entry)))
+        (now (clauses .entry)) start end (x .0) (now (stamps .entry)) stamp)) ⌝ }
 {
     let mut i = start;
     while i < clauses.len() {
@@ -170,7 +174,8 @@ fn is_met(
     stamp: u16,
     v: Variable,
 ) -> bool
-    ensures { λ r. ⌜ Tells r (Deep (tabled n (now (levels .entry)) (now (universals .entry))) (x .0) (v .0) × (getD (now (stamps .entry)) (v .0) 0 ≡ stamp)) ⌝ }
+    ensures told { λ r. ⌜ Tells r (Deep (tabled n (now (levels .entry)) (now (universals .entry))) (x .0) (v .0)
+        × (getD (now (stamps .entry)) (v .0) 0 ≡ stamp)) ⌝ }
 {
     if stamp_at(stamps, v) != stamp {
         return false;
@@ -180,7 +185,7 @@ fn is_met(
 
 // The stamp of v; 0 past the end of the table.
 fn stamp_at(stamps: &[u16], v: Variable) -> u16
-    ensures { λ r. ⌜ r ≡ getD (now (stamps .entry)) (v .0) 0 ⌝ }
+    ensures own { λ r. ⌜ r ≡ getD (now (stamps .entry)) (v .0) 0 ⌝ }
 {
     let at = v.0 as usize;
     if at < stamps.len() { stamps[at] } else { 0 }
@@ -188,7 +193,7 @@ fn stamp_at(stamps: &[u16], v: Variable) -> u16
 
 // Whether v is an existential deeper than x.
 pub fn is_deep(n: u32, levels: &[u32], universals: &[bool], x: Variable, v: Variable) -> bool
-    ensures { λ r. ⌜ Tells r (Deep (tabled n (now (levels .entry)) (now (universals .entry))) (x .0) (v .0)) ⌝ }
+    ensures told { λ r. ⌜ Tells r (Deep (tabled n (now (levels .entry)) (now (universals .entry))) (x .0) (v .0)) ⌝ }
 {
     if !existential_at(n, universals, v) {
         return false;
@@ -203,9 +208,9 @@ pub fn is_deep(n: u32, levels: &[u32], universals: &[bool], x: Variable, v: Vari
 
 // Stamps the variables of the clause that entry i of a path names with its number, plus one.
 fn stamp_clause(clauses: &[i32], begins: &[u16], path: &[u32], i: usize, stamps: &mut [u16])
-    requires { ⌜ SoundClauses (now clauses) × Known (now clauses) (now begins) (now path) × Walked (now clauses) (now path) (now stamps) i ⌝ }
-    requires { ⌜ (i < length (now path)) × (alwaysTrue (clauseAt (now clauses) (at (now path) i)) ≡ false) ⌝ }
-    ensures { λ r. ⌜ Walked (now (clauses .entry)) (now (path .entry)) (now (stamps .exit)) (i + 1) ⌝ }
+    requires walked { ⌜ SoundClauses (now clauses) × Known (now clauses) (now begins) (now path) × Walked (now clauses) (now path) (now stamps) i ⌝ }
+    requires fit { ⌜ (i < length (now path)) × (alwaysTrue (clauseAt (now clauses) (at (now path) i)) ≡ false) ⌝ }
+    ensures walked { λ r. ⌜ Walked (now (clauses .entry)) (now (path .entry)) (now (stamps .exit)) (i + 1) ⌝ }
 {
     let number = path[i];
     let row = begins[number as usize];
@@ -215,8 +220,9 @@ fn stamp_clause(clauses: &[i32], begins: &[u16], path: &[u32], i: usize, stamps:
 
 // Stamps the variables of the entries from `start` up to the next 0.
 fn stamp_entries(clauses: &[i32], start: usize, stamp: u16, stamps: &mut [u16])
-    requires { ⌜ SoundClauses (now clauses) × (length (now stamps) ≡ 4097) ⌝ }
-    ensures { λ r. ⌜ ((end : ℕ) → NextZero (now (clauses .entry)) start end → Stamped (Has (now (clauses .entry)) start end) stamp (now (stamps .entry)) (now (stamps .exit))) ⌝ }
+    requires room { ⌜ SoundClauses (now clauses) × (length (now stamps) ≡ variableRows) ⌝ }
+    ensures stamped { λ r. ⌜ ((end : ℕ) → NextZero (now (clauses .entry)) start end
+        → Stamped (Has (now (clauses .entry)) start end) stamp (now (stamps .entry)) (now (stamps .exit))) ⌝ }
 {
     let mut i = start;
     while i < clauses.len() {

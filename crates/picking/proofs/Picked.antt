@@ -2,7 +2,9 @@
 use Prim.Native.Nat.{ℕ, zero, suc, _+_, _-_, _*_, _≤_, _<_}
 use mathlib.Core.Path.{_≡_, refl, sym, ap, ap₂, _∙_, subst}
 use mathlib.Core.Bool.{Bool, true, false, cond}
-use mathlib.Core.List.{List, [], _∷_, _++_, append-nil, List·Memᴰ, List·Memᴰ·head, List·Memᴰ·tail, List·Memᴰ·not-nil, List·Memᴰ·append-cases, List·Memᴰ·eq-of-singleton, Memᴰ·append-left, Memᴰ·append-right}
+use mathlib.Core.List.{List, [], _∷_, _++_, append-nil, List·Memᴰ}
+use mathlib.Core.List.{List·Memᴰ·head, List·Memᴰ·tail, List·Memᴰ·not-nil}
+use mathlib.Core.List.{List·Memᴰ·append-cases, List·Memᴰ·eq-of-singleton, Memᴰ·append-left, Memᴰ·append-right}
 use mathlib.Core.Logic.{⊎-elim, _↔_}
 use native.Mathlib.Decide.{ℕ-discrete}
 use native.Mathlib.Numerals.{add-one}
@@ -10,7 +12,7 @@ use native.Mathlib.Omega.{arith}
 use lib.ListN.{length, set, length-append}
 use lib.Seq.{sets}
 use Rattle.terms.proofs.Common.{sets-append}
-use Rattle.connection.specs.Listed.{Ascending, Listed}
+use Rattle.terms.specs.Listed.{Ascending, Listed}
 use Rattle.connection.specs.Counts.{sum}
 use Rattle.connection.proofs.Counts.{sum-more}
 use Rattle.picking.specs.Picked.{picked, NoneUpto}
@@ -31,7 +33,9 @@ length-more f m q = ap length (picked-more f m q) ∙ length-append (picked f m)
 pub picked-none : (f : ℕ → Bool) (m : ℕ) → NoneUpto f m → picked f m ≡ []
 unfolding picked
 picked-none f zero none = refl
-picked-none f (suc m) none = ap (λ b. picked f m ++ cond b (suc m ∷ []) []) (none (suc m) (omega arith) (omega arith)) ∙ append-nil (picked f m) ∙ picked-none f m (λ v a b. none v a (omega arith))
+picked-none f (suc m) none =
+    ap (λ b. picked f m ++ cond b (suc m ∷ []) []) (none (suc m) (omega arith) (omega arith)) ∙ append-nil (picked f m)
+    ∙ picked-none f m (λ v a b. none v a (omega arith))
 
 -- No more are picked than there are numbers, and none is lost on the way.
 pub picked-most : (f : ℕ → Bool) (m : ℕ) → length (picked f m) ≤ m
@@ -46,7 +50,8 @@ picked-most f (suc m) = go (f (suc m)) (picked-most f m)
 pub picked-grows : (f : ℕ → Bool) (m k : ℕ) → length (picked f m) ≤ length (picked f (m + k))
 unfolding picked
 picked-grows f m zero = let q : m + zero ≡ m = omega arith in rw q (omega arith)
-picked-grows f m (suc k) = let q : m + suc k ≡ suc (m + k) = omega arith in rw (q, length-append (picked f (m + k)) (cond (f (suc (m + k))) (suc (m + k) ∷ []) [])) (omega (arith, picked-grows f m k))
+picked-grows f m (suc k) = let q : m + suc k ≡ suc (m + k) = omega arith in
+    rw (q, length-append (picked f (m + k)) (cond (f (suc (m + k))) (suc (m + k) ∷ []) [])) (omega (arith, picked-grows f m k))
 
 -- A store behind a run of stores lengthens it.
 pub sets-more : (before : List ℕ) (at a : ℕ) (list : List ℕ) → set (sets before at list) (at + length list) a ≡ sets before at (list ++ (a ∷ []))
@@ -56,7 +61,8 @@ sets-more before at a list = sym (sets-append before at list (a ∷ []))
 pub picked-flag : (f : ℕ → Bool) (m v : ℕ) → List·Memᴰ v (picked f m) → (1 ≤ v) × (v ≤ m) × (f v ≡ true)
 unfolding picked
 picked-flag f zero v m∈ = absurd (List·Memᴰ·not-nil m∈)
-picked-flag f (suc m) v m∈ = ⊎-elim (λ old. let (a, b, t) = picked-flag f m v old in (a, omega arith, t)) (new (f (suc m)) refl) (List·Memᴰ·append-cases (picked f m) m∈)
+picked-flag f (suc m) v m∈ =
+    ⊎-elim (λ old. let (a, b, t) = picked-flag f m v old in (a, omega arith, t)) (new (f (suc m)) refl) (List·Memᴰ·append-cases (picked f m) m∈)
   where
     new : (b : Bool) → f (suc m) ≡ b → List·Memᴰ v (cond b (suc m ∷ []) []) → (1 ≤ v) × (v ≤ suc m) × (f v ≡ true)
     new true q here = let e = List·Memᴰ·eq-of-singleton here in (omega arith, omega arith, ap f e ∙ q)
@@ -74,7 +80,8 @@ flag-picked f (suc m) v a b t = go (ℕ-discrete v (suc m)) (λ l. flag-picked f
 ascending-snoc : (list : List ℕ) (w : ℕ) → Ascending list → ((v : ℕ) → List·Memᴰ v list → v < w) → Ascending (list ++ (w ∷ []))
 ascending-snoc [] w up low = (λ b m. absurd (List·Memᴰ·not-nil m), tt)
 ascending-snoc (a ∷ list) w up low = (
-  λ b m. ⊎-elim (λ old. up .0 b old) (λ new. let q = List·Memᴰ·eq-of-singleton new in let l = low a (List·Memᴰ·head refl) in omega arith) (List·Memᴰ·append-cases list m),
+  λ b m. ⊎-elim (λ old. up .0 b old) (λ new. let q = List·Memᴰ·eq-of-singleton new in let l = low a (List·Memᴰ·head refl) in omega arith)
+      (List·Memᴰ·append-cases list m),
   ascending-snoc list w (up .1) (λ v m. low v (List·Memᴰ·tail m)),
 )
 
@@ -88,7 +95,8 @@ picked-up f (suc m) = go (f (suc m)) (picked-up f m)
     go false up = rw (append-nil (picked f m)) up
 
 -- If f tells of the numbers from 1 to n whether P holds, the list of P is what is picked.
-pub picked-listed : {P : ℕ → Type 0} (f : ℕ → Bool) (n : ℕ) → ((v : ℕ) → P v → (1 ≤ v) × (v ≤ n)) → ((v : ℕ) → 1 ≤ v → v ≤ n → (f v ≡ true) ↔ P v) → Listed P (picked f n)
+pub picked-listed : {P : ℕ → Type 0} (f : ℕ → Bool) (n : ℕ) → ((v : ℕ) → P v → (1 ≤ v) × (v ≤ n))
+    → ((v : ℕ) → 1 ≤ v → v ≤ n → (f v ≡ true) ↔ P v) → Listed P (picked f n)
 picked-listed f n within tells =
     record {
       ascending = picked-up f n;
@@ -104,7 +112,8 @@ pub record Counted (n : ℕ) (f : ℕ → Bool) (first count passed : ℕ) : Typ
 pub count-none : (n : ℕ) (f : ℕ → Bool) (first from : ℕ) → from ≤ n → NoneUpto f from → Counted n f first first from
 count-none n f first from low none = record { most = low; counted = let q = ap length (picked-none f from none) in omega arith }
 
-module _ {n : ℕ} {f : ℕ → Bool} {first count passed : ℕ} (c : Counted n f first count passed) (more : passed < n) (v : ℕ) (b : Bool) (is : v ≡ passed + 1) (told : b ≡ f v) where
+module _ {n : ℕ} {f : ℕ → Bool} {first count passed : ℕ} (c : Counted n f first count passed) (more : passed < n) {v : ℕ} {b : Bool}
+    (is : v ≡ passed + 1) (told : b ≡ f v) where
   flag : f (passed + 1) ≡ b
   flag = ap f (sym is) ∙ sym told
 
@@ -123,7 +132,8 @@ module _ {n : ℕ} {f : ℕ → Bool} {first count passed : ℕ} (c : Counted n 
       let here = c .counted in
       omega arith
 
-  pub write-more : (old : List ℕ) {out : List ℕ} → out ≡ sets old first (picked f passed) → b ≡ true → set out count (passed + 1) ≡ sets old first (picked f (passed + 1))
+  pub write-more : (old : List ℕ) {out : List ℕ} → out ≡ sets old first (picked f passed) → b ≡ true
+      → set out count (passed + 1) ≡ sets old first (picked f (passed + 1))
   write-more old written yes′ =
       ap (λ (o : List ℕ). set o count (passed + 1)) written ∙ ap (λ (i : ℕ). set (sets old first (picked f passed)) i (passed + 1)) (c .counted)
       ∙ sets-more old first (passed + 1) (picked f passed) ∙ sym (ap (sets old first) (picked-more f passed (flag ∙ yes′)))
@@ -145,7 +155,8 @@ module _ (n : ℕ) (f : ℕ → Bool) (g : ℕ → ℕ) where
   unfolding sum picked
   sum-none = record { within = omega arith; sum-is = refl; most = omega arith }
 
-  pub sum-more-flagged : {passed total here : ℕ} → ((v : ℕ) → g v ≤ 4096) → Summed n f g passed total → passed < n → f (passed + 1) ≡ true → here ≡ g (passed + 1) → Summed n f g (passed + 1) (total + here)
+  pub sum-more-flagged : {passed total here : ℕ} → ((v : ℕ) → g v ≤ 4096) → Summed n f g passed total → passed < n → f (passed + 1) ≡ true
+      → here ≡ g (passed + 1) → Summed n f g (passed + 1) (total + here)
   sum-more-flagged {passed} {total} {here} small s l flag is =
       let most = s .most in
       let one = small (passed + 1) in
@@ -156,4 +167,5 @@ module _ (n : ℕ) (f : ℕ → Bool) (g : ℕ → ℕ) where
       }
 
   pub sum-same : {passed total : ℕ} → Summed n f g passed total → passed < n → f (passed + 1) ≡ false → Summed n f g (passed + 1) total
-  sum-same {passed} s l flag = let most = s .most in record { within = omega arith; sum-is = s .sum-is ∙ sym (ap (sum g) (picked-same f passed flag)); most = omega arith }
+  sum-same {passed} s l flag = let most = s .most in
+      record { within = omega arith; sum-is = s .sum-is ∙ sym (ap (sum g) (picked-same f passed flag)); most = omega arith }

@@ -22,7 +22,7 @@ pub enum Asked {
 
 // Writes the picked numbers from 1 to n into the front of `out`, ascending, if there is room for all of them.
 pub fn list_picked(n: u32, asked: Asked, flags: &[bool], tops: &[u32], out: &mut [u32]) -> Filled
-    ensures { λ r. ⌜ Picks (pick asked n (now (flags .entry)) (now (tops .entry))) n (now (out .entry)) (now (out .exit)) r ⌝ }
+    ensures listed { λ r. ⌜ Picks (pick asked n (now (flags .entry)) (now (tops .entry))) n (now (out .entry)) (now (out .exit)) r ⌝ }
 {
     if !has_room(n, asked, flags, tops, out.len()) {
         return Filled::Refused(14, 0);
@@ -33,7 +33,7 @@ pub fn list_picked(n: u32, asked: Asked, flags: &[bool], tops: &[u32], out: &mut
 
 // Whether so much room is enough for the picked numbers. They are counted only where there is room for less than n.
 fn has_room(n: u32, asked: Asked, flags: &[bool], tops: &[u32], room: usize) -> bool
-    ensures { λ r. ⌜ Tells r (length (picked (pick asked n (now (flags .entry)) (now (tops .entry))) n) ≤ room) ⌝ }
+    ensures told { λ r. ⌜ Tells r (length (picked (pick asked n (now (flags .entry)) (now (tops .entry))) n) ≤ room) ⌝ }
 {
     if n as usize <= room {
         return true;
@@ -47,8 +47,8 @@ fn has_room(n: u32, asked: Asked, flags: &[bool], tops: &[u32], room: usize) -> 
 
 // How many of the numbers from 1 to n are picked, where none is up to `from`.
 pub fn count_picked(n: u32, asked: Asked, flags: &[bool], tops: &[u32], from: u32) -> u32
-    requires { ⌜ (from ≤ n) × NoneUpto (pick asked n (now flags) (now tops)) from ⌝ }
-    ensures { λ r. ⌜ r ≡ length (picked (pick asked n (now (flags .entry)) (now (tops .entry))) n) ⌝ }
+    requires skipped { ⌜ (from ≤ n) × NoneUpto (pick asked n (now flags) (now tops)) from ⌝ }
+    ensures counted { λ r. ⌜ r ≡ length (picked (pick asked n (now (flags .entry)) (now (tops .entry))) n) ⌝ }
 {
     let mut count: u32 = 0;
     let mut passed: u32 = from;
@@ -71,10 +71,10 @@ pub fn write_picked(
     at: usize,
     out: &mut [u32],
 ) -> usize
-    requires { ⌜ (from ≤ n) × NoneUpto (pick asked n (now flags) (now tops)) from ⌝ }
-    requires { ⌜ at + length (picked (pick asked n (now flags) (now tops)) n) ≤ length (now out) ⌝ }
-    ensures { λ r. ⌜ r ≡ at + length (picked (pick asked n (now (flags .entry)) (now (tops .entry))) n) ⌝ }
-    ensures { λ r. ⌜ now (out .exit) ≡ sets (now (out .entry)) at (picked (pick asked n (now (flags .entry)) (now (tops .entry))) n) ⌝ }
+    requires skipped { ⌜ (from ≤ n) × NoneUpto (pick asked n (now flags) (now tops)) from ⌝ }
+    requires room { ⌜ at + length (picked (pick asked n (now flags) (now tops)) n) ≤ length (now out) ⌝ }
+    ensures behind { λ r. ⌜ r ≡ at + length (picked (pick asked n (now (flags .entry)) (now (tops .entry))) n) ⌝ }
+    ensures written { λ r. ⌜ now (out .exit) ≡ sets (now (out .entry)) at (picked (pick asked n (now (flags .entry)) (now (tops .entry))) n) ⌝ }
 {
     let mut end = at;
     let mut passed: u32 = from;
@@ -90,7 +90,7 @@ pub fn write_picked(
 
 // Whether v is picked.
 fn picks(n: u32, asked: Asked, flags: &[bool], tops: &[u32], v: Variable) -> bool
-    ensures { λ r. ⌜ r ≡ pick asked n (now (flags .entry)) (now (tops .entry)) (v .0) ⌝ }
+    ensures told { λ r. ⌜ r ≡ pick asked n (now (flags .entry)) (now (tops .entry)) (v .0) ⌝ }
 {
     match asked {
         Asked::Points => flag_at(flags, v),
@@ -100,8 +100,8 @@ fn picks(n: u32, asked: Asked, flags: &[bool], tops: &[u32], v: Variable) -> boo
 
 // The sum of the rows of the flagged numbers from 1 to n.
 pub fn sum_flagged(n: u32, flags: &[bool], rows: &[u32]) -> u32
-    requires { ⌜ (n ≤ 4096) × ((v : ℕ) → row n (now rows) v ≤ 4096) ⌝ }
-    ensures { λ r. ⌜ r ≡ sum (row n (now (rows .entry))) (picked (λ v. getD (now (flags .entry)) v false) n) ⌝ }
+    requires small { ⌜ (n ≤ 4096) × ((v : ℕ) → row n (now rows) v ≤ 4096) ⌝ }
+    ensures summed { λ r. ⌜ r ≡ sum (row n (now (rows .entry))) (picked (λ v. getD (now (flags .entry)) v false) n) ⌝ }
 {
     let mut total: u32 = 0;
     let mut passed: u32 = 0;

@@ -2,8 +2,8 @@
 use Prim.Native.Nat.{ℕ, zero, suc, _+_, _-_, _≤_, _<_}
 use mathlib.Core.Path.{_≡_, refl, sym, ap, _∙_, subst}
 use mathlib.Core.Bool.{Bool, true, false}
-use mathlib.Core.List.{List, _∷_}
-use mathlib.Core.Logic.{_≢_, _⊎_, inl, inr}
+use mathlib.Core.List.{List, [], _∷_}
+use mathlib.Core.Logic.{_≢_, _⊎_, inl, inr, ⊎-elim}
 use native.Mathlib.Decide.{ℕ-discrete}
 use native.Mathlib.Omega.{arith}
 use borrow.Author.Tests.{eq-eqb, ne-eqb, eqb-false}
@@ -12,19 +12,49 @@ use lib.IntN.{ℤ, pos, natAbs}
 use lib.ListN.{length, drop, drop-of-length-le}
 use lib.Seq.{drop-cons}
 use Rattle.terms.specs.Literals.{variableOf}
+use Rattle.terms.proofs.Common.{by-test}
 use Rattle.terms.specs.Refusals.{None, NoneOf}
 use Rattle.formula.specs.Tables.{at, literalAt, opens, EndsInside}
-use Rattle.formula.specs.Causes.{PrefixCause, ClauseCause, checkOrder}
+use Rattle.formula.specs.Causes.{PrefixCause, ClauseCause}
+use Rattle.formula.specs.Lent.{Formula}
+use Rattle.joining.specs.Rules.{JoinedCause, checkOrder}
+use Rattle.joining.proofs.Orders.{limits, by-rule}
+use Rattle.joining.proofs.Passing.{Passes, no-more, begin, go-on, close-block, name, passes, mark-is as joined-mark}
 use Rattle.formula.proofs.Scanned.{open-end}
 use Rattle.formula.proofs.Literals.{no-variable}
 use Rattle.spelling.specs.Bytes.{SmallEntries, SmallLiterals}
 use Rattle.qdimacs.proofs.Holdable.{Blocks, no-block, block, block-end, variable, Clauses, no-clause, clause-end, literal, Holdable}
 use Rattle.spelling.proofs.Stores.{count-most}
 
--- a test, with what it came out as
-by-test : {P : Type 0} (b : Bool) → (b ≡ true → P) → (b ≡ false → P) → P
-by-test true yes′ no′ = yes′ refl
-by-test false yes′ no′ = no′ refl
+-- Numbers in groups, each closed by 0, are of any family G that has these: no group, the first number of one, the closing 0, and a later number.
+module _ (es : List ℕ) (G : Bool → List ℕ → Type 0) (empty : G true [])
+    (first : (i : ℕ) → i < length es → opens es i ≡ true → (at es i ≢ 0) × ((more : List ℕ) → G false more → G true (at es i ∷ more)))
+    (closing : (more : List ℕ) → G true more → G false (0 ∷ more))
+    (later : (i : ℕ) → i < length es → opens es i ≡ false → at es i ≢ 0 → (more : List ℕ) → G false more → G false (at es i ∷ more))
+    (ends : (i : ℕ) → length es ≡ i → opens es i ≡ false → ⊥) where
+  -- from an entry on, by whether a group may open there
+  pub groups-from : (m i : ℕ) → length es ≡ i + m → G (opens es i) (drop i es)
+  groups-from zero i q =
+      by-test (opens es i) (λ t. subst (λ b. G b (drop i es)) (sym t) (subst (G true) (sym (drop-of-length-le es {i = i} (omega arith))) empty))
+      (λ f. absurd (ends i (omega arith) f))
+  groups-from (suc m) i q = let more : i < length es = omega arith in step more (groups-from m (suc i) (omega arith))
+    where
+      tail : List ℕ
+      tail = drop (suc i) es
+
+      step : i < length es → G (opens es (suc i)) tail → G (opens es i) (drop i es)
+      step more rest =
+          subst (G (opens es i)) (sym (drop-cons es i 0 more))
+          (by-test (opens es i)
+          (λ t. subst (λ b. G b (at es i ∷ tail)) (sym t) (begins (first i more t)))
+          (λ f. subst (λ b. G b (at es i ∷ tail)) (sym f) (goes-on f (ℕ-discrete (at es i) 0))))
+        where
+          begins : (at es i ≢ 0) × ((more : List ℕ) → G false more → G true (at es i ∷ more)) → G true (at es i ∷ tail)
+          begins (some, front) = front tail (subst (λ b. G b tail) (ne-eqb (at es i) 0 some) rest)
+
+          goes-on : opens es i ≡ false → Dec (at es i ≡ 0) → G false (at es i ∷ tail)
+          goes-on f (yes z) = subst (λ v. G false (v ∷ tail)) (sym z) (closing tail (subst (λ b. G b tail) (eq-eqb (at es i) 0 z) rest))
+          goes-on f (no some) = later i more f some tail (subst (λ b. G b tail) (ne-eqb (at es i) 0 some) rest)
 
 module _ {n : ℕ} {es : List ℕ} (few : n ≤ 4096) (none : None (PrefixCause n es)) where
   -- an accepted mark is 1 or 2, and an accepted variable is at most n
@@ -39,27 +69,15 @@ module _ {n : ℕ} {es : List ℕ} (few : n ≤ 4096) (none : None (PrefixCause 
   variable-most : (i : ℕ) → i < length es → opens es i ≡ false → at es i ≢ 0 → at es i < 100000
   variable-most i more shut some = let low : ¬ (n < at es i) = λ over. none 7 i (PrefixCause.outside refl (more, shut, some) over) in omega arith
 
-  -- from an entry on, by whether a block may open there
-  blocks-from : (m i : ℕ) → length es ≡ i + m → Blocks (opens es i) (drop i es)
-  blocks-from zero i q =
-      by-test (opens es i) (λ t. subst (λ b. Blocks b (drop i es)) (sym t) (subst (Blocks true) (sym (drop-of-length-le es {i = i} (omega arith))) no-block))
-      (λ f. absurd (none 3 (length es) (PrefixCause.ends-inside refl refl (open-end es i (omega arith) f))))
-  blocks-from (suc m) i q = let more : i < length es = omega arith in step more (blocks-from m (suc i) (omega arith))
-    where
-      step : i < length es → Blocks (opens es (suc i)) (drop (suc i) es) → Blocks (opens es i) (drop i es)
-      step more rest =
-          subst (Blocks (opens es i)) (sym (drop-cons es i 0 more))
-          (by-test (opens es i)
-          (λ t. subst (λ b. Blocks b (at es i ∷ drop (suc i) es)) (sym t) (block (mark-is i more t) (subst (λ b. Blocks b (drop (suc i) es)) (ne-eqb (at es i) 0 (nonzero (mark-is i more t))) rest)))
-          (λ f. subst (λ b. Blocks b (at es i ∷ drop (suc i) es)) (sym f) (inside f (ℕ-discrete (at es i) 0))))
-        where
-          nonzero : (at es i ≡ 1) ⊎ (at es i ≡ 2) → at es i ≢ 0
-          nonzero (inl one) z = omega arith
-          nonzero (inr two) z = omega arith
+  nonzero : {v : ℕ} → (v ≡ 1) ⊎ (v ≡ 2) → v ≢ 0
+  nonzero (inl one) z = omega arith
+  nonzero (inr two) z = omega arith
 
-          inside : opens es i ≡ false → Dec (at es i ≡ 0) → Blocks false (at es i ∷ drop (suc i) es)
-          inside f (yes z) = subst (λ v. Blocks false (v ∷ drop (suc i) es)) (sym z) (block-end (subst (λ b. Blocks b (drop (suc i) es)) (eq-eqb (at es i) 0 z) rest))
-          inside f (no some) = variable some (variable-most i more f some) (subst (λ b. Blocks b (drop (suc i) es)) (ne-eqb (at es i) 0 some) rest)
+  accepted-blocks : Blocks true es
+  accepted-blocks =
+      groups-from es Blocks no-block (λ i more t. (nonzero (mark-is i more t), λ tail b. block (mark-is i more t) b)) (λ tail b. block-end b)
+      (λ i more f some tail b. variable some (variable-most i more f some) b)
+      (λ i q f. none 3 (length es) (PrefixCause.ends-inside refl refl (open-end es i (omega arith) f))) (length es) 0 (omega arith)
 
   pub small-entries : SmallEntries es
   small-entries i more = by-test (opens es i) (λ t. marked (mark-is i more t)) (λ f. named f (ℕ-discrete (at es i) 0))
@@ -97,9 +115,11 @@ module _ {n : ℕ} {ls : List ℤ} (few : n ≤ 4096) (none : None (ClauseCause 
   clauses-from : (m i : ℕ) → length ls ≡ i + m → Clauses (begins ls i) (drop i ls)
   unfolding begins
   clauses-from zero i q =
-      by-test (begins ls i) (λ t. subst (λ b. Clauses b (drop i ls)) (sym t) (subst (Clauses true) (sym (drop-of-length-le ls {i = i} (omega arith))) no-clause))
+      by-test (begins ls i)
+      (λ t. subst (λ b. Clauses b (drop i ls)) (sym t) (subst (Clauses true) (sym (drop-of-length-le ls {i = i} (omega arith))) no-clause))
       (λ f. absurd (none 11 (length ls) (ClauseCause.ends-inside refl refl (inside-end ls i (omega arith) f))))
-  clauses-from (suc m) i q = let more : i < length ls = omega arith in step more (clauses-from m (suc i) (omega arith)) (ℕ-discrete (variableOf (literalAt ls i)) 0)
+  clauses-from (suc m) i q =
+      let more : i < length ls = omega arith in step more (clauses-from m (suc i) (omega arith)) (ℕ-discrete (variableOf (literalAt ls i)) 0)
     where
       step : i < length ls → Clauses (begins ls (suc i)) (drop (suc i) ls) → Dec (variableOf (literalAt ls i) ≡ 0) → Clauses (begins ls i) (drop i ls)
       step more rest (yes z) =
@@ -112,22 +132,44 @@ module _ {n : ℕ} {ls : List ℤ} (few : n ≤ 4096) (none : None (ClauseCause 
   pub small-literals : SmallLiterals ls
   small-literals i more = literal-most i more
 
--- What check accepts, a text can hold.
-pub holdable : (n : ℕ) (es : List ℕ) (ls : List ℤ) → n ≤ 4096 → length ls ≤ 16384 → NoneOf (checkOrder n es ls) → Holdable n es ls
-unfolding begins
-holdable n es ls few short none =
-    let count = count-most ls in
-    record {
-      number = omega arith;
-      count = omega arith;
-      blocks = blocks-from few (none .1 .1 .0) (length es) 0 (omega arith);
-      all-clauses = clauses-from few (none .1 .1 .1 .0) (length ls) 0 (omega arith);
-    }
+-- Every entry of a prefix that rule 2 accepts has at most five digits ...
+small-two : {n : ℕ} {es : List ℕ} → n ≤ 4096 → None (JoinedCause n es) → SmallEntries es
+small-two {n} {es} few none i more =
+    by-test (opens es i) (λ t. ⊎-elim (λ (one : at es i ≡ 1). omega arith) (λ (two : at es i ≡ 2). omega arith) (joined-mark none i more t))
+    (λ f. named f (ℕ-discrete (at es i) 0))
+  where
+    named : opens es i ≡ false → Dec (at es i ≡ 0) → at es i < 100000
+    named f (yes z) = omega arith
+    named f (no some) = let low : ¬ (n < at es i) = λ over. none 7 i (JoinedCause.outside refl (more, f, some) over) in omega arith
 
--- n and the lengths of accepted tables are within their limits
-pub within-limits : (n : ℕ) (es : List ℕ) (ls : List ℤ) → NoneOf (checkOrder n es ls) → (n ≤ 4096) × (length es ≤ 8192) × (length ls ≤ 16384)
-within-limits n es ls none =
-    let a : ¬ (4096 < n) = λ over. none .0 1 0 (refl, refl, over) in
-    let b : ¬ (8192 < length es) = λ over. none .1 .0 2 0 (refl, refl, inl over) in
-    let d : ¬ (16384 < length ls) = λ over. none .1 .0 2 0 (refl, refl, inr over) in
-    (omega arith, omega arith, omega arith)
+-- ... and its blocks are such as a text can hold.
+blocks-two : {n : ℕ} {opening : Bool} {last count : ℕ} {names es : List ℕ} → n ≤ 4096 → Passes n opening last count names es → Blocks opening es
+blocks-two few no-more = no-block
+blocks-two few (begin good new room d) = block good (blocks-two few d)
+blocks-two few (go-on good old d) = block good (blocks-two few d)
+blocks-two few (close-block d) = block-end (blocks-two few d)
+blocks-two few (name some low new d) = variable some (omega arith) (blocks-two few d)
+
+-- So are those of a formula that either rule accepts.
+module _ (rule : ℕ) (f : Formula) (none : NoneOf (checkOrder rule f)) where
+  pub small : SmallEntries (f .prefix) × SmallLiterals (f .clauses)
+  small =
+      let (few, _, _) = limits rule f none in (
+        ⊎-elim (λ (one : None (PrefixCause (f .n) (f .prefix))). small-entries few one) (λ (two : None (JoinedCause (f .n) (f .prefix))). small-two few two)
+            (by-rule rule f none),
+        small-literals few (none .1 .1 .1 .1 .0),
+      )
+
+  pub holdable : Holdable (f .n) (f .prefix) (f .clauses)
+  unfolding begins
+  holdable =
+      let (few, _, short) = limits rule f none in
+      let count = count-most (f .clauses) in
+      record {
+        number = omega arith;
+        count = omega arith;
+        blocks =
+            ⊎-elim (λ (one : None (PrefixCause (f .n) (f .prefix))). accepted-blocks few one)
+            (λ (two : None (JoinedCause (f .n) (f .prefix))). blocks-two few (passes two)) (by-rule rule f none);
+        all-clauses = clauses-from few (none .1 .1 .1 .1 .0) (length (f .clauses)) 0 (omega arith);
+      }

@@ -14,3 +14,5 @@ pub mod Accepted
 pub mod Settled
 pub mod Written
 pub mod RoundTrip
+-- Both rules agree on write.
+pub mod Agreed

@@ -44,12 +44,14 @@ module _ {S A : Type 0} (nothing : A) (together : A → A → A) (Leads : S → 
       go (next ∷ more) q = on next (more ++ left′) q
 
   pub one-path : ((s t t′ : S) (l : List ℕ) (a a′ : A) → Leads s l t a → Leads s l t′ a′ → (t ≡ t′) × (a ≡ a′))
-      → {s t t′ : S} {ls ls′ : List (List ℕ)} {a a′ : A} (left left′ : List (List ℕ)) → Path s ls t a → Path s ls′ t′ a′ → Stops t left → Stops t′ left′ → ls ++ left ≡ ls′ ++ left′
+      → {s t t′ : S} {ls ls′ : List (List ℕ)} {a a′ : A} (left left′ : List (List ℕ)) → Path s ls t a → Path s ls′ t′ a′ → Stops t left → Stops t′ left′
+      → ls ++ left ≡ ls′ ++ left′
       → OnePath ls ls′ left left′ t t′ a a′
   one-path same left left′ here here x y e = record { lines = refl; rest = e; stage = refl; added = refl }
   one-path same left left′ here (step {ls = ls′} line more) x y e = absurd (goes-past left ls′ left′ x y e line)
   one-path same left left′ (step {ls = ls} line more) here x y e = absurd (goes-past left′ ls left y x (sym e) line)
-  one-path same left left′ (step {t = n} {u = t} {l = l} {ls = ls} {a = a} {b = b} line more) (step {s = s} {t = n′} {l = l′} {ls = ls′} {a = a′} {b = b′} line′ more′) x y e =
+  one-path same left left′ (step {t = n} {u = t} {l = l} {ls = ls} {a = a} {b = b} line more)
+      (step {s = s} {t = n′} {l = l′} {ls = ls′} {a = a′} {b = b′} line′ more′) x y e =
       let q : l ≡ l′ = cc in
       let r : ls ++ left ≡ ls′ ++ left′ = cc in
       let w = same s n n′ l a a′ line (subst (λ (k : List ℕ). Leads s k n′ a′) (sym q) line′) in

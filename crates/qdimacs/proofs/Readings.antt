@@ -10,8 +10,8 @@ use lib.Seq.{sets-eq, length-sets, take-at, drop-at}
 use lib.IntN.{ℤ}
 use Rattle.terms.specs.Refusals.{FirstOf, None, NoneOf}
 pub use Rattle.spelling.proofs.Outputs.{first-overlong, not-overlong}
-use Rattle.qdimacs.specs.declared.Reading.{Reading}
-use Rattle.qdimacs.specs.declared.Reading.the-variants.{Read, Refused}
+use Rattle.terms.specs.declared.Reading.{Reading}
+use Rattle.terms.specs.declared.Reading.the-variants.{Read, Refused}
 use Rattle.grammar.specs.Grammar.{TextOf, FaultIn}
 use Rattle.qdimacs.specs.Scans.{ScanIs}
 use Rattle.qdimacs.specs.Reading.{TEXT-MOST, NoRoom, no-room-prefix, no-room-clauses, readOrder, ReadIs}
@@ -36,7 +36,11 @@ module _ (text prefix : List ℕ) (clauses : List ℤ) (short : length text ≤ 
 
     -- no room
     pub first-room : NoRoom text prefix clauses 14 0 → FirstOf (readOrder text prefix clauses) 14 0
-    first-room room = inr (not-overlong text short, inr (not-fault, inl (record { holds = room; leftmost = λ number place c. omega arith; lowest = λ number c. lowest c })))
+    first-room room =
+        inr (
+          not-overlong text short,
+          inr (not-fault, inl (record { holds = room; leftmost = λ number place c. omega arith; lowest = λ number c. lowest c })),
+        )
       where
         lowest : {number place : ℕ} → NoRoom text prefix clauses number place → 14 ≤ number
         lowest (no-room-prefix t h) = omega arith
@@ -51,7 +55,8 @@ module _ (text prefix : List ℕ) (clauses : List ℤ) (short : length text ≤ 
         room number place (no-room-clauses t h) = let same = ap length (text-same text-of t .clauses) in omega arith
 
     -- the answer of the second scan, where the text is known to be within the rules and to fit
-    pub read-all : length P ≤ length prefix → length C ≤ length clauses → (prefix′ : List ℕ) (clauses′ : List ℤ) (r : Reading) → ScanIs text (prefix, clauses) (prefix′, clauses′) r → ReadIs text prefix prefix′ clauses clauses′ r
+    pub read-all : length P ≤ length prefix → length C ≤ length clauses → (prefix′ : List ℕ) (clauses′ : List ℤ) (r : Reading)
+        → ScanIs text (prefix, clauses) (prefix′, clauses′) r → ReadIs text prefix prefix′ clauses clauses′ r
     read-all p c prefix′ clauses′ (Refused number place) f = absurd (text-fault text-of f)
     read-all p c prefix′ clauses′ (Read n′ entries literals) s =
         let same = text-same text-of (s .text-of) in
@@ -64,13 +69,19 @@ module _ (text prefix : List ℕ) (clauses : List ℤ) (short : length text ≤ 
           none p c,
           record {
             text-of =
-                subst (λ (x : List ℕ). TextOf n′ x (take literals clauses′) text) (sym (ap (take entries) P-stored ∙ take-at (s .P) (drop (0 + length (s .P)) prefix) entries (sym e)))
-                (subst (λ (y : List ℤ). TextOf n′ (s .P) y text) (sym (ap (take literals) C-stored ∙ take-at (s .C) (drop (0 + length (s .C)) clauses) literals (sym l))) (s .text-of));
+                subst (λ (x : List ℕ). TextOf n′ x (take literals clauses′) text)
+                (sym (ap (take entries) P-stored ∙ take-at (s .P) (drop (0 + length (s .P)) prefix) entries (sym e)))
+                (subst (λ (y : List ℤ). TextOf n′ (s .P) y text)
+                (sym (ap (take literals) C-stored ∙ take-at (s .C) (drop (0 + length (s .C)) clauses) literals (sym l))) (s .text-of));
             prefix-room = omega arith;
             clauses-room = omega arith;
             prefix-length = ap length (s .prefix-stored) ∙ length-sets prefix 0 (s .P);
             clauses-length = ap length (s .clauses-stored) ∙ length-sets clauses 0 (s .C);
-            prefix-kept = ap (drop entries) P-stored ∙ drop-at (s .P) (drop (0 + length (s .P)) prefix) entries (sym e) ∙ ap (λ (k : ℕ). drop k prefix) (zero-add (length (s .P)) ∙ sym e);
-            clauses-kept = ap (drop literals) C-stored ∙ drop-at (s .C) (drop (0 + length (s .C)) clauses) literals (sym l) ∙ ap (λ (k : ℕ). drop k clauses) (zero-add (length (s .C)) ∙ sym l);
+            prefix-kept =
+                ap (drop entries) P-stored ∙ drop-at (s .P) (drop (0 + length (s .P)) prefix) entries (sym e)
+                ∙ ap (λ (k : ℕ). drop k prefix) (zero-add (length (s .P)) ∙ sym e);
+            clauses-kept =
+                ap (drop literals) C-stored ∙ drop-at (s .C) (drop (0 + length (s .C)) clauses) literals (sym l)
+                ∙ ap (λ (k : ℕ). drop k clauses) (zero-add (length (s .C)) ∙ sym l);
           },
         )

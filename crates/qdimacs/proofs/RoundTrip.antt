@@ -8,18 +8,19 @@ use lib.ListN.{length, take}
 use lib.Seq.{length-take-le}
 use Rattle.terms.specs.Refusals.{NoneOf}
 use Rattle.terms.proofs.Verdicts.{first-or-none}
-use Rattle.formula.specs.Causes.{checkOrder}
-use Rattle.spelling.specs.declared.Output.the-variants.{Written}
-use Rattle.qdimacs.specs.declared.Reading.{Reading}
-use Rattle.qdimacs.specs.declared.Reading.the-variants.{Read, Refused}
+use Rattle.formula.specs.Lent.{Formula}
+use Rattle.joining.specs.Rules.{checkOrder}
+use Rattle.terms.specs.declared.Filled.the-variants.{Count}
+use Rattle.terms.specs.declared.Reading.{Reading}
+use Rattle.terms.specs.declared.Reading.the-variants.{Read, Refused}
 use Rattle.qdimacs.specs.Reading.{TEXT-MOST, overlong, readOrder, ReadIs}
-use Rattle.qdimacs.specs.Stored.{Writes}
+use Rattle.qdimacs.specs.Stored.{formulaText, Writes}
 use Rattle.spelling.specs.Writing.{textOf}
 use Rattle.qdimacs.proofs.Holdable.{Holdable}
 use Rattle.qdimacs.proofs.Unique.{text-same}
 use Rattle.qdimacs.proofs.Readings.{none}
 use Rattle.qdimacs.proofs.Written.{written}
-use Rattle.qdimacs.proofs.Accepted.{holdable, within-limits}
+use Rattle.qdimacs.proofs.Accepted.{holdable}
 
 -- What was read are these tables.
 pub record ReadsBack (n : ℕ) (P : List ℕ) (C : List ℤ) (prefix′ : List ℕ) (clauses′ : List ℤ) (r : Reading) : Type 0 where
@@ -28,8 +29,10 @@ pub record ReadsBack (n : ℕ) (P : List ℕ) (C : List ℤ) (prefix′ : List �
   pub clause-rows : take (length C) clauses′ ≡ C
 
 -- The text of tables that a text can hold, if it is not too long, reads back as them, given room for them.
-module _ (n : ℕ) (P : List ℕ) (C : List ℤ) (prefix prefix′ : List ℕ) (clauses clauses′ : List ℤ) (p : length P ≤ length prefix) (c : length C ≤ length clauses) where
-  pub text-reads-back : Holdable n P C → length (textOf n P C) ≤ TEXT-MOST → (r : Reading) → ReadIs (textOf n P C) prefix prefix′ clauses clauses′ r → ReadsBack n P C prefix′ clauses′ r
+module _ (n : ℕ) (P : List ℕ) (C : List ℤ) (prefix prefix′ : List ℕ) (clauses clauses′ : List ℤ) (p : length P ≤ length prefix)
+    (c : length C ≤ length clauses) where
+  pub text-reads-back : Holdable n P C → length (textOf n P C) ≤ TEXT-MOST → (r : Reading) → ReadIs (textOf n P C) prefix prefix′ clauses clauses′ r
+      → ReadsBack n P C prefix′ clauses′ r
   text-reads-back h short (Refused number place) a =
       absurd (first-or-none (readOrder (textOf n P C) prefix clauses) number place (a .0) (none (textOf n P C) prefix clauses short (written n P C h) p c))
   text-reads-back h short (Read n′ e l) a =
@@ -48,12 +51,13 @@ module _ (n : ℕ) (P : List ℕ) (C : List ℤ) (prefix prefix′ : List ℕ) (
         clause-rows = ap (λ (k : ℕ). take k clauses′) (sym ls) ∙ same .clauses;
       }
 
-  -- So does what write leaves in front in the buffer.
-  pub written-reads-back : (out out′ : List ℕ) (count : ℕ) → Writes n P C out out′ (Written count)
-      → (r : Reading) → ReadIs (take count out′) prefix prefix′ clauses clauses′ r → ReadsBack n P C prefix′ clauses′ r
-  written-reads-back out out′ count w r read =
-      let none = w .0 in
-      let accepted : NoneOf (checkOrder n P C) = (none .0, (none .1 .0, (none .1 .1 .0, (none .1 .1 .1 .0, tt)))) in
-      let (few, _, small) = within-limits n P C accepted in
-      let fits : ¬ (TEXT-MOST < length (textOf n P C)) = λ long. none .1 .1 .1 .1 .0 15 TEXT-MOST (overlong long) in
-      text-reads-back (holdable n P C few small accepted) (omega arith) r (subst (λ (t : List ℕ). ReadIs t prefix prefix′ clauses clauses′ r) (w .1 .written) read)
+-- So does what write leaves in front in the buffer, under either rule.
+pub written-reads-back : (rule : ℕ) (f : Formula) (prefix prefix′ : List ℕ) (clauses clauses′ : List ℤ) → length (f .prefix) ≤ length prefix
+    → length (f .clauses) ≤ length clauses → (out out′ : List ℕ) (count : ℕ) → Writes rule f out out′ (Count count)
+    → (r : Reading) → ReadIs (take count out′) prefix prefix′ clauses clauses′ r → ReadsBack (f .n) (f .prefix) (f .clauses) prefix′ clauses′ r
+written-reads-back rule f prefix prefix′ clauses clauses′ p c out out′ count w r read =
+    let none = w .0 in
+    let accepted : NoneOf (checkOrder rule f) = (none .0, (none .1 .0, (none .1 .1 .0, (none .1 .1 .1 .0, (none .1 .1 .1 .1 .0, tt))))) in
+    let fits : ¬ (TEXT-MOST < length (formulaText f)) = λ long. none .1 .1 .1 .1 .1 .0 15 TEXT-MOST (overlong long) in
+    text-reads-back (f .n) (f .prefix) (f .clauses) prefix prefix′ clauses clauses′ p c (holdable rule f accepted) (omega arith) r
+    (subst (λ (t : List ℕ). ReadIs t prefix prefix′ clauses clauses′ r) (w .1 .written) read)

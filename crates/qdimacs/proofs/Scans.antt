@@ -9,8 +9,8 @@ use lib.Seq.{sets, length-sets}
 use lib.IntN.{ℤ}
 use Rattle.grammar.specs.declared.Stage.{Stage}
 use Rattle.grammar.specs.declared.Stage.the-variants.{Opening}
-use Rattle.qdimacs.specs.declared.Reading.{Reading}
-use Rattle.qdimacs.specs.declared.Reading.the-variants.{Read, Refused}
+use Rattle.terms.specs.declared.Reading.{Reading}
+use Rattle.terms.specs.declared.Reading.the-variants.{Read, Refused}
 use Rattle.tokens.specs.Words.{LF, pieces}
 use Rattle.grammar.specs.Grammar.{Line, a-comment, the-problem, a-block, a-clause, Lines, no-line, one-more, Fault, placeAfter, FaultIn}
 use Rattle.tokens.specs.Places.{lineAt}
@@ -31,10 +31,13 @@ lines-sound no-line h = h
 lines-sound (one-more line lines) h = lines-sound lines (line-sound line h)
 
 -- One more line at the end.
-lines-more : {s t t′ : Stage} {ls : List (List ℕ)} {l P p : List ℕ} {C c : List ℤ} → Lines s ls t P C → Line t l t′ p c → Lines s (ls ++ (l ∷ [])) t′ (P ++ p) (C ++ c)
-lines-more {t = t} {t′ = t′} {l = l} {p = p} {c = c} no-line line = subst₂ (λ (x : List ℕ) (y : List ℤ). Lines t (l ∷ []) t′ x y) (append-nil p) (append-nil c) (one-more line no-line)
+lines-more : {s t t′ : Stage} {ls : List (List ℕ)} {l P p : List ℕ} {C c : List ℤ} → Lines s ls t P C → Line t l t′ p c
+    → Lines s (ls ++ (l ∷ [])) t′ (P ++ p) (C ++ c)
+lines-more {t = t} {t′ = t′} {l = l} {p = p} {c = c} no-line line =
+    subst₂ (λ (x : List ℕ) (y : List ℤ). Lines t (l ∷ []) t′ x y) (append-nil p) (append-nil c) (one-more line no-line)
 lines-more {s = s} {t′ = t′} {l = l} {p = p} {c = c} (one-more {line = first} {lines = lines} {p = p₁} {P = P₁} {c = c₁} {C = C₁} first-line more) line =
-    subst₂ (λ (x : List ℕ) (y : List ℤ). Lines s (first ∷ (lines ++ (l ∷ []))) t′ x y) (sym (append-assoc p₁ P₁ p)) (sym (append-assoc c₁ C₁ c)) (one-more first-line (lines-more more line))
+    subst₂ (λ (x : List ℕ) (y : List ℤ). Lines s (first ∷ (lines ++ (l ∷ []))) t′ x y) (sym (append-assoc p₁ P₁ p)) (sym (append-assoc c₁ C₁ c))
+    (one-more first-line (lines-more more line))
 
 pub place-more : (ls : List (List ℕ)) (l : List ℕ) → placeAfter (ls ++ (l ∷ [])) ≡ placeAfter ls + length l + 1
 place-more [] l = omega arith
@@ -75,15 +78,19 @@ reached-none text before =
     }
 
 -- what one more run of stores adds to a table
-pub stored-more : {A : Type 0} (before now now′ P p : List A) (k : ℕ) → now ≡ sets before 0 P → k ≡ length P → now′ ≡ sets now k p → now′ ≡ sets before 0 (P ++ p)
+pub stored-more : {A : Type 0} (before now now′ P p : List A) (k : ℕ) → now ≡ sets before 0 P → k ≡ length P → now′ ≡ sets now k p
+    → now′ ≡ sets before 0 (P ++ p)
 stored-more before now now′ P p k is counted more =
-    more ∙ ap (λ (t : List _). sets t k p) is ∙ ap (λ (n : ℕ). sets (sets before 0 P) n p) (counted ∙ sym (zero-add (length P))) ∙ sym (sets-append before 0 P p)
+    more ∙ ap (λ (t : List _). sets t k p) is ∙ ap (λ (n : ℕ). sets (sets before 0 P) n p) (counted ∙ sym (zero-add (length P)))
+    ∙ sym (sets-append before 0 P p)
 
 -- a line that is passed has bytes, its LF at least
-pub went-less : {stage stage′ : Stage} {text : List ℕ} {at entries literals next entries′ literals′ : ℕ} {before after : List ℕ × List ℤ} → Went stage text at entries literals before after stage′ next entries′ literals′ → at < next
+pub went-less : {stage stage′ : Stage} {text : List ℕ} {at entries literals next entries′ literals′ : ℕ} {before after : List ℕ × List ℤ}
+    → Went stage text at entries literals before after stage′ next entries′ literals′ → at < next
 went-less w = let from = w .passed .place in omega arith
 
-module _ {text : List ℕ} {before : List ℕ × List ℤ} {at : ℕ} {stage : Stage} {entries literals : ℕ} {now : List ℕ × List ℤ} (reached : Reached text before at stage entries literals now) where
+module _ {text : List ℕ} {before : List ℕ × List ℤ} {at : ℕ} {stage : Stage} {entries literals : ℕ} {now : List ℕ × List ℤ}
+    (reached : Reached text before at stage entries literals now) where
   pub reached-sound : Sound stage
   reached-sound = lines-sound (reached .follow) tt
 
@@ -94,7 +101,8 @@ module _ {text : List ℕ} {before : List ℕ × List ℤ} {at : ℕ} {stage : S
   reached-clauses = ap length (reached .clauses-stored) ∙ length-sets (before .1) 0 (reached .C)
 
   -- a line is passed
-  pub reached-more : {now′ : List ℕ × List ℤ} {stage′ : Stage} {next entries′ literals′ : ℕ} → Went stage text at entries literals now now′ stage′ next entries′ literals′ → Reached text before next stage′ entries′ literals′ now′
+  pub reached-more : {now′ : List ℕ × List ℤ} {stage′ : Stage} {next entries′ literals′ : ℕ}
+      → Went stage text at entries literals now now′ stage′ next entries′ literals′ → Reached text before next stage′ entries′ literals′ now′
   reached-more {now′} {stage′} {next} w =
       let line = lineAt text at in
       let from = w .passed .place in
@@ -112,7 +120,8 @@ module _ {text : List ℕ} {before : List ℕ × List ℤ} {at : ℕ} {stage : S
         P = reached .P ++ w .p;
         C = reached .C ++ w .c;
         cut =
-            reached .cut ∙ ap (λ (ls : List (List ℕ)). reached .lines ++ ls) (front-later LF (drop at text) ∙ ap (λ (ls : List (List ℕ)). line ∷ ls) (w .passed .after))
+            reached .cut
+            ∙ ap (λ (ls : List (List ℕ)). reached .lines ++ ls) (front-later LF (drop at text) ∙ ap (λ (ls : List (List ℕ)). line ∷ ls) (w .passed .after))
             ∙ sym (append-assoc (reached .lines) (line ∷ []) (pieces LF (drop next text)));
         follow = lines-more (reached .follow) (w .line);
         place = omega arith;
@@ -128,7 +137,17 @@ module _ {text : List ℕ} {before : List ℕ × List ℤ} {at : ℕ} {stage : S
   -- a fault at this place
   pub reached-fault : {number : ℕ} → Fault number stage (pieces LF (drop at text)) → FaultIn text number at
   reached-fault fault =
-      record { lines = reached .lines; left = pieces LF (drop at text); stage = stage; prefix = reached .P; clauses = reached .C; cut = reached .cut; follow = reached .follow; fault = fault; at = reached .place }
+      record {
+        lines = reached .lines;
+        left = pieces LF (drop at text);
+        stage = stage;
+        prefix = reached .P;
+        clauses = reached .C;
+        cut = reached .cut;
+        follow = reached .follow;
+        fault = fault;
+        at = reached .place;
+      }
 
   -- the text's end
   pub reached-end : length text ≤ at → (r : Reading) → FinishIs stage at entries literals r → ScanIs text before now r
@@ -150,4 +169,5 @@ module _ {text : List ℕ} {before : List ℕ × List ℤ} {at : ℕ} {stage : S
         clauses-stored = reached .clauses-stored;
       }
   reached-end h (Refused number place) f =
-      subst (FaultIn text number) (sym (f .1)) (reached-fault (subst (λ (xs : List ℕ). Fault number stage (pieces LF xs)) (sym (drop-of-length-le text h)) (f .0)))
+      subst (FaultIn text number) (sym (f .1))
+      (reached-fault (subst (λ (xs : List ℕ). Fault number stage (pieces LF xs)) (sym (drop-of-length-le text h)) (f .0)))

@@ -8,8 +8,8 @@ use lib.Seq.{length-take-le}
 use lib.IntN.{ℤ}
 use Rattle.terms.specs.Refusals.{Causes}
 use Rattle.terms.proofs.Verdicts.{firstOf-same, first-or-none}
-use Rattle.qdimacs.specs.declared.Reading.{Reading}
-use Rattle.spelling.specs.declared.Output.{Output}
+use Rattle.terms.specs.declared.Reading.{Reading}
+use Rattle.terms.specs.declared.Filled.{Filled}
 use Rattle.qdimacs.specs.Reading.{readOrder, ReadInto, ReadIs}
 use Rattle.spelling.specs.Stored.{Stored, writeOrder, WritesAfter}
 use Rattle.qdimacs.proofs.Unique.{text-same}
@@ -26,7 +26,8 @@ pub record SameAnswer (r r′ : Reading) (prefix prefix′ : List ℕ) (clauses 
 
 module _ (text prefix : List ℕ) (clauses : List ℤ) where
   -- the rows that hold the tables of a text
-  module _ {n e l n′ e′ l′ : ℕ} {p p′ : List ℕ} {c c′ : List ℤ} (a : ReadInto n e l text prefix p clauses c) (b : ReadInto n′ e′ l′ text prefix p′ clauses c′) where
+  module _ {n e l n′ e′ l′ : ℕ} {p p′ : List ℕ} {c c′ : List ℤ} (a : ReadInto n e l text prefix p clauses c)
+      (b : ReadInto n′ e′ l′ text prefix p′ clauses c′) where
     into-same : SameAnswer (Reading.Read n e l) (Reading.Read n′ e′ l′) p p′ c c′
     into-same =
         let same = text-same (a .text-of) (b .text-of) in
@@ -47,7 +48,8 @@ module _ (text prefix : List ℕ) (clauses : List ℤ) where
           clause-rows = rows-same l l′ c c′ (same .clauses) (a .clauses-kept ∙ ap (λ (k : ℕ). drop k clauses) ls ∙ sym (b .clauses-kept));
         }
 
-  pub read-settled : (p p′ : List ℕ) (c c′ : List ℤ) (r r′ : Reading) → ReadIs text prefix p clauses c r → ReadIs text prefix p′ clauses c′ r′ → SameAnswer r r′ p p′ c c′
+  pub read-settled : (p p′ : List ℕ) (c c′ : List ℤ) (r r′ : Reading) → ReadIs text prefix p clauses c r → ReadIs text prefix p′ clauses c′ r′
+      → SameAnswer r r′ p p′ c c′
   read-settled p p′ c c′ (Reading.Read n e l) (Reading.Read n′ e′ l′) a b = into-same (a .1) (b .1)
   read-settled p p′ c c′ (Reading.Read n e l) (Reading.Refused k q) a b = absurd (first-or-none (readOrder text prefix clauses) k q (b .0) (a .0))
   read-settled p p′ c c′ (Reading.Refused k q) (Reading.Read n e l) a b = absurd (first-or-none (readOrder text prefix clauses) k q (a .0) (b .0))
@@ -56,16 +58,17 @@ module _ (text prefix : List ℕ) (clauses : List ℤ) where
       record { answer = ap₂ Reading.Refused (same .0) (same .1); prefix-rows = a .1 ∙ sym (b .1); clause-rows = a .2 ∙ sym (b .2) }
 
 -- the bytes that hold a text
-stored-same : {text out out₁ out₂ : List ℕ} {k k′ : ℕ} → Stored text out out₁ k → Stored text out out₂ k′ → (Output.Written k ≡ Output.Written k′) × (out₁ ≡ out₂)
+stored-same : {text out out₁ out₂ : List ℕ} {k k′ : ℕ} → Stored text out out₁ k → Stored text out out₂ k′ → (Filled.Count k ≡ Filled.Count k′) × (out₁ ≡ out₂)
 stored-same {out = out} {out₁ = out₁} {out₂ = out₂} {k = k} {k′ = k′} a b =
     let count = a .counted ∙ sym (b .counted) in
-    (ap Output.Written count, rows-same k k′ out₁ out₂ (a .written ∙ sym (b .written)) (a .kept ∙ ap (λ (i : ℕ). drop i out) count ∙ sym (b .kept)))
+    (ap Filled.Count count, rows-same k k′ out₁ out₂ (a .written ∙ sym (b .written)) (a .kept ∙ ap (λ (i : ℕ). drop i out) count ∙ sym (b .kept)))
 
 -- Whatever stands in the order before 15 and 14, and whatever the text is.
-pub write-settled : (order : List Causes) (text out out₁ out₂ : List ℕ) (r r′ : Output) → WritesAfter order text out out₁ r → WritesAfter order text out out₂ r′ → (r ≡ r′) × (out₁ ≡ out₂)
-write-settled order text out out₁ out₂ (Output.Written k) (Output.Written k′) a b = stored-same (a .1) (b .1)
-write-settled order text out out₁ out₂ (Output.Written c) (Output.Refused k q) a b = absurd (first-or-none (order ++ writeOrder text out) k q (b .0) (a .0))
-write-settled order text out out₁ out₂ (Output.Refused k q) (Output.Written c) a b = absurd (first-or-none (order ++ writeOrder text out) k q (a .0) (b .0))
-write-settled order text out out₁ out₂ (Output.Refused k q) (Output.Refused k′ q′) a b =
+pub write-settled : (order : List Causes) (text out out₁ out₂ : List ℕ) (r r′ : Filled) → WritesAfter order text out out₁ r
+    → WritesAfter order text out out₂ r′ → (r ≡ r′) × (out₁ ≡ out₂)
+write-settled order text out out₁ out₂ (Filled.Count k) (Filled.Count k′) a b = stored-same (a .1) (b .1)
+write-settled order text out out₁ out₂ (Filled.Count c) (Filled.Refused k q) a b = absurd (first-or-none (order ++ writeOrder text out) k q (b .0) (a .0))
+write-settled order text out out₁ out₂ (Filled.Refused k q) (Filled.Count c) a b = absurd (first-or-none (order ++ writeOrder text out) k q (a .0) (b .0))
+write-settled order text out out₁ out₂ (Filled.Refused k q) (Filled.Refused k′ q′) a b =
     let same = firstOf-same (order ++ writeOrder text out) k q k′ q′ (a .0) (b .0) in
-    (ap₂ Output.Refused (same .0) (same .1), a .1 ∙ sym (b .1))
+    (ap₂ Filled.Refused (same .0) (same .1), a .1 ∙ sym (b .1))

@@ -9,7 +9,9 @@ use Rattle.tokens.specs.declared.Number.the-variants.{Is}
 use Rattle.grammar.specs.declared.Stage.{Stage}
 use Rattle.grammar.specs.declared.Stage.the-variants.{Body}
 use Rattle.tokens.specs.Words.{SPACE, LETTER-A, LETTER-C, LETTER-E, LETTER-P, onto, pieces, filled, words, numberOf, entriesOf}
-use Rattle.grammar.specs.Grammar.{variables, CommentLine, comment, ProblemLine, p-cnf, QuantifierLine, e-line, a-line, ClauseLine, literals-line, Line, a-comment, the-problem, a-block, a-clause, Lines, no-line, one-more, TextOf, TooMany, too-many, Fault, outside, unended, no-problem, many, few, placeAfter, FaultIn}
+use Rattle.grammar.specs.Grammar.{variables, CommentLine, comment, ProblemLine, p-cnf, QuantifierLine, e-line, a-line, ClauseLine, literals-line, Line}
+use Rattle.grammar.specs.Grammar.{a-comment, the-problem, a-block, a-clause, Lines, no-line, one-more, TextOf, TooMany, too-many, Fault, outside, unended}
+use Rattle.grammar.specs.Grammar.{no-problem, many, few, placeAfter, FaultIn}
 use Rattle.tokens.specs.Places.{front, later}
 use Rattle.tokens.proofs.Lines.{front-later}
 use Rattle.grammar.proofs.Bodies.{exclusive}
@@ -92,10 +94,12 @@ many-stuck (too-many e x) (a-block z y) = exclusive y x
 many-stuck (too-many e x) (a-clause h y) = omega arith
 
 stops : {k : ℕ} {s : Stage} {left : List (List ℕ)} → Fault k s left → Stops nothing together Leads s left
-stops (outside {line = line} {next = next} {more = more} none no-many) = record { head = line; tail = next ∷ more; is = refl; stuck = λ {t} {a} next′ more′ e line′. none t (a .0) (a .1) line′ }
+stops (outside {line = line} {next = next} {more = more} none no-many) =
+    record { head = line; tail = next ∷ more; is = refl; stuck = λ {t} {a} next′ more′ e line′. none t (a .0) (a .1) line′ }
 stops {s = s} (unended {byte = byte} {bytes = bytes}) = stops-last nothing together Leads s (byte ∷ bytes)
 stops {s = s} no-problem = stops-last nothing together Leads s []
-stops (many {line = line} {next = next} {more = more} t) = record { head = line; tail = next ∷ more; is = refl; stuck = λ next′ more′ e line′. many-stuck t line′ }
+stops (many {line = line} {next = next} {more = more} t) =
+    record { head = line; tail = next ∷ more; is = refl; stuck = λ next′ more′ e line′. many-stuck t line′ }
 stops {s = s} (few h) = stops-last nothing together Leads s []
 
 -- One fault at one place.
@@ -110,8 +114,11 @@ number-same (few h) (few h′) = refl
 
 pub fault-same : {text : List ℕ} {k k′ p p′ : ℕ} → FaultIn text k p → FaultIn text k′ p′ → (k ≡ k′) × (p ≡ p′)
 fault-same {k = k} {k′ = k′} a b =
-    let o = one-path nothing together Leads leads-same (a .left) (b .left) (path (a .follow)) (path (b .follow)) (stops (a .fault)) (stops (b .fault)) (sym (a .cut) ∙ b .cut) in
-    let there : Fault k′ (a .stage) (a .left) = subst (λ (s : Stage). Fault k′ s (a .left)) (sym (o .stage)) (subst (Fault k′ (b .stage)) (sym (o .rest)) (b .fault)) in
+    let o =
+    one-path nothing together Leads leads-same (a .left) (b .left) (path (a .follow)) (path (b .follow)) (stops (a .fault)) (stops (b .fault))
+    (sym (a .cut) ∙ b .cut) in
+    let there : Fault k′ (a .stage) (a .left) =
+    subst (λ (s : Stage). Fault k′ s (a .left)) (sym (o .stage)) (subst (Fault k′ (b .stage)) (sym (o .rest)) (b .fault)) in
     (number-same (a .fault) there, a .at ∙ ap placeAfter (o .lines) ∙ sym (b .at))
 
 -- A text that is the text of tables has no fault.
@@ -124,7 +131,9 @@ full-stop {n = n} {m = m} s left (few {m = a} {k = b} h) e f = let p : a ≡ m =
 
 pub text-fault : {text P : List ℕ} {C : List ℤ} {n k p : ℕ} → TextOf n P C text → FaultIn text k p → ⊥
 text-fault {n = n} t f =
-    let o = one-path nothing together Leads leads-same ([] ∷ []) (f .left) (path (t .follow)) (path (f .follow)) (stops-last nothing together Leads (Body n (t .announced) (t .announced)) []) (stops (f .fault)) (sym (t .cut) ∙ f .cut) in
+    let o =
+    one-path nothing together Leads leads-same ([] ∷ []) (f .left) (path (t .follow)) (path (f .follow))
+    (stops-last nothing together Leads (Body n (t .announced) (t .announced)) []) (stops (f .fault)) (sym (t .cut) ∙ f .cut) in
     full-stop (f .stage) (f .left) (f .fault) (sym (o .stage)) (sym (o .rest))
 
 -- A text is the text of one n and two tables.
@@ -135,6 +144,9 @@ pub record SameTables (n n′ : ℕ) (P P′ : List ℕ) (C C′ : List ℤ) : T
 
 pub text-same : {text P P′ : List ℕ} {C C′ : List ℤ} {n n′ : ℕ} → TextOf n P C text → TextOf n′ P′ C′ text → SameTables n n′ P P′ C C′
 text-same {n = n} {n′ = n′} a b =
-    let o = one-path nothing together Leads leads-same ([] ∷ []) ([] ∷ []) (path (a .follow)) (path (b .follow)) (stops-last nothing together Leads (Body n (a .announced) (a .announced)) []) (stops-last nothing together Leads (Body n′ (b .announced) (b .announced)) []) (sym (a .cut) ∙ b .cut) in
+    let o =
+    one-path nothing together Leads leads-same ([] ∷ []) ([] ∷ []) (path (a .follow)) (path (b .follow))
+    (stops-last nothing together Leads (Body n (a .announced) (a .announced)) [])
+    (stops-last nothing together Leads (Body n′ (b .announced) (b .announced)) []) (sym (a .cut) ∙ b .cut) in
     let s = o .stage in
     record { number = cc; prefix = ap (λ (a : Added). a .0) (o .added); clauses = ap (λ (a : Added). a .1) (o .added) }

@@ -10,11 +10,12 @@ use borrow.Author.Tests.{leb-true, ne-eqb}
 use lib.Dec.{eqb, leb}
 use lib.ListN.{length}
 use lib.IntN.{ℤ, pos, negsuc, natAbs}
-use Rattle.tokens.specs.declared.Item.the-variants.{Plain, Negated}
 use Rattle.grammar.specs.declared.Stage.{Stage}
 use Rattle.grammar.specs.declared.Stage.the-variants.{Body}
-use Rattle.tokens.specs.Words.{LF, SPACE, MINUS, ZERO, NINE, LETTER-A, LETTER-C, LETTER-E, LETTER-F, LETTER-N, LETTER-P, onto, pieces, filled, words, allDigits, spelt, isNumber, numberOf, plainItem, negatedItem, itemOf, Kind, prepend, closed, entry, entriesOf}
-use Rattle.grammar.specs.Grammar.{variables, literals, p-cnf, QuantifierLine, e-line, a-line, literals-line, the-problem, a-block, a-clause, Lines, no-line, one-more, TextOf}
+use Rattle.tokens.specs.Words.{Plain, Negated, LF, SPACE, MINUS, ZERO, NINE, LETTER-A, LETTER-C, LETTER-E, LETTER-F, LETTER-N, LETTER-P, onto, pieces}
+use Rattle.tokens.specs.Words.{filled, words, allDigits, spelt, isNumber, numberOf, plainItem, negatedItem, itemOf, Kind, prepend, closed, entry, entriesOf}
+use Rattle.grammar.specs.Grammar.{variables, literals, p-cnf, QuantifierLine, e-line, a-line, literals-line, the-problem, a-block, a-clause, Lines, no-line}
+use Rattle.grammar.specs.Grammar.{one-more, TextOf}
 use Rattle.spelling.specs.Writing.{decimal, digitsOf, markWord, literalWord, spaced, ended, prefixText, clauseText, clauseCount, problemBytes, textOf}
 use Rattle.qdimacs.proofs.Holdable.{Blocks, no-block, block, block-end, variable, Clauses, no-clause, clause-end, literal, Holdable}
 use Rattle.tokens.proofs.Numbers.{both}
@@ -74,7 +75,8 @@ first-minus (b ∷ bs) h (without-more m r) = rw m
 plain-word : (value : ℕ) → value < 100000 → (value ≡ 0 → ⊥) → itemOf (decimal value) ≡ Plain value
 unfolding plainItem
 plain-word value h positive =
-    first-minus (decimal value) (decimal-digits value h .some) (decimal-without value h MINUS (omega arith)) ∙ ap plainItem (decimal-number value h) ∙ rw (ne-eqb value 0 positive)
+    first-minus (decimal value) (decimal-digits value h .some) (decimal-without value h MINUS (omega arith)) ∙ ap plainItem (decimal-number value h)
+    ∙ rw (ne-eqb value 0 positive)
 
 negated-word : (value : ℕ) → value < 100000 → (value ≡ 0 → ⊥) → itemOf (MINUS ∷ decimal value) ≡ Negated value
 unfolding itemOf negatedItem
@@ -96,10 +98,12 @@ variable-text : (v : ℕ) (more : List ℕ) → (v ≡ 0 → ⊥) → prefixText
 unfolding prefixText spaced ended
 variable-text v more positive = rw (ne-eqb v 0 positive)
 
-pub variable-taken : (v : ℕ) (body vs : List ℕ) → (v ≡ 0 → ⊥) → v < 100000 → entriesOf variables (words body) ≡ some vs → entriesOf variables (words (decimal v ++ (SPACE ∷ body))) ≡ some (v ∷ vs)
+pub variable-taken : (v : ℕ) (body vs : List ℕ) → (v ≡ 0 → ⊥) → v < 100000 → entriesOf variables (words body) ≡ some vs
+    → entriesOf variables (words (decimal v ++ (SPACE ∷ body))) ≡ some (v ∷ vs)
 unfolding entriesOf entry prepend
 variable-taken v body vs positive small e =
-    ap (entriesOf variables) (words-more body (decimal-without v small SPACE (omega arith)) (decimal-digits v small .some)) ∙ rw (plain-word v small positive, e)
+    ap (entriesOf variables) (words-more body (decimal-without v small SPACE (omega arith)) (decimal-digits v small .some))
+    ∙ rw (plain-word v small positive, e)
 
 -- A letter in front of a line.
 pub letter-words : (letter : ℕ) (body : List ℕ) → eqb letter SPACE ≡ false → words (letter ∷ spaced false body) ≡ (letter ∷ []) ∷ words body
@@ -128,13 +132,17 @@ module _ (n m : ℕ) (rest : List ℕ) where
   BlocksAre false es = BlockRest es
 
   -- a letter in front of the rest of its line
-  marked : (letter mark : ℕ) (more : List ℕ) → eqb letter LF ≡ false → (r : BlockRest more) → QuantifierLine (letter ∷ spaced false (r .body)) (mark ∷ r .entries) → prefixText true (mark ∷ more) ≡ letter ∷ prefixText false more → BlockLines (mark ∷ more)
+  marked : (letter mark : ℕ) (more : List ℕ) → eqb letter LF ≡ false → (r : BlockRest more)
+      → QuantifierLine (letter ∷ spaced false (r .body)) (mark ∷ r .entries) → prefixText true (mark ∷ more) ≡ letter ∷ prefixText false more
+      → BlockLines (mark ∷ more)
   unfolding pieces onto
   marked letter mark more plain r line text =
       record {
         lines = (letter ∷ spaced false (r .body)) ∷ r .lines;
         cut = ap (λ (t : List ℕ). pieces LF (t ++ rest)) text ∙ rw (plain, r .cut);
-        follow = subst (λ (P : List ℕ). Lines (Body n m 0) ((letter ∷ spaced false (r .body)) ∷ r .lines) (Body n m 0) (mark ∷ P) []) (sym (r .is)) (one-more (a-block refl line) (r .follow));
+        follow =
+            subst (λ (P : List ℕ). Lines (Body n m 0) ((letter ∷ spaced false (r .body)) ∷ r .lines) (Body n m 0) (mark ∷ P) []) (sym (r .is))
+            (one-more (a-block refl line) (r .follow));
       }
 
   pub blocks : {first : Bool} {P : List ℕ} → Blocks first P → BlocksAre first P
@@ -166,13 +174,15 @@ module _ (n m : ℕ) (rest : List ℕ) where
             ap (λ (t : List ℕ). pieces LF (t ++ rest)) (variable-text v more positive)
             ∙ ap (λ (t : List ℕ). pieces LF (SPACE ∷ t)) (append-assoc (decimal v) (prefixText false more) rest)
             ∙ pieces-spaced false (decimal v ++ (prefixText false more ++ rest)) body (r .lines ++ pieces LF rest)
-            (pieces-front LF (prefixText false more ++ rest) (SPACE ∷ r .body) (r .lines ++ pieces LF rest) (decimal-without v small LF (omega arith)) (r .cut));
+            (pieces-front LF (prefixText false more ++ rest) (SPACE ∷ r .body) (r .lines ++ pieces LF rest) (decimal-without v small LF (omega arith))
+            (r .cut));
         read = variable-taken v (r .body) (r .entries) positive small (r .read);
         follow = r .follow;
       }
 
 -- A literal in its line: its word, its text, and what it adds to the entries.
-literal-item : (z : ℤ) → natAbs z < 100000 → (natAbs z ≡ 0 → ⊥) → (more : List (List ℕ)) (later : Option (List ℤ)) → entry literals (itemOf (literalWord z)) more later ≡ prepend (some z) later
+literal-item : (z : ℤ) → natAbs z < 100000 → (natAbs z ≡ 0 → ⊥) → (more : List (List ℕ)) (later : Option (List ℤ))
+    → entry literals (itemOf (literalWord z)) more later ≡ prepend (some z) later
 unfolding literalWord entry
 literal-item (pos v) small positive more later = rw (plain-word v small positive)
 literal-item (negsuc v) small positive more later = rw (negated-word (suc v) small positive)
@@ -191,10 +201,12 @@ literal-text : (first : Bool) (z : ℤ) (more : List ℤ) → (natAbs z ≡ 0 �
 unfolding clauseText ended
 literal-text first z more positive = rw (ne-eqb (natAbs z) 0 positive)
 
-literal-taken : (z : ℤ) (body : List ℕ) (zs : List ℤ) → (natAbs z ≡ 0 → ⊥) → natAbs z < 100000 → entriesOf literals (words body) ≡ some zs → entriesOf literals (words (literalWord z ++ (SPACE ∷ body))) ≡ some (z ∷ zs)
+literal-taken : (z : ℤ) (body : List ℕ) (zs : List ℤ) → (natAbs z ≡ 0 → ⊥) → natAbs z < 100000 → entriesOf literals (words body) ≡ some zs
+    → entriesOf literals (words (literalWord z ++ (SPACE ∷ body))) ≡ some (z ∷ zs)
 unfolding entriesOf prepend
 literal-taken z body zs positive small e =
-    ap (entriesOf literals) (words-more body (literal-without z small SPACE (omega arith)) (literal-some z small)) ∙ literal-item z small positive (words body) (entriesOf literals (words body)) ∙ rw e
+    ap (entriesOf literals) (words-more body (literal-without z small SPACE (omega arith)) (literal-some z small))
+    ∙ literal-item z small positive (words body) (entriesOf literals (words body)) ∙ rw e
 
 -- The clauses of a table, of which k have stood before.
 module _ (n m : ℕ) where
@@ -225,13 +237,16 @@ module _ (n m : ℕ) where
       record {
         lines = r .body ∷ r .lines;
         cut = r .cut;
-        follow = subst (λ (C : List ℤ). Lines (Body n m k) (r .body ∷ r .lines) (Body n m m) [] C) (sym (r .is)) (one-more (a-clause (r .less) (literals-line (r .read))) (r .follow));
+        follow =
+            subst (λ (C : List ℤ). Lines (Body n m k) (r .body ∷ r .lines) (Body n m m) [] C) (sym (r .is))
+            (one-more (a-clause (r .less) (literals-line (r .read))) (r .follow));
       }
   clause-whole false k zs r = r
 
   pub clauses : {first : Bool} {C : List ℤ} (k : ℕ) → Clauses first C → k + clauseCount C ≡ m → ClausesAre first k C
   unfolding clauseText clauseCount literalWord spaced ended decimal digitsOf pieces onto
-  clauses k no-clause e = let all : k ≡ m = omega arith in record { lines = []; cut = refl; follow = subst (λ (j : ℕ). Lines (Body n m k) [] (Body n m j) [] []) all no-line }
+  clauses k no-clause e =
+      let all : k ≡ m = omega arith in record { lines = []; cut = refl; follow = subst (λ (j : ℕ). Lines (Body n m k) [] (Body n m j) [] []) all no-line }
   clauses k (clause-end {first} {more} b) e =
       let r = clauses (suc k) b (omega arith) in
       clause-whole first k (pos 0 ∷ more)
@@ -272,7 +287,8 @@ module _ (n m : ℕ) where
 pub problem-bytes : ℕ → ℕ → List ℕ
 problem-bytes n m = LETTER-P ∷ SPACE ∷ LETTER-C ∷ LETTER-N ∷ LETTER-F ∷ SPACE ∷ (decimal n ++ (SPACE ∷ decimal m))
 
-problem-text : (n m : ℕ) (rest : List ℕ) → problemBytes n m ++ rest ≡ LETTER-P ∷ SPACE ∷ LETTER-C ∷ LETTER-N ∷ LETTER-F ∷ SPACE ∷ (decimal n ++ (SPACE ∷ (decimal m ++ (LF ∷ rest))))
+problem-text : (n m : ℕ) (rest : List ℕ)
+    → problemBytes n m ++ rest ≡ LETTER-P ∷ SPACE ∷ LETTER-C ∷ LETTER-N ∷ LETTER-F ∷ SPACE ∷ (decimal n ++ (SPACE ∷ (decimal m ++ (LF ∷ rest))))
 unfolding problemBytes
 problem-text n m rest = simp append-assoc
 
@@ -288,16 +304,19 @@ module _ (n m : ℕ) (small-n : n < 100000) (small-m : m < 100000) where
   unfolding problem-bytes
   problem-words =
       words-more {w = LETTER-P ∷ []} _ (without-more refl without-none) (omega arith)
-      ∙ ap (λ (ws : List (List ℕ)). (LETTER-P ∷ []) ∷ ws) (words-more {w = LETTER-C ∷ LETTER-N ∷ LETTER-F ∷ []} _ (without-more refl (without-more refl (without-more refl without-none))) (omega arith))
+      ∙ ap (λ (ws : List (List ℕ)). (LETTER-P ∷ []) ∷ ws)
+      (words-more {w = LETTER-C ∷ LETTER-N ∷ LETTER-F ∷ []} _ (without-more refl (without-more refl (without-more refl without-none))) (omega arith))
       ∙ ap (λ (ws : List (List ℕ)). (LETTER-P ∷ []) ∷ (LETTER-C ∷ LETTER-N ∷ LETTER-F ∷ []) ∷ ws)
       (words-more (decimal m) (decimal-without n small-n SPACE (omega arith)) (decimal-digits n small-n .some)
       ∙ ap (λ (ws : List (List ℕ)). decimal n ∷ ws) (words-last (decimal-without m small-m SPACE (omega arith)) (decimal-digits m small-m .some)))
 
 -- Lines that follow lines.
-lines-join : {s t u : Stage} {ks ls : List (List ℕ)} {P Q : List ℕ} {C D : List ℤ} → Lines s ks t P C → Lines t ls u Q D → Lines s (ks ++ ls) u (P ++ Q) (C ++ D)
+lines-join : {s t u : Stage} {ks ls : List (List ℕ)} {P Q : List ℕ} {C D : List ℤ} → Lines s ks t P C → Lines t ls u Q D
+    → Lines s (ks ++ ls) u (P ++ Q) (C ++ D)
 lines-join no-line b = b
 lines-join {s = s} {u = u} {ls = ls} {Q = Q} {D = D} (one-more {line = l} {lines = ks} {p = p} {P = P} {c = c} {C = C} line more) b =
-    subst₂ (λ (x : List ℕ) (y : List ℤ). Lines s (l ∷ (ks ++ ls)) u x y) (sym (append-assoc p P Q)) (sym (append-assoc c C D)) (one-more line (lines-join more b))
+    subst₂ (λ (x : List ℕ) (y : List ℤ). Lines s (l ∷ (ks ++ ls)) u x y) (sym (append-assoc p P Q)) (sym (append-assoc c C D))
+    (one-more line (lines-join more b))
 
 -- The written text is the text of its tables.
 pub written : (n : ℕ) (prefix : List ℕ) (clauses′ : List ℤ) → Holdable n prefix clauses′ → TextOf n prefix clauses′ (textOf n prefix clauses′)
@@ -312,8 +331,10 @@ written n prefix clauses′ h =
       lines = problem-bytes n m ∷ (bs .lines ++ cs .lines);
       cut =
           problem-cut n m (h .number) (h .count) (prefixText true prefix ++ rest)
-          ∙ ap (λ (ls : List (List ℕ)). problem-bytes n m ∷ ls) (bs .cut ∙ ap (λ (ls : List (List ℕ)). bs .lines ++ ls) (cs .cut) ∙ sym (append-assoc (bs .lines) (cs .lines) ([] ∷ [])));
+          ∙ ap (λ (ls : List (List ℕ)). problem-bytes n m ∷ ls)
+          (bs .cut ∙ ap (λ (ls : List (List ℕ)). bs .lines ++ ls) (cs .cut) ∙ sym (append-assoc (bs .lines) (cs .lines) ([] ∷ [])));
       follow =
           one-more (the-problem (p-cnf (problem-words n m (h .number) (h .count)) (decimal-number n (h .number)) (decimal-number m (h .count))))
-          (subst (λ (P : List ℕ). Lines (Body n m 0) (bs .lines ++ cs .lines) (Body n m m) P clauses′) (append-nil prefix) (lines-join (bs .follow) (cs .follow)));
+          (subst (λ (P : List ℕ). Lines (Body n m 0) (bs .lines ++ cs .lines) (Body n m m) P clauses′) (append-nil prefix)
+          (lines-join (bs .follow) (cs .follow)));
     }

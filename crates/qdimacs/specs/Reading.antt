@@ -6,8 +6,8 @@ use mathlib.Core.List.{List, [], _∷_}
 use lib.ListN.{length, take, drop}
 use lib.IntN.{ℤ}
 use Rattle.terms.specs.Refusals.{Causes, FirstOf, NoneOf}
-use Rattle.qdimacs.specs.declared.Reading.{Reading}
-use Rattle.qdimacs.specs.declared.Reading.the-variants.{Read, Refused}
+use Rattle.terms.specs.declared.Reading.{Reading}
+use Rattle.terms.specs.declared.Reading.the-variants.{Read, Refused}
 use Rattle.grammar.specs.Grammar.{TextOf, FaultIn}
 pub use Rattle.spelling.specs.Texts.{TEXT-MOST, Overlong, overlong}
 

@@ -7,8 +7,8 @@ use lib.Seq.{sets}
 use lib.IntN.{ℤ}
 use Rattle.grammar.specs.declared.Stage.{Stage}
 use Rattle.grammar.specs.declared.Stage.the-variants.{Body}
-use Rattle.qdimacs.specs.declared.Reading.{Reading}
-use Rattle.qdimacs.specs.declared.Reading.the-variants.{Read, Refused}
+use Rattle.terms.specs.declared.Reading.{Reading}
+use Rattle.terms.specs.declared.Reading.the-variants.{Read, Refused}
 use Rattle.grammar.specs.Grammar.{TextOf, Fault, FaultIn}
 use Rattle.grammar.specs.Steps.{announcedAt}
 

@@ -1,7 +1,7 @@
-// Filling the lent tables with what a text holds: nothing is written before it is known that the text is within the rules and that both tables have room.
+// Filling the lent tables with what a text holds: nothing is written before it is known that the text keeps the rules and both tables have room.
 
-use crate::Reading;
 use crate::scanning::scan;
+use terms::Reading;
 ghost use mathlib.Core.Path.{_≡_};
 ghost use Prim.Native.Nat.{_≤_};
 ghost use lib.ListN.{length, take};
@@ -17,27 +17,21 @@ pub fn read_by_way(
     prefix: &mut [u32],
     clauses: &mut [i32],
 ) -> Reading
-    requires { ⌜ length (now text) ≤ TEXT-MOST ⌝ }
-    ensures { λ r. ⌜ ReadIs (now (text .entry)) (now (prefix .entry)) (now (prefix .exit)) (now (clauses .entry)) (now (clauses .exit)) r ⌝ }
+    requires short { ⌜ length (now text) ≤ TEXT-MOST ⌝ }
+    ensures answered { λ r. ⌜ ReadIs (now (text .entry)) (now (prefix .entry)) (now (prefix .exit)) (now (clauses .entry)) (now (clauses .exit)) r ⌝ }
 {
     match scan(text, own_prefix, own_clauses) {
-        Reading::Refused { number, place } => Reading::Refused { number, place },
+        Reading::Refused(number, place) => Reading::Refused(number, place),
         Reading::Read {
             n,
             prefix: entries,
             clauses: literals,
         } => {
             if prefix.len() < entries {
-                return Reading::Refused {
-                    number: 14,
-                    place: 0,
-                };
+                return Reading::Refused(14, 0);
             }
             if clauses.len() < literals {
-                return Reading::Refused {
-                    number: 14,
-                    place: 0,
-                };
+                return Reading::Refused(14, 0);
             }
             fill(
                 text,
@@ -64,8 +58,9 @@ fn fill(
     prefix: &mut [u32],
     clauses: &mut [i32],
 ) -> Reading
-    requires { ⌜ Held n entries literals (now text) (now «own_prefix») (now «own_clauses») × (entries ≤ length (now prefix)) × (literals ≤ length (now clauses)) ⌝ }
-    ensures { λ r. ⌜ ScanIs (now (text .entry)) (now (prefix .entry), now (clauses .entry)) (now (prefix .exit), now (clauses .exit)) r ⌝ }
+    requires held { ⌜ Held n entries literals (now text) (now «own_prefix») (now «own_clauses»)
+        × (entries ≤ length (now prefix)) × (literals ≤ length (now clauses)) ⌝ }
+    ensures filled { λ r. ⌜ ScanIs (now (text .entry)) (now (prefix .entry), now (clauses .entry)) (now (prefix .exit), now (clauses .exit)) r ⌝ }
 {
     if own_prefix.len() < entries {
         return scan(text, prefix, clauses);
@@ -82,10 +77,10 @@ fn fill(
     }
 }
 
-// Copies the first rows of a table into another.
+// Copies the first rows of a prefix table into another.
 fn copy_entries(from: &[u32], count: usize, to: &mut [u32])
-    requires { ⌜ (count ≤ length (now from)) × (count ≤ length (now to)) ⌝ }
-    ensures { λ _. ⌜ now (to .exit) ≡ sets (now (to .entry)) 0 (take count (now (from .entry))) ⌝ }
+    requires room { ⌜ (count ≤ length (now from)) × (count ≤ length (now to)) ⌝ }
+    ensures copied { λ _. ⌜ now (to .exit) ≡ sets (now (to .entry)) 0 (take count (now (from .entry))) ⌝ }
 {
     let mut i = 0;
     while i < count {
@@ -94,10 +89,10 @@ fn copy_entries(from: &[u32], count: usize, to: &mut [u32])
     }
 }
 
-// The same for the clause table.
+// Copies the first rows of a clause table into another.
 fn copy_literals(from: &[i32], count: usize, to: &mut [i32])
-    requires { ⌜ (count ≤ length (now from)) × (count ≤ length (now to)) ⌝ }
-    ensures { λ _. ⌜ now (to .exit) ≡ sets (now (to .entry)) 0 (take count (now (from .entry))) ⌝ }
+    requires room { ⌜ (count ≤ length (now from)) × (count ≤ length (now to)) ⌝ }
+    ensures copied { λ _. ⌜ now (to .exit) ≡ sets (now (to .entry)) 0 (take count (now (from .entry))) ⌝ }
 {
     let mut i = 0;
     while i < count {

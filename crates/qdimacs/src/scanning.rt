@@ -1,11 +1,11 @@
 // The scan of a whole text, line by line, from stage to stage.
 
-use crate::Reading;
 use grammar::Opened;
 use grammar::Stage;
 use grammar::Step;
 use grammar::body::body_at;
 use grammar::opening::opening_at;
+use terms::Reading;
 ghost use Prim.Native.Nat.{_<_, _≤_};
 ghost use lib.ListN.{length};
 ghost use Rattle.grammar.specs.Steps.{StepIs, Sound};
@@ -13,7 +13,7 @@ ghost use Rattle.qdimacs.specs.Scans.{FinishIs, ScanIs};
 
 // Scans a whole text line by line, and stores what its lines add as far as the tables have rows: a short table only learns the counts.
 pub fn scan(text: &[u8], prefix: &mut [u32], clauses: &mut [i32]) -> Reading
-    ensures { λ r. ⌜ ScanIs (now (text .entry)) (now (prefix .entry), now (clauses .entry)) (now (prefix .exit), now (clauses .exit)) r ⌝ }
+    ensures scanned { λ r. ⌜ ScanIs (now (text .entry)) (now (prefix .entry), now (clauses .entry)) (now (prefix .exit), now (clauses .exit)) r ⌝ }
 {
     let mut at = 0;
     let mut stage = Stage::Opening;
@@ -22,7 +22,7 @@ pub fn scan(text: &[u8], prefix: &mut [u32], clauses: &mut [i32]) -> Reading
     while at < text.len() {
         match line_at(text, at, stage, prefix, entries, clauses, literals) {
             Step::Wrong(number) => {
-                return Reading::Refused { number, place: at };
+                return Reading::Refused(number, at);
             }
             Step::On {
                 stage: reached,
@@ -50,8 +50,9 @@ pub fn line_at(
     clauses: &mut [i32],
     literals: usize,
 ) -> Step
-    requires { ⌜ (at < length (now text)) × (entries ≤ at) × (literals ≤ at) × Sound stage ⌝ }
-    ensures { λ r. ⌜ StepIs stage (now (text .entry)) at entries literals (now (prefix .entry), now (clauses .entry)) (now (prefix .exit), now (clauses .exit)) r ⌝ }
+    requires within { ⌜ (at < length (now text)) × (entries ≤ at) × (literals ≤ at) × Sound stage ⌝ }
+    ensures steps { λ r. ⌜ StepIs stage (now (text .entry)) at entries literals
+        (now (prefix .entry), now (clauses .entry)) (now (prefix .exit), now (clauses .exit)) r ⌝ }
 {
     match stage {
         Stage::Opening => match opening_at(text, at) {
@@ -93,24 +94,18 @@ pub fn line_at(
 
 // What the end of a text makes of the stage that its lines led to.
 pub fn finish(stage: Stage, at: usize, entries: usize, literals: usize) -> Reading
-    requires { ⌜ Sound stage ⌝ }
-    ensures { λ r. ⌜ FinishIs stage at entries literals r ⌝ }
+    requires sound { ⌜ Sound stage ⌝ }
+    ensures finished { λ r. ⌜ FinishIs stage at entries literals r ⌝ }
 {
     match stage {
-        Stage::Opening => Reading::Refused {
-            number: 16,
-            place: at,
-        },
+        Stage::Opening => Reading::Refused(16, at),
         Stage::Body {
             n,
             announced,
             stood,
         } => {
             if stood < announced {
-                Reading::Refused {
-                    number: 17,
-                    place: at,
-                }
+                Reading::Refused(17, at)
             } else {
                 Reading::Read {
                     n,

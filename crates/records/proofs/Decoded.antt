@@ -21,17 +21,22 @@ Fit width [] = Unit {0}
 Fit width (number ∷ more) = (number < limit width) × Fit width more
 
 -- a number is read where its bytes stand
-pub number-at : (width number : ℕ) {file : List ℕ} (front back : List ℕ) (p : ℕ) → file ≡ front ++ (numberBytes width number ++ back) → length front ≡ p → number < limit width → numberAt width file p ≡ number
+pub number-at : (width number : ℕ) {file : List ℕ} (front back : List ℕ) (p : ℕ) → file ≡ front ++ (numberBytes width number ++ back)
+    → length front ≡ p → number < limit width → numberAt width file p ≡ number
 unfolding numberAt numberBytes limit
 number-at zero number front back p is at fits = omega arith
 number-at (suc width) number {file} front back p is at fits =
     let rest = numberBytes width (number / 256) ++ back in
     let first : getD file p 0 ≡ number % 256 = ap (λ (xs : List ℕ). getD xs p 0) is ∙ getD-at front (number % 256) rest 0 p at in
     let long = length-append front (number % 256 ∷ []) in
-    let others = number-at width (number / 256) (front ++ (number % 256 ∷ [])) back (suc p) (is ∙ sym (append-assoc front (number % 256 ∷ []) rest)) (omega arith) (omega arith) in
+    let others =
+    number-at width (number / 256) (front ++ (number % 256 ∷ [])) back (suc p) (is ∙ sym (append-assoc front (number % 256 ∷ []) rest))
+    (omega arith) (omega arith) in
     omega arith
 
-pub numbers-at : (width : ℕ) (numbers : List ℕ) {file : List ℕ} (front back : List ℕ) (p : ℕ) → file ≡ front ++ (bytesOf width numbers ++ back) → length front ≡ p → Fit width numbers → numbersAt width file p (length numbers) ≡ numbers
+pub numbers-at : (width : ℕ) (numbers : List ℕ) {file : List ℕ} (front back : List ℕ) (p : ℕ)
+    → file ≡ front ++ (bytesOf width numbers ++ back) → length front ≡ p → Fit width numbers
+    → numbersAt width file p (length numbers) ≡ numbers
 unfolding numbersAt bytesOf
 numbers-at width [] front back p is at fit = refl
 numbers-at width (number ∷ more) front back p is at fit =
@@ -53,14 +58,18 @@ pub record StandsAt (file : List ℕ) (p kind : ℕ) (payload : List ℕ) : Type
   pub next : nextAt file p ≡ p + (6 + length payload)
   pub within : p + (6 + length payload) ≤ length file
 
-pub record-at : (kind : ℕ) (payload : List ℕ) {file : List ℕ} (front back : List ℕ) (p : ℕ) → file ≡ front ++ (recordBytes kind payload ++ back) → length front ≡ p → length payload < 4294967296 → kind < 65536 → StandsAt file p kind payload
+pub record-at : (kind : ℕ) (payload : List ℕ) {file : List ℕ} (front back : List ℕ) (p : ℕ)
+    → file ≡ front ++ (recordBytes kind payload ++ back) → length front ≡ p → length payload < 4294967296 → kind < 65536
+    → StandsAt file p kind payload
 unfolding recordBytes sizeAt kindAt nextAt limit
 record-at kind payload {file} front back p is at short fits =
     let size = numberBytes 4 (length payload) in
     let name = numberBytes 2 kind in
-    let inner : front ++ (recordBytes kind payload ++ back) ≡ front ++ (size ++ ((name ++ payload) ++ back)) = ap (λ (xs : List ℕ). front ++ xs) (append-assoc size (name ++ payload) back) in
+    let inner : front ++ (recordBytes kind payload ++ back) ≡ front ++ (size ++ ((name ++ payload) ++ back)) =
+    ap (λ (xs : List ℕ). front ++ xs) (append-assoc size (name ++ payload) back) in
     let first = is ∙ inner in
-    let second = first ∙ sym (append-assoc front size ((name ++ payload) ++ back)) ∙ ap (λ (xs : List ℕ). (front ++ size) ++ xs) (append-assoc name payload back) in
+    let second = first ∙ sym (append-assoc front size ((name ++ payload) ++ back))
+    ∙ ap (λ (xs : List ℕ). (front ++ size) ++ xs) (append-assoc name payload back) in
     let third = second ∙ sym (append-assoc (front ++ size) name (payload ++ back)) in
     let l = length-append front size in
     let s = number-length 4 (length payload) in

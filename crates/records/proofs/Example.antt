@@ -20,7 +20,8 @@ abbrev pub headE : List ℕ
 headE =
     14 ∷ 0 ∷ 0 ∷ 0 ∷ 1 ∷ 0 ∷ 2 ∷ 0 ∷ 2 ∷ 0 ∷ 1 ∷ 0 ∷ 0 ∷ 0 ∷ 1 ∷ 0 ∷ 2 ∷ 0 ∷ 0 ∷ 0
     ∷ 12 ∷ 0 ∷ 0 ∷ 0 ∷ 2 ∷ 0 ∷ 1 ∷ 0 ∷ 0 ∷ 0 ∷ 254 ∷ 255 ∷ 255 ∷ 255 ∷ 0 ∷ 0 ∷ 0 ∷ 0
-    ∷ 24 ∷ 0 ∷ 0 ∷ 0 ∷ 3 ∷ 0 ∷ 0 ∷ 0 ∷ 0 ∷ 0 ∷ 2 ∷ 0 ∷ 0 ∷ 0 ∷ 0 ∷ 0 ∷ 0 ∷ 0 ∷ 0 ∷ 0 ∷ 0 ∷ 0 ∷ 0 ∷ 0 ∷ 0 ∷ 0 ∷ 1 ∷ 0 ∷ 0 ∷ 0 ∷ []
+    ∷ 24 ∷ 0 ∷ 0 ∷ 0 ∷ 3 ∷ 0 ∷ 0 ∷ 0 ∷ 0 ∷ 0 ∷ 2 ∷ 0 ∷ 0 ∷ 0
+    ∷ 0 ∷ 0 ∷ 0 ∷ 0 ∷ 0 ∷ 0 ∷ 0 ∷ 0 ∷ 0 ∷ 0 ∷ 0 ∷ 0 ∷ 1 ∷ 0 ∷ 0 ∷ 0 ∷ []
 
 -- with kind 4, and as it is written
 abbrev pub fileE : List ℕ
@@ -30,11 +31,15 @@ abbrev pub writtenE : List ℕ
 writtenE = headE ++ (2 ∷ 0 ∷ 0 ∷ 0 ∷ 255 ∷ 255 ∷ 190 ∷ 255 ∷ [])
 
 -- its records: each kind in its bytes, with the class names 0 2, the parents 0 0, the counts 0 1, and the set of 1, which is 2
-pub records-are : fileE ≡ prefixRecord 2 prefixE ++ (clausesRecord clausesE ++ (rowsRecord (0 ∷ 2 ∷ []) (0 ∷ 0 ∷ []) (0 ∷ 1 ∷ []) ++ (recordBytes setsKind (bytesOf 2 (1 ∷ 1 ∷ 2 ∷ [])) ++ closingRecord 65456)))
+abbrev rowsE : List ℕ
+rowsE = rowsRecord (0 ∷ 2 ∷ []) (0 ∷ 0 ∷ []) (0 ∷ 1 ∷ [])
+
+pub records-are : fileE ≡ prefixRecord 2 prefixE
+    ++ (clausesRecord clausesE ++ (rowsE ++ (recordBytes setsKind (bytesOf 2 (1 ∷ 1 ∷ 2 ∷ [])) ++ closingRecord 65456)))
 unfolding prefixRecord clausesRecord rowsRecord closingRecord recordBytes bytesOf numberBytes literalNumber
 records-are = refl
 
-pub written-are : writtenE ≡ prefixRecord 2 prefixE ++ (clausesRecord clausesE ++ (rowsRecord (0 ∷ 2 ∷ []) (0 ∷ 0 ∷ []) (0 ∷ 1 ∷ []) ++ closingRecord 65470))
+pub written-are : writtenE ≡ prefixRecord 2 prefixE ++ (clausesRecord clausesE ++ (rowsE ++ closingRecord 65470))
 unfolding prefixRecord clausesRecord rowsRecord closingRecord recordBytes bytesOf numberBytes literalNumber
 written-are = refl
 

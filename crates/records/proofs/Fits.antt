@@ -9,19 +9,22 @@ use native.Mathlib.Omega.{arith}
 use borrow.Author.Tests.{lt-ltb, le-ltb}
 use lib.IntN.{ℤ, pos, negsuc}
 use lib.ListN.{length, getD}
+use Rattle.terms.specs.declared.Scheme.the-variants.{Standard}
 use Rattle.terms.specs.Literals.{variableOf}
 use Rattle.terms.specs.Refusals.{None, NoneOf}
+use Rattle.formula.specs.Lent.{Formula}
 use Rattle.formula.specs.Tables.{at, literalAt, opens}
 use Rattle.formula.specs.Causes.{PrefixCause, ClauseCause}
-use Rattle.connection.specs.Reach.{Depends}
 use Rattle.connection.specs.Tables.{row, lent}
-use Rattle.connection.proofs.Listed.{listed-most}
+use Rattle.terms.proofs.Listed.{listed-most}
 use Rattle.connection.proofs.Growth.{forest-is}
 use Rattle.connection.proofs.Counts.{count-most}
-use Rattle.tables.specs.Formula.{variables, universal, Shares}
+use Rattle.tables.specs.Formula.{variables, universal}
+use Rattle.tables.specs.Lent.{Rows}
 use Rattle.tables.proofs.Agreeing.{lawful}
+use Rattle.forest.specs.Answers.{DependsBy}
 use Rattle.sets.specs.Sets.{Record, Records}
-use Rattle.joining.specs.Rules.{readAs, JoinedCause, checkOrderUnder}
+use Rattle.joining.specs.Rules.{readAs, readBy, JoinedCause, checkOrder}
 use Rattle.joining.proofs.Orders.{limits, by-rule}
 use Rattle.records.specs.Numbers.{literalNumber, literalOf}
 use Rattle.records.specs.Layout.{ForestRows, StandardSets}
@@ -57,7 +60,8 @@ literal-back (negsuc v) h =
     let back : 4294967295 - k ≡ v = omega arith in
     (ap (λ (b : Bool). cond b (pos k) (negsuc (4294967295 - k))) (le-ltb k 2147483648 (omega arith)) ∙ ap negsuc back, omega arith)
 
-literals-back : (ls : List ℤ) → ((i : ℕ) → i < length ls → variableOf (literalAt ls i) ≤ 4096) → (map literalOf (map literalNumber ls) ≡ ls) × Fit 4 (map literalNumber ls)
+literals-back : (ls : List ℤ) → ((i : ℕ) → i < length ls → variableOf (literalAt ls i) ≤ 4096)
+    → (map literalOf (map literalNumber ls) ≡ ls) × Fit 4 (map literalNumber ls)
 literals-back [] each = (refl, tt)
 literals-back (z ∷ more) each =
     let (same, fits) = literal-back z (each 0 (omega arith)) in
@@ -65,25 +69,45 @@ literals-back (z ∷ more) each =
     (ap₂ (λ (x : ℤ) (xs : List ℤ). x ∷ xs) same rest, (small-four (literalNumber z) fits, fit))
 
 -- An entry of a prefix is a mark, or a variable of at most n, or 0: where no cause says that it is neither.
-entry-most : (n : ℕ) (es : List ℕ) → n ≤ 4096 → ((e : ℕ) → e < length es → opens es e ≡ true → at es e ≢ 1 → at es e ≢ 2 → ⊥) → ((e : ℕ) → e < length es → opens es e ≡ false → at es e ≢ 0 → n < at es e → ⊥)
+entry-most : (n : ℕ) (es : List ℕ) → n ≤ 4096
+    → ((e : ℕ) → e < length es → opens es e ≡ true → at es e ≢ 1 → at es e ≢ 2 → ⊥)
+    → ((e : ℕ) → e < length es → opens es e ≡ false → at es e ≢ 0 → n < at es e → ⊥)
     → (e : ℕ) → e < length es → at es e ≤ 4096
 entry-most n es few marks names e less = go (opens es e) refl
   where
     go : (b : Bool) → opens es e ≡ b → at es e ≤ 4096
-    go true open′ = by-cases (ℕ-discrete (at es e) 1) (λ q. omega arith) (λ a. by-cases (ℕ-discrete (at es e) 2) (λ q. omega arith) (λ b. absurd (marks e less open′ a b)))
-    go false shut = by-cases (ℕ-discrete (at es e) 0) (λ q. omega arith) (λ some. by-cases (decLt n (at es e)) (λ over. absurd (names e less shut some over)) (λ low. omega arith))
+    go true open′ =
+        by-cases (ℕ-discrete (at es e) 1) (λ q. omega arith)
+        (λ a. by-cases (ℕ-discrete (at es e) 2) (λ q. omega arith) (λ b. absurd (marks e less open′ a b)))
+    go false shut =
+        by-cases (ℕ-discrete (at es e) 0) (λ q. omega arith)
+        (λ some. by-cases (decLt n (at es e)) (λ over. absurd (names e less shut some over)) (λ low. omega arith))
 
-module _ (rule n : ℕ) (es : List ℕ) (ls : List ℤ) (none : NoneOf (checkOrderUnder rule n es ls)) where
+module _ (rule : ℕ) (f : Formula) (none : NoneOf (checkOrder rule f)) where
+  abbrev n : ℕ
+  n = f .n
+
+  abbrev es : List ℕ
+  es = f .prefix
+
+  abbrev ls : List ℤ
+  ls = f .clauses
+
+  abbrev read : List ℕ
+  read = readAs rule es
+
   few : n ≤ 4096
-  few = limits rule n es ls none .0
+  few = limits rule f none .0
 
   -- n and the prefix, as it is lent
   prefix-most : (e : ℕ) → e < length es → at es e ≤ 4096
   prefix-most =
       ⊎-elim
-      (λ (one : None (PrefixCause n es)). entry-most n es few (λ e less open′ a b. one 4 e (PrefixCause.no-mark refl (less, open′) a b)) (λ e less shut some over. one 7 e (PrefixCause.outside refl (less, shut, some) over)))
-      (λ (two : None (JoinedCause n es)). entry-most n es few (λ e less open′ a b. two 4 e (JoinedCause.no-mark refl (less, open′) a b)) (λ e less shut some over. two 7 e (JoinedCause.outside refl (less, shut, some) over)))
-      (by-rule rule n es ls none)
+      (λ (one : None (PrefixCause n es)). entry-most n es few (λ e less open′ a b. one 4 e (PrefixCause.no-mark refl (less, open′) a b))
+      (λ e less shut some over. one 7 e (PrefixCause.outside refl (less, shut, some) over)))
+      (λ (two : None (JoinedCause n es)). entry-most n es few (λ e less open′ a b. two 4 e (JoinedCause.no-mark refl (less, open′) a b))
+      (λ e less shut some over. two 7 e (JoinedCause.outside refl (less, shut, some) over)))
+      (by-rule rule f none)
 
   pub prefix-fits : (n < limit 2) × Fit 2 es
   prefix-fits = (small-two n few, fit-each 2 es (λ e less. small-two (at es e) (prefix-most e less)))
@@ -93,53 +117,64 @@ module _ (rule n : ℕ) (es : List ℕ) (ls : List ℤ) (none : NoneOf (checkOrd
   literal-most clear e less =
       by-cases (decLt n (variableOf (literalAt ls e)))
       (λ over. absurd (clear 10 e (ClauseCause.outside refl less (λ z. let q = ap variableOf z in omega arith) over)))
-      (λ low. let f = few in omega arith)
+      (λ low. let most = few in omega arith)
 
   pub clauses-back : (map literalOf (map literalNumber ls) ≡ ls) × Fit 4 (map literalNumber ls)
   clauses-back = literals-back ls (literal-most (none .1 .1 .1 .1 .0))
 
   -- the rows
-  module _ {classes parents counts : List ℕ} (rows : ForestRows n (readAs rule es) ls classes parents counts) where
+  module _ {r : Rows} (right : ForestRows (readBy rule f) r) where
     read-row : (table : List ℕ) (i : ℕ) → i < n → getD table i 0 ≡ row n table (suc i)
     unfolding row
     read-row table i less = sym (ap (λ (b : Bool). cond b (getD table i 0) 0) (lt-ltb i n less))
 
-    formed-class : (v : ℕ) → row n classes v ≤ n
+    formed-class : (v : ℕ) → row n (r .classes) v ≤ n
     unfolding lent
-    formed-class v = go (variables n (readAs rule es) .ex v) refl
+    formed-class v = go (variables n read .ex v) refl
       where
-        go : (b : Bool) → variables n (readAs rule es) .ex v ≡ b → row n classes v ≤ n
-        go true ex = lawful n (readAs rule es) .within (row n classes v) (forest-is (lawful n (readAs rule es)) .0 (rows .forest) .formed .right v .class ex .name .existential) .1
-        go false ex = let z = forest-is (lawful n (readAs rule es)) .0 (rows .forest) .formed .right v .universal ex .0 in omega arith
+        go : (b : Bool) → variables n read .ex v ≡ b → row n (r .classes) v ≤ n
+        go true ex =
+            lawful n read .within (row n (r .classes) v)
+            (forest-is (lawful n read) .0 (right .forest) .formed .right v .class ex .name .existential) .1
+        go false ex = let z = forest-is (lawful n read) .0 (right .forest) .formed .right v .universal ex .0 in omega arith
 
-    formed-parent : (v : ℕ) → row n parents v ≤ n
+    formed-parent : (v : ℕ) → row n (r .parents) v ≤ n
     unfolding lent
     formed-parent v =
-        by-cases (ℕ-discrete (row n parents v) 0) (λ z. omega arith)
-        (λ some. lawful n (readAs rule es) .within (row n parents v) (forest-is (lawful n (readAs rule es)) .0 (rows .forest) .formed .right v .parent some .name .existential) .1)
+        by-cases (ℕ-discrete (row n (r .parents) v) 0) (λ z. omega arith)
+        (λ some. lawful n read .within (row n (r .parents) v)
+        (forest-is (lawful n read) .0 (right .forest) .formed .right v .parent some .name .existential) .1)
 
     fit-rows : (table : List ℕ) → length table ≡ n → ((v : ℕ) → row n table v ≤ n) → Fit 4 table
-    fit-rows table many most = fit-each 4 table (λ i less. let q = read-row table i (omega arith) in let m = most (suc i) in let f = few in small-four (getD table i 0) (omega arith))
+    fit-rows table many most =
+        fit-each 4 table
+        (λ i less. let q = read-row table i (omega arith) in let m = most (suc i) in let most′ = few in small-four (getD table i 0) (omega arith))
 
-    pub rows-fit : Fit 4 (classes ++ (parents ++ counts))
+    pub rows-fit : Fit 4 (r .classes ++ (r .parents ++ r .counts))
     rows-fit =
-        fit-append 4 classes (parents ++ counts) (fit-rows classes (rows .classes-many) formed-class)
-        (fit-append 4 parents counts (fit-rows parents (rows .parents-many) formed-parent) (fit-rows counts (rows .counts-many) (count-most (forest-is (lawful n (readAs rule es)) .0 (rows .forest) .formed) (lawful n (readAs rule es)) (rows .counted))))
+        fit-append 4 (r .classes) (r .parents ++ r .counts) (fit-rows (r .classes) (right .classes-many) formed-class)
+        (fit-append 4 (r .parents) (r .counts) (fit-rows (r .parents) (right .parents-many) formed-parent) (fit-rows (r .counts) (right .counts-many)
+        (count-most (forest-is (lawful n read) .0 (right .forest) .formed) (lawful n read) (right .counted))))
 
   -- the sets
-  record-fits : (b : Bool) (x : ℕ) (part : List ℕ) → x ≤ n → Record b x (Depends (variables n (readAs rule es)) (Shares ls) x) part → Fit 2 part
+  record-fits : (b : Bool) (x : ℕ) (part : List ℕ) → x ≤ n → Record b x (DependsBy Standard (readBy rule f) x) part → Fit 2 part
   record-fits true x part low (set, listed, is) =
-      let f = few in
-      let inside : (v : ℕ) → Depends (variables n (readAs rule es)) (Shares ls) x v → (1 ≤ v) × (v ≤ n) = λ v d. lawful n (readAs rule es) .within v (d .existential) in
-      let many = listed-most (Depends (variables n (readAs rule es)) (Shares ls) x) n set inside listed in
-      subst (Fit 2) (sym is)
-      (small-two x (omega arith), (small-two (length set) (omega arith), fit-members 2 set (λ v m. let top = inside v (listed .each v m) .1 in small-two v (omega arith))))
+      let most′ = few in
+      let inside : (v : ℕ) → DependsBy Standard (readBy rule f) x v → (1 ≤ v) × (v ≤ n) =
+      λ v d. lawful n read .within v (d .existential) in
+      let many = listed-most (DependsBy Standard (readBy rule f) x) n set inside listed in
+      subst (Fit 2) (sym is) (
+        small-two x (omega arith),
+        (small-two (length set) (omega arith), fit-members 2 set (λ v m. let top = inside v (listed .each v m) .1 in small-two v (omega arith))),
+      )
   record-fits false x part low is = subst (Fit 2) (sym is) tt
 
-  records-fit : (m : ℕ) (list : List ℕ) → m ≤ n → Records (universal n (readAs rule es)) (Depends (variables n (readAs rule es)) (Shares ls)) m list → Fit 2 list
+  records-fit : (m : ℕ) (list : List ℕ) → m ≤ n
+      → Records (universal n read) (DependsBy Standard (readBy rule f)) m list → Fit 2 list
   records-fit zero list low is = subst (Fit 2) (sym is) tt
   records-fit (suc m) list low (before, part, r, p, is) =
-      subst (Fit 2) (sym is) (fit-append 2 before part (records-fit m before (omega arith) r) (record-fits (universal n (readAs rule es) (suc m)) (suc m) part low p))
+      subst (Fit 2) (sym is)
+      (fit-append 2 before part (records-fit m before (omega arith) r) (record-fits (universal n read (suc m)) (suc m) part low p))
 
-  pub sets-fit : (list : List ℕ) → StandardSets n (readAs rule es) ls list → Fit 2 list
+  pub sets-fit : (list : List ℕ) → StandardSets (readBy rule f) list → Fit 2 list
   sets-fit list are = records-fit n list (omega arith) are

@@ -28,7 +28,8 @@ pub bytes-append : (width : ℕ) (xs ys : List ℕ) → bytesOf width (xs ++ ys)
 unfolding bytesOf
 bytes-append width [] ys = refl
 bytes-append width (x ∷ xs) ys =
-    ap (λ (rest : List ℕ). numberBytes width x ++ rest) (bytes-append width xs ys) ∙ sym (append-assoc (numberBytes width x) (bytesOf width xs) (bytesOf width ys))
+    ap (λ (rest : List ℕ). numberBytes width x ++ rest) (bytes-append width xs ys)
+    ∙ sym (append-assoc (numberBytes width x) (bytesOf width xs) (bytesOf width ys))
 
 pub record-length : (kind : ℕ) (payload : List ℕ) → length (recordBytes kind payload) ≡ 6 + length payload
 unfolding recordBytes
@@ -52,7 +53,8 @@ clauses-length ls =
     let m = length-map ls literalNumber in
     omega arith
 
-pub rows-length : (classes parents counts : List ℕ) → length (rowsRecord classes parents counts) ≡ 6 + 4 * (length classes + (length parents + length counts))
+pub rows-length : (classes parents counts : List ℕ)
+    → length (rowsRecord classes parents counts) ≡ 6 + 4 * (length classes + (length parents + length counts))
 unfolding rowsRecord
 rows-length classes parents counts =
     let r = record-length 3 (bytesOf 4 (classes ++ (parents ++ counts))) in

@@ -9,7 +9,6 @@ pub mod Taken
 pub mod Unique
 pub mod Settled
 pub mod Agreed
-pub mod OwnSets
 pub mod Changed
 pub mod Decoded
 pub mod Fits

@@ -5,14 +5,15 @@ use mathlib.Core.Bool.{Bool, true, false, cond}
 use mathlib.Core.List.{List}
 use borrow.Author.Tests.{ltb-true}
 use lib.Dec.{ltb}
-use lib.IntN.{ℤ}
 use lib.ListN.{length, getD, take}
 use lib.Seq.{length-take-le, getD-take}
 use Rattle.connection.specs.Reach.{Variables}
 use Rattle.connection.specs.Tables.{Table, row, lent}
 use Rattle.connection.specs.Forest.{Forest}
 use Rattle.connection.specs.Counts.{Counted}
-use Rattle.tables.specs.Formula.{variables, Shares}
+use Rattle.formula.specs.Lent.{Formula}
+use Rattle.tables.specs.Formula.{Shares}
+use Rattle.tables.specs.Lent.{Rows, rows, variablesOf, forestOf}
 use Rattle.records.specs.Layout.{ForestRows}
 
 row-taken : (n : ℕ) (rows : List ℕ) (v : ℕ) → row n rows v ≡ row n (take n rows) v
@@ -28,16 +29,22 @@ lent-taken : (X : Variables) (classes parents : List ℕ) → lent X classes par
 unfolding lent
 lent-taken X classes parents = λ i. record { cls = λ v. row-taken (X .count) classes v i; par = λ v. row-taken (X .count) parents v i }
 
-pub rows-taken : (n : ℕ) (es : List ℕ) (ls : List ℤ) (classes parents counts : List ℕ) → n ≤ length classes → n ≤ length parents → n ≤ length counts
-    → Forest (variables n es) (Shares ls) (lent (variables n es) classes parents) → Counted (variables n es) (lent (variables n es) classes parents) (row n counts)
-    → ForestRows n es ls (take n classes) (take n parents) (take n counts)
-rows-taken n es ls classes parents counts c p k forest counted =
-    let X = variables n es in
-    let same = lent-taken X classes parents in
+-- the first n rows of each
+abbrev pub taken : ℕ → Rows → Rows
+taken n r = rows (take n (r .classes)) (take n (r .parents)) (take n (r .counts))
+
+pub rows-taken : (f : Formula) (r : Rows) → f .n ≤ length (r .classes) → f .n ≤ length (r .parents) → f .n ≤ length (r .counts)
+    → Forest (variablesOf f) (Shares (f .clauses)) (forestOf f r) → Counted (variablesOf f) (forestOf f r) (row (f .n) (r .counts))
+    → ForestRows f (taken (f .n) r)
+rows-taken f r c p k forest counted =
+    let X = variablesOf f in
+    let same = lent-taken X (r .classes) (r .parents) in
     record {
-      classes-many = length-take-le n classes c;
-      parents-many = length-take-le n parents p;
-      counts-many = length-take-le n counts k;
-      forest = subst (Forest X (Shares ls)) same forest;
-      counted = subst (Counted X (lent X (take n classes) (take n parents))) (λ i v. row-taken n counts v i) (subst (λ (W : Table). Counted X W (row n counts)) same counted);
+      classes-many = length-take-le (f .n) (r .classes) c;
+      parents-many = length-take-le (f .n) (r .parents) p;
+      counts-many = length-take-le (f .n) (r .counts) k;
+      forest = subst (Forest X (Shares (f .clauses))) same forest;
+      counted =
+          subst (Counted X (forestOf f (taken (f .n) r))) (λ i v. row-taken (f .n) (r .counts) v i)
+          (subst (λ (W : Table). Counted X W (row (f .n) (r .counts))) same counted);
     }

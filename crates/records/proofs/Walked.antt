@@ -8,8 +8,10 @@ use native.Mathlib.Omega.{arith}
 use lib.IntN.{ℤ}
 use lib.ListN.{length, length-append}
 use Rattle.terms.specs.Refusals.{None}
+use Rattle.formula.specs.Lent.{Formula}
 use Rattle.records.specs.Numbers.{numberBytes, bytesOf, literalNumber}
-use Rattle.records.specs.Layout.{prefixKind, clausesKind, rowsKind, setsKind, closingKind, recordBytes, prefixRecord, clausesRecord, rowsRecord, closingRecord, SetsRecord}
+use Rattle.records.specs.Layout.{prefixKind, clausesKind, rowsKind, setsKind, closingKind, recordBytes, prefixRecord, clausesRecord}
+use Rattle.records.specs.Layout.{rowsRecord, closingRecord, SetsRecord}
 use Rattle.records.specs.Places.{sizeAt, kindAt, nextAt, Reached, start, behind, RecordAt, mayFollow}
 use Rattle.records.specs.Causes.{RecordCause, OrderCause}
 use Rattle.records.proofs.Lengths.{number-length, bytes-length, record-length}
@@ -66,7 +68,8 @@ pub record Shape (kind : ℕ) (payload : List ℕ) : Type 0 where
 -- Bytes that are records, each of a kind that may follow the one before, the last of kind 65,535.
 pub data Run : ℕ → List ℕ → Type 0 where
   over : {before : ℕ} {bytes : List ℕ} → before ≡ closingKind → bytes ≡ [] → Run before bytes
-  next : {before : ℕ} {bytes : List ℕ} (kind : ℕ) (payload more : List ℕ) → bytes ≡ recordBytes kind payload ++ more → kind < 65536 → mayFollow before kind ≡ true → Shape kind payload → Run kind more → Run before bytes
+  next : {before : ℕ} {bytes : List ℕ} (kind : ℕ) (payload more : List ℕ) → bytes ≡ recordBytes kind payload ++ more → kind < 65536
+      → mayFollow before kind ≡ true → Shape kind payload → Run kind more → Run before bytes
 
 -- The same of the bytes of a file from a place on.
 pub record From (file : List ℕ) (before place : ℕ) : Type 0 where
@@ -78,7 +81,8 @@ pub record From (file : List ℕ) (before place : ℕ) : Type 0 where
 
 module _ (file : List ℕ) (short : length file < 4294967296) where
   -- the record there
-  first-at : {place : ℕ} (front more : List ℕ) {bytes : List ℕ} (kind : ℕ) (payload : List ℕ) → file ≡ front ++ bytes → length front ≡ place → bytes ≡ recordBytes kind payload ++ more → kind < 65536 → StandsAt file place kind payload
+  first-at : {place : ℕ} (front more : List ℕ) {bytes : List ℕ} (kind : ℕ) (payload : List ℕ) → file ≡ front ++ bytes
+      → length front ≡ place → bytes ≡ recordBytes kind payload ++ more → kind < 65536 → StandsAt file place kind payload
   first-at {place} front more kind payload is at split fits =
       let whole : file ≡ front ++ (recordBytes kind payload ++ more) = is ∙ ap (λ (xs : List ℕ). front ++ xs) split in
       let l = ap length whole ∙ length-append front (recordBytes kind payload ++ more) in
@@ -90,7 +94,8 @@ module _ (file : List ℕ) (short : length file < 4294967296) where
   from-good : (before place : ℕ) → From file before place → Good file before place
   from-good before place f = go (f .front) (f .run) (f .is) (f .at)
     where
-      go : {before place : ℕ} (front : List ℕ) {bytes : List ℕ} → Run before bytes → file ≡ front ++ bytes → length front ≡ place → Good file before place
+      go : {before place : ℕ} (front : List ℕ) {bytes : List ℕ} → Run before bytes → file ≡ front ++ bytes → length front ≡ place
+          → Good file before place
       go front {bytes} (over last none) is at = end-here last (let l = ap length is ∙ length-append front bytes in let z = ap length none in omega arith)
       go {before} {place} front (next kind payload more split fits follows shape rest) is at =
           let stands = first-at front more kind payload is at split fits in
@@ -109,12 +114,15 @@ module _ (file : List ℕ) (short : length file < 4294967296) where
           (ap (mayFollow before) name ∙ follows)
 
   -- behind a record the run goes on
-  from-next : {before place : ℕ} (earlier p : ℕ) → From file earlier p → nextAt file p ≤ length file → before ≡ kindAt file p → place ≡ nextAt file p → From file before place
+  from-next : {before place : ℕ} (earlier p : ℕ) → From file earlier p → nextAt file p ≤ length file → before ≡ kindAt file p
+      → place ≡ nextAt file p → From file before place
   unfolding nextAt
   from-next {before} {place} earlier p f whole kind-is next-is = go (f .front) (f .run) (f .is) (f .at)
     where
-      go : {earlier : ℕ} (front : List ℕ) {bytes : List ℕ} → Run earlier bytes → file ≡ front ++ bytes → length front ≡ p → From file before place
-      go front {bytes} (over last none) is at = let l = ap length is ∙ length-append front bytes in let z = ap length none in let no : ⊥ = omega arith in absurd no
+      go : {earlier : ℕ} (front : List ℕ) {bytes : List ℕ} → Run earlier bytes → file ≡ front ++ bytes → length front ≡ p
+          → From file before place
+      go front {bytes} (over last none) is at =
+          let l = ap length is ∙ length-append front bytes in let z = ap length none in let no : ⊥ = omega arith in absurd no
       go front (next kind payload more split fits follows shape rest) is at =
           let stands = first-at front more kind payload is at split fits in
           let l = length-append front (recordBytes kind payload) in
@@ -139,33 +147,51 @@ module _ (file : List ℕ) (short : length file < 4294967296) where
 -- The records of a formula's file.
 module _ (n : ℕ) (es : List ℕ) (ls : List ℤ) (classes parents counts : List ℕ) where
   prefix-shape : Shape prefixKind (bytesOf 2 (n ∷ es))
-  prefix-shape = let l = bytes-length 2 (n ∷ es) in record { even = omega arith; count = λ _. omega arith; literals = λ q. absurd (omega arith); word = λ q. absurd (omega arith) }
+  prefix-shape =
+      let l = bytes-length 2 (n ∷ es) in
+      record { even = omega arith; count = λ _. omega arith; literals = λ q. absurd (omega arith); word = λ q. absurd (omega arith) }
 
   clauses-shape : Shape clausesKind (bytesOf 4 (map literalNumber ls))
-  clauses-shape = let l = bytes-length 4 (map literalNumber ls) in record { even = omega arith; count = λ q. absurd (omega arith); literals = λ _. omega arith; word = λ q. absurd (omega arith) }
+  clauses-shape =
+      let l = bytes-length 4 (map literalNumber ls) in
+      record { even = omega arith; count = λ q. absurd (omega arith); literals = λ _. omega arith; word = λ q. absurd (omega arith) }
 
   rows-shape : Shape rowsKind (bytesOf 4 (classes ++ (parents ++ counts)))
-  rows-shape = let l = bytes-length 4 (classes ++ (parents ++ counts)) in record { even = omega arith; count = λ q. absurd (omega arith); literals = λ q. absurd (omega arith); word = λ q. absurd (omega arith) }
+  rows-shape =
+      let l = bytes-length 4 (classes ++ (parents ++ counts)) in
+      record { even = omega arith; count = λ q. absurd (omega arith); literals = λ q. absurd (omega arith); word = λ q. absurd (omega arith) }
 
   sets-shape : (list : List ℕ) → Shape setsKind (bytesOf 2 list)
-  sets-shape list = let l = bytes-length 2 list in record { even = omega arith; count = λ q. absurd (omega arith); literals = λ q. absurd (omega arith); word = λ q. absurd (omega arith) }
+  sets-shape list =
+      let l = bytes-length 2 list in
+      record { even = omega arith; count = λ q. absurd (omega arith); literals = λ q. absurd (omega arith); word = λ q. absurd (omega arith) }
 
   word-shape : (word : ℕ) → Shape closingKind (numberBytes 2 word)
-  word-shape word = let l = number-length 2 word in record { even = omega arith; count = λ q. absurd (omega arith); literals = λ q. absurd (omega arith); word = λ _. l }
+  word-shape word =
+      let l = number-length 2 word in
+      record { even = omega arith; count = λ q. absurd (omega arith); literals = λ q. absurd (omega arith); word = λ _. l }
 
   last-run : (word before : ℕ) → mayFollow before closingKind ≡ true → Run before (closingRecord word)
   unfolding closingRecord
-  last-run word before follows = next closingKind (numberBytes 2 word) [] (sym (append-nil (closingRecord word))) (omega arith) follows (word-shape word) (over refl refl)
+  last-run word before follows =
+      next closingKind (numberBytes 2 word) [] (sym (append-nil (closingRecord word))) (omega arith) follows (word-shape word) (over refl refl)
 
-  sets-run : (read : List ℕ) (there : Bool) (sets-record : List ℕ) (word : ℕ) → SetsRecord there n read ls sets-record → Run rowsKind (sets-record ++ closingRecord word)
+  sets-run : (read : Formula) (there : Bool) (sets-record : List ℕ) (word : ℕ) → SetsRecord there read sets-record
+      → Run rowsKind (sets-record ++ closingRecord word)
   unfolding mayFollow
-  sets-run read true sets-record word (list, are, is) = next setsKind (bytesOf 2 list) (closingRecord word) (ap (λ (xs : List ℕ). xs ++ closingRecord word) is) (omega arith) refl (sets-shape list) (last-run word setsKind refl)
+  sets-run read true sets-record word (list, are, is) =
+      next setsKind (bytesOf 2 list) (closingRecord word) (ap (λ (xs : List ℕ). xs ++ closingRecord word) is) (omega arith) refl (sets-shape list)
+      (last-run word setsKind refl)
   sets-run read false sets-record word is = subst (λ (xs : List ℕ). Run rowsKind (xs ++ closingRecord word)) (sym is) (last-run word rowsKind refl)
 
-  -- with sets of the prefix however it is read
-  pub file-run : (read : List ℕ) (there : Bool) (sets-record : List ℕ) (word : ℕ) → SetsRecord there n read ls sets-record → Run 0 (prefixRecord n es ++ (clausesRecord ls ++ (rowsRecord classes parents counts ++ (sets-record ++ closingRecord word))))
+  -- with sets of any formula
+  pub file-run : (read : Formula) (there : Bool) (sets-record : List ℕ) (word : ℕ) → SetsRecord there read sets-record
+      → Run 0 (prefixRecord n es ++ (clausesRecord ls ++ (rowsRecord classes parents counts ++ (sets-record ++ closingRecord word))))
   unfolding mayFollow prefixRecord clausesRecord rowsRecord
   file-run read there sets-record word are =
-      next prefixKind (bytesOf 2 (n ∷ es)) (clausesRecord ls ++ (rowsRecord classes parents counts ++ (sets-record ++ closingRecord word))) refl (omega arith) refl prefix-shape
-      (next clausesKind (bytesOf 4 (map literalNumber ls)) (rowsRecord classes parents counts ++ (sets-record ++ closingRecord word)) refl (omega arith) refl clauses-shape
-      (next rowsKind (bytesOf 4 (classes ++ (parents ++ counts))) (sets-record ++ closingRecord word) refl (omega arith) refl rows-shape (sets-run read there sets-record word are)))
+      let rest = sets-record ++ closingRecord word in
+      let rows = rowsRecord classes parents counts in
+      next prefixKind (bytesOf 2 (n ∷ es)) (clausesRecord ls ++ (rows ++ rest)) refl (omega arith) refl prefix-shape
+      (next clausesKind (bytesOf 4 (map literalNumber ls)) (rows ++ rest) refl (omega arith) refl clauses-shape
+      (next rowsKind (bytesOf 4 (classes ++ (parents ++ counts))) rest refl (omega arith) refl rows-shape
+      (sets-run read there sets-record word are)))

@@ -10,7 +10,8 @@ use Rattle.records.specs.Numbers.{numberBytes, wordSum}
 use Rattle.records.specs.Layout.{recordBytes, closingRecord}
 
 -- the words from a place on: one, and those from the next on
-pub sum-step : (file : List ℕ) (at : ℕ) → at + 1 < length file → wordSum (drop at file) ≡ getD file at 0 + 256 * getD file (at + 1) 0 + wordSum (drop (at + 2) file)
+pub sum-step : (file : List ℕ) (at : ℕ) → at + 1 < length file
+    → wordSum (drop at file) ≡ getD file at 0 + 256 * getD file (at + 1) 0 + wordSum (drop (at + 2) file)
 unfolding wordSum
 sum-step file at h =
     let a = drop-cons file at 0 (omega arith) in

@@ -1,16 +1,20 @@
 -- The causes of refusals 19 to 22, and of 14, for reading and writing a file, line by line as document 02, request 6 has them, and the orders of the two calls,
 -- which take a rule number (request 7).
-use Prim.Native.Nat.{ℕ, _+_, _<_, _%_}
+use Prim.Native.Nat.{ℕ, _<_, _≤_, _%_}
 use mathlib.Core.Path.{_≡_}
 use mathlib.Core.Bool.{true, false}
 use mathlib.Core.List.{List, [], _∷_, _++_}
 use mathlib.Core.Logic.{_⊎_, _≢_}
 use lib.IntN.{ℤ}
 use lib.ListN.{length}
+use denote.Ref.{RefT, now}
+use denote.Triple.Both.{Both}
 use Rattle.terms.specs.Refusals.{Causes, At0}
-use Rattle.joining.specs.Rules.{readAs, NoRule, checkOrderUnder}
-use Rattle.records.specs.Layout.{prefixKind, clausesKind, closingKind, ForestRows, StandardSets, FileOf, SumsToZero}
-use Rattle.records.specs.Places.{sizeAt, kindAt, nextAt, Reached, RecordAt, mayFollow, thirdAt, fourthAt, hasSets, countIn, prefixIn, clausesIn, Holds}
+use Rattle.formula.specs.Lent.{Formula}
+use Rattle.joining.specs.Rules.{NoRule, readAs, readBy, checkOrder}
+use Rattle.tables.specs.Lent.{Rows, rowsIn, rowsOut}
+use Rattle.records.specs.Layout.{prefixKind, clausesKind, closingKind, ForestRows, StandardSets, FileWith, SumsToZero}
+use Rattle.records.specs.Places.{sizeAt, kindAt, nextAt, Reached, RecordAt, mayFollow, thirdAt, fourthAt, hasSets, formulaHeld, Holds}
 
 -- the most bytes that a file may have
 abbrev pub fileBytes : ℕ
@@ -36,40 +40,53 @@ pub data RecordCause (file : List ℕ) (number place : ℕ) : Type 0 where
 -- 20: the place is where the record begins, or would if it is missing
 pub data OrderCause (file : List ℕ) (number place : ℕ) : Type 0 where
   -- unknown kind or wrong order: the kind may not come behind the one before
-  wrong : (before : ℕ) → number ≡ 20 → Reached file before place → place < length file → mayFollow before (kindAt file place) ≡ false → OrderCause file number place
+  wrong : (before : ℕ) → number ≡ 20 → Reached file before place → place < length file → mayFollow before (kindAt file place) ≡ false
+      → OrderCause file number place
   -- a kind missing: the file ends, and not behind kind 65,535
   missing : (before : ℕ) → number ≡ 20 → Reached file before place → place ≡ length file → before ≢ closingKind → OrderCause file number place
 
--- the rows, and the sets, that kinds 3 and 4 have are those of the formula that kinds 1 and 2 have, its prefix read by a rule, in number and value
-abbrev pub RightRows : ℕ → List ℕ → List ℕ → List ℕ → List ℕ → Type 0
-RightRows rule file classes parents counts =
-    ForestRows (countIn file) (readAs rule (prefixIn file)) (clausesIn file) classes parents counts × Holds 4 file (thirdAt file) (classes ++ (parents ++ counts))
+-- the rows, and the sets, that kinds 3 and 4 have are those of a formula, in number and value
+abbrev pub RightRows : Formula → List ℕ → Rows → Type 0
+RightRows f file r = ForestRows f r × Holds 4 file (thirdAt file) (r .classes ++ (r .parents ++ r .counts))
 
-abbrev pub RightSets : ℕ → List ℕ → Type 0
-RightSets rule file = (sets : List ℕ) × StandardSets (countIn file) (readAs rule (prefixIn file)) (clausesIn file) sets × Holds 2 file (fourthAt file) sets
+abbrev pub RightSets : Formula → List ℕ → Type 0
+RightSets f file = (sets : List ℕ) × StandardSets f sets × Holds 2 file (fourthAt file) sets
 
--- 22: rows or sets disagree; the place is where the record begins
-pub data ForestFileCause (rule : ℕ) (file : List ℕ) (number place : ℕ) : Type 0 where
-  rows-disagree : number ≡ 22 → place ≡ thirdAt file → ((classes parents counts : List ℕ) → RightRows rule file classes parents counts → ⊥) → ForestFileCause rule file number place
-  sets-disagree : number ≡ 22 → place ≡ fourthAt file → hasSets file ≡ true → (RightSets rule file → ⊥) → ForestFileCause rule file number place
+-- 22: rows or sets disagree with the formula; the place is where the record begins
+pub data ForestFileCause (f : Formula) (file : List ℕ) (number place : ℕ) : Type 0 where
+  rows-disagree : number ≡ 22 → place ≡ thirdAt file → ((r : Rows) → RightRows f file r → ⊥) → ForestFileCause f file number place
+  sets-disagree : number ≡ 22 → place ≡ fourthAt file → hasSets file ≡ true → (RightSets f file → ⊥) → ForestFileCause f file number place
 
 -- What is lent to be filled by reading: tables for the prefix, for the clauses, and for the rows.
 pub record Lent : Type 0 where
   pub prefix : List ℕ
   pub clauses : List ℤ
-  pub classes : List ℕ
-  pub parents : List ℕ
-  pub counts : List ℕ
+  pub rows : Rows
 
-abbrev pub lentTables : List ℕ → List ℤ → List ℕ → List ℕ → List ℕ → Lent
-lentTables prefix clauses classes parents counts = record { prefix = prefix; clauses = clauses; classes = classes; parents = parents; counts = counts }
+abbrev pub lentTables : List ℕ → List ℤ → Rows → Lent
+lentTables prefix clauses rows = record { prefix = prefix; clauses = clauses; rows = rows }
 
--- 14, for reading: a lent table is shorter than what the file has for it
-abbrev pub NoRoom : List ℕ → Lent → Type 0
-NoRoom file lent =
-    (length (lent .prefix) < length (prefixIn file))
-    ⊎ ((length (lent .clauses) < length (clausesIn file))
-    ⊎ ((length (lent .classes) < countIn file) ⊎ ((length (lent .parents) < countIn file) ⊎ (length (lent .counts) < countIn file))))
+-- so of a call's parameters, as they were passed, and as the call leaves them
+abbrev pub lentIn : {P L C Q N : Type 0}
+    → Both (RefT (List ℕ)) P → Both (RefT (List ℤ)) L → Both (RefT (List ℕ)) C → Both (RefT (List ℕ)) Q → Both (RefT (List ℕ)) N → Lent
+lentIn prefix clauses classes parents counts = lentTables (now (prefix .entry)) (now (clauses .entry)) (rowsIn classes parents counts)
+
+abbrev pub lentOut : {P L C Q N : Type 0}
+    → Both P (RefT (List ℕ)) → Both L (RefT (List ℤ)) → Both C (RefT (List ℕ)) → Both Q (RefT (List ℕ)) → Both N (RefT (List ℕ)) → Lent
+lentOut prefix clauses classes parents counts = lentTables (now (prefix .exit)) (now (clauses .exit)) (rowsOut classes parents counts)
+
+-- 14, for reading: a lent table is shorter than what a formula and its rows have for it
+abbrev pub NoRoom : Formula → Lent → Type 0
+NoRoom f lent =
+    (length (lent .prefix) < length (f .prefix))
+    ⊎ ((length (lent .clauses) < length (f .clauses))
+    ⊎ ((length (lent .rows .classes) < f .n) ⊎ ((length (lent .rows .parents) < f .n) ⊎ (length (lent .rows .counts) < f .n))))
+
+-- the tables are long enough for all of it
+abbrev pub Roomy : Formula → Lent → Type 0
+Roomy f lent =
+    (length (f .prefix) ≤ length (lent .prefix)) × (length (f .clauses) ≤ length (lent .clauses))
+    × (f .n ≤ length (lent .rows .classes)) × (f .n ≤ length (lent .rows .parents)) × (f .n ≤ length (lent .rows .counts))
 
 -- the order of reading: 23, which comes before all others (request 7), 19 (too long), 19, 20, 21 (sum), table refusals, 22, 14
 abbrev pub fileOrder : List ℕ → List Causes
@@ -82,15 +99,23 @@ afterRule (rule ∷ later) = later
 
 abbrev pub loadOrder : ℕ → List ℕ → Lent → List Causes
 loadOrder rule file lent =
-    At0 23 (NoRule rule) ∷ (fileOrder file ++ (afterRule (checkOrderUnder rule (countIn file) (prefixIn file) (clausesIn file)) ++ (ForestFileCause rule file ∷ At0 14 (NoRoom file lent) ∷ [])))
+    At0 23 (NoRule rule)
+    ∷ (fileOrder file
+    ++ (afterRule (checkOrder rule (formulaHeld file))
+    ++ (ForestFileCause (readBy rule (formulaHeld file)) file ∷ At0 14 (NoRoom (formulaHeld file) lent) ∷ [])))
 
--- 19 and 14, for writing: the file of the formula is too long, which within the limits it never is (proofs/Short); it is longer than the table that is lent for it
-abbrev pub FileTooLarge : ℕ → ℕ → List ℕ → List ℤ → Type 0
-FileTooLarge rule n es ls = (file : List ℕ) × FileOf rule n es ls file × TooLarge file
+-- 19 and 14, for writing a formula whose prefix is read so: its file is too long, which within the limits it never is (proofs/Short); it is longer
+-- than the table that is lent for it
+abbrev pub FileTooLarge : Formula → List ℕ → Type 0
+FileTooLarge f read = (file : List ℕ) × FileWith f read [] file × TooLarge file
 
-abbrev pub FileTooLong : ℕ → ℕ → List ℕ → List ℤ → List ℕ → Type 0
-FileTooLong rule n es ls before = (file : List ℕ) × FileOf rule n es ls file × (length before < length file)
+abbrev pub FileTooLong : Formula → List ℕ → List ℕ → Type 0
+FileTooLong f read before = (file : List ℕ) × FileWith f read [] file × (length before < length file)
+
+-- what is looked for behind check: 19, 14
+abbrev pub behindStore : Formula → List ℕ → List ℕ → List Causes
+behindStore f read before = At0 19 (FileTooLarge f read) ∷ At0 14 (FileTooLong f read before) ∷ []
 
 -- the order of writing: 23 and the table refusals, 19, 14
-abbrev pub storeOrder : ℕ → ℕ → List ℕ → List ℤ → List ℕ → List Causes
-storeOrder rule n es ls before = checkOrderUnder rule n es ls ++ (At0 19 (FileTooLarge rule n es ls) ∷ At0 14 (FileTooLong rule n es ls before) ∷ [])
+abbrev pub storeOrder : ℕ → Formula → List ℕ → List Causes
+storeOrder rule f before = checkOrder rule f ++ behindStore f (readAs rule (f .prefix)) before

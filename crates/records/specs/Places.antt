@@ -6,6 +6,7 @@ use mathlib.Core.List.{List, map}
 use lib.Dec.{eqb}
 use lib.IntN.{ℤ}
 use lib.ListN.{length}
+use Rattle.formula.specs.Lent.{Formula, formulaOf}
 use Rattle.records.specs.Numbers.{numberAt, numbersAt, literalOf}
 use Rattle.records.specs.Layout.{prefixKind, clausesKind, rowsKind, setsKind, closingKind}
 
@@ -26,7 +27,8 @@ nextAt file p = payloadAt p + sizeAt file p
 -- The kind of that record goes with it, and 0 with the beginning of the file.
 pub data Reached (file : List ℕ) : ℕ → ℕ → Type 0 where
   start : {before place : ℕ} → before ≡ 0 → place ≡ 0 → Reached file before place
-  behind : {before place : ℕ} (earlier p : ℕ) → Reached file earlier p → nextAt file p ≤ length file → before ≡ kindAt file p → place ≡ nextAt file p → Reached file before place
+  behind : {before place : ℕ} (earlier p : ℕ) → Reached file earlier p → nextAt file p ≤ length file → before ≡ kindAt file p
+      → place ≡ nextAt file p → Reached file before place
 
 -- A record begins there: the file goes on.
 pub record RecordAt (file : List ℕ) (place : ℕ) : Type 0 where
@@ -43,7 +45,8 @@ mayFollow before kind =
     || ((eqb before rowsKind && (eqb kind setsKind || eqb kind closingKind))
     || (eqb before setsKind && eqb kind closingKind))))
 
--- where the records of kinds 2 and 3 begin in a file with the kinds in their order, and the record behind them, which may be of kind 4; that of kind 1 begins at 0
+-- where the records of kinds 2 and 3 begin in a file with the kinds in their order, and the record behind them, which may be of kind 4; that of kind
+-- 1 begins at 0
 unfoldable pub secondAt : List ℕ → ℕ
 secondAt file = nextAt file 0
 
@@ -65,6 +68,10 @@ prefixIn file = numbersAt 2 file (payloadAt 0 + 2) ((sizeAt file 0 - 2) / 2)
 
 unfoldable pub clausesIn : List ℕ → List ℤ
 clausesIn file = map literalOf (numbersAt 4 file (payloadAt (secondAt file)) (sizeAt file (secondAt file) / 4))
+
+-- the formula that a file holds
+abbrev pub formulaHeld : List ℕ → Formula
+formulaHeld file = formulaOf (countIn file) (prefixIn file) (clausesIn file)
 
 -- The record at p has just these numbers, in number and value, each of so many bytes.
 pub record Holds (width : ℕ) (file : List ℕ) (p : ℕ) (numbers : List ℕ) : Type 0 where

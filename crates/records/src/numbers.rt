@@ -7,8 +7,8 @@ ghost use Rattle.records.specs.Numbers.{numberAt, literalNumber, literal
 
 // The number in the two bytes from a place on.
 pub fn two_at(file: &[u8], at: usize) -> u32
-    requires { ⌜ at < 4294967296 ⌝ }
-    ensures { λ r. ⌜ (r ≡ numberAt 2 (now (file .entry)) at) × (r < 65536) ⌝ }
+    requires near { ⌜ at < 4294967296 ⌝ }
+    ensures read { λ r. ⌜ (r ≡ numberAt 2 (now (file .entry)) at) × (r < 65536) ⌝ }
 {
     let low = byte_at(file, at);
     let high = byte_at(file, at + 1);
@@ -17,8 +17,8 @@ pub fn two_at(file: &[u8], at: usize) -> u32
 
 // The number in the four bytes from a place on.
 pub fn four_at(file: &[u8], at: usize) -> u32
-    requires { ⌜ at < 4294967294 ⌝ }
-    ensures { λ r. ⌜ r ≡ numberAt 4 (now (file .entry)) at ⌝ }
+    requires near { ⌜ at < 4294967294 ⌝ }
+    ensures read { λ r. ⌜ r ≡ numberAt 4 (now (file .entry)) at ⌝ }
 {
     let low = two_at(file, at);
     let high = two_at(file, at + 2);
@@ -27,7 +27,7 @@ pub fn four_at(file: &[u8], at: usize) -> u32
 
 // The byte at a place, 0 past the end.
 fn byte_at(file: &[u8], at: usize) -> u32
-    ensures { λ r. ⌜ (r ≡ getD (now (file .entry)) at 0) × (r < 256) ⌝ }
+    ensures read { λ r. ⌜ (r ≡ getD (now (file .entry)) at 0) × (r < 256) ⌝ }
 {
     if at < file.len() {
         return wide(file[at]);
@@ -37,14 +37,14 @@ fn byte_at(file: &[u8], at: usize) -> u32
 
 // A byte as a number.
 fn wide(byte: u8) -> u32
-    ensures { λ r. ⌜ (r ≡ byte) × (r < 256) ⌝ }
+    ensures same { λ r. ⌜ (r ≡ byte) × (r < 256) ⌝ }
 {
     byte as u32
 }
 
 // A literal as a four-byte number: of a negative one the complement is never negative.
 pub fn literal_number(literal: i32) -> u32
-    ensures { λ r. ⌜ r ≡ literalNumber literal ⌝ }
+    ensures encoded { λ r. ⌜ r ≡ literalNumber literal ⌝ }
 {
     if literal < 0 {
         let below = !literal;
@@ -56,7 +56,7 @@ pub fn literal_number(literal: i32) -> u32
 
 // The literal that a four-byte number is.
 pub fn literal_of(number: u32) -> i32
-    ensures { λ r. ⌜ r ≡ literalOf number ⌝ }
+    ensures decoded { λ r. ⌜ r ≡ literalOf number ⌝ }
 {
     if number < 2147483648 {
         number as i32

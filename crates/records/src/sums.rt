@@ -6,7 +6,7 @@ ghost use Rattle.records.specs.Numbers.{wordSum};
 
 // The sum of the words of a file.
 pub fn sum_words(file: &[u8]) -> u16
-    ensures { λ r. ⌜ r ≡ wordSum (now (file .entry)) % 65536 ⌝ }
+    ensures summed { λ r. ⌜ r ≡ wordSum (now (file .entry)) % 65536 ⌝ }
 {
     let mut at = 0;
     let mut sum: u16 = 0;
@@ -20,7 +20,7 @@ pub fn sum_words(file: &[u8]) -> u16
 
 // The word of two bytes, the low one first.
 fn word(low: u8, high: u8) -> u16
-    ensures { λ r. ⌜ r ≡ low + 256 * high ⌝ }
+    ensures joined { λ r. ⌜ r ≡ low + 256 * high ⌝ }
 {
     (low as u16) + 256 * (high as u16)
 }

@@ -2,7 +2,8 @@
 use Prim.Native.Nat.{ℕ, suc, _+_, _≤_, _<_}
 use mathlib.Core.Path.{_≡_, refl, sym, ap, _∙_, subst}
 use mathlib.Core.Bool.{Bool, false}
-use mathlib.Core.List.{List, [], _∷_, _++_, append-assoc, append-nil, List·Memᴰ, List·Memᴰ·head, List·Memᴰ·tail, List·Memᴰ·not-nil, List·Memᴰ·cases-cons, List·Permᴰ, List·Permᴰ·nil, List·Permᴰ·cons, List·Permᴰ·swap, List·Permᴰ·trans, Permᴰ·symm}
+use mathlib.Core.List.{List, [], _∷_, _++_, append-assoc, append-nil, List·Memᴰ, List·Memᴰ·head, List·Memᴰ·tail, List·Memᴰ·not-nil}
+use mathlib.Core.List.{List·Memᴰ·cases-cons, List·Permᴰ, List·Permᴰ·nil, List·Permᴰ·cons, List·Permᴰ·swap, List·Permᴰ·trans, Permᴰ·symm}
 use mathlib.Core.Logic.{_≢_, _⊎_, inl, inr, ⊎-elim, by-cases}
 use native.Mathlib.Decide.{decLe}
 use native.Mathlib.Omega.{arith}
@@ -10,18 +11,20 @@ use borrow.Author.Tests.{eqb-false}
 use lib.IntN.{ℤ, pos}
 use lib.ListN.{length, length-append}
 use Rattle.terms.specs.Literals.{variableOf}
-use Rattle.terms.specs.Refusals.{None, NoneOf}
-use Rattle.formula.specs.Causes.{ClauseCause, checkOrder}
+use Rattle.terms.specs.Refusals.{Causes, At0, None, NoneOf}
+use Rattle.formula.specs.Causes.{PrefixLong, ClausesLong, ClauseCause}
+use Rattle.formula.specs.Lent.{formulaOf}
+use Rattle.joining.specs.Rules.{readAs, checkOrder}
+use Rattle.joining.proofs.Orders.{clauses-sound}
 use Rattle.formula.specs.Meaning.{isZero, clauses, alwaysTrue}
 use Rattle.formula.specs.Tables.{literalAt, cut, push}
-use Rattle.formula.proofs.Sound.{sound-clauses}
 use Rattle.connection.specs.Reach.{Variables}
 use Rattle.connection.proofs.Choice.{choice}
 use Rattle.tables.specs.Formula.{variables}
 use Rattle.marks.proofs.Sides.{mem-at}
-use Rattle.admission.specs.Admitted.{AddedCause, clauseFirst}
+use Rattle.admission.specs.Admitted.{AddedCause}
 use Rattle.growth.specs.Grown.{withLast}
-use Rattle.growth.proofs.Appended.{clauses-last, last-accepted}
+use Rattle.growth.proofs.Appended.{clauses-last, no-clause-cause}
 use Rattle.reduced.specs.Reduced.{reducible, without, reducedClause, Reduces, Reduction}
 use Rattle.reduced.proofs.Clauses.{without-had, reordered-member}
 
@@ -58,17 +61,19 @@ clauses-in-range n (a ∷ ls) low =
     pushed : isZero (variableOf a) ≡ false → (cs : List (List ℤ)) → InRange n cs → InRange n (push a cs)
     pushed some [] rest = λ c m. absurd (List·Memᴰ·not-nil m)
     pushed some (b ∷ cs) rest = λ c m l k. ⊎-elim
-        (λ q. ⊎-elim (λ is. subst (λ z. (variableOf z ≢ 0) × (variableOf z ≤ n)) (sym is) (eqb-false (variableOf a) 0 some, low 0 (omega arith))) (λ k′. rest b (List·Memᴰ·head refl) l k′) (List·Memᴰ·cases-cons (subst (List·Memᴰ l) q k)))
+        (λ q. ⊎-elim (λ is. subst (λ z. (variableOf z ≢ 0) × (variableOf z ≤ n)) (sym is) (eqb-false (variableOf a) 0 some, low 0 (omega arith)))
+        (λ k′. rest b (List·Memᴰ·head refl) l k′) (List·Memᴰ·cases-cons (subst (List·Memᴰ l) q k)))
         (λ m′. rest c (List·Memᴰ·tail m′) l k) (List·Memᴰ·cases-cons m)
 
 -- A reduced clause is no longer, and has no literal that the clause has not.
 without-length : (test : ℤ → Bool) (ls : List ℤ) → length (without test ls) ≤ length ls
 unfolding without
 without-length test [] = omega arith
-without-length test (a ∷ ls) = choice (λ ds. length ds ≤ suc (length ls)) (test a) {x = without test ls} {y = a ∷ without test ls} (λ _. let h = without-length test ls in omega arith) (λ _. let h = without-length test ls in omega arith)
+without-length test (a ∷ ls) = choice (λ ds. length ds ≤ suc (length ls)) (test a) {x = without test ls} {y = a ∷ without test ls}
+    (λ _. let h = without-length test ls in omega arith) (λ _. let h = without-length test ls in omega arith)
 
 module _ (X : Variables) where
-  reduced-length : (c : List ℤ) → length (reducedClause X c) ≤ length c
+  pub reduced-length : (c : List ℤ) → length (reducedClause X c) ≤ length c
   unfolding reducedClause
   reduced-length c = choice (λ d. length d ≤ length c) (alwaysTrue c) {x = c} {y = without (reducible X c) c} (λ _. omega arith) (λ _. without-length (reducible X c) c)
 
@@ -103,56 +108,63 @@ reordered-entries (List·Permᴰ·cons q p) = let e = ap length q in let h = reo
 reordered-entries (List·Permᴰ·swap q r) = let e = ap length q in let f = ap length r in omega arith
 reordered-entries (List·Permᴰ·trans p q) = reordered-entries p ∙ reordered-entries q
 
-module _ (n : ℕ) (es : List ℕ) where
+module _ (rule n : ℕ) (es : List ℕ) where
+  -- the order of check on a clause table
+  abbrev check-of : List ℤ → List Causes
+  check-of ls = checkOrder rule (formulaOf n es ls)
+
   -- Clauses put behind an accepted table one after another, each closed by a 0.
-  put-behind : (ds : List (List ℤ)) (table : List ℤ) → NoneOf (checkOrder n es table) → InRange n ds → length table + entries ds ≤ 16384
-      → (ls′ : List ℤ) × NoneOf (checkOrder n es ls′) × (clauses ls′ ≡ clauses table ++ ds)
+  put-behind : (ds : List (List ℤ)) (table : List ℤ) → NoneOf (check-of table) → InRange n ds → length table + entries ds ≤ 16384
+      → (ls′ : List ℤ) × NoneOf (check-of ls′) × (clauses ls′ ≡ clauses table ++ ds)
   put-behind [] table accepted range small = (table, accepted, sym (append-nil (clauses table)))
   put-behind (d ∷ ds) table accepted range small =
       let long = length-append table (d ++ (pos 0 ∷ [])) in
       let longer = length-append d (pos 0 ∷ []) in
-      let (ls′, fine, is) = put-behind ds (withLast table d) (last-accepted accepted first (omega arith)) (λ c m. range c (List·Memᴰ·tail m)) (omega arith) in
-      (ls′, fine, is ∙ ap (λ cs. cs ++ ds) (clauses-last accepted first) ∙ append-assoc (clauses table) (d ∷ []) ds)
+      let fine = accepted .1 .1 .1 .1 .0 in
+      let lengths : None (At0 2 (PrefixLong es ⊎ ClausesLong (length (withLast table d)))) =
+      λ k p cause. ⊎-elim (λ over. accepted .1 .1 .0 k p (cause .0, cause .1, inl over)) (λ over. absurd (omega arith)) (cause .2) in
+      let next : NoneOf (check-of (withLast table d)) =
+      (accepted .0, (accepted .1 .0, (lengths, (accepted .1 .1 .1 .0, (no-clause-cause fine added, tt))))) in
+      let (ls′, all, is) = put-behind ds (withLast table d) next (λ c m. range c (List·Memᴰ·tail m)) (omega arith) in
+      (ls′, all, is ∙ ap (λ cs. cs ++ ds) (clauses-last fine added) ∙ append-assoc (clauses table) (d ∷ []) ds)
     where
       added : None (AddedCause n d)
       added k e (AddedCause.outside q l bad) =
           let (some, low) = range d (List·Memᴰ·head refl) (literalAt d e) (mem-at (pos 0) (literalAt d e) d .1 (e, l, refl)) in
           ⊎-elim some (λ over. omega arith) bad
 
-      first : NoneOf (clauseFirst n es d)
-      first = (accepted .0, (λ k p cause. ⊎-elim (λ over. accepted .1 .0 k p (cause .0, cause .1, inl over)) (λ over. omega arith) (cause .2), (accepted .1 .1 .0, (added, tt))))
-
-  -- A clause that may be added may be added reduced.
-  pub reduced-first : (c : List ℤ) → NoneOf (clauseFirst n es c) → NoneOf (clauseFirst n es (reducedClause (variables n es) c))
-  reduced-first c none =
-      let short = reduced-length (variables n es) c in
-      (none .0, (λ k p cause. none .1 .0 k p (cause .0, cause .1, ⊎-elim inl (λ over. inr (omega arith)) (cause .2)), (none .1 .1 .0, (added, tt))))
-    where
-      added : None (AddedCause n (reducedClause (variables n es) c))
-      added k e (AddedCause.outside q l bad) =
-          let (i, less, is) = mem-at (pos 0) (literalAt (reducedClause (variables n es) c) e) c .0 (reduced-had (variables n es) c (mem-at (pos 0) (literalAt (reducedClause (variables n es) c) e) (reducedClause (variables n es) c) .1 (e, l, refl))) in
-          none .1 .1 .1 .0 10 i (AddedCause.outside refl less (subst (λ z. (variableOf z ≡ 0) ⊎ (n < variableOf z)) (sym is) bad))
-
   -- The clauses of an accepted table, some of them reduced, in any order, are those of an accepted table.
-  pub reduction-accepted : {ls : List ℤ} {cs ds : List (List ℤ)} → NoneOf (checkOrder n es ls) → Reduces (variables n es) (clauses ls) cs → List·Permᴰ cs ds
-      → (ls′ : List ℤ) × NoneOf (checkOrder n es ls′) × Reduction (variables n es) ls ls′ × (clauses ls′ ≡ ds)
+  pub reduction-accepted : {ls : List ℤ} {cs ds : List (List ℤ)} → NoneOf (check-of ls) → Reduces (variables n (readAs rule es)) (clauses ls) cs
+      → List·Permᴰ cs ds → (ls′ : List ℤ) × NoneOf (check-of ls′) × Reduction (variables n (readAs rule es)) ls ls′ × (clauses ls′ ≡ ds)
   unfolding clauses cut
   reduction-accepted {ls} {cs} {ds} accepted r p =
-      let sound = sound-clauses accepted in
-      let few = sound .short in
+      let X = variables n (readAs rule es) in
+      let few = clauses-sound rule (formulaOf n es ls) accepted .short in
       let most = entries-within ls in
-      let fewer = reduces-entries (variables n es) (clauses ls) cs r in
+      let fewer = reduces-entries X (clauses ls) cs r in
       let same = reordered-entries p in
-      let range = reduces-in-range (variables n es) n (clauses ls) cs r (clauses-in-range n ls low) in
+      let range = reduces-in-range X n (clauses ls) cs r (clauses-in-range n ls low) in
       let (ls′, fine, is) = put-behind ds [] none (λ d m. range d (reordered-member (Permᴰ·symm p) m)) (omega arith) in
       (ls′, fine, record { inPlace = cs; reduces = r; reordered = subst (List·Permᴰ cs) (sym is) p }, is)
     where
       low : (e : ℕ) → e < length ls → variableOf (literalAt ls e) ≤ n
-      low e l = by-cases (decLe (variableOf (literalAt ls e)) n) (λ h. h) (λ over. absurd (accepted .1 .1 .1 .0 10 e (ClauseCause.outside refl l (λ z. let q = ap variableOf z in omega arith) (omega arith))))
+      low e l =
+          by-cases (decLe (variableOf (literalAt ls e)) n) (λ h. h)
+          (λ over. absurd (accepted .1 .1 .1 .1 .0 10 e (ClauseCause.outside refl l (λ z. let q = ap variableOf z in omega arith) (omega arith))))
 
-      none : NoneOf (checkOrder n es [])
-      none = (accepted .0, (λ k p cause. ⊎-elim (λ over. accepted .1 .0 k p (cause .0, cause .1, inl over)) (λ over. omega arith) (cause .2), (accepted .1 .1 .0, (empty, tt))))
+      none : NoneOf (check-of [])
+      none =
+          let lengths : None (At0 2 (PrefixLong es ⊎ ClausesLong 0)) =
+          λ k p cause. ⊎-elim (λ over. accepted .1 .1 .0 k p (cause .0, cause .1, inl over)) (λ over. absurd (omega arith)) (cause .2) in
+          (accepted .0, (accepted .1 .0, (lengths, (accepted .1 .1 .1 .0, (empty, tt)))))
         where
           empty : None (ClauseCause n [])
           empty k e (ClauseCause.outside q l some over) = omega arith
           empty k e (ClauseCause.ends-inside q p inside) = let l = inside .0 in omega arith
+
+-- A clause that may be added may be added reduced.
+pub reduced-first : (n : ℕ) (es : List ℕ) (c : List ℤ) → None (AddedCause n c) → None (AddedCause n (reducedClause (variables n es) c))
+reduced-first n es c none k e (AddedCause.outside q l bad) =
+    let d = reducedClause (variables n es) c in
+    let (i, less, is) = mem-at (pos 0) (literalAt d e) c .0 (reduced-had (variables n es) c (mem-at (pos 0) (literalAt d e) d .1 (e, l, refl))) in
+    none 10 i (AddedCause.outside refl less (subst (λ z. (variableOf z ≡ 0) ⊎ (n < variableOf z)) (sym is) bad))

@@ -1,11 +1,17 @@
 -- Add with a clause and with the same clause reduced: from the same lent tables, well formed or not, and the same tally they answer the same and leave
 -- the same.
-use Prim.Native.Nat.{ℕ}
+use Prim.Native.Nat.{ℕ, _≤_}
 use mathlib.Core.Path.{_≡_}
 use mathlib.Core.List.{List, [], _∷_, _++_}
+use mathlib.Core.Logic.{_⊎_, inl, ⊎-elim}
+use native.Mathlib.Omega.{arith}
 use lib.IntN.{ℤ}
+use lib.ListN.{length}
 use Rattle.terms.specs.Answers.{verdictOf}
-use Rattle.terms.specs.Refusals.{NoneOf}
+use Rattle.terms.specs.Limits.{clauseEntries}
+use Rattle.terms.specs.Refusals.{At0, None}
+use Rattle.terms.proofs.Orders as order
+use Rattle.terms.proofs.Orders.{carry-judged, one-more, same-order}
 use Rattle.terms.specs.declared.Filled.{Filled}
 use Rattle.formula.specs.Meaning.{connected}
 use Rattle.connection.specs.Reach.{Variables, Joined}
@@ -15,39 +21,59 @@ use Rattle.connection.proofs.Reach.{joined-added}
 use Rattle.tables.specs.Formula.{variables}
 use Rattle.tables.specs.Causes.{ForestCause}
 use Rattle.tables.proofs.Agreeing.{lawful}
-use Rattle.admission.specs.Admitted.{clauseFirst}
-use Rattle.growth.specs.Grown.{Standing, tableOf, TallyCause, AddLeaves, Adds}
+use Rattle.formula.specs.Causes.{VariableCount, PrefixLong, ClausesLong}
+use Rattle.joining.specs.Rules.{readAs, PrefixCauseBy, NoRule}
+use Rattle.admission.specs.Admitted.{AddedCause}
+use Rattle.growth.specs.Grown.{Standing, tableOf, TallyCause, Extended, Took, Leaves, addOrder, Adds}
 use Rattle.growth.proofs.Tight.{add-tight}
 use Rattle.reduced.specs.Reduced.{reducedClause}
 use Rattle.reduced.proofs.Carried.{Step, Carries, forest-carried}
 use Rattle.reduced.proofs.Clauses.{Gives, gives-reduced, reduced-gives, gives-joined}
-use Rattle.reduced.proofs.Accepted.{reduced-first}
-use Rattle.reduced.proofs.Orders.{same-again, judged-over}
+use Rattle.reduced.proofs.Accepted.{reduced-length, reduced-first}
 
 -- Joins with a clause added carry over to those with one that gives what it gives.
-added-carried : {X : Variables} (js : List (List ℕ)) {c d : List ℤ} → Gives X c d → Carries X (Joined (js ++ (connected c ∷ []))) (Joined (js ++ (connected d ∷ [])))
+added-carried : {X : Variables} (js : List (List ℕ)) {c d : List ℤ} → Gives X c d
+    → Carries X (Joined (js ++ (connected c ∷ []))) (Joined (js ++ (connected d ∷ [])))
 added-carried {X} js {c} {d} g = record { carried = λ a b s j. joined-added a b .1 (go a b s (joined-added a b .0 j)) }
   where
     go : (a b : ℕ) → Step X a b → Added (Joined js) (connected c) a b → Added (Joined js) (connected d) a b
     go a b s (before j) = before j
     go a b s (added l r) = let (left, right) = gives-joined g a b s l r in added left right
 
-module _ (n : ℕ) (es : List ℕ) (clause : List ℤ) (first : NoneOf (clauseFirst n es clause)) where
-  abbrev X : Variables
-  X = variables n es
+module _ (rule n : ℕ) (es : List ℕ) (clause : List ℤ) (few : length clause ≤ clauseEntries) (first : None (AddedCause n clause)) where
+  abbrev read : List ℕ
+  read = readAs rule es
 
-  adds-over : {s a : Standing} (r : Filled) → Adds n es s clause a r → Adds n es s (reducedClause X clause) a r
-  adds-over {s} {a} r f =
-      record {
-        judged = judged-over (clauseFirst n es clause) (clauseFirst n es (reducedClause X clause)) (ForestCause n es (s .classes) (s .parents) (s .counts) ∷ TallyCause X s ∷ []) (ForestCause n es (s .classes) (s .parents) (s .counts) ∷ TallyCause X s ∷ [])
-            first (reduced-first n es clause first) (same-again (ForestCause n es (s .classes) (s .parents) (s .counts) ∷ TallyCause X s ∷ [])) (verdictOf r) (f .judged);
-        leaves = go r (f .leaves);
-      }
+  abbrev X : Variables
+  X = variables n read
+
+  -- the clause reduced
+  abbrev reduced : List ℤ
+  reduced = reducedClause X clause
+
+  adds-over : {s s′ : Standing} (a : Filled) → Adds rule n es s clause s′ a → Adds rule n es s reduced s′ a
+  adds-over {s} {s′} a added′ =
+      record { judged = carry-judged (addOrder rule n es s clause) (addOrder rule n es s reduced) over (verdictOf a) (added′ .judged); leaves = go a (added′ .leaves) }
     where
-      go : (r : Filled) → AddLeaves X s clause a r → AddLeaves X s (reducedClause X clause) a r
-      go (Filled.Count k) (is, grown, took) = (is, record { past = grown .past; forest = forest-carried (lawful n es) (added-carried (joins X (tableOf X s)) (gives-reduced clause)) (added-carried (joins X (tableOf X s)) (reduced-gives clause)) (grown .forest); counted = grown .counted }, took)
+      -- the lengths, and the literals, of neither clause are refused
+      over : order.Carries (addOrder rule n es s clause) (addOrder rule n es s reduced)
+      over =
+          one-more (At0 23 (NoRule rule)) (At0 23 (NoRule rule)) (λ k p c. c) (λ k p c. c)
+          (one-more (VariableCount n) (VariableCount n) (λ k p c. c) (λ k p c. c)
+          (one-more (At0 2 (PrefixLong es ⊎ ClausesLong (length clause))) (At0 2 (PrefixLong es ⊎ ClausesLong (length reduced)))
+          (λ k p c. (c .0, c .1, ⊎-elim inl (λ over. absurd (omega arith)) (c .2)))
+          (λ k p c. let short = reduced-length X clause in (c .0, c .1, ⊎-elim inl (λ over. absurd (omega arith)) (c .2)))
+          (one-more (PrefixCauseBy rule n es) (PrefixCauseBy rule n es) (λ k p c. c) (λ k p c. c)
+          (one-more (AddedCause n clause) (AddedCause n reduced) (λ k p c. absurd (first k p c)) (λ k p c. absurd (reduced-first n read clause first k p c))
+          (same-order (ForestCause n read (s .rows) ∷ TallyCause X s ∷ []))))))
+
+      go : (a : Filled) → Leaves X (Extended X (tableOf X s) clause) (Took X s) s s′ a → Leaves X (Extended X (tableOf X s) reduced) (Took X s) s s′ a
+      go (Filled.Count k) (is, grown, took) =
+          let js = joins X (tableOf X s) in
+          let forest = forest-carried (lawful n read) (added-carried js (gives-reduced clause)) (added-carried js (reduced-gives clause)) (grown .forest) in
+          (is, record { past = grown .past; forest = forest; counted = grown .counted }, took)
       go (Filled.Refused k p) stays = stays
 
   -- A clause that may be added, and the same clause reduced.
-  pub same-add : {s a b : Standing} (r r′ : Filled) → Adds n es s clause a r → Adds n es s (reducedClause X clause) b r′ → (r ≡ r′) × (a ≡ b)
-  same-add r r′ f g = add-tight r r′ (adds-over r f) g
+  pub same-add : {s s′ s″ : Standing} (a b : Filled) → Adds rule n es s clause s′ a → Adds rule n es s reduced s″ b → (a ≡ b) × (s′ ≡ s″)
+  same-add a b told told′ = add-tight es a b (adds-over a told) told′

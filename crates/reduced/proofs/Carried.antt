@@ -50,7 +50,8 @@ module _ {X : Variables} {J K : ℕ → ℕ → Type 0} (k : Carries X J K) wher
   strictly-carried s d = record { by = λ sign. follows-carried (s sign) (d .by sign) }
 
 -- The forest stays, where the joins go both ways.
-pub forest-carried : {X : Variables} {cs ds : List (List ℕ)} {W : Table} → Lawful X → Carries X (Joined cs) (Joined ds) → Carries X (Joined ds) (Joined cs) → Forest X (Joined cs) W → Forest X (Joined ds) W
+pub forest-carried : {X : Variables} {cs ds : List (List ℕ)} {W : Table} → Lawful X → Carries X (Joined cs) (Joined ds)
+    → Carries X (Joined ds) (Joined cs) → Forest X (Joined cs) W → Forest X (Joined ds) W
 forest-carried lawful to back f = represents-forest (represents-reach (λ i v y fv fy. (reach-carried to fv, reach-carried back fv)) (forest-is lawful .0 f))
 
 -- By any table the entry points of x stay, strict ones too.

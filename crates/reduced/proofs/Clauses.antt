@@ -2,7 +2,8 @@
 use Prim.Native.Nat.{ℕ, suc, _≤_}
 use mathlib.Core.Path.{_≡_, refl, sym, ap, _∙_, subst}
 use mathlib.Core.Bool.{Bool, true, false, cond, not, _&&_, _||_, and-false}
-use mathlib.Core.List.{List, [], _∷_, map, List·Memᴰ, List·Memᴰ·head, List·Memᴰ·tail, List·Memᴰ·not-nil, List·Memᴰ·cases-cons, Memᴰ·map, Memᴰ·of-map, List·Permᴰ, List·Permᴰ·nil, List·Permᴰ·cons, List·Permᴰ·swap, List·Permᴰ·trans, Permᴰ·symm}
+use mathlib.Core.List.{List, [], _∷_, map, List·Memᴰ, List·Memᴰ·head, List·Memᴰ·tail, List·Memᴰ·not-nil, List·Memᴰ·cases-cons, Memᴰ·map, Memᴰ·of-map}
+use mathlib.Core.List.{List·Permᴰ, List·Permᴰ·nil, List·Permᴰ·cons, List·Permᴰ·swap, List·Permᴰ·trans, Permᴰ·symm}
 use mathlib.Core.Logic.{inl, ⊎-elim}
 use borrow.Author.Tests.{le-ltb}
 use lib.Dec.{ltb}
@@ -61,7 +62,8 @@ module _ (X : Variables) where
   not-deeper v [] m ex l = absurd (List·Memᴰ·not-nil m)
   not-deeper v (a ∷ more) {k} m ex l = ⊎-elim
       (λ q. ap (λ b. b && deeperThanAll X more v) (ap (λ z. not (X .ex (variableOf z)) || ltb (X .lev (variableOf z)) (X .lev v)) (sym q) ∙ shallow))
-      (λ m′. ap (λ b. (not (X .ex (variableOf a)) || ltb (X .lev (variableOf a)) (X .lev v)) && b) (not-deeper v more m′ ex l) ∙ and-false (not (X .ex (variableOf a)) || ltb (X .lev (variableOf a)) (X .lev v))) (List·Memᴰ·cases-cons m)
+      (λ m′. ap (λ b. (not (X .ex (variableOf a)) || ltb (X .lev (variableOf a)) (X .lev v)) && b) (not-deeper v more m′ ex l) ∙ and-false
+      (not (X .ex (variableOf a)) || ltb (X .lev (variableOf a)) (X .lev v))) (List·Memᴰ·cases-cons m)
     where
       shallow : (not (X .ex (variableOf k)) || ltb (X .lev (variableOf k)) (X .lev v)) ≡ false
       shallow = ap (λ b. not b || ltb (X .lev (variableOf k)) (X .lev v)) ex ∙ le-ltb (X .lev (variableOf k)) (X .lev v) l
@@ -86,13 +88,15 @@ module _ {X : Variables} where
   unfolding reducedClause
   gives-reduced c = choice (Gives X c) (alwaysTrue c) (λ _. gives-itself c) (λ f. record { given = kept f })
     where
-      kept : alwaysTrue c ≡ false → (l : ℤ) (z : ℕ) → Step X (variableOf l) z → List·Memᴰ l c → List·Memᴰ z (connected c) → List·Memᴰ l (without (reducible X c) c) × List·Memᴰ z (connected (without (reducible X c) c))
+      kept : alwaysTrue c ≡ false → (l : ℤ) (z : ℕ) → Step X (variableOf l) z → List·Memᴰ l c → List·Memᴰ z (connected c)
+          → List·Memᴰ l (without (reducible X c) c) × List·Memᴰ z (connected (without (reducible X c) c))
       kept f l z s m k =
           let (w, mw, is) = Memᴰ·of-map variableOf c (subst (List·Memᴰ z) (connected-all c f) k) in
           let step : Step X (variableOf l) (variableOf w) = subst (Step X (variableOf l)) (sym is) s in
           let stays = without-keeps (reducible X c) c (not-reducible X w c mw (record { to = step .to; from = inl (step .to) })) mw in (
             without-keeps (reducible X c) c (not-reducible X l c mw step) m,
-            subst (List·Memᴰ z) (sym (connected-all (without (reducible X c) c) (open-without (reducible X c) c f))) (subst (λ v. List·Memᴰ v (map variableOf (without (reducible X c) c))) is (Memᴰ·map variableOf stays)),
+            subst (List·Memᴰ z) (sym (connected-all (without (reducible X c) c) (open-without (reducible X c) c f)))
+                (subst (λ v. List·Memᴰ v (map variableOf (without (reducible X c) c))) is (Memᴰ·map variableOf stays)),
           )
 
   -- ... and nothing else.
@@ -100,7 +104,8 @@ module _ {X : Variables} where
   unfolding reducedClause
   reduced-gives c = choice (λ d. Gives X d c) (alwaysTrue c) (λ _. gives-itself c) (λ f. record { given = had f })
     where
-      had : alwaysTrue c ≡ false → (l : ℤ) (z : ℕ) → Step X (variableOf l) z → List·Memᴰ l (without (reducible X c) c) → List·Memᴰ z (connected (without (reducible X c) c)) → List·Memᴰ l c × List·Memᴰ z (connected c)
+      had : alwaysTrue c ≡ false → (l : ℤ) (z : ℕ) → Step X (variableOf l) z → List·Memᴰ l (without (reducible X c) c)
+          → List·Memᴰ z (connected (without (reducible X c) c)) → List·Memᴰ l c × List·Memᴰ z (connected c)
       had f l z s m k =
           let (w, mw, is) = Memᴰ·of-map variableOf (without (reducible X c) c) (subst (List·Memᴰ z) (connected-all (without (reducible X c) c) (connected-open (without (reducible X c) c) z k)) k) in
           (without-had (reducible X c) c m, subst (List·Memᴰ z) (sym (connected-all c f)) (subst (λ v. List·Memᴰ v (map variableOf c)) is (Memᴰ·map variableOf (without-had (reducible X c) c mw))))
@@ -139,8 +144,14 @@ module _ (X : Variables) where
   reduces-covers (c ∷ cs) (d ∷ ds) (one, rest) =
       let (to, back) = reduces-covers cs ds rest in
       let (give, given) = both in (
-        record { covered = λ e m. ⊎-elim (λ q. (d, List·Memᴰ·head refl, subst (λ a. Gives X a d) (sym q) give)) (λ m′. let (f, mf, g) = to .covered e m′ in (f, List·Memᴰ·tail mf, g)) (List·Memᴰ·cases-cons m) },
-        record { covered = λ e m. ⊎-elim (λ q. (c, List·Memᴰ·head refl, subst (λ a. Gives X a c) (sym q) given)) (λ m′. let (f, mf, g) = back .covered e m′ in (f, List·Memᴰ·tail mf, g)) (List·Memᴰ·cases-cons m) },
+        record {
+          covered = λ e m. ⊎-elim (λ q. (d, List·Memᴰ·head refl, subst (λ a. Gives X a d) (sym q) give))
+              (λ m′. let (f, mf, g) = to .covered e m′ in (f, List·Memᴰ·tail mf, g)) (List·Memᴰ·cases-cons m);
+        },
+        record {
+          covered = λ e m. ⊎-elim (λ q. (c, List·Memᴰ·head refl, subst (λ a. Gives X a c) (sym q) given))
+              (λ m′. let (f, mf, g) = back .covered e m′ in (f, List·Memᴰ·tail mf, g)) (List·Memᴰ·cases-cons m);
+        },
       )
     where
       both : Gives X c d × Gives X d c

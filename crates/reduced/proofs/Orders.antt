@@ -1,4 +1,5 @@
--- Orders with the same causes judge alike, as do two that go on with the same causes after having none; and what a call promises that fills a table goes over.
+-- Orders with the same causes judge alike, as do two that go on with the same causes after having none; and what a call promises that fills a table
+-- goes over.
 use Prim.Native.Nat.{ℕ}
 use mathlib.Core.Path.{refl}
 use mathlib.Core.List.{List, [], _∷_, _++_}
@@ -8,7 +9,7 @@ use Rattle.terms.specs.declared.Verdict.{Verdict}
 use Rattle.terms.specs.declared.Verdict.the-variants.{Accepted, Refused}
 use Rattle.terms.specs.declared.Filled.{Filled}
 use Rattle.terms.proofs.Verdicts.{accepted-then}
-use Rattle.forest.specs.Listed.{Filling}
+use Rattle.terms.specs.Answers.{Filling}
 
 -- The same causes, family by family.
 abbrev pub SameCauses : List Causes → List Causes → Type 0
@@ -28,7 +29,12 @@ judged-same [] (g ∷ gs) same v judged = absurd same
 judged-same (f ∷ fs) [] same v judged = absurd same
 judged-same (f ∷ fs) (g ∷ gs) (same, rest) Accepted (none, more) = (λ k p c. none k p (same k p .1 c), judged-same fs gs rest Accepted more)
 judged-same (f ∷ fs) (g ∷ gs) (same, rest) (Refused k p) (inl first) =
-    inl (record { holds = same k p .0 (first .holds); leftmost = λ k′ p′ c. first .leftmost k′ p′ (same k′ p′ .1 c); lowest = λ k′ c. first .lowest k′ (same k′ p .1 c) })
+    inl
+    (record {
+      holds = same k p .0 (first .holds);
+      leftmost = λ k′ p′ c. first .leftmost k′ p′ (same k′ p′ .1 c);
+      lowest = λ k′ c. first .lowest k′ (same k′ p .1 c);
+    })
 judged-same (f ∷ fs) (g ∷ gs) (same, rest) (Refused k p) (inr (none, first)) = inr (λ k p c. none k p (same k p .1 c), judged-same fs gs rest (Refused k p) first)
 
 -- Where an order has no cause, what comes after it judges.
@@ -39,11 +45,14 @@ judged-after (a ∷ order) more (Refused k p) none (inl first) = absurd (none .0
 judged-after (a ∷ order) more (Refused k p) none (inr (_, first)) = judged-after order more (Refused k p) (none .1) first
 
 -- So of two orders without a cause the same causes after them judge alike.
-pub judged-over : (order order′ more more′ : List Causes) → NoneOf order → NoneOf order′ → SameCauses more more′ → (v : Verdict) → Judged (order ++ more) v → Judged (order′ ++ more′) v
-judged-over order order′ more more′ none none′ same v judged = accepted-then order′ more′ v refl none′ (judged-same more more′ same v (judged-after order more v none judged))
+pub judged-over : (order order′ more more′ : List Causes) → NoneOf order → NoneOf order′ → SameCauses more more′
+    → (v : Verdict) → Judged (order ++ more) v → Judged (order′ ++ more′) v
+judged-over order order′ more more′ none none′ same v judged =
+    accepted-then order′ more′ v refl none′ (judged-same more more′ same v (judged-after order more v none judged))
 
 -- A promise to fill a table goes over to an order that judges alike and to the same list.
-pub filling-over : (order order′ : List Causes) (L L′ : List ℕ → Type 0) → ((v : Verdict) → Judged order v → Judged order′ v) → ((list : List ℕ) → L list → L′ list)
+pub filling-over : (order order′ : List Causes) (L L′ : List ℕ → Type 0) → ((v : Verdict) → Judged order v → Judged order′ v)
+    → ((list : List ℕ) → L list → L′ list)
     → (before after : List ℕ) (r : Filled) → Filling order L before after r → Filling order′ L′ before after r
 filling-over order order′ L L′ over same before after (Filled.Count k) (none, (list, listed, size, is)) = (over Accepted none, (list, same list listed, size, is))
 filling-over order order′ L L′ over same before after (Filled.Refused k p) (first, stays) = (over (Refused k p) first, stays)

@@ -15,7 +15,9 @@ use Rattle.tables.proofs.Agreeing.{lawful}
 use Rattle.terms.specs.declared.Scheme.{Scheme}
 use Rattle.forest.specs.Answers.{EntriesBy, MembersBy, SizeBy, DependsBy}
 use Rattle.marks.proofs.Sides.{signed-variable}
-use Rattle.forest.proofs.Demands.{listed-as}
+use Rattle.terms.proofs.Answers.{listed-as}
+use Rattle.formula.specs.Lent.{formulaOf}
+use Rattle.tables.specs.Lent.{Rows}
 use Rattle.reduced.specs.Reduced.{Reduction}
 use Rattle.reduced.proofs.Carried.{Step, Carries, depends-carried, strictly-carried, forest-carried, entries-carried, strict-entries-carried}
 use Rattle.reduced.proofs.Clauses.{gives-joined, Covers, reduction-covers, reduction-covered}
@@ -44,37 +46,38 @@ module _ (X : Variables) (ls ls′ : List ℤ) (h : Covers X (clauses ls) (claus
       }
 
 module _ (n : ℕ) (es : List ℕ) (ls ls′ : List ℤ) (h : Covers (variables n es) (clauses ls) (clauses ls′)) where
-  depends-to : (scheme : Scheme) (x y : ℕ) → DependsBy scheme n es ls x y → DependsBy scheme n es ls′ x y
+  depends-to : (scheme : Scheme) (x y : ℕ) → DependsBy scheme (formulaOf n es ls) x y → DependsBy scheme (formulaOf n es ls′) x y
   depends-to Scheme.Standard x y d = depends-carried (shares-carried (variables n es) ls ls′ h) d
   depends-to Scheme.Strict x y d = strictly-carried (shares-carried (variables n es) ls ls′ h) (signed-carried (variables n es) ls ls′ h) d
 
-  module _ (classes parents : List ℕ) (x : ℕ) where
-    entries-to : (scheme : Scheme) (e : ℕ) → EntriesBy scheme n es ls classes parents x e → EntriesBy scheme n es ls′ classes parents x e
+  module _ (r : Rows) (x : ℕ) where
+    entries-to : (scheme : Scheme) (e : ℕ) → EntriesBy scheme (formulaOf n es ls) r x e → EntriesBy scheme (formulaOf n es ls′) r x e
     entries-to Scheme.Standard e o = entries-carried (shares-carried (variables n es) ls ls′ h) o
     entries-to Scheme.Strict e o = strict-entries-carried (signed-carried (variables n es) ls ls′ h) o
 
-    members-to : (scheme : Scheme) (y : ℕ) → MembersBy scheme n es ls classes parents x y → MembersBy scheme n es ls′ classes parents x y
-    members-to scheme y m = record { existential = m .existential; entry = m .entry; entered = entries-to scheme (m .entry) (m .entered); rises = m .rises; below = m .below }
+    members-to : (scheme : Scheme) (y : ℕ) → MembersBy scheme (formulaOf n es ls) r x y → MembersBy scheme (formulaOf n es ls′) r x y
+    members-to scheme y m =
+        record { existential = m .existential; entry = m .entry; entered = entries-to scheme (m .entry) (m .entered); rises = m .rises; below = m .below }
 
-module _ (n : ℕ) (es : List ℕ) {ls ls′ : List ℤ} (r : Reduction (variables n es) ls ls′) where
+module _ (n : ℕ) (es : List ℕ) {ls ls′ : List ℤ} (reduced : Reduction (variables n es) ls ls′) where
   -- The forest is the same: no class and no parent changes, and so no count, which the classes and parents determine.
   pub same-forest : {W : Table} → Forest (variables n es) (Shares ls) W ↔ Forest (variables n es) (Shares ls′) W
   same-forest =
-      let to = shares-carried (variables n es) ls ls′ (reduction-covers r) in
-      let back = shares-carried (variables n es) ls′ ls (reduction-covered r) in
+      let to = shares-carried (variables n es) ls ls′ (reduction-covers reduced) in
+      let back = shares-carried (variables n es) ls′ ls (reduction-covered reduced) in
       (forest-carried (lawful n es) to back, forest-carried (lawful n es) back to)
 
   -- The standard set of each variable is the same, and so is the strict set.
-  pub same-dependencies : (scheme : Scheme) (x y : ℕ) → DependsBy scheme n es ls x y ↔ DependsBy scheme n es ls′ x y
-  same-dependencies scheme x y = (depends-to n es ls ls′ (reduction-covers r) scheme x y, depends-to n es ls′ ls (reduction-covered r) scheme x y)
+  pub same-dependencies : (scheme : Scheme) (x y : ℕ) → DependsBy scheme (formulaOf n es ls) x y ↔ DependsBy scheme (formulaOf n es ls′) x y
+  same-dependencies scheme x y = (depends-to n es ls ls′ (reduction-covers reduced) scheme x y, depends-to n es ls′ ls (reduction-covered reduced) scheme x y)
 
   -- By any lent tables, wherever they come from, the entry points are the same, the set, and its size.
-  module _ (classes parents : List ℕ) (scheme : Scheme) (x : ℕ) where
-    pub same-entries : (e : ℕ) → EntriesBy scheme n es ls classes parents x e ↔ EntriesBy scheme n es ls′ classes parents x e
-    same-entries e = (entries-to n es ls ls′ (reduction-covers r) classes parents x scheme e, entries-to n es ls′ ls (reduction-covered r) classes parents x scheme e)
+  module _ (r : Rows) (scheme : Scheme) (x : ℕ) where
+    pub same-entries : (e : ℕ) → EntriesBy scheme (formulaOf n es ls) r x e ↔ EntriesBy scheme (formulaOf n es ls′) r x e
+    same-entries e = (entries-to n es ls ls′ (reduction-covers reduced) r x scheme e, entries-to n es ls′ ls (reduction-covered reduced) r x scheme e)
 
-    pub same-members : (y : ℕ) → MembersBy scheme n es ls classes parents x y ↔ MembersBy scheme n es ls′ classes parents x y
-    same-members y = (members-to n es ls ls′ (reduction-covers r) classes parents x scheme y, members-to n es ls′ ls (reduction-covered r) classes parents x scheme y)
+    pub same-members : (y : ℕ) → MembersBy scheme (formulaOf n es ls) r x y ↔ MembersBy scheme (formulaOf n es ls′) r x y
+    same-members y = (members-to n es ls ls′ (reduction-covers reduced) r x scheme y, members-to n es ls′ ls (reduction-covered reduced) r x scheme y)
 
-    pub same-size : (counts : List ℕ) (size : ℕ) → SizeBy scheme n es ls classes parents counts x size ↔ SizeBy scheme n es ls′ classes parents counts x size
-    same-size counts size = (λ s. (s .0, listed-as same-entries (s .1), s .2), λ s. (s .0, listed-as (λ e. Iff·symm (same-entries e)) (s .1), s .2))
+    pub same-size : (size : ℕ) → SizeBy scheme (formulaOf n es ls) r x size ↔ SizeBy scheme (formulaOf n es ls′) r x size
+    same-size size = (λ s. (s .0, listed-as same-entries (s .1), s .2), λ s. (s .0, listed-as (λ e. Iff·symm (same-entries e)) (s .1), s .2))

@@ -55,7 +55,8 @@ record Computed : Type 0 where
   set-always-less : set-of A (joined always-less) 3 ≡ 4 ∷ 5 ∷ []
 
 computed : Computed
-unfolding blocks clauses opposite denied alwaysTrue connected freeLevel level isUniversal isExistential cut has meets keep put-back find see spread reached is-from sift set-of joined deeperThanAll reducible without reducedClause
+unfolding blocks clauses opposite denied alwaysTrue connected freeLevel level isUniversal isExistential cut has meets keep put-back find see spread
+    reached is-from sift set-of joined deeperThanAll reducible without reducedClause
 computed = record { kept = refl; one = refl; two = refl; all = refl; stays = refl; set-some = refl; set-some-less = refl; set-always = refl; set-always-less = refl }
 
 -- The set is what was computed.

@@ -18,8 +18,8 @@ use Rattle.marks.proofs.Flags.{clause-literal}
 use Rattle.threads.specs.Threads.{Begins, first, after, Inside, Closed}
 use Rattle.threads.proofs.Followed.{next-from, closed-next}
 use Rattle.resolution.specs.Paths.{Crosses}
-use Rattle.walking.specs.Walk.{Passes}
-use Rattle.walking.proofs.Places.{inside-less, inside-has}
+use Rattle.resolution.specs.Walk.{Passes}
+use Rattle.resolution.proofs.Places.{inside-less, inside-has}
 
 has-inside : {ls : List ℤ} {s z : ℕ} {l : ℤ} → Begins ls s → NextZero ls s z → (h : HasLiteral ls s z l) → Inside ls s (h .place)
 has-inside begins next h = record { begins = begins; from = h .from; literals = λ e f g. next .literals e f (let l = h .before in omega arith) }
@@ -35,7 +35,8 @@ record Standing (ls clause : List ℤ) : Type 0 where
 
 stands : {ls clause : List ℤ} (fuel start : ℕ) → length ls ≤ start + fuel → Begins ls start → List·Memᴰ clause (clauses (drop start ls)) → Standing ls clause
 unfolding clauses cut
-stands {ls} {clause} zero start enough begins m = let over : length ls ≤ start = omega arith in absurd (List·Memᴰ·not-nil (subst (λ rest. List·Memᴰ clause (clauses rest)) (drop-of-length-le ls over) m))
+stands {ls} {clause} zero start enough begins m =
+    let over : length ls ≤ start = omega arith in absurd (List·Memᴰ·not-nil (subst (λ rest. List·Memᴰ clause (clauses rest)) (drop-of-length-le ls over) m))
 stands {ls} {clause} (suc fuel) start enough begins m =
     by-cases (decLt start (length ls)) (λ l. by (next-from ls (length ls - start) start (omega arith)) (λ z low b later. stands fuel (z + 1) (omega arith) b later))
     (λ l. let over : length ls ≤ start = omega arith in absurd (List·Memᴰ·not-nil (subst (λ rest. List·Memᴰ clause (clauses rest)) (drop-of-length-le ls over) m)))
@@ -43,13 +44,16 @@ stands {ls} {clause} (suc fuel) start enough begins m =
     by : (z : ℕ) × NextZero ls start z → ((z : ℕ) → start ≤ z → Begins ls (z + 1) → List·Memᴰ clause (clauses (drop (z + 1) ls)) → Standing ls clause) → Standing ls clause
     by (z, next) onward =
         by-cases (decLt z (length ls))
-        (λ c. ⊎-elim (λ q. record { start = start; end = z; begins = begins; next = next; closed = c; is = q }) (λ later. onward z (next .from) (after start z begins next c refl) later) (List·Memᴰ·cases-cons (subst (List·Memᴰ clause) (clauses-closed ls start z next c) m)))
+        (λ c. ⊎-elim (λ q. record { start = start; end = z; begins = begins; next = next; closed = c; is = q })
+        (λ later. onward z (next .from) (after start z begins next c refl) later)
+        (List·Memᴰ·cases-cons (subst (List·Memᴰ clause) (clauses-closed ls start z next c) m)))
         (λ c. absurd (List·Memᴰ·not-nil (subst (List·Memᴰ clause) (clauses-unclosed ls start z next (omega arith)) m)))
 
 -- And back: what stands among the clauses from one on with which a clause begins is one of the list.
 listed-from : {ls clause : List ℤ} {s : ℕ} → Begins ls s → List·Memᴰ clause (clauses (drop s ls)) → List·Memᴰ clause (clauses ls)
 listed-from {ls} {clause} (first q) m = subst (λ s. List·Memᴰ clause (clauses (drop s ls))) q m
-listed-from {ls} {clause} (after b z begins next l q) m = listed-from begins (subst (List·Memᴰ clause) (sym (clauses-closed ls b z next l)) (List·Memᴰ·tail (subst (λ s. List·Memᴰ clause (clauses (drop s ls))) q m)))
+listed-from {ls} {clause} (after b z begins next l q) m = listed-from begins
+    (subst (List·Memᴰ clause) (sym (clauses-closed ls b z next l)) (List·Memᴰ·tail (subst (λ s. List·Memᴰ clause (clauses (drop s ls))) q m)))
 
 -- What passes a clause by its places is what crosses it.
 pub passes-crosses : {ls : List ℤ} → Closed ls → (l m : ℤ) → Passes ls l m ↔ Crosses ls l m

@@ -1,35 +1,33 @@
 -- From flags of what depends on x to the list that the call promises, and what check gives to the walk.
-use Prim.Native.Nat.{ℕ, _≤_}
+use Prim.Native.Nat.{ℕ, _≤_, _<_}
 use mathlib.Core.Path.{_≡_, refl, sym, ap}
 use mathlib.Core.Bool.{Bool, true, false}
 use mathlib.Core.List.{List}
-use mathlib.Core.Logic.{_↔_, by-cases}
+use mathlib.Core.Logic.{by-cases}
 use native.Mathlib.Decide.{decLt, decLe}
 use native.Mathlib.Omega.{arith}
 use lib.IntN.{ℤ, pos, negℤ, negℤ-negℤ}
-use lib.ListN.{length, getD, replicate, length-replicate, getD-replicate, List·getD-eq-default}
+use lib.ListN.{length, getD}
+use Rattle.terms.specs.Listed.{Listed}
 use Rattle.terms.specs.Literals.{variableOf}
 use Rattle.terms.specs.Refusals.{NoneOf}
-use Rattle.formula.specs.Tables.{literalAt}
-use Rattle.formula.specs.Causes.{ClauseCause, checkOrder}
+use Rattle.formula.specs.Causes.{ClauseCause}
+use Rattle.formula.specs.Lent.{Formula}
 use Rattle.formula.specs.Levels.{SoundPrefix, Levelled}
-use Rattle.formula.proofs.Sound.{sound-clauses}
-use Rattle.connection.specs.Listed.{Listed}
-use Rattle.tables.specs.Formula.{variables, tabled, universalIn, signed}
+use Rattle.formula.specs.Tables.{literalAt}
+use Rattle.joining.specs.Rules.{checkOrder}
+use Rattle.joining.proofs.Orders.{clauses-sound}
+use Rattle.tables.specs.Formula.{variables, signed}
+use Rattle.tables.specs.Tabled.{tabled, universalIn}
 use Rattle.tables.proofs.Agreeing.{lawful, same-back, tables-agree, level-agrees}
 use Rattle.tables.proofs.Readings.{flag-within}
 use Rattle.picking.specs.declared.Asked.the-variants.{Points}
 use Rattle.picking.specs.Picked.{pick, picked}
-use Rattle.marks.proofs.Flags.{literal-past}
 use Rattle.picking.proofs.Picked.{picked-listed}
-use Rattle.sets.proofs.AllSets.{sound-closed}
+use Rattle.marks.proofs.Flags.{literal-past}
 use Rattle.resolution.specs.Paths.{DependsByPaths}
-use Rattle.resolution.specs.Ends.{ReadClauses}
+use Rattle.resolution.specs.Ends.{ReadClauses, Flags}
 use Rattle.resolution.proofs.Reaching.{depends-same}
-
--- A table of zeros.
-pub zeros : (size v : ℕ) → getD {A = ℕ} (replicate size 0) v 0 ≡ 0
-zeros size v = by-cases (decLt v size) (λ l. getD-replicate size v 0 0 l) (λ l. List·getD-eq-default (replicate size 0) 0 {n = v} (let q = length-replicate {A = ℕ} size 0 in omega arith))
 
 -- The two literals of x are each other's complement.
 pub complement-plain : (x : ℕ) → negℤ (signed true x) ≡ signed false x
@@ -41,14 +39,21 @@ unfolding signed
 complement-negation x = negℤ-negℤ (pos x)
 
 -- A clause table that check accepts.
-pub read-clauses : {n : ℕ} {es : List ℕ} {ls : List ℤ} → NoneOf (checkOrder n es ls) → ReadClauses n ls
-read-clauses {n} {ls = ls} none = record { sound = sound-clauses none; upto = upto′; closed = sound-closed none }
+pub read-clauses : (rule : ℕ) (f : Formula) → NoneOf (checkOrder rule f) → ReadClauses (f .n) (f .clauses)
+read-clauses rule f none =
+    record {
+      sound = clauses-sound rule f none;
+      upto = λ e. by-cases (decLt e (length ls)) (within e) (λ l. let past = literal-past ls e (omega arith) in omega arith);
+      closed = λ inside. none .1 .1 .1 .1 .0 11 (length ls) (ClauseCause.ends-inside refl refl inside);
+    }
   where
-    upto′ : (e : ℕ) → variableOf (literalAt ls e) ≤ n
-    upto′ e =
-        by-cases (decLt e (length ls))
-        (λ l. by-cases (decLe (variableOf (literalAt ls e)) n) (λ low. low) (λ over. absurd (none .1 .1 .1 .0 10 e (ClauseCause.outside refl l (λ z. let q = ap variableOf z in omega arith) (omega arith)))))
-        (λ l. let past = literal-past ls e (omega arith) in omega arith)
+    ls : List ℤ
+    ls = f .clauses
+
+    within : (e : ℕ) → e < length ls → variableOf (literalAt ls e) ≤ f .n
+    within e l =
+        by-cases (decLe (variableOf (literalAt ls e)) (f .n)) (λ low. low)
+        (λ over. absurd (none .1 .1 .1 .1 .0 10 e (ClauseCause.outside refl l (λ z. let q = ap variableOf z in omega arith) (omega arith))))
 
 -- A universal by the level table is one of the variables.
 pub universal-upto : (n : ℕ) (universals : List Bool) (x : ℕ) → universalIn n universals x ≡ true → x ≤ n
@@ -56,7 +61,10 @@ unfolding universalIn
 universal-upto n universals x u = flag-within n x (getD universals x false) u .1
 
 -- What is flagged by the level table is the list of all that depends on x by the prefix.
-pub dependents-listed : {n : ℕ} {es levels : List ℕ} {universals : List Bool} → SoundPrefix n es → Levelled es levels universals → {x : ℕ} → universalIn n universals x ≡ true → {ls : List ℤ} (flags : List Bool) (tops : List ℕ) → ((v : ℕ) → 1 ≤ v → v ≤ n → (getD flags v false ≡ true) ↔ DependsByPaths (tabled n levels universals) ls x v) → Listed (DependsByPaths (variables n es) ls x) (picked (pick Points n flags tops) n)
+pub dependents-listed : {n : ℕ} {es levels : List ℕ} {universals : List Bool} → SoundPrefix n es → Levelled es levels universals
+    → {x : ℕ} → universalIn n universals x ≡ true → {ls : List ℤ} (flags : List Bool) (tops : List ℕ)
+    → Flags n (DependsByPaths (tabled n levels universals) ls x) flags
+    → Listed (DependsByPaths (variables n es) ls x) (picked (pick Points n flags tops) n)
 unfolding pick
 dependents-listed {n} {es} {levels} {universals} sound table {x} u flags tops told =
     let s = tables-agree sound table in

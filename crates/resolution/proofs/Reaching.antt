@@ -9,20 +9,22 @@ use native.Mathlib.Omega.{arith}
 use lib.IntN.{ℤ, pos, negsuc}
 use lib.ListN.{length, getD, set, replicate, length-set, getD-replicate}
 use lib.Seq.{getD-set-same, getD-set-other}
-use Rattle.terms.specs.Literals.{variableOf, rowOf}
+use Rattle.terms.specs.Literals.{variableOf}
+use Rattle.terms.specs.LiteralRows.{rowOf}
 use Rattle.terms.proofs.Common.{clash}
 use Rattle.formula.specs.Tables.{literalAt}
 use Rattle.connection.specs.Reach.{Variables}
-use Rattle.tables.specs.Formula.{existentialIn, tabled, signed}
+use Rattle.tables.specs.Tabled.{existentialIn, tabled}
+use Rattle.tables.specs.Formula.{signed}
 use Rattle.tables.specs.Rows.{Tells}
 use Rattle.tables.proofs.Readings.{flag-within}
 use Rattle.tables.proofs.Agreeing.{Same}
 use Rattle.marks.proofs.Sides.{signed-variable}
 use Rattle.threads.specs.Threads.{Threaded}
 use Rattle.resolution.specs.Paths.{Deeper, Crosses, Path, enters, goes-on, DependsByPaths}
-use Rattle.walking.specs.Walk.{marked, Passes, Walk, starts, steps, Walked, Chained, Rowed}
+use Rattle.resolution.specs.Walk.{marked, Passes, Walk, starts, steps, Walked, Chained, Rowed}
 use Rattle.resolution.specs.Ends.{Barred, ReadClauses, Ends, Pairs}
-use Rattle.walking.proofs.Places.{inside-less}
+use Rattle.resolution.proofs.Places.{inside-less}
 use Rattle.resolution.proofs.Crossings.{passes-crosses}
 
 -- The rows of the two literals of a variable.
@@ -45,13 +47,16 @@ pub rowed : {n : ℕ} {ls : List ℤ} (marks : List Bool) → n ≤ 512 → Read
 rowed {ls = ls} marks few read size e = let most = read .upto e in ⊎-elim (λ q. omega arith) (λ q. omega arith) (row-either (literalAt ls e))
 
 -- Every variable is tied to its clauses.
-pub threads-chained : {n : ℕ} {ls : List ℤ} {heads next : List ℕ} → n ≤ 512 → ReadClauses n ls → length heads ≡ 513 → length ls ≤ length next → Threaded ls (set (replicate 513 true) 0 false) heads next (length ls) → Chained ls heads next
+pub threads-chained : {n : ℕ} {ls : List ℤ} {heads next : List ℕ} → n ≤ 512 → ReadClauses n ls → length heads ≡ 513 → length ls ≤ length next
+    → Threaded ls (set (replicate 513 true) 0 false) heads next (length ls) → Chained ls heads next
 threads-chained {ls = ls} few read size room t =
     record {
       heads = λ e. let most = read .upto e in omega arith;
       links = room;
       sound = t .sound;
-      complete = λ s p inside connecting. t .complete (variableOf (literalAt ls p)) s p (getD-set-other (replicate 513 true) 0 (variableOf (literalAt ls p)) false false (inside .literals p (inside .from) (omega arith)) ∙ getD-replicate 513 (variableOf (literalAt ls p)) true false (let most = read .upto p in omega arith)) (inside-less inside) inside connecting refl;
+      complete = λ s p inside connecting. t .complete (variableOf (literalAt ls p)) s p
+          (getD-set-other (replicate 513 true) 0 (variableOf (literalAt ls p)) false false (inside .literals p (inside .from) (omega arith))
+          ∙ getD-replicate 513 (variableOf (literalAt ls p)) true false (let most = read .upto p in omega arith)) (inside-less inside) inside connecting refl;
     }
 
 -- What is barred up to v, one variable after the other.
@@ -99,7 +104,8 @@ told-is : {P : Type 0} (r : Bool) → Tells r P → (r ≡ true) ↔ P
 told-is true p = (λ _. p, λ _. refl)
 told-is false none = (λ q. absurd (clash q refl), λ p. absurd (none p))
 
-pub flag-more : (P : ℕ → Type 0) (flags : List Bool) (v : ℕ) (r : Bool) → v + 1 < length flags → Tells r (P (v + 1)) → ((w : ℕ) → 1 ≤ w → w ≤ v → (getD flags w false ≡ true) ↔ P w) → (w : ℕ) → 1 ≤ w → w ≤ v + 1 → (getD (set flags (v + 1) r) w false ≡ true) ↔ P w
+pub flag-more : (P : ℕ → Type 0) (flags : List Bool) (v : ℕ) (r : Bool) → v + 1 < length flags → Tells r (P (v + 1))
+    → ((w : ℕ) → 1 ≤ w → w ≤ v → (getD flags w false ≡ true) ↔ P w) → (w : ℕ) → 1 ≤ w → w ≤ v + 1 → (getD (set flags (v + 1) r) w false ≡ true) ↔ P w
 flag-more P flags v r room told old w low high =
     by-cases (ℕ-discrete w (v + 1))
     (λ q. subst (λ b. (b ≡ true) ↔ P w) (sym (ap (λ k. getD (set flags (v + 1) r) k false) q ∙ getD-set-same flags (v + 1) r false room)) (subst (λ k. (r ≡ true) ↔ P k) (sym q) (told-is r told)))
@@ -124,7 +130,8 @@ pub deeper-some : (n : ℕ) (levels : List ℕ) (universals : List Bool) (x v : 
 unfolding existentialIn
 deeper-some n levels universals x v d = flag-within n v (not (getD universals v false)) (d .existential) .0
 
-pub pairs-told : (ends others : List Bool) (y row : ℕ) (r : Bool) → 1 ≤ y → row ≡ y + y → r ≡ (getD ends row false && getD others (row + 1) false || getD ends (row + 1) false && getD others row false) → Tells r (Pairs ends others y)
+pub pairs-told : (ends others : List Bool) (y row : ℕ) (r : Bool) → 1 ≤ y → row ≡ y + y
+    → r ≡ (getD ends row false && getD others (row + 1) false || getD ends (row + 1) false && getD others row false) → Tells r (Pairs ends others y)
 pairs-told ends others y row r some is told = is-told r (subst (λ b. (b ≡ true) ↔ Pairs ends others y) (sym told) (there, back))
   where
     plain : (marks : List Bool) → marked marks (signed true y) ≡ getD marks row false
@@ -133,7 +140,8 @@ pairs-told ends others y row r some is told = is-told r (subst (λ b. (b ≡ tru
     negated : (marks : List Bool) → marked marks (signed false y) ≡ getD marks (row + 1) false
     negated marks = ap (λ k. getD marks k false) (row-negated y some ∙ ap (λ k. k + 1) (sym is))
 
-    told-crossed : ((getD ends row false && getD others (row + 1) false || getD ends (row + 1) false && getD others row false) ≡ true) ↔ (((getD ends row false ≡ true) × (getD others (row + 1) false ≡ true)) ⊎ ((getD ends (row + 1) false ≡ true) × (getD others row false ≡ true)))
+    told-crossed : ((getD ends row false && getD others (row + 1) false || getD ends (row + 1) false && getD others row false) ≡ true) ↔
+        (((getD ends row false ≡ true) × (getD others (row + 1) false ≡ true)) ⊎ ((getD ends (row + 1) false ≡ true) × (getD others row false ≡ true)))
     told-crossed = crossed (getD ends row false) (getD others (row + 1) false) (getD ends (row + 1) false) (getD others row false)
 
     there : (getD ends row false && getD others (row + 1) false || getD ends (row + 1) false && getD others row false) ≡ true → Pairs ends others y
@@ -142,10 +150,6 @@ pairs-told ends others y row r some is told = is-told r (subst (λ b. (b ≡ tru
     back : Pairs ends others y → (getD ends row false && getD others (row + 1) false || getD ends (row + 1) false && getD others row false) ≡ true
     back (true, e, o) = told-crossed .1 (inl (sym (plain ends) ∙ e, sym (negated others) ∙ o))
     back (false, e, o) = told-crossed .1 (inr (sym (negated ends) ∙ e, sym (plain others) ∙ o))
-
-pub told-both : (P Q : Type 0) (r : Bool) → P → Tells r Q → Tells r (P × Q)
-told-both P Q true p q = (p, q)
-told-both P Q false p none = λ b. none (b .1)
 
 -- A literal at which a clause is left is of a variable from 1 to n.
 module _ {n : ℕ} {ls : List ℤ} (read : ReadClauses n ls) where
@@ -192,7 +196,8 @@ module _ {n : ℕ} {ls : List ℤ} (read : ReadClauses n ls) where
     ends-are l low high deep = (λ t. walk-path (w .grown .come l (free-deeper l (low, omega arith) .1 deep) t), path-marked)
 
 -- y has opposite ends exactly if it depends on x.
-pub depends-are : {X : Variables} {ls : List ℤ} {x : ℕ} (ends others : List Bool) → Ends X ls x (signed true x) ends → Ends X ls x (signed false x) others → (y : ℕ) → 1 ≤ y → y ≤ X .count → (Deeper X x y × Pairs ends others y) ↔ DependsByPaths X ls x y
+pub depends-are : {X : Variables} {ls : List ℤ} {x : ℕ} (ends others : List Bool) → Ends X ls x (signed true x) ends
+    → Ends X ls x (signed false x) others → (y : ℕ) → 1 ≤ y → y ≤ X .count → (Deeper X x y × Pairs ends others y) ↔ DependsByPaths X ls x y
 depends-are {X} {ls} {x} ends others plain negated y low high = (there, back)
   where
     at : {from : ℤ} (marks : List Bool) → Ends X ls x from marks → Deeper X x y → (sign : Bool) → (marked marks (signed sign y) ≡ true) ↔ Path X ls x from (signed sign y)

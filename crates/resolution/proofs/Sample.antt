@@ -10,11 +10,13 @@ use native.Mathlib.Omega.{arith}
 use lib.IntN.{ℤ, pos, negsuc, negℤ}
 use Rattle.terms.specs.Literals.{variableOf}
 use Rattle.terms.proofs.Common.{clash}
+use Rattle.formula.specs.Lent.{Formula, formulaOf}
 use Rattle.formula.specs.Tables.{cut}
 use Rattle.formula.specs.Meaning.{blocks, clauses, opposite, denied, alwaysTrue, connected, freeLevel, level, isUniversal, isExistential}
 use Rattle.connection.specs.Reach.{Variables, From, Reach, here, step}
-use Rattle.connection.specs.Listed.{Listed}
-use Rattle.tables.specs.Formula.{variables, signed, SharesBy}
+use Rattle.terms.specs.Listed.{Listed}
+use Rattle.tables.specs.Formula.{signed, SharesBy}
+use Rattle.tables.specs.Lent.{variablesOf}
 use Rattle.tables.proofs.Agreeing.{lawful}
 use Rattle.terms.specs.declared.Scheme.the-variants.{Strict}
 use Rattle.forest.specs.Answers.{DependsBy}
@@ -27,8 +29,11 @@ es = 2 ∷ 1 ∷ 0 ∷ 1 ∷ 2 ∷ 3 ∷ 4 ∷ 0 ∷ []
 abbrev ls : List ℤ
 ls = pos 1 ∷ pos 2 ∷ pos 0 ∷ negsuc 1 ∷ pos 3 ∷ pos 0 ∷ negsuc 0 ∷ negsuc 2 ∷ pos 0 ∷ negsuc 0 ∷ pos 4 ∷ pos 0 ∷ pos 1 ∷ pos 4 ∷ pos 0 ∷ []
 
+abbrev f : Formula
+f = formulaOf 4 es ls
+
 abbrev X : Variables
-X = variables 4 es
+X = variablesOf f
 
 -- What antt computes.
 record Computed : Type 0 where
@@ -71,7 +76,15 @@ there : (a b : ℤ) → List·Memᴰ (a ∷ b ∷ []) (clauses ls) → alwaysTru
 there a b listed plain another = record { clause = a ∷ b ∷ []; listed = listed; takes-part = plain; entered = List·Memᴰ·head refl; left = List·Memᴰ·tail (List·Memᴰ·head refl); another = another }
 
 back : (a b : ℤ) → List·Memᴰ (a ∷ b ∷ []) (clauses ls) → alwaysTrue (a ∷ b ∷ []) ≡ false → variableOf a ≢ variableOf b → Crosses ls b a
-back a b listed plain another = record { clause = a ∷ b ∷ []; listed = listed; takes-part = plain; entered = List·Memᴰ·tail (List·Memᴰ·head refl); left = List·Memᴰ·head refl; another = λ q. another (sym q) }
+back a b listed plain another = record {
+  clause = a ∷ b ∷ [];
+  listed = listed;
+  takes-part = plain;
+  entered = List·Memᴰ·tail
+      (List·Memᴰ·head refl);
+  left = List·Memᴰ·head refl;
+  another = λ q. another (sym q);
+}
 
 -- The paths from 1 and from -1.
 to-2 : Path X ls 1 (signed true 1) (signed true 2)
@@ -132,10 +145,22 @@ not-depends-4 d = go (d .sign) refl
 -- 4 shares a clause with 1 and with its negation.
 shares-4 : (sign : Bool) → SharesBy ls sign 1 4
 unfolding signed clauses cut opposite denied alwaysTrue connected
-shares-4 true = record { clause = pos 1 ∷ pos 4 ∷ []; listed = List·Memᴰ·tail (List·Memᴰ·tail (List·Memᴰ·tail (List·Memᴰ·tail (List·Memᴰ·head refl)))); literal = List·Memᴰ·head refl; connects = List·Memᴰ·tail (List·Memᴰ·head refl) }
-shares-4 false = record { clause = negsuc 0 ∷ pos 4 ∷ []; listed = List·Memᴰ·tail (List·Memᴰ·tail (List·Memᴰ·tail (List·Memᴰ·head refl))); literal = List·Memᴰ·head refl; connects = List·Memᴰ·tail (List·Memᴰ·head refl) }
+shares-4 true = record {
+  clause = pos 1 ∷ pos 4 ∷ [];
+  listed = List·Memᴰ·tail
+      (List·Memᴰ·tail (List·Memᴰ·tail (List·Memᴰ·tail (List·Memᴰ·head refl))));
+  literal = List·Memᴰ·head refl;
+  connects = List·Memᴰ·tail (List·Memᴰ·head refl);
+}
+shares-4 false = record {
+  clause = negsuc 0 ∷ pos 4 ∷ [];
+  listed = List·Memᴰ·tail (List·Memᴰ·tail (List·Memᴰ·tail (List·Memᴰ·head refl)));
+  literal =
+      List·Memᴰ·head refl;
+  connects = List·Memᴰ·tail (List·Memᴰ·head refl);
+}
 
-strict-4 : DependsBy Strict 4 es ls 1 4
+strict-4 : DependsBy Strict f 1 4
 strict-4 = record { by = λ sign. record { first = 4; starts = shares-4 sign; allowed = record { existential = deeper-4 .existential; deep = let l = deeper-4 .deep in omega arith }; onward = here } }
 
 -- The existentials, and that what is reached is one of them.
@@ -153,7 +178,7 @@ reach-from f (step _ _ g) = g
 -- The two sets of 1.
 pub record Sampled : Type 0 where
   pub by-paths : Listed (DependsByPaths X ls 1) (2 ∷ 3 ∷ [])
-  pub strictly : Listed (DependsBy Strict 4 es ls 1) (2 ∷ 3 ∷ 4 ∷ [])
+  pub strictly : Listed (DependsBy Strict f 1) (2 ∷ 3 ∷ 4 ∷ [])
 
 pub sampled : Sampled
 sampled =
@@ -162,12 +187,19 @@ sampled =
           record {
             ascending = (λ b m. let q = List·Memᴰ·eq-of-singleton m in omega arith, (λ b m. absurd (List·Memᴰ·not-nil m), tt));
             each = λ v m. ⊎-elim (λ q. subst (DependsByPaths X ls 1) (sym q) depends-2) (λ m′. subst (DependsByPaths X ls 1) (sym (List·Memᴰ·eq-of-singleton m′)) depends-3) (List·Memᴰ·cases-cons m);
-            all = λ v d. ⊎-elim (λ q. List·Memᴰ·head q) (λ m. ⊎-elim (λ q. List·Memᴰ·tail (List·Memᴰ·head q)) (λ m′. absurd (not-depends-4 (subst (DependsByPaths X ls 1) (List·Memᴰ·eq-of-singleton m′) d))) (List·Memᴰ·cases-cons m)) (List·Memᴰ·cases-cons (one-of v (d .deeper .existential)));
+            all = λ v d. ⊎-elim (λ q. List·Memᴰ·head q) (λ m. ⊎-elim (λ q. List·Memᴰ·tail (List·Memᴰ·head q))
+                (λ m′. absurd (not-depends-4 (subst (DependsByPaths X ls 1) (List·Memᴰ·eq-of-singleton m′) d)))
+                (List·Memᴰ·cases-cons m)) (List·Memᴰ·cases-cons (one-of v (d .deeper .existential)));
           };
       strictly =
           record {
-            ascending = (λ b m. ⊎-elim (λ q. omega arith) (λ m′. let q = List·Memᴰ·eq-of-singleton m′ in omega arith) (List·Memᴰ·cases-cons m), (λ b m. let q = List·Memᴰ·eq-of-singleton m in omega arith, (λ b m. absurd (List·Memᴰ·not-nil m), tt)));
-            each = λ v m. ⊎-elim (λ q. subst (DependsBy Strict 4 es ls 1) (sym q) (paths-strict 4 es depends-2)) (λ m′. ⊎-elim (λ q. subst (DependsBy Strict 4 es ls 1) (sym q) (paths-strict 4 es depends-3)) (λ m″. subst (DependsBy Strict 4 es ls 1) (sym (List·Memᴰ·eq-of-singleton m″)) strict-4) (List·Memᴰ·cases-cons m′)) (List·Memᴰ·cases-cons m);
+            ascending = (
+              λ b m. ⊎-elim (λ q. omega arith) (λ m′. let q = List·Memᴰ·eq-of-singleton m′ in omega arith) (List·Memᴰ·cases-cons m),
+              (λ b m. let q = List·Memᴰ·eq-of-singleton m in omega arith, (λ b m. absurd (List·Memᴰ·not-nil m), tt)),
+            );
+            each = λ v m. ⊎-elim (λ q. subst (DependsBy Strict f 1) (sym q) (paths-strict f depends-2))
+                (λ m′. ⊎-elim (λ q. subst (DependsBy Strict f 1) (sym q) (paths-strict f depends-3))
+                (λ m″. subst (DependsBy Strict f 1) (sym (List·Memᴰ·eq-of-singleton m″)) strict-4) (List·Memᴰ·cases-cons m′)) (List·Memᴰ·cases-cons m);
             all = λ v d. let f = d .by true in one-of v (reach-from (f .allowed) (f .onward) .existential);
           };
     }

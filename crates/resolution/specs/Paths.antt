@@ -6,17 +6,18 @@ use mathlib.Core.Bool.{Bool, true, false, not}
 use mathlib.Core.List.{List, [], _∷_, _++_, List·Memᴰ}
 use mathlib.Core.Logic.{_≢_}
 use lib.IntN.{ℤ, negℤ}
-use lib.ListN.{length}
+use Rattle.terms.specs.Answers.{TooLong, Listing}
+use Rattle.terms.specs.Limits.{mostResolutionVariables}
 use Rattle.terms.specs.Literals.{variableOf}
 use Rattle.terms.specs.Refusals.{Causes, At0}
 use Rattle.terms.specs.declared.Filled.{Filled}
+use Rattle.formula.specs.Lent.{Formula}
 use Rattle.formula.specs.Meaning.{clauses, alwaysTrue}
-use Rattle.formula.specs.Causes.{checkOrder}
 use Rattle.connection.specs.Reach.{Variables}
-use Rattle.tables.specs.Formula.{variables, signed}
+use Rattle.joining.specs.Rules.{readBy, checkOrder}
+use Rattle.tables.specs.Formula.{signed}
+use Rattle.tables.specs.Lent.{variablesOf}
 use Rattle.forest.specs.Causes.{NotUniversal}
-use Rattle.forest.specs.Listed.{TooLong, Listing}
-use Rattle.joining.specs.Rules.{readAs, underRule}
 
 -- v is an existential deeper than x
 pub record Deeper (X : Variables) (x v : ℕ) : Type 0 where
@@ -45,20 +46,17 @@ pub record DependsByPaths (X : Variables) (ls : List ℤ) (x y : ℕ) : Type 0 w
   pub from-x : Path X ls x (signed true x) (signed sign y)
   pub from-negation : Path X ls x (signed false x) (signed (not sign) y)
 
--- the most variables that a formula may have for this scheme
-abbrev pub mostPathVariables : ℕ
-mostPathVariables = 512
+-- what the call looks for behind check, in the formula as it is read: 13: x not universal, 27: n over 512, 14
+abbrev pub behindResolution : Formula → ℕ → List ℕ → List Causes
+behindResolution f x before =
+    At0 13 (NotUniversal (f .n) (f .prefix) x) ∷ At0 27 (mostResolutionVariables < f .n)
+    ∷ At0 14 (TooLong (DependsByPaths (variablesOf f) (f .clauses) x) before) ∷ []
 
--- the order of the call by the prefix as it is read: that of check, 13: x not universal, 27: n over 512, 14
-abbrev pub resolutionOrder : ℕ → List ℕ → List ℤ → ℕ → List ℕ → List Causes
-resolutionOrder n es ls x before =
-    checkOrder n es ls ++ (At0 13 (NotUniversal n es x) ∷ At0 27 (mostPathVariables < n) ∷ At0 14 (TooLong (DependsByPaths (variables n es) ls x) before) ∷ [])
+-- the order of the call: that of check, 13, 27, 14
+abbrev pub resolutionOrder : ℕ → Formula → ℕ → List ℕ → List Causes
+resolutionOrder rule f x before = checkOrder rule f ++ behindResolution (readBy rule f) x before
 
--- the same under a rule: 23, 1, 2, the prefix by the rule, and then what the call looks for by the prefix as it is read
-abbrev pub resolutionOrderUnder : ℕ → ℕ → List ℕ → List ℤ → ℕ → List ℕ → List Causes
-resolutionOrderUnder rule n es ls x before = underRule rule n es (length ls) (resolutionOrder n (readAs rule es) ls x before)
-
--- What the call promises: its refusals in their order, the ascending list of all that depends on x by the prefix as it is read, and what it leaves in the
--- lent output.
-abbrev pub ResolutionListed : ℕ → ℕ → List ℕ → List ℤ → ℕ → List ℕ → List ℕ → Filled → Type 0
-ResolutionListed rule n es ls x before = Listing (resolutionOrderUnder rule n es ls x before) (DependsByPaths (variables n (readAs rule es)) ls x) before
+-- What the call promises: its refusals in their order, the ascending list of all that depends on x by the formula as it is read, and what it leaves in
+-- the lent output.
+abbrev pub ResolutionListed : ℕ → Formula → ℕ → List ℕ → List ℕ → Filled → Type 0
+ResolutionListed rule f x before = Listing (resolutionOrder rule f x before) (DependsByPaths (variablesOf (readBy rule f)) (f .clauses) x) before

@@ -1,23 +1,23 @@
 // The ends of all resolution paths from x and from its negation, and what depends on x by them.
 
+use crate::walk::literal_step;
 use tables::rows::existential_at;
 use tables::rows::level_at;
 use terms::Literal;
 use terms::Variable;
 use threads::thread;
-use walking::literal_step;
-ghost use Prim.Native.Nat.{ℕ, _≤_, _<_};
+ghost use Prim.Native.Nat.{_≤_, _<_};
 ghost use mathlib.Core.Path.{_≡_};
-ghost use mathlib.Core.Bool.{true, false, _&&_, _||_};
-ghost use mathlib.Core.Logic.{_↔_};
+ghost use mathlib.Core.Bool.{_&&_, _||_};
 ghost use lib.IntN.{negℤ};
-ghost use lib.ListN.{length, getD};
+ghost use lib.ListN.{length};
+ghost use Rattle.terms.specs.Limits.{mostResolutionVariables, resolutionRows, resolutionLiteralRows};
 ghost use Rattle.terms.specs.Literals.{variableOf};
-ghost use Rattle.tables.specs.Formula.{tabled, signed};
+ghost use Rattle.tables.specs.Tabled.{tabled};
 ghost use Rattle.tables.specs.Rows.{Tells};
+ghost use Rattle.resolution.specs.Walk.{Chained};
 ghost use Rattle.resolution.specs.Paths.{Deeper, DependsByPaths};
-ghost use Rattle.walking.specs.Walk.{Chained};
-ghost use Rattle.resolution.specs.Ends.{Barred, ReadClauses, Ends, Pairs};
+ghost use Rattle.resolution.specs.Ends.{Barred, ReadClauses, Ends, Pairs, Flags};
 
 // Flags each variable from 1 to n that depends on x. Every variable is tied to its clauses first.
 pub fn flag_dependent(
@@ -28,18 +28,19 @@ pub fn flag_dependent(
     x: Variable,
     flags: &mut [bool],
 )
-    requires { ⌜ (n ≤ 512) × ReadClauses n (now clauses) × (x .0 ≤ n) × (length (now flags) ≡ 513) ⌝ }
-    ensures { λ r. ⌜ ((v : ℕ) → 1 ≤ v → v ≤ n → (getD (now (flags .exit)) v false ≡ true) ↔ DependsByPaths (tabled n (now (levels .entry)) (now (universals .entry))) (now (clauses .entry)) (x .0) v) ⌝ }
+    requires few { ⌜ (n ≤ mostResolutionVariables) × ReadClauses n (now clauses) × (x .0 ≤ n) × (length (now flags) ≡ resolutionRows) ⌝ }
+    ensures flagged { λ r. ⌜ Flags n (DependsByPaths (tabled n (now (levels .entry)) (now (universals .entry))) (now (clauses .entry)) (x .0))
+        (now (flags .exit)) ⌝ }
 {
-    let mut all = [true; 513];
+    let mut all = [true; Variable::RESOLUTION_ROWS];
     all[0] = false;
-    let mut first = [0u32; 513];
-    let mut next = [0u32; 16384];
+    let mut first = [0u32; Variable::RESOLUTION_ROWS];
+    let mut next = [0u32; Literal::ENTRIES];
     thread(clauses, &all, &mut first, &mut next);
     flag_tied(n, clauses, levels, universals, &first, &next, x, flags);
 }
 
-// The same, once they are tied.
+// Flags each variable that depends on x, along the chains that tie variables to their clauses.
 fn flag_tied(
     n: u32,
     clauses: &[i32],
@@ -50,10 +51,12 @@ fn flag_tied(
     x: Variable,
     flags: &mut [bool],
 )
-    requires { ⌜ (n ≤ 512) × ReadClauses n (now clauses) × Chained (now clauses) (now first) (now next) × (x .0 ≤ n) × (length (now first) ≡ 513) × (length (now flags) ≡ 513) ⌝ }
-    ensures { λ r. ⌜ ((v : ℕ) → 1 ≤ v → v ≤ n → (getD (now (flags .exit)) v false ≡ true) ↔ DependsByPaths (tabled n (now (levels .entry)) (now (universals .entry))) (now (clauses .entry)) (x .0) v) ⌝ }
+    requires few { ⌜ (n ≤ mostResolutionVariables) × ReadClauses n (now clauses) × (x .0 ≤ n) × (length (now flags) ≡ resolutionRows) ⌝ }
+    requires chained { ⌜ Chained (now clauses) (now first) (now next) × (length (now first) ≡ resolutionRows) ⌝ }
+    ensures flagged { λ r. ⌜ Flags n (DependsByPaths (tabled n (now (levels .entry)) (now (universals .entry))) (now (clauses .entry)) (x .0))
+        (now (flags .exit)) ⌝ }
 {
-    let mut ends = [false; 1026];
+    let mut ends = [false; Literal::RESOLUTION_ROWS];
     mark_ends(
         n,
         clauses,
@@ -62,10 +65,10 @@ fn flag_tied(
         first,
         next,
         x,
-        negation(x),
+        x.negation(),
         &mut ends,
     );
-    let mut others = [false; 1026];
+    let mut others = [false; Literal::RESOLUTION_ROWS];
     mark_ends(
         n,
         clauses,
@@ -74,7 +77,7 @@ fn flag_tied(
         first,
         next,
         x,
-        plain(x),
+        x.literal(),
         &mut others,
     );
     pair_ends(n, levels, universals, x, &ends, &others, flags);
@@ -92,8 +95,10 @@ fn mark_ends(
     from: Literal,
     marks: &mut [bool],
 )
-    requires { ⌜ (n ≤ 512) × ReadClauses n (now clauses) × Chained (now clauses) (now first) (now next) × (variableOf (from .0) < length (now first)) × (length (now marks) ≡ 1026) ⌝ }
-    ensures { λ r. ⌜ Ends (tabled n (now (levels .entry)) (now (universals .entry))) (now (clauses .entry)) (x .0) (negℤ (from .0)) (now (marks .exit)) ⌝ }
+    requires few { ⌜ (n ≤ mostResolutionVariables) × ReadClauses n (now clauses) × (length (now marks) ≡ resolutionLiteralRows) ⌝ }
+    requires chained { ⌜ Chained (now clauses) (now first) (now next) × (variableOf (from .0) < length (now first)) ⌝ }
+    ensures ends { λ r. ⌜ Ends (tabled n (now (levels .entry)) (now (universals .entry))) (now (clauses .entry)) (x .0) (negℤ (from .0))
+        (now (marks .exit)) ⌝ }
 {
     bar(n, levels, universals, x, marks);
     literal_step(clauses, first, next, from, marks);
@@ -101,8 +106,8 @@ fn mark_ends(
 
 // Marks both literals of every variable from 1 to n that a path may not pass, and no other literal of one.
 fn bar(n: u32, levels: &[u32], universals: &[bool], x: Variable, marks: &mut [bool])
-    requires { ⌜ (n ≤ 512) × (length (now marks) ≡ 1026) ⌝ }
-    ensures { λ r. ⌜ Barred (tabled n (now (levels .entry)) (now (universals .entry))) (x .0) (now (marks .exit)) ⌝ }
+    requires few { ⌜ (n ≤ mostResolutionVariables) × (length (now marks) ≡ resolutionLiteralRows) ⌝ }
+    ensures barred { λ r. ⌜ Barred (tabled n (now (levels .entry)) (now (universals .entry))) (x .0) (now (marks .exit)) ⌝ }
 {
     let mut v: u32 = 0;
     while v < n {
@@ -116,7 +121,7 @@ fn bar(n: u32, levels: &[u32], universals: &[bool], x: Variable, marks: &mut [bo
 
 // Whether v is an existential deeper than x.
 fn is_deeper(n: u32, levels: &[u32], universals: &[bool], x: Variable, v: Variable) -> bool
-    ensures { λ r. ⌜ Tells r (Deeper (tabled n (now (levels .entry)) (now (universals .entry))) (x .0) (v .0)) ⌝ }
+    ensures told { λ r. ⌜ Tells r (Deeper (tabled n (now (levels .entry)) (now (universals .entry))) (x .0) (v .0)) ⌝ }
 {
     if !existential_at(n, universals, v) {
         return false;
@@ -137,8 +142,10 @@ fn pair_ends(
     others: &[bool],
     flags: &mut [bool],
 )
-    requires { ⌜ (n ≤ 512) × (length (now ends) ≡ 1026) × (length (now others) ≡ 1026) × (length (now flags) ≡ 513) ⌝ }
-    ensures { λ r. ⌜ ((v : ℕ) → 1 ≤ v → v ≤ n → (getD (now (flags .exit)) v false ≡ true) ↔ (Deeper (tabled n (now (levels .entry)) (now (universals .entry))) (x .0) v × Pairs (now (ends .entry)) (now (others .entry)) v)) ⌝ }
+    requires few { ⌜ (n ≤ mostResolutionVariables) × (length (now flags) ≡ resolutionRows) ⌝ }
+    requires sizes { ⌜ (length (now ends) ≡ resolutionLiteralRows) × (length (now others) ≡ resolutionLiteralRows) ⌝ }
+    ensures flagged { λ r. ⌜ Flags n (λ v. Deeper (tabled n (now (levels .entry)) (now (universals .entry))) (x .0) v
+        × Pairs (now (ends .entry)) (now (others .entry)) v) (now (flags .exit)) ⌝ }
 {
     let mut v: u32 = 0;
     while v < n {
@@ -157,8 +164,10 @@ fn depends(
     others: &[bool],
     y: Variable,
 ) -> bool
-    requires { ⌜ (y .0 ≤ 512) × (length (now ends) ≡ 1026) × (length (now others) ≡ 1026) ⌝ }
-    ensures { λ r. ⌜ Tells r (Deeper (tabled n (now (levels .entry)) (now (universals .entry))) (x .0) (y .0) × Pairs (now (ends .entry)) (now (others .entry)) (y .0)) ⌝ }
+    requires few { ⌜ y .0 ≤ mostResolutionVariables ⌝ }
+    requires sizes { ⌜ (length (now ends) ≡ resolutionLiteralRows) × (length (now others) ≡ resolutionLiteralRows) ⌝ }
+    ensures told { λ r. ⌜ Tells r (Deeper (tabled n (now (levels .entry)) (now (universals .entry))) (x .0) (y .0)
+        × Pairs (now (ends .entry)) (now (others .entry)) (y .0)) ⌝ }
 {
     if !is_deeper(n, levels, universals, x, y) {
         return false;
@@ -169,7 +178,7 @@ fn depends(
 
 // Whether a and d are set, or b and c.
 fn crossed(a: bool, b: bool, c: bool, d: bool) -> bool
-    ensures { λ r. ⌜ r ≡ (a && d || b && c) ⌝ }
+    ensures crossed { λ r. ⌜ r ≡ (a && d || b && c) ⌝ }
 {
     if a {
         if d {
@@ -178,21 +187,4 @@ fn crossed(a: bool, b: bool, c: bool, d: bool) -> bool
         return b && c;
     }
     b && c
-}
-
-// The literal of a variable.
-fn plain(x: Variable) -> Literal
-    requires { ⌜ x .0 ≤ 512 ⌝ }
-    ensures { λ r. ⌜ r .0 ≡ signed true (x .0) ⌝ }
-{
-    Literal::new(x.0 as i32)
-}
-
-// The negation of a variable.
-fn negation(x: Variable) -> Literal
-    requires { ⌜ x .0 ≤ 512 ⌝ }
-    ensures { λ r. ⌜ r .0 ≡ signed false (x .0) ⌝ }
-{
-    let literal = x.0 as i32;
-    Literal::new(-literal)
 }

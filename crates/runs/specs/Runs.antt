@@ -1,10 +1,12 @@
 -- The runs of tops: the variables of one top, each tied to the next higher of the same.
-use Prim.Native.Nat.{ℕ, zero, suc, _/_, _%_, _≤_, _<_}
+use Prim.Native.Nat.{ℕ, zero, suc, _≤_, _<_}
 use mathlib.Core.Path.{_≡_}
 use mathlib.Core.Bool.{Bool, true, false}
 use mathlib.Core.List.{List, [], _∷_}
 use mathlib.Core.Logic.{_≢_}
 use lib.ListN.{length, getD, set, replicate}
+use Rattle.terms.specs.Limits.{mostVariables, variableRows}
+use Rattle.terms.specs.Pairs.{lowOf, highOf}
 use Rattle.picking.specs.declared.Asked.the-variants.{Set}
 use Rattle.connection.specs.Tables.{row, lent}
 use Rattle.tables.specs.Formula.{variables}
@@ -18,16 +20,16 @@ Run after v (w ∷ rest) = (v ≡ w) × (w ≢ 0) × (w < length after) × Run a
 
 -- a table of flags in which only that of a top is set, and none for 0
 unfoldable pub only : ℕ → List Bool
-only zero = replicate 4097 false
-only (suc top) = set (replicate 4097 false) (suc top) true
+only zero = replicate variableRows false
+only (suc top) = set (replicate variableRows false) (suc top) true
 
 -- the variables that have a top
 abbrev pub having : ℕ → List ℕ → ℕ → List ℕ
 having n tops top = picked (pick Set n (only top) tops) n
 
--- a row of `lead`: where a run begins, and in the upper half how many numbers it has
+-- the two numbers in a row of `lead`: where a run begins, and how many numbers it has
 abbrev pub Leads : List ℕ → ℕ → List ℕ → Type 0
-Leads after lead list = Run after (lead % 65536) list × (lead / 65536 ≡ length list)
+Leads after lead list = Run after (lowOf lead) list × (highOf lead ≡ length list)
 
 -- every top is one of the variables
 abbrev pub Within : ℕ → List ℕ → Type 0
@@ -43,6 +45,6 @@ pub record Floored (n : ℕ) (es classes parents : List ℕ) (floor place from :
   pub over : TopsOver (variables n es) (lent (variables n es) classes parents) floor from tops
   pub within : Within n tops
   pub led : Led n tops lead after
-  pub rows : length tops ≡ 4096
-  pub heads : length lead ≡ 4097
-  pub links : length after ≡ 4097
+  pub rows : length tops ≡ mostVariables
+  pub heads : length lead ≡ variableRows
+  pub links : length after ≡ variableRows

@@ -1,12 +1,15 @@
 // Runs through the variables, one for each top: the set of a universal with one entry point is the run of that top, and is found without a pass
-// over all rows. The row of a top in `lead` has its lowest variable, and in its upper half how many it has; that of a variable in `after` has the
-// next higher of the same top. 0 stands for none.
+// over all rows. The row of a top in `lead` holds two numbers: its lowest variable, and how many it has. That of a variable in `after` has the next
+// higher of the same top. 0 stands for none.
 
 use searching::Floor;
+use searching::clear_rows;
 use searching::retop;
 use tables::rows::level_at;
 use tables::rows::row_of;
 use terms::Variable;
+use terms::pairs::pack;
+use terms::pairs::unpack;
 ghost use Prim.Native.Nat.{ℕ, _+_, _≤_, _<_};
 ghost use mathlib.Core.Path.{_≡_};
 ghost use mathlib.Core.Bool.{Bool};
@@ -32,10 +35,12 @@ pub fn refloor(
     lead: &mut [u32],
     after: &mut [u32],
 ) -> Floor
-    requires { ⌜ SoundPrefix n (now prefix) × FormedBy n (now prefix) (now classes) (now parents) × (x .0 ≤ 4096) × ((universals : List Bool) × Levelled (now prefix) (now levels) universals) ⌝ }
-    requires { ⌜ Floored n (now prefix) (now classes) (now parents) (was .level .0) (was .place) (was .from) (now tops) (now lead) (now after) ⌝ }
-    ensures { λ r. ⌜ Floored n (now (prefix .entry)) (now (classes .entry)) (now (parents .entry)) (r .level .0) (r .place) (r .from) (now (tops .exit)) (now (lead .exit)) (now (after .exit)) ⌝ }
-    ensures { λ r. ⌜ (r .level .0 ≡ level (now (prefix .entry)) (x .0)) × (was .level .0 ≡ r .level .0 → now (tops .exit) ≡ now (tops .entry)) ⌝ }
+    requires sound { ⌜ SoundPrefix n (now prefix) × FormedBy n (now prefix) (now classes) (now parents) × (x .0 ≤ 4096)
+        × ((universals : List Bool) × Levelled (now prefix) (now levels) universals) ⌝ }
+    requires floored { ⌜ Floored n (now prefix) (now classes) (now parents) (was .level .0) (was .place) (was .from) (now tops) (now lead) (now after) ⌝ }
+    ensures floored { λ r. ⌜ Floored n (now (prefix .entry)) (now (classes .entry)) (now (parents .entry)) (r .level .0) (r .place) (r .from)
+        (now (tops .exit)) (now (lead .exit)) (now (after .exit)) ⌝ }
+    ensures own { λ r. ⌜ (r .level .0 ≡ level (now (prefix .entry)) (x .0)) × (was .level .0 ≡ r .level .0 → now (tops .exit) ≡ now (tops .entry)) ⌝ }
 {
     let level = level_at(levels, x);
     let old = was.level;
@@ -50,33 +55,25 @@ pub fn refloor(
 // Ties the variables of each top together, where none up to `from` has one. They are passed downwards, so that each comes in front of its run;
 // those without a top are tied too, with no test, and let go at the end.
 fn link_runs(n: u32, tops: &[u32], from: u32, lead: &mut [u32], after: &mut [u32])
-    requires { ⌜ (n ≤ 4096) × (from ≤ n) × Topless n (now tops) from × Within n (now tops) × (n < length (now lead)) × (n < length (now after)) ⌝ }
-    ensures { λ r. ⌜ Led n (now (tops .entry)) (now (lead .exit)) (now (after .exit)) ⌝ }
+    requires within { ⌜ (n ≤ 4096) × (from ≤ n) × Topless n (now tops) from × Within n (now tops) × (n < length (now lead)) × (n < length (now after)) ⌝ }
+    ensures led { λ r. ⌜ Led n (now (tops .entry)) (now (lead .exit)) (now (after .exit)) ⌝ }
 {
-    clear_rows(n, lead);
+    clear_rows(n + 1, lead);
     let mut v = n;
     while from < v {
         let top = row_of(n, tops, Variable::new(v));
         let at = top.0 as usize;
-        let row = lead[at];
-        after[v as usize] = row % 65536;
-        lead[at] = (row / 65536 + 1) * 65536 + v;
+        let row = unpack(lead[at]);
+        after[v as usize] = row.low;
+        lead[at] = pack(v, row.high + 1);
         v -= 1;
     }
     lead[0] = 0;
 }
 
-// Makes the rows of 0 to n 0: no other is read.
-pub fn clear_rows(n: u32, rows: &mut [u32])
-    requires { ⌜ (n ≤ 4096) × (n < length (now rows)) ⌝ }
-    ensures { λ r. ⌜ ((i : ℕ) → i ≤ n → getD (now (rows .exit)) i 0 ≡ 0) ⌝ }
-{
-    searching::clear_rows(n + 1, rows);
-}
-
-// The row of a top, 0 past the end of the table.
+// The row of a top in a table with a row for each number from 0 on; 0 past its end.
 pub fn row_at(rows: &[u32], top: Variable) -> u32
-    ensures { λ r. ⌜ r ≡ getD (now (rows .entry)) (top .0) 0 ⌝ }
+    ensures read { λ r. ⌜ r ≡ getD (now (rows .entry)) (top .0) 0 ⌝ }
 {
     let at = top.0 as usize;
     if at < rows.len() {
@@ -87,8 +84,8 @@ pub fn row_at(rows: &[u32], top: Variable) -> u32
 
 // Writes the variables of the run from `head` on, from the entry `at` on.
 pub fn write_run(after: &[u32], head: u32, at: usize, out: &mut [u32])
-    requires { ⌜ ((list : List ℕ) × Run (now after) head list × (at + length list ≤ length (now out))) ⌝ }
-    ensures { λ r. ⌜ ((list : List ℕ) × Run (now (after .entry)) head list × (now (out .exit) ≡ sets (now (out .entry)) at list)) ⌝ }
+    requires room { ⌜ ((list : List ℕ) × Run (now after) head list × (at + length list ≤ length (now out))) ⌝ }
+    ensures written { λ r. ⌜ ((list : List ℕ) × Run (now (after .entry)) head list × (now (out .exit) ≡ sets (now (out .entry)) at list)) ⌝ }
 {
     let mut end = at;
     let mut v = head;

@@ -9,7 +9,7 @@ use lib.ListN.{getD}
 use Rattle.connection.specs.Reach.{Variables}
 use Rattle.connection.specs.Tables.{Table, row, lent, WellFormed, Above, start, rise, EntryPoint}
 use Rattle.connection.proofs.Climb.{entry-ends}
-use Rattle.tables.specs.Formula.{tabled, existentialIn}
+use Rattle.tables.specs.Tabled.{tabled, existentialIn}
 use Rattle.tables.specs.Rows.{rowsOf}
 use Rattle.searching.specs.Search.{parentTable, Falling, Searched, Climbs, TopRows, EntryRows}
 
@@ -19,11 +19,16 @@ module _ (n : ℕ) (levels parents : List ℕ) (floor c rises : ℕ) where
   climb-stops deep stop = (0, omega arith, record { above = start; deeper = deep; stop = stop })
 
   -- Else it goes on from the parent, with one rise more.
-  pub climb-goes : (p : ℕ) {q all : ℕ} → p ≡ row n parents c → p ≢ 0 → Climbs n levels parents floor p (rises + 1) q all → Climbs n levels parents floor c rises q all
-  climb-goes p {q} is some (k, sum, s) =
-      (suc k, omega arith, record { above = rise (λ z. some (is ∙ z)) (subst (λ d. Above (parentTable n parents) q d k) is (s .above)); deeper = s .deeper; stop = s .stop })
+  pub climb-goes : (p : ℕ) {q all : ℕ} → p ≡ row n parents c → p ≢ 0 → Climbs n levels parents floor p (rises + 1) q all
+      → Climbs n levels parents floor c rises q all
+  climb-goes p {q} is some (k, sum, s) = (
+    suc k,
+    omega arith,
+    record { above = rise (λ z. some (is ∙ z)) (subst (λ d. Above (parentTable n parents) q d k) is (s .above)); deeper = s .deeper; stop = s .stop },
+  )
 
-module _ (n : ℕ) (levels : List ℕ) (universals : List Bool) (classes parents : List ℕ) (formed : WellFormed (tabled n levels universals) (rowsOf n classes parents)) where
+module _ (n : ℕ) (levels : List ℕ) (universals : List Bool) (classes parents : List ℕ)
+    (formed : WellFormed (tabled n levels universals) (rowsOf n classes parents)) where
   -- In well-formed tables each parent stands in a lesser block, and the class of y in y's own.
   pub formed-falls : Falling n levels parents
   unfolding lent
@@ -39,12 +44,14 @@ module _ (n : ℕ) (levels : List ℕ) (universals : List Bool) (classes parents
   above-rows (rise some a) = rise some (above-rows a)
 
   -- What the search finds in the parent rows, it finds in the tables.
-  pub searched-rows : {floor c p k : ℕ} → Searched (tabled n levels []) (parentTable n parents) floor c p k → Searched (tabled n levels universals) (rowsOf n classes parents) floor c p k
+  pub searched-rows : {floor c p k : ℕ} → Searched (tabled n levels []) (parentTable n parents) floor c p k
+      → Searched (tabled n levels universals) (rowsOf n classes parents) floor c p k
   unfolding lent
   searched-rows s = record { above = above-rows (s .above); deeper = s .deeper; stop = s .stop }
 
 -- Where the search from y's class ends over the level of x is the entry point of x for y, and its rises are the classes passed.
-pub searched-entry : {X : Variables} {W : Table} → WellFormed X W → {x y p k : ℕ} (floor c : ℕ) → floor ≡ X .lev x → c ≡ W .cls y → Searched X W floor c p k → EntryPoint X W x y p k
+pub searched-entry : {X : Variables} {W : Table} → WellFormed X W → {x y p k : ℕ} (floor c : ℕ) → floor ≡ X .lev x → c ≡ W .cls y
+    → Searched X W floor c p k → EntryPoint X W x y p k
 searched-entry {X} {W} formed {x} {y} {p} {k} floor c low is s =
     entry-ends formed .1 (record {
       above = subst (λ d. Above W p d k) is (s .above);
@@ -53,7 +60,8 @@ searched-entry {X} {W} formed {x} {y} {p} {k} floor c low is s =
     })
 
 -- So the tops over the level of x are the entries of x.
-pub tops-entries : {X : Variables} {W : Table} → WellFormed X W → {x : ℕ} (floor : ℕ) (tops : List ℕ) → floor ≡ X .lev x → TopRows X W floor tops → EntryRows X W x tops
+pub tops-entries : {X : Variables} {W : Table} → WellFormed X W → {x : ℕ} (floor : ℕ) (tops : List ℕ) → floor ≡ X .lev x
+    → TopRows X W floor tops → EntryRows X W x tops
 tops-entries {X} {W} formed {x} floor tops low rows y =
     record {
       found = λ deep. let (k, s) = rows y .found (deep .0, (let d = deep .1 in omega arith)) in (k, searched-entry formed floor (W .cls y) low refl s);

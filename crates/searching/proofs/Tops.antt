@@ -23,7 +23,7 @@ use Rattle.connection.specs.Tables.{Table, row, lent, WellFormed, Above, start,
 use Rattle.connection.proofs.Climb.{above-class}
 use Rattle.tables.specs.Formula.{variables}
 use Rattle.tables.specs.Counting.{FormedBy}
-use Rattle.searching.specs.Search.{Searched, topBy, TopRow, TopRows, Behind, TopsOver}
+use Rattle.searching.specs.Search.{Searched, Under, topBy, TopRow, TopRows, Behind, TopsOver}
 use Rattle.tables.proofs.Readings.{new-zero, row-none, row-over, row-at, row-stored, row-kept}
 use Rattle.tables.proofs.Agreeing.{lawful}
 
@@ -59,7 +59,13 @@ module _ {X : Variables} {W : Table} (law : Lawful X) (formed : WellFormed X W) 
 
       -- Its parent has no top: it is 0 or not deeper, and the search stops at once.
       top-itself : e ≡ 0 → TopRow X W floor v v
-      top-itself none = top-found (record { above = start; deeper = deep; stop = λ some. by-cases (decLe (X .lev (W .par v)) floor) (λ l. l) (λ l. absurd (nowhere some (omega arith))) })
+      top-itself none =
+          top-found
+          (record {
+            above = start;
+            deeper = deep;
+            stop = λ some. by-cases (decLe (X .lev (W .par v)) floor) (λ l. l) (λ l. absurd (nowhere some (omega arith)));
+          })
         where
           nowhere : W .par v ≢ 0 → floor < X .lev (W .par v) → ⊥
           nowhere some l =
@@ -86,13 +92,17 @@ pub top-by-none : {c r : ℕ} (above : ℕ) → r ≡ c → r ≡ 0 → r ≡ to
 unfolding topBy
 top-by-none {c} above is z = z ∙ sym (ap (λ b. cond b 0 (cond (eqb above 0) c above)) (eq-eqb c 0 (sym is ∙ z)))
 
-pub top-by-class : {c above a r : ℕ} → r ≡ c → r ≢ 0 → a ≡ above → a ≡ 0 → r ≡ topBy c above
+top-by-some : (c above : ℕ) → c ≢ 0 → topBy c above ≡ cond (eqb above 0) c above
 unfolding topBy
-top-by-class {c} {above} is some there z = is ∙ sym (ap (λ b. cond b 0 (cond (eqb above 0) c above)) (ne-eqb c 0 (λ q. some (is ∙ q))) ∙ ap (λ b. cond b c above) (eq-eqb above 0 (sym there ∙ z)))
+top-by-some c above some = ap (λ b. cond b 0 (cond (eqb above 0) c above)) (ne-eqb c 0 some)
+
+pub top-by-class : {c above a r : ℕ} → r ≡ c → r ≢ 0 → a ≡ above → a ≡ 0 → r ≡ topBy c above
+top-by-class {c} {above} is some there z =
+    is ∙ sym (top-by-some c above (λ q. some (is ∙ q)) ∙ ap (λ b. cond b c above) (eq-eqb above 0 (sym there ∙ z)))
 
 pub top-by-above : {c above a r : ℕ} → r ≡ c → r ≢ 0 → a ≡ above → a ≢ 0 → a ≡ topBy c above
-unfolding topBy
-top-by-above {c} {above} is some there other = there ∙ sym (ap (λ b. cond b 0 (cond (eqb above 0) c above)) (ne-eqb c 0 (λ q. some (is ∙ q))) ∙ ap (λ b. cond b c above) (ne-eqb above 0 (λ q. other (there ∙ q))))
+top-by-above {c} {above} is some there other =
+    there ∙ sym (top-by-some c above (λ q. some (is ∙ q)) ∙ ap (λ b. cond b c above) (ne-eqb above 0 (λ q. other (there ∙ q))))
 
 -- Where the first n rows are 0, so are all that are read.
 row-zero : (n : ℕ) (rows : List ℕ) → ((v : ℕ) → v < n → getD rows v 0 ≡ 0) → (y : ℕ) → row n rows y ≡ 0
@@ -104,7 +114,9 @@ row-zero n rows zeros y =
 pub tops-over : {X : Variables} {W : Table} (floor k : ℕ) → ((v : ℕ) → X .ex v ≡ true → X .lev v ≤ floor) → TopsOver X W floor 0 (replicate {A = ℕ} k 0)
 tops-over {X} {W} floor k low =
     record {
-      rows = λ y. subst (TopRow X W floor y) (sym (row-zero (X .count) (replicate {A = ℕ} k 0) (λ v _. new-zero k v) y)) (record { found = λ u. absurd (let l = low y (u .0) in let d = u .1 in omega arith); none = λ _. refl });
+      rows =
+          λ y. subst (TopRow X W floor y) (sym (row-zero (X .count) (replicate {A = ℕ} k 0) (λ v _. new-zero k v) y))
+          (record { found = λ u. absurd (let l = low y (u .0) in let d = u .1 in omega arith); none = λ _. refl });
       most = omega arith;
       none = λ v some most. absurd (omega arith);
     }
@@ -122,10 +134,13 @@ module _ (n : ℕ) (es classes parents : List ℕ) (floor : ℕ) where
   W = lent X classes parents
 
   -- What stands before the first block that is deeper than the floor has no top.
-  topping-from : SoundPrefix n es → (tops : List ℕ) (place : ℕ) → marksBefore es place ≡ floor → ((v : ℕ) → v < n → getD tops v 0 ≡ 0) → Topping n es classes parents floor tops place
+  topping-from : SoundPrefix n es → (tops : List ℕ) (place : ℕ) → marksBefore es place ≡ floor → ((v : ℕ) → v < n → getD tops v 0 ≡ 0)
+      → Topping n es classes parents floor tops place
   topping-from sound tops place is zeros =
       record {
-        rows = λ e l there. subst (TopRow X W floor (at es e)) (sym (row-zero n tops zeros (at es e))) (top-shallow (let own = level-at sound e there in let rise = marks-rise es e place (omega arith) in omega arith));
+        rows =
+            λ e l there. subst (TopRow X W floor (at es e)) (sym (row-zero n tops zeros (at es e)))
+            (top-shallow (let own = level-at sound e there in let rise = marks-rise es e place (omega arith) in omega arith));
         rest = λ v none. row-zero n tops zeros v;
       }
 
@@ -161,50 +176,78 @@ module _ (n : ℕ) (es classes parents : List ℕ) (floor : ℕ) where
 
       module _ (deep : floor < marksBefore es i) where
         -- The top of the class of the variable that is named here.
-        class-top : (c : ℕ) → X .ex c ≡ true → W .cls c ≡ c → level es c ≡ marksBefore es i → (above : ℕ) → above ≡ row n tops (W .par c) → TopRow X W floor c (cond (eqb above 0) c above)
+        class-top : (c : ℕ) → X .ex c ≡ true → W .cls c ≡ c → level es c ≡ marksBefore es i → (above : ℕ) → above ≡ row n tops (W .par c)
+            → TopRow X W floor c (cond (eqb above 0) c above)
         class-top c ex named block above is = go (ℕ-discrete above 0)
           where
             deeper : floor < level es c
             deeper = omega arith
 
             parent : TopRow X W floor (W .par c) above
-            parent = subst (TopRow X W floor (W .par c)) (sym is) (by-cases (ℕ-discrete (W .par c) 0) (λ z. subst (λ u. TopRow X W floor u (row n tops u)) (sym z) nothing)
-                (λ some. let p = formed .right c .parent some in let few = sound .few in let less = p .less in lesser (W .par c) (let w = lawful n es .within (W .par c) (p .name .existential) .1 in omega arith) (omega arith)))
+            parent =
+                subst (TopRow X W floor (W .par c)) (sym is)
+                (by-cases (ℕ-discrete (W .par c) 0) (λ z. subst (λ u. TopRow X W floor u (row n tops u)) (sym z) nothing)
+                (λ some. let p = formed .right c .parent some in let few = sound .few in let less = p .less in lesser (W .par c)
+                (let w = lawful n es .within (W .par c) (p .name .existential) .1 in omega arith) (omega arith)))
 
             go : Dec (above ≡ 0) → TopRow X W floor c (cond (eqb above 0) c above)
-            go (yes z) = subst (λ b. TopRow X W floor c (cond b c above)) (sym (eq-eqb above 0 z)) (top-itself (lawful n es) formed ex named deeper (W .par c) above refl parent z)
-            go (no some) = subst (λ b. TopRow X W floor c (cond b c above)) (sym (ne-eqb above 0 some)) (top-parent (lawful n es) formed ex named deeper (W .par c) above refl parent some)
+            go (yes z) =
+                subst (λ b. TopRow X W floor c (cond b c above)) (sym (eq-eqb above 0 z))
+                (top-itself (lawful n es) formed ex named deeper (W .par c) above refl parent z)
+            go (no some) =
+                subst (λ b. TopRow X W floor c (cond b c above)) (sym (ne-eqb above 0 some))
+                (top-parent (lawful n es) formed ex named deeper (W .par c) above refl parent some)
+
+        abbrev own-class : ℕ
+        own-class = W .cls (at es i)
+
+        -- the top that topBy gives the variable named here, by whether it has a class
+        abbrev Told : Bool → Type 0
+        Told b =
+            let above = row n tops (W .par own-class) in
+            TopRow X W floor (at es i) (cond b 0 (cond (eqb above 0) own-class above))
 
         -- So that variable has its own.
         named-top : TopRow X W floor (at es i) (topBy (row n classes (at es i)) (row n tops (row n parents (row n classes (at es i)))))
         unfolding lent topBy
         named-top = go (X .ex (at es i)) refl
           where
-            go : (b : Bool) → X .ex (at es i) ≡ b → TopRow X W floor (at es i) (cond (eqb (W .cls (at es i)) 0) 0 (cond (eqb (row n tops (W .par (W .cls (at es i)))) 0) (W .cls (at es i)) (row n tops (W .par (W .cls (at es i))))))
+            go : (b : Bool) → X .ex (at es i) ≡ b → Told (eqb own-class 0)
             go true ex =
                 let class = formed .right (at es i) .class ex in
-                let some : W .cls (at es i) ≢ 0 = λ z. let a = lawful n es .within (W .cls (at es i)) (class .name .existential) .0 in omega arith in
-                subst (λ b. TopRow X W floor (at es i) (cond b 0 (cond (eqb (row n tops (W .par (W .cls (at es i)))) 0) (W .cls (at es i)) (row n tops (W .par (W .cls (at es i))))))) (sym (ne-eqb (W .cls (at es i)) 0 some))
-                (top-class (lawful n es) formed ex (W .cls (at es i)) _ refl (class-top (W .cls (at es i)) (class .name .existential) (class .name .itself) (class .block ∙ level-at sound i there) _ refl))
-            go false un =
-                subst (λ b. TopRow X W floor (at es i) (cond b 0 (cond (eqb (row n tops (W .par (W .cls (at es i)))) 0) (W .cls (at es i)) (row n tops (W .par (W .cls (at es i))))))) (sym (eq-eqb (W .cls (at es i)) 0 (formed .right (at es i) .universal un .0)))
-                (top-universal un)
+                let name = class .name in
+                let some : own-class ≢ 0 = λ z. let a = lawful n es .within own-class (name .existential) .0 in omega arith in
+                subst Told (sym (ne-eqb own-class 0 some)) (top-class (lawful n es) formed ex own-class _ refl
+                (class-top own-class (name .existential) (name .itself) (class .block ∙ level-at sound i there) _ refl))
+            go false un = subst Told (sym (eq-eqb own-class 0 (formed .right (at es i) .universal un .0))) (top-universal un)
 
-        topping-more : (top : ℕ) → n ≤ length tops → at es i ≤ n → top ≡ topBy (row n classes (at es i)) (row n tops (row n parents (row n classes (at es i)))) → Topping n es classes parents floor (set tops (at es i - 1) top) (i + 1)
+        topping-more : (top : ℕ) → n ≤ length tops → at es i ≤ n
+            → top ≡ topBy (row n classes (at es i)) (row n tops (row n parents (row n classes (at es i))))
+            → Topping n es classes parents floor (set tops (at es i - 1) top) (i + 1)
         topping-more top long within is =
             record {
               rows = below-more (λ e. VariableAt es e → TopRow X W floor (at es e) (row n (set tops (at es i - 1) top) (at es e))) i
-                  (λ e l at-e. subst (TopRow X W floor (at es e)) (sym (row-kept n tops (at es i) top (at es e) (there .2) (once sound e i at-e there l))) (t .rows e l at-e))
+                  (λ e l at-e. subst (TopRow X W floor (at es e))
+                  (sym (row-kept n tops (at es i) top (at es e) (there .2) (once sound e i at-e there l))) (t .rows e l at-e))
                   (λ _. subst (TopRow X W floor (at es i)) (sym (row-stored n tops (at es i) top (there .2) within long ∙ is)) named-top);
-              rest = λ v unnamed. row-kept n tops (at es i) top v (there .2) (λ q. unnamed i (omega arith) there (sym q)) ∙ t .rest v (λ e l. unnamed e (omega arith));
+              rest =
+                  λ v unnamed. row-kept n tops (at es i) top v (there .2) (λ q. unnamed i (omega arith) there (sym q))
+                  ∙ t .rest v (λ e l. unnamed e (omega arith));
             }
 
   -- Where the whole prefix is passed every variable has its top: what is deeper than x is named.
-  pub topping-all : SoundPrefix n es → {tops : List ℕ} {i : ℕ} → length es ≤ i → Topping n es classes parents floor tops i → (x : ℕ) → x ≤ 4096 → floor ≡ level es x → TopRows X W floor tops
-  topping-all sound {tops} {i} done t x small low y = ⊎-elim (λ d. let (e, _, at-e, is) = d in let within = at-e .0 in subst (λ w. TopRow X W floor w (row n tops w)) is (t .rows e (omega arith) at-e))
+  pub topping-all : SoundPrefix n es → {tops : List ℕ} {i : ℕ} → length es ≤ i → Topping n es classes parents floor tops i → (x : ℕ)
+      → x ≤ 4096 → floor ≡ level es x → TopRows X W floor tops
+  topping-all sound {tops} {i} done t x small low y =
+      ⊎-elim (λ d. let (e, _, at-e, is) = d in let within = at-e .0 in subst (λ w. TopRow X W floor w (row n tops w)) is (t .rows e (omega arith) at-e))
       (λ none. subst (TopRow X W floor y) (sym (t .rest y (λ e l at-e q. none (e, omega arith, at-e, q))))
-      (record { found = λ under. absurd (none (deeper-named sound x y small (let w = lawful n es .within y (under .0) .1 in let few = sound .few in omega arith) (let d = under .1 in omega arith))); none = λ _. refl }))
-      (named? es y)
+      (record { found = λ under. absurd (none (named under)); none = λ _. refl })) (named? es y)
+    where
+      named : Under X floor y → NamedFrom es 0 y
+      named (ex, deep) =
+          let within = lawful n es .within y ex .1 in
+          let few = sound .few in
+          deeper-named sound x y small (omega arith) (omega arith)
 
 -- What stands behind an entry.
 module _ (es : List ℕ) (i : ℕ) where
@@ -222,11 +265,18 @@ pub record Passing (n : ℕ) (es classes parents : List ℕ) (floor : ℕ) (tops
   pub topping : Topping n es classes parents floor tops i
 
 module _ (n : ℕ) (es classes parents : List ℕ) (floor : ℕ) where
-  pub passing-from : SoundPrefix n es → (tops : List ℕ) (place : ℕ) → Behind es floor place → ((v : ℕ) → v < n → getD tops v 0 ≡ 0) → Passing n es classes parents floor tops true place
+  pub passing-from : SoundPrefix n es → (tops : List ℕ) (place : ℕ) → Behind es floor place → ((v : ℕ) → v < n → getD tops v 0 ≡ 0)
+      → Passing n es classes parents floor tops true place
   passing-from sound tops place (open′, is) zeros =
-      record { opening-is = sym open′; deep = omega arith; inside = λ shut. absurd (true≢false shut); topping = topping-from n es classes parents floor sound tops place is zeros }
+      record {
+        opening-is = sym open′;
+        deep = omega arith;
+        inside = λ shut. absurd (true≢false shut);
+        topping = topping-from n es classes parents floor sound tops place is zeros;
+      }
 
-  module _ {tops : List ℕ} {opening : Bool} {i : ℕ} (sound : SoundPrefix n es) (p : Passing n es classes parents floor tops opening i) (more : i < length es) where
+  module _ {tops : List ℕ} {opening : Bool} {i : ℕ} (sound : SoundPrefix n es) (p : Passing n es classes parents floor tops opening i)
+      (more : i < length es) where
     -- A mark opens a block, and is no 0.
     pub passing-mark : opening ≡ true → Passing n es classes parents floor tops false (i + 1)
     passing-mark open′ =
@@ -264,7 +314,8 @@ module _ (n : ℕ) (es classes parents : List ℕ) (floor : ℕ) where
         pub named-within : at es i ≤ n
         named-within = by-cases (decLe (at es i) n) (λ l. l) (λ over. absurd (sound .faultless 7 i (outside refl there (omega arith))))
 
-        pub passing-top : FormedBy n es classes parents → (x : ℕ) → x ≤ 4096 → floor ≡ level es x → (top : ℕ) → n ≤ length tops → top ≡ topBy (row n classes (at es i)) (row n tops (row n parents (row n classes (at es i))))
+        pub passing-top : FormedBy n es classes parents → (x : ℕ) → x ≤ 4096 → floor ≡ level es x → (top : ℕ) → n ≤ length tops
+            → top ≡ topBy (row n classes (at es i)) (row n tops (row n parents (row n classes (at es i))))
             → Passing n es classes parents floor (set tops (at es i - 1) top) opening (i + 1)
         passing-top formed x small low top long is =
             let marks = marks-next es i shut-here in

@@ -8,10 +8,11 @@ use lib.Dec.{eqb}
 use lib.ListN.{getD}
 use Rattle.formula.specs.Tables.{opens, marksBefore}
 use Rattle.connection.specs.Reach.{Variables}
-use Rattle.connection.specs.Tables.{Table, row, Above, EntryPoint}
+use Rattle.connection.specs.Tables.{Table, row, lent, Above, EntryPoint}
 use Rattle.searching.specs.declared.Found.{Found}
 use Rattle.searching.specs.declared.Found.the-variants.{At, Nowhere}
-use Rattle.tables.specs.Formula.{tabled}
+use Rattle.tables.specs.Formula.{variables}
+use Rattle.tables.specs.Tabled.{tabled}
 
 -- the parent rows alone, as a table
 abbrev pub parentTable : ℕ → List ℕ → Table
@@ -27,7 +28,7 @@ pub record Searched (X : Variables) (W : Table) (floor c p k : ℕ) : Type 0 whe
   pub deeper : floor < X .lev p
   pub stop : W .par p ≢ 0 → X .lev (W .par p) ≤ floor
 
--- the same in the parent rows alone, with some rises before: p and all rises
+-- the search from c in the parent rows alone, with some rises before it: it ends at p, after so many rises in all
 abbrev pub Climbs : ℕ → List ℕ → List ℕ → ℕ → ℕ → ℕ → ℕ → ℕ → Type 0
 Climbs n levels parents floor c before p all = (k : ℕ) × (all ≡ before + k) × Searched (tabled n levels []) (parentTable n parents) floor c p k
 
@@ -56,7 +57,7 @@ Topless n tops from = (v : ℕ) → 1 ≤ v → v ≤ from → row n tops v ≡ 
 abbrev pub Behind : List ℕ → ℕ → ℕ → Type 0
 Behind es floor place = (opens es place ≡ true) × (marksBefore es place ≡ floor)
 
--- the same, but for 4294967295: the passes over the universals begin with tops over that, which no level is, and then no place is known
+-- such a place is known, where the floor is a level: the passes over the universals begin with tops over 4294967295, which no level is
 abbrev pub Known : List ℕ → ℕ → ℕ → Type 0
 Known es floor place = floor < 4294967295 → Behind es floor place
 
@@ -65,6 +66,16 @@ pub record TopsOver (X : Variables) (W : Table) (floor from : ℕ) (tops : List 
   pub rows : TopRows X W floor tops
   pub most : from ≤ X .count
   pub none : Topless (X .count) tops from
+
+-- the rows of a formula's variables are their tops over whatever floor the place is behind
+abbrev pub ToppedFrom : ℕ → List ℕ → ℕ → List ℕ → List ℕ → List ℕ → Type 0
+ToppedFrom n es place classes parents tops =
+    (floor : ℕ) → Behind es floor place → TopRows (variables n es) (lent (variables n es) classes parents) floor tops
+
+-- they are the tops over a floor, of which the place is known, and up to a number no variable has one
+abbrev pub Topped : ℕ → List ℕ → List ℕ → List ℕ → ℕ → ℕ → ℕ → List ℕ → Type 0
+Topped n es classes parents floor place from tops =
+    TopsOver (variables n es) (lent (variables n es) classes parents) floor from tops × Known es floor place
 
 -- y is existential and deeper than x
 abbrev pub Deeper : Variables → ℕ → ℕ → Type 0

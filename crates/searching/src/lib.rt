@@ -1,4 +1,5 @@
-// The search for entry points: from the class of y, from parent to parent, while the next class is still deeper than x.
+// The search for entry points, from the class of y from parent to parent, while the next class is still deeper than x; and the tops of all variables
+// over a level, which are where those searches end.
 
 use tables::rows::existential_at;
 use tables::rows::level_at;
@@ -13,11 +14,11 @@ ghost use lib.ListN.{length, getD};
 ghost use Rattle.formula.specs.Tables.{opens, marksBefore};
 ghost use Rattle.formula.specs.Meaning.{level};
 ghost use Rattle.formula.specs.Levels.{SoundPrefix, Levelled};
-ghost use Rattle.connection.specs.Tables.{row, lent, WellFormed};
-ghost use Rattle.tables.specs.Formula.{variables, tabled};
+ghost use Rattle.connection.specs.Tables.{row, WellFormed};
+ghost use Rattle.tables.specs.Tabled.{tabled};
 ghost use Rattle.tables.specs.Counting.{FormedBy};
 ghost use Rattle.tables.specs.Rows.{rowsOf};
-ghost use Rattle.searching.specs.Search.{Falling, Climbs, Finds, topBy, TopRows, Topless, Behind, Known, TopsOver};
+ghost use Rattle.searching.specs.Search.{Falling, Climbs, Finds, topBy, ToppedFrom, Topless, Behind, Known, Topped};
 
 // Where a climb ends, and how many classes it passed, the first not counted.
 pub struct End {
@@ -42,8 +43,9 @@ pub enum Found {
 // The climb from a class, with some rises behind it: while the parent is deeper than the floor, on to the parent.
 // The block number falls at each call.
 fn climb(n: u32, levels: &[u32], parents: &[u32], floor: Level, class: Variable, rises: u32) -> End
-    requires { ⌜ Falling n (now levels) (now parents) × (floor .0 < getD (now levels) (class .0) 0) × (rises + getD (now levels) (class .0) 0 < 4294967296) ⌝ }
-    ensures { λ r. ⌜ Climbs n (now (levels .entry)) (now (parents .entry)) (floor .0) (class .0) rises (r .class .0) (r .rises) ⌝ }
+    requires falling { ⌜ Falling n (now levels) (now parents) × (floor .0 < getD (now levels) (class .0) 0)
+        × (rises + getD (now levels) (class .0) 0 < 4294967296) ⌝ }
+    ensures climbed { λ r. ⌜ Climbs n (now (levels .entry)) (now (parents .entry)) (floor .0) (class .0) rises (r .class .0) (r .rises) ⌝ }
 {
     let parent = row_of(n, parents, class);
     if parent.0 == 0 {
@@ -66,8 +68,9 @@ pub fn find_entry(
     x: Variable,
     y: Variable,
 ) -> Found
-    requires { ⌜ WellFormed (tabled n (now levels) (now universals)) (rowsOf n (now classes) (now parents)) ⌝ }
-    ensures { λ r. ⌜ Finds (tabled n (now (levels .entry)) (now (universals .entry))) (rowsOf n (now (classes .entry)) (now (parents .entry))) (x .0) (y .0) r ⌝ }
+    requires formed { ⌜ WellFormed (tabled n (now levels) (now universals)) (rowsOf n (now classes) (now parents)) ⌝ }
+    ensures found { λ r. ⌜ Finds (tabled n (now (levels .entry)) (now (universals .entry))) (rowsOf n (now (classes .entry)) (now (parents .entry)))
+        (x .0) (y .0) r ⌝ }
 {
     let floor = level_at(levels, x);
     let deep = level_at(levels, y);
@@ -95,8 +98,9 @@ pub fn fill_tops(
     parents: &[u32],
     tops: &mut [u32],
 )
-    requires { ⌜ SoundPrefix n (now prefix) × FormedBy n (now prefix) (now classes) (now parents) × (n ≤ length (now tops)) × ((x : ℕ) × (x ≤ 4096) × Behind (now prefix) (level (now prefix) x) place) ⌝ }
-    ensures { λ r. ⌜ ((floor : ℕ) → Behind (now (prefix .entry)) floor place → TopRows (variables n (now (prefix .entry))) (lent (variables n (now (prefix .entry))) (now (classes .entry)) (now (parents .entry))) floor (now (tops .exit))) ⌝ }
+    requires sound { ⌜ SoundPrefix n (now prefix) × FormedBy n (now prefix) (now classes) (now parents) × (n ≤ length (now tops))
+        × ((x : ℕ) × (x ≤ 4096) × Behind (now prefix) (level (now prefix) x) place) ⌝ }
+    ensures topped { λ r. ⌜ ToppedFrom n (now (prefix .entry)) place (now (classes .entry)) (now (parents .entry)) (now (tops .exit)) ⌝ }
 {
     clear_rows(n, tops);
     top_blocks(n, prefix, place, classes, parents, tops);
@@ -104,8 +108,8 @@ pub fn fill_tops(
 
 // Makes the first n rows 0: no other is read.
 pub fn clear_rows(n: u32, rows: &mut [u32])
-    requires { ⌜ n ≤ length (now rows) ⌝ }
-    ensures { λ r. ⌜ ((v : ℕ) → v < n → getD (now (rows .exit)) v 0 ≡ 0) ⌝ }
+    requires enough { ⌜ n ≤ length (now rows) ⌝ }
+    ensures cleared { λ r. ⌜ ((v : ℕ) → v < n → getD (now (rows .exit)) v 0 ≡ 0) ⌝ }
 {
     let count = n as usize;
     let mut i = 0;
@@ -124,8 +128,9 @@ fn top_blocks(
     parents: &[u32],
     tops: &mut [u32],
 )
-    requires { ⌜ SoundPrefix n (now prefix) × FormedBy n (now prefix) (now classes) (now parents) × (n ≤ length (now tops)) × ((x : ℕ) × (x ≤ 4096) × Behind (now prefix) (level (now prefix) x) place) × ((v : ℕ) → v < n → getD (now tops) v 0 ≡ 0) ⌝ }
-    ensures { λ r. ⌜ ((floor : ℕ) → Behind (now (prefix .entry)) floor place → TopRows (variables n (now (prefix .entry))) (lent (variables n (now (prefix .entry))) (now (classes .entry)) (now (parents .entry))) floor (now (tops .exit))) ⌝ }
+    requires sound { ⌜ SoundPrefix n (now prefix) × FormedBy n (now prefix) (now classes) (now parents) × (n ≤ length (now tops))
+        × ((x : ℕ) × (x ≤ 4096) × Behind (now prefix) (level (now prefix) x) place) × ((v : ℕ) → v < n → getD (now tops) v 0 ≡ 0) ⌝ }
+    ensures topped { λ r. ⌜ ToppedFrom n (now (prefix .entry)) place (now (classes .entry)) (now (parents .entry)) (now (tops .exit)) ⌝ }
 {
     let mut opens = true;
     let mut i = place;
@@ -148,7 +153,8 @@ fn top_blocks(
 // The top of v, of a block deeper than the floor, once its parent has its own: none for a universal, else that of the parent of its class, and
 // the class itself if the parent has none.
 fn top_of(n: u32, classes: &[u32], parents: &[u32], tops: &[u32], v: Variable) -> Variable
-    ensures { λ r. ⌜ r .0 ≡ topBy (row n (now (classes .entry)) (v .0)) (row n (now (tops .entry)) (row n (now (parents .entry)) (row n (now (classes .entry)) (v .0)))) ⌝ }
+    ensures own { λ r. ⌜ r .0
+        ≡ topBy (row n (now (classes .entry)) (v .0)) (row n (now (tops .entry)) (row n (now (parents .entry)) (row n (now (classes .entry)) (v .0)))) ⌝ }
 {
     let class = row_of(n, classes, v);
     if class.0 == 0 {
@@ -160,8 +166,9 @@ fn top_of(n: u32, classes: &[u32], parents: &[u32], tops: &[u32], v: Variable) -
 
 // The place in the prefix where the blocks deeper than a level begin, sought from where they do over a lesser one, if that is known.
 fn deeper_place(prefix: &[u32], known: Floor, floor: Level) -> usize
-    requires { ⌜ ((n : ℕ) × SoundPrefix n (now prefix)) × ((x : ℕ) × (x ≤ 4096) × (floor .0 ≡ level (now prefix) x)) × Known (now prefix) (known .level .0) (known .place) ⌝ }
-    ensures { λ r. ⌜ Behind (now (prefix .entry)) (floor .0) r ⌝ }
+    requires known { ⌜ ((n : ℕ) × SoundPrefix n (now prefix)) × ((x : ℕ) × (x ≤ 4096) × (floor .0 ≡ level (now prefix) x))
+        × Known (now prefix) (known .level .0) (known .place) ⌝ }
+    ensures behind { λ r. ⌜ Behind (now (prefix .entry)) (floor .0) r ⌝ }
 {
     let lesser = known.level;
     if lesser.0 < floor.0 {
@@ -172,8 +179,9 @@ fn deeper_place(prefix: &[u32], known: Floor, floor: Level) -> usize
 
 // The place behind so many blocks, from one on where a block opens.
 pub fn place_behind(prefix: &[u32], place: usize, blocks: u32) -> usize
-    requires { ⌜ ((n : ℕ) × SoundPrefix n (now prefix)) × (opens (now prefix) place ≡ true) × ((x : ℕ) × (x ≤ 4096) × (marksBefore (now prefix) place + blocks ≡ level (now prefix) x)) ⌝ }
-    ensures { λ r. ⌜ Behind (now (prefix .entry)) (marksBefore (now (prefix .entry)) place + blocks) r ⌝ }
+    requires opening { ⌜ ((n : ℕ) × SoundPrefix n (now prefix)) × (opens (now prefix) place ≡ true)
+        × ((x : ℕ) × (x ≤ 4096) × (marksBefore (now prefix) place + blocks ≡ level (now prefix) x)) ⌝ }
+    ensures behind { λ r. ⌜ Behind (now (prefix .entry)) (marksBefore (now (prefix .entry)) place + blocks) r ⌝ }
 {
     let mut left = blocks;
     let mut i = place;
@@ -202,11 +210,12 @@ pub fn retop(
     x: Variable,
     tops: &mut [u32],
 ) -> Floor
-    requires { ⌜ SoundPrefix n (now prefix) × FormedBy n (now prefix) (now classes) (now parents) × (n ≤ length (now tops)) ⌝ }
-    requires { ⌜ (x .0 ≤ 4096) × ((universals : List Bool) × Levelled (now prefix) (now levels) universals) ⌝ }
-    requires { ⌜ TopsOver (variables n (now prefix)) (lent (variables n (now prefix)) (now classes) (now parents)) (was .level .0) (was .from) (now tops) × Known (now prefix) (was .level .0) (was .place) ⌝ }
-    ensures { λ r. ⌜ TopsOver (variables n (now (prefix .entry))) (lent (variables n (now (prefix .entry))) (now (classes .entry)) (now (parents .entry))) (r .level .0) (r .from) (now (tops .exit)) × Known (now (prefix .entry)) (r .level .0) (r .place) ⌝ }
-    ensures { λ r. ⌜ r .level .0 ≡ level (now (prefix .entry)) (x .0) ⌝ }
+    requires sound { ⌜ SoundPrefix n (now prefix) × FormedBy n (now prefix) (now classes) (now parents) × (n ≤ length (now tops)) ⌝ }
+    requires levelled { ⌜ (x .0 ≤ 4096) × ((universals : List Bool) × Levelled (now prefix) (now levels) universals) ⌝ }
+    requires topped { ⌜ Topped n (now prefix) (now classes) (now parents) (was .level .0) (was .place) (was .from) (now tops) ⌝ }
+    ensures topped { λ r. ⌜ Topped n (now (prefix .entry)) (now (classes .entry)) (now (parents .entry)) (r .level .0) (r .place) (r .from)
+        (now (tops .exit)) ⌝ }
+    ensures own { λ r. ⌜ r .level .0 ≡ level (now (prefix .entry)) (x .0) ⌝ }
 {
     let level = level_at(levels, x);
     let old = was.level;
@@ -221,7 +230,7 @@ pub fn retop(
 
 // The last number up to which no variable has a top.
 fn topless(n: u32, tops: &[u32]) -> u32
-    ensures { λ r. ⌜ (r ≤ n) × Topless n (now (tops .entry)) r ⌝ }
+    ensures none { λ r. ⌜ (r ≤ n) × Topless n (now (tops .entry)) r ⌝ }
 {
     let mut passed: u32 = 0;
     while passed < n {

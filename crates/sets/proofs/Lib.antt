@@ -1,3 +1,4 @@
 pub mod Records
 pub mod AllSets
 pub mod Settled
+pub mod Agreed

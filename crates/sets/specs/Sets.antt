@@ -3,18 +3,18 @@ use Prim.Native.Nat.{ℕ, zero, suc, _<_}
 use mathlib.Core.Path.{_≡_}
 use mathlib.Core.Bool.{Bool, true, false}
 use mathlib.Core.List.{List, [], _∷_, _++_}
-use lib.IntN.{ℤ}
 use lib.ListN.{length}
 use Rattle.terms.specs.Refusals.{Causes, At0}
 use Rattle.terms.specs.declared.Filled.{Filled}
-use Rattle.formula.specs.Causes.{checkOrder}
-use Rattle.connection.specs.Listed.{Listed}
+use Rattle.formula.specs.Lent.{Formula}
+use Rattle.joining.specs.Rules.{readBy, checkOrder}
+use Rattle.tables.specs.Lent.{Rows}
+use Rattle.terms.specs.Listed.{Listed}
 use Rattle.tables.specs.Formula.{universal}
 use Rattle.tables.specs.Causes.{ForestCause}
 use Rattle.terms.specs.declared.Scheme.{Scheme}
-use Rattle.terms.specs.declared.Scheme.the-variants.{Strict}
 use Rattle.forest.specs.Answers.{MembersBy}
-use Rattle.forest.specs.Listed.{Filling}
+use Rattle.terms.specs.Answers.{Filling}
 
 -- what x adds to the list: if it is universal its number, the count of its set and its set ascending, and else nothing
 abbrev pub Record : Bool → ℕ → (ℕ → Type 0) → List ℕ → Type 0
@@ -26,22 +26,22 @@ abbrev pub Records : (ℕ → Bool) → (ℕ → ℕ → Type 0) → ℕ → Lis
 Records U P zero list = list ≡ []
 Records U P (suc m) list = (before : List ℕ) × (part : List ℕ) × Records U P m before × Record (U (suc m)) (suc m) (P (suc m)) part × (list ≡ before ++ part)
 
--- the sets of all universals by a scheme, by the lent tables
-abbrev pub AllSetsBy : Scheme → ℕ → List ℕ → List ℤ → List ℕ → List ℕ → List ℕ → Type 0
-AllSetsBy scheme n es ls classes parents = Records (universal n es) (MembersBy scheme n es ls classes parents) n
+-- the sets of all universals by a scheme, by the lent rows
+abbrev pub AllSetsBy : Scheme → Formula → Rows → List ℕ → Type 0
+AllSetsBy scheme f r = Records (universal (f .n) (f .prefix)) (MembersBy scheme f r) (f .n)
 
 -- the list needs more room than the lent table has
-abbrev pub SetsTooLongBy : Scheme → ℕ → List ℕ → List ℤ → List ℕ → List ℕ → List ℕ → Type 0
-SetsTooLongBy scheme n es ls classes parents before = (list : List ℕ) × AllSetsBy scheme n es ls classes parents list × (length before < length list)
+abbrev pub SetsTooLong : Scheme → Formula → Rows → List ℕ → Type 0
+SetsTooLong scheme f r before = (list : List ℕ) × AllSetsBy scheme f r list × (length before < length list)
+
+-- what is looked for behind check, in the formula as it is read: 12, 14
+abbrev pub behindSets : Scheme → Formula → Rows → List ℕ → List Causes
+behindSets scheme f r before = ForestCause (f .n) (f .prefix) r ∷ At0 14 (SetsTooLong scheme f r before) ∷ []
 
 -- the order: that of check, 12, 14
-abbrev pub setsOrderBy : Scheme → ℕ → List ℕ → List ℤ → List ℕ → List ℕ → List ℕ → List ℕ → List Causes
-setsOrderBy scheme n es ls classes parents counts before = checkOrder n es ls ++ (ForestCause n es classes parents counts ∷ At0 14 (SetsTooLongBy scheme n es ls classes parents before) ∷ [])
+abbrev pub setsOrder : ℕ → Scheme → Formula → Rows → List ℕ → List Causes
+setsOrder rule scheme f r before = checkOrder rule f ++ behindSets scheme (readBy rule f) r before
 
 -- what the call for all sets by a scheme promises
-abbrev pub SetsListedBy : Scheme → ℕ → List ℕ → List ℤ → List ℕ → List ℕ → List ℕ → List ℕ → List ℕ → Filled → Type 0
-SetsListedBy scheme n es ls classes parents counts before = Filling (setsOrderBy scheme n es ls classes parents counts before) (AllSetsBy scheme n es ls classes parents) before
-
--- A call that names no scheme means the strict one.
-abbrev pub SetsListed : ℕ → List ℕ → List ℤ → List ℕ → List ℕ → List ℕ → List ℕ → List ℕ → Filled → Type 0
-SetsListed n es ls classes parents counts before = SetsListedBy Strict n es ls classes parents counts before
+abbrev pub SetsListed : ℕ → Scheme → Formula → Rows → List ℕ → List ℕ → Filled → Type 0
+SetsListed rule scheme f r before = Filling (setsOrder rule scheme f r before) (AllSetsBy scheme (readBy rule f) r) before

@@ -1,12 +1,14 @@
 // The sets of all universals by a scheme, one after the other, each with its number and its count in front. The tables are judged once, and a
 // universal costs its own clauses and its own set, and one pass over the rows if it has more than one entry point.
 
+use oneset::Draft;
 use oneset::put_set;
-use runs::clear_rows;
 use searching::Floor;
+use searching::clear_rows;
 use tables::rows::universal_at;
 use terms::Filled;
 use terms::Level;
+use terms::Literal;
 use terms::Scheme;
 use terms::Variable;
 use threads::thread;
@@ -24,6 +26,20 @@ ghost use Rattle.oneset.specs.Places.{Placed};
 ghost use Rattle.threads.specs.Threads.{Closed};
 ghost use Rattle.sets.specs.Passed.{SetsUpto, Ready, RoomUpto, TellsRoom, PutAll, Fills};
 
+// A pass over all universals among n variables: by which scheme, and whether it writes their sets or only counts.
+struct Pass {
+    scheme: Scheme,
+    n: u32,
+    writing: bool,
+}
+
+// A universal x among n variables that a pass comes to, with the floor that the tops were over until then.
+struct Visit {
+    n: u32,
+    x: Variable,
+    was: Floor,
+}
+
 // Writes the sets of all universals into the front of `out`, if there is room for all of them. Few clauses take a short table of links, which is
 // cleared sooner.
 pub fn list_sets(
@@ -37,16 +53,22 @@ pub fn list_sets(
     parents: &[u32],
     out: &mut [u32],
 ) -> Filled
-    requires { ⌜ SoundPrefix n (now prefix) × Levelled (now prefix) (now levels) (now universals) × SoundClauses (now clauses) × Closed (now clauses) × FormedBy n (now prefix) (now classes) (now parents) ⌝ }
-    ensures { λ r. ⌜ Fills (SetsUpto scheme n (now (prefix .entry)) (now (clauses .entry)) (now (classes .entry)) (now (parents .entry)) n) (now (out .entry)) (now (out .exit)) r ⌝ }
+    requires sound { ⌜ SoundPrefix n (now prefix) × Levelled (now prefix) (now levels) (now universals) × SoundClauses (now clauses)
+        × Closed (now clauses) × FormedBy n (now prefix) (now classes) (now parents) ⌝ }
+    ensures listed { λ r. ⌜ Fills (SetsUpto scheme n (now (prefix .entry)) (now (clauses .entry)) (now (classes .entry)) (now (parents .entry)) n)
+        (now (out .entry)) (now (out .exit)) r ⌝ }
 {
-    let mut first = [0u32; 4097];
+    let pass = Pass {
+        scheme,
+        n,
+        writing: true,
+    };
+    let mut first = [0u32; Variable::ROWS];
     if clauses.len() <= 2048 {
         let mut next = [0u32; 2048];
         thread(clauses, universals, &mut first, &mut next);
         return write_fitting(
-            scheme,
-            n,
+            pass,
             prefix,
             levels,
             universals,
@@ -58,11 +80,10 @@ pub fn list_sets(
             out,
         );
     }
-    let mut next = [0u32; 16384];
+    let mut next = [0u32; Literal::ENTRIES];
     thread(clauses, universals, &mut first, &mut next);
     write_fitting(
-        scheme,
-        n,
+        pass,
         prefix,
         levels,
         universals,
@@ -75,10 +96,9 @@ pub fn list_sets(
     )
 }
 
-// The same, once the universals are tied to their clauses.
+// Writes the sets of all universals, which are tied to their clauses, if there is room for all of them.
 fn write_fitting(
-    scheme: Scheme,
-    n: u32,
+    pass: Pass,
     prefix: &[u32],
     levels: &[u32],
     universals: &[bool],
@@ -89,12 +109,13 @@ fn write_fitting(
     next: &[u32],
     out: &mut [u32],
 ) -> Filled
-    requires { ⌜ Ready n (now prefix) (now levels) (now universals) (now clauses) (now classes) (now parents) (now first) (now next) ⌝ }
-    ensures { λ r. ⌜ Fills (SetsUpto scheme n (now (prefix .entry)) (now (clauses .entry)) (now (classes .entry)) (now (parents .entry)) n) (now (out .entry)) (now (out .exit)) r ⌝ }
+    requires ready { ⌜ Ready (pass .n) (now prefix) (now levels) (now universals) (now clauses) (now classes) (now parents) (now first) (now next) ⌝ }
+    requires writing { ⌜ pass .writing ≡ true ⌝ }
+    ensures listed { λ r. ⌜ Fills (SetsUpto (pass .scheme) (pass .n) (now (prefix .entry)) (now (clauses .entry)) (now (classes .entry))
+        (now (parents .entry)) (pass .n)) (now (out .entry)) (now (out .exit)) r ⌝ }
 {
     if !sets_fit(
-        scheme,
-        n,
+        pass,
         prefix,
         levels,
         universals,
@@ -108,8 +129,7 @@ fn write_fitting(
         return Filled::Refused(14, 0);
     }
     let end = pass_sets(
-        scheme,
-        n,
+        pass,
         prefix,
         levels,
         universals,
@@ -118,16 +138,14 @@ fn write_fitting(
         parents,
         first,
         next,
-        true,
         out,
     );
     Filled::Count(end as u32)
 }
 
-// Whether there is room for all sets. They are counted only where there is room for less than n records of n members each.
+// Whether there is room for all sets that a pass writes. They are counted only where there is room for less than n records of n members each.
 fn sets_fit(
-    scheme: Scheme,
-    n: u32,
+    pass: Pass,
     prefix: &[u32],
     levels: &[u32],
     universals: &[bool],
@@ -138,17 +156,23 @@ fn sets_fit(
     next: &[u32],
     out: &mut [u32],
 ) -> bool
-    requires { ⌜ Ready n (now prefix) (now levels) (now universals) (now clauses) (now classes) (now parents) (now first) (now next) ⌝ }
-    ensures { λ r. ⌜ TellsRoom r (SetsUpto scheme n (now (prefix .entry)) (now (clauses .entry)) (now (classes .entry)) (now (parents .entry))) n (length (now (out .entry))) ⌝ }
-    ensures { λ r. ⌜ now (out .exit) ≡ now (out .entry) ⌝ }
+    requires ready { ⌜ Ready (pass .n) (now prefix) (now levels) (now universals) (now clauses) (now classes) (now parents) (now first) (now next) ⌝ }
+    ensures told { λ r. ⌜ TellsRoom r (SetsUpto (pass .scheme) (pass .n) (now (prefix .entry)) (now (clauses .entry)) (now (classes .entry))
+        (now (parents .entry))) (pass .n) (length (now (out .entry))) ⌝ }
+    ensures kept { λ r. ⌜ now (out .exit) ≡ now (out .entry) ⌝ }
 {
-    let count = n as usize;
+    let count = pass.n as usize;
     if count * (count + 2) <= out.len() {
         return true;
     }
-    let needed = pass_sets(
+    let scheme = pass.scheme;
+    let counting = Pass {
         scheme,
-        n,
+        n: pass.n,
+        writing: false,
+    };
+    let needed = pass_sets(
+        counting,
         prefix,
         levels,
         universals,
@@ -157,7 +181,6 @@ fn sets_fit(
         parents,
         first,
         next,
-        false,
         out,
     );
     if out.len() < needed {
@@ -170,8 +193,7 @@ fn sets_fit(
 // where their sets stand depend on the block of the universal only, and stay while it does; at first the tops are those over a level that
 // nothing is deeper than.
 fn pass_sets(
-    scheme: Scheme,
-    n: u32,
+    pass: Pass,
     prefix: &[u32],
     levels: &[u32],
     universals: &[bool],
@@ -180,55 +202,63 @@ fn pass_sets(
     parents: &[u32],
     first: &[u32],
     next: &[u32],
-    writing: bool,
     out: &mut [u32],
 ) -> usize
-    requires { ⌜ Ready n (now prefix) (now levels) (now universals) (now clauses) (now classes) (now parents) (now first) (now next) ⌝ }
-    requires { ⌜ (writing ≡ true → RoomUpto (SetsUpto scheme n (now prefix) (now clauses) (now classes) (now parents)) n (length (now out))) ⌝ }
-    ensures { λ r. ⌜ PutAll (SetsUpto scheme n (now (prefix .entry)) (now (clauses .entry)) (now (classes .entry)) (now (parents .entry)) n) writing (now (out .entry)) (now (out .exit)) r ⌝ }
+    requires ready { ⌜ Ready (pass .n) (now prefix) (now levels) (now universals) (now clauses) (now classes) (now parents) (now first) (now next) ⌝ }
+    requires room { ⌜ (pass .writing ≡ true → RoomUpto (SetsUpto (pass .scheme) (pass .n) (now prefix) (now clauses) (now classes) (now parents))
+        (pass .n) (length (now out))) ⌝ }
+    ensures put { λ r. ⌜ PutAll (SetsUpto (pass .scheme) (pass .n) (now (prefix .entry)) (now (clauses .entry)) (now (classes .entry))
+        (now (parents .entry)) (pass .n)) (pass .writing) (now (out .entry)) (now (out .exit)) r ⌝ }
 {
-    let mut tops = [0u32; 4096];
-    let mut lead = [0u32; 4097];
-    let mut after = [0u32; 4097];
-    let mut places = [0u32; 4097];
+    let mut tops = [0u32; Variable::MOST as usize];
+    let mut lead = [0u32; Variable::ROWS];
+    let mut after = [0u32; Variable::ROWS];
+    let mut places = [0u32; Variable::ROWS];
     let mut floor = Floor {
-        level: Level::new(4294967295),
+        level: Level::new(Level::NONE_DEEPER),
         place: 0,
         from: 0,
     };
     let mut end: usize = 0;
     let mut passed = 0;
-    while passed < n {
+    while passed < pass.n {
         passed += 1;
         let x = Variable::new(passed);
-        if universal_at(n, universals, x) {
+        if universal_at(pass.n, universals, x) {
+            let visit = Visit {
+                n: pass.n,
+                x,
+                was: floor,
+            };
             floor = refloor(
-                n,
+                visit,
                 prefix,
                 levels,
                 classes,
                 parents,
-                floor,
-                x,
                 &mut tops,
                 &mut lead,
                 &mut after,
                 &mut places,
             );
-            end = put_set(
+            let scheme = pass.scheme;
+            let draft = Draft {
                 scheme,
-                n,
+                n: pass.n,
+                x,
+                from: floor.from,
+                at: end,
+                writing: pass.writing,
+            };
+            end = put_set(
+                draft,
                 clauses,
                 first,
                 next,
-                x,
                 &tops,
-                floor,
                 &lead,
                 &after,
                 &mut places,
-                end,
-                writing,
                 out,
             );
         }
@@ -239,27 +269,31 @@ fn pass_sets(
 // Refills the tops, ties their runs anew and forgets where their sets stand, if the level of x is another than that which they are over; gives
 // the floor that they are over now.
 fn refloor(
-    n: u32,
+    visit: Visit,
     prefix: &[u32],
     levels: &[u32],
     classes: &[u32],
     parents: &[u32],
-    was: Floor,
-    x: Variable,
     tops: &mut [u32],
     lead: &mut [u32],
     after: &mut [u32],
     places: &mut [u32],
 ) -> Floor
-    requires { ⌜ SoundPrefix n (now prefix) × FormedBy n (now prefix) (now classes) (now parents) × (x .0 ≤ 4096) × ((universals : List Bool) × Levelled (now prefix) (now levels) universals) ⌝ }
-    requires { ⌜ Floored n (now prefix) (now classes) (now parents) (was .level .0) (was .place) (was .from) (now tops) (now lead) (now after) × (length (now places) ≡ 4097) ⌝ }
-    ensures { λ r. ⌜ Floored n (now (prefix .entry)) (now (classes .entry)) (now (parents .entry)) (r .level .0) (r .place) (r .from) (now (tops .exit)) (now (lead .exit)) (now (after .exit)) ⌝ }
-    ensures { λ r. ⌜ r .level .0 ≡ level (now (prefix .entry)) (x .0) ⌝ }
-    ensures { λ r. ⌜ ((out : List ℕ) (end : ℕ) → Placed n (now (tops .entry)) (now (places .entry)) out end → Placed n (now (tops .exit)) (now (places .exit)) out end) ⌝ }
+    requires sound { ⌜ SoundPrefix (visit .n) (now prefix) × FormedBy (visit .n) (now prefix) (now classes) (now parents) × (visit .x .0 ≤ 4096)
+        × ((universals : List Bool) × Levelled (now prefix) (now levels) universals) ⌝ }
+    requires floored { ⌜ Floored (visit .n) (now prefix) (now classes) (now parents) (visit .was .level .0) (visit .was .place) (visit .was .from)
+        (now tops) (now lead) (now after) × (length (now places) ≡ 4097) ⌝ }
+    ensures floored { λ r. ⌜ Floored (visit .n) (now (prefix .entry)) (now (classes .entry)) (now (parents .entry)) (r .level .0) (r .place) (r .from)
+        (now (tops .exit)) (now (lead .exit)) (now (after .exit)) ⌝ }
+    ensures own { λ r. ⌜ r .level .0 ≡ level (now (prefix .entry)) (visit .x .0) ⌝ }
+    ensures placed { λ r. ⌜ ((out : List ℕ) (end : ℕ) → Placed (visit .n) (now (tops .entry)) (now (places .entry)) out end
+        → Placed (visit .n) (now (tops .exit)) (now (places .exit)) out end) ⌝ }
 {
+    let x = visit.x;
+    let was = visit.was;
     let old = was.level;
     let floor = runs::refloor(
-        n,
+        visit.n,
         prefix,
         levels,
         classes,
@@ -272,7 +306,7 @@ fn refloor(
     );
     let level = floor.level;
     if old.0 != level.0 {
-        clear_rows(n, places);
+        clear_rows(visit.n + 1, places);
     }
     floor
 }

@@ -1,49 +1,32 @@
-// The sets of all universals in one call.
+// The sets of all universals in one call, under a reading rule.
 
 mod all_sets;
 
 use all_sets::list_sets;
+use joining::as_read;
+use joining::read_formula;
 use levelling::fill_levels;
 use tables::checking::check_forest;
 use terms::Filled;
+use terms::Level;
 use terms::Scheme;
+use terms::Variable;
 use terms::Verdict;
-ghost use mathlib.Core.List.{[], _∷_};
-ghost use Rattle.terms.specs.Refusals.{At0};
+ghost use mathlib.Core.List.{[]};
+ghost use Rattle.terms.specs.Answers.{Filling};
+ghost use Rattle.formula.specs.Lent.{formulaIn};
 ghost use Rattle.formula.specs.Levels.{SoundPrefix};
 ghost use Rattle.formula.specs.Lookup.{SoundClauses};
-ghost use Rattle.tables.specs.Causes.{ForestCause};
-ghost use Rattle.forest.specs.Listed.{Filling};
-ghost use Rattle.sets.specs.Sets.{AllSetsBy, SetsTooLongBy, SetsListedBy, SetsListed};
+ghost use Rattle.tables.specs.Counting.{FormedBy};
+ghost use Rattle.tables.specs.Lent.{rows, rowsIn};
+ghost use Rattle.sets.specs.Passed.{Fills};
+ghost use Rattle.sets.specs.Sets.{AllSetsBy, behindSets, SetsListed};
 ghost use Rattle.threads.specs.Threads.{Closed};
-
-// The sets of all universals by the strict scheme.
-pub fn sets(
-    n: u32,
-    prefix: &[u32],
-    clauses: &[i32],
-    classes: &[u32],
-    parents: &[u32],
-    counts: &[u32],
-    out: &mut [u32],
-) -> Filled
-    ensures { λ r. ⌜ SetsListed n (now (prefix .entry)) (now (clauses .entry)) (now (classes .entry)) (now (parents .entry)) (now (counts .entry)) (now (out .entry)) (now (out .exit)) r ⌝ }
-{
-    sets_by(
-        Scheme::Strict,
-        n,
-        prefix,
-        clauses,
-        classes,
-        parents,
-        counts,
-        out,
-    )
-}
 
 // The sets of all universals by a scheme, written into `out`: for each universal ascending its number, the count of its set and its set
 // ascending; with the count of all entries.
-pub fn sets_by(
+pub fn sets(
+    rule: u32,
     scheme: Scheme,
     n: u32,
     prefix: &[u32],
@@ -53,15 +36,19 @@ pub fn sets_by(
     counts: &[u32],
     out: &mut [u32],
 ) -> Filled
-    ensures { λ r. ⌜ SetsListedBy scheme n (now (prefix .entry)) (now (clauses .entry)) (now (classes .entry)) (now (parents .entry)) (now (counts .entry)) (now (out .entry)) (now (out .exit)) r ⌝ }
+    ensures listed { λ r. ⌜ SetsListed rule scheme (formulaIn n prefix clauses) (rowsIn classes parents counts) (now (out .entry)) (now (out .exit)) r ⌝ }
 {
-    match checks::check(n, prefix, clauses) {
-        Verdict::Refused(number, place) => Filled::Refused(number, place),
-        Verdict::Accepted => sound_sets(scheme, n, prefix, clauses, classes, parents, counts, out),
+    let mut joined = [0u32; Level::JOINED];
+    match read_formula(rule, n, prefix, clauses, &mut joined) {
+        Filled::Refused(number, place) => Filled::Refused(number, place),
+        Filled::Count(count) => {
+            let read = as_read(rule, prefix, &joined, count);
+            sound_sets(scheme, n, read, clauses, classes, parents, counts, out)
+        }
     }
 }
 
-// The same, once the formula is accepted.
+// The sets of all universals of an accepted formula: the rows are judged, and then all sets are listed.
 fn sound_sets(
     scheme: Scheme,
     n: u32,
@@ -72,11 +59,12 @@ fn sound_sets(
     counts: &[u32],
     out: &mut [u32],
 ) -> Filled
-    requires { ⌜ SoundPrefix n (now prefix) × SoundClauses (now clauses) × Closed (now clauses) ⌝ }
-    ensures { λ r. ⌜ Filling (ForestCause n (now (prefix .entry)) (now (classes .entry)) (now (parents .entry)) (now (counts .entry)) ∷ At0 14 (SetsTooLongBy scheme n (now (prefix .entry)) (now (clauses .entry)) (now (classes .entry)) (now (parents .entry)) (now (out .entry))) ∷ []) (AllSetsBy scheme n (now (prefix .entry)) (now (clauses .entry)) (now (classes .entry)) (now (parents .entry))) (now (out .entry)) (now (out .exit)) r ⌝ }
+    requires sound { ⌜ SoundPrefix n (now prefix) × SoundClauses (now clauses) × Closed (now clauses) ⌝ }
+    ensures listed { λ r. ⌜ Filling (behindSets scheme (formulaIn n prefix clauses) (rowsIn classes parents counts) (now (out .entry)))
+        (AllSetsBy scheme (formulaIn n prefix clauses) (rowsIn classes parents counts)) (now (out .entry)) (now (out .exit)) r ⌝ }
 {
-    let mut levels = [0u32; 4097];
-    let mut universals = [false; 4097];
+    let mut levels = [0u32; Variable::ROWS];
+    let mut universals = [false; Variable::ROWS];
     fill_levels(prefix, &mut levels, &mut universals);
     match check_forest(n, prefix, &levels, &universals, classes, parents, counts) {
         Verdict::Refused(number, place) => Filled::Refused(number, place),
@@ -92,4 +80,36 @@ fn sound_sets(
             out,
         ),
     }
+}
+
+// The sets of all universals of an accepted formula by rows that are well formed, as those of its own forest are: nothing is judged, and all that is
+// left to refuse is a table that is too short.
+pub fn formed_sets(
+    scheme: Scheme,
+    n: u32,
+    prefix: &[u32],
+    clauses: &[i32],
+    classes: &[u32],
+    parents: &[u32],
+    out: &mut [u32],
+) -> Filled
+    requires sound { ⌜ SoundPrefix n (now prefix) × SoundClauses (now clauses) × Closed (now clauses) ⌝ }
+    requires formed { ⌜ FormedBy n (now prefix) (now classes) (now parents) ⌝ }
+    ensures listed { λ r. ⌜ Fills (AllSetsBy scheme (formulaIn n prefix clauses) (rows (now (classes .entry)) (now (parents .entry)) []))
+        (now (out .entry)) (now (out .exit)) r ⌝ }
+{
+    let mut levels = [0u32; Variable::ROWS];
+    let mut universals = [false; Variable::ROWS];
+    fill_levels(prefix, &mut levels, &mut universals);
+    list_sets(
+        scheme,
+        n,
+        prefix,
+        &levels,
+        &universals,
+        clauses,
+        classes,
+        parents,
+        out,
+    )
 }

@@ -1,4 +1,4 @@
--- How many existentials and class names well-formed class rows have, one row after another.
+-- How many existentials and class names well-formed class rows have, counted row after row: a row of 0, of a member, or of a class name.
 use Prim.Native.Nat.{ℕ, _+_, _-_, _≤_, _<_}
 use mathlib.Core.Path.{_≡_, refl, sym, _∙_, ap, subst}
 use mathlib.Core.Bool.{Bool, true, false, cond}
@@ -58,7 +58,9 @@ module _ {X : Variables} {W : Table} (lawful : Lawful X) (formed : WellFormed X 
 module _ {n : ℕ} {classes : List ℕ} {v exs named : ℕ} (c : CensusOf n classes v exs named) (more : v < n) where
   next-row : (es parents : List ℕ) → lent (variables n es) classes parents .cls (v + 1) ≡ getD classes v 0
   unfolding lent
-  next-row es parents = let q : (v + 1) - 1 ≡ v = omega arith in row-at n (v + 1) classes (omega arith) (omega arith) ∙ ap (λ (u : ℕ). getD classes u 0) q
+  next-row es parents =
+      let q : (v + 1) - 1 ≡ v = omega arith in
+      row-at n (v + 1) classes (omega arith) (omega arith) ∙ ap (λ (u : ℕ). getD classes u 0) q
 
   adds : (a b : ℕ) → b ≤ a → a ≤ 1
       → ForClasses n classes (λ es parents. Adds (variables n es) (lent (variables n es) classes parents) (v + 1) a b)
@@ -73,6 +75,7 @@ module _ {n : ℕ} {classes : List ℕ} {v exs named : ℕ} (c : CensusOf n clas
         (omega (arith, how-many-next (X .ex) v), omega (arith, how-many-next (names X W) v));
   }
 
+  -- The three kinds of row: of no existential, of a member, of a class name.
   pub census-universal : getD classes v 0 ≡ 0 → CensusOf n classes (v + 1) exs named
   census-universal e =
       let x : exs + 0 ≡ exs = omega arith in
@@ -83,12 +86,13 @@ module _ {n : ℕ} {classes : List ℕ} {v exs named : ℕ} (c : CensusOf n clas
   pub census-member : getD classes v 0 ≢ 0 → getD classes v 0 ≢ v + 1 → CensusOf n classes (v + 1) (exs + 1) named
   census-member some other =
       let y : named + 0 ≡ named = omega arith in
-      subst (CensusOf n classes (v + 1) (exs + 1)) y
-      (adds 1 0 (omega arith) (omega arith) (λ es parents formed. adds-member (lawful n es) formed (v + 1) (λ z. some (sym (next-row es parents) ∙ z)) (λ z. other (sym (next-row es parents) ∙ z))))
+      subst (CensusOf n classes (v + 1) (exs + 1)) y (adds 1 0 (omega arith) (omega arith) (λ es parents formed.
+      let row = sym (next-row es parents) in adds-member (lawful n es) formed (v + 1) (λ z. some (row ∙ z)) (λ z. other (row ∙ z))))
 
   pub census-name : getD classes v 0 ≢ 0 → getD classes v 0 ≡ v + 1 → CensusOf n classes (v + 1) (exs + 1) (named + 1)
   census-name some own =
-      adds 1 1 (omega arith) (omega arith) (λ es parents formed. adds-name (lawful n es) formed (v + 1) (λ z. some (sym (next-row es parents) ∙ z)) (next-row es parents ∙ own))
+      adds 1 1 (omega arith) (omega arith) (λ es parents formed.
+      let row = next-row es parents in adds-name (lawful n es) formed (v + 1) (λ z. some (sym row ∙ z)) (row ∙ own))
 
 pub census-all : {n : ℕ} {classes : List ℕ} {v exs named : ℕ} → CensusOf n classes v exs named → n ≤ v → CensusOf n classes n exs named
 census-all {n} {classes} {v} {exs} {named} c done = let e : v ≡ n = omega (arith, c .few .2) in subst (λ (u : ℕ). CensusOf n classes u exs named) e c

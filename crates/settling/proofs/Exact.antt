@@ -1,4 +1,4 @@
--- From settled rows to the forest: the exact table, the variables of the formula in place of the depths, and the lent rows.
+-- From settled rows to the forest: the exact table, the variables of the formula in place of the depths, and the lent rows that are written.
 use Prim.Native.Nat.{ℕ, suc, _+_, _-_, _≤_, _<_}
 use mathlib.Core.Path.{_≡_, refl, sym, _∙_, ap}
 use mathlib.Core.Bool.{Bool, true, false, cond}
@@ -9,20 +9,21 @@ use native.Mathlib.Omega.{arith}
 use borrow.Author.Tests.{lt-ltb, le-ltb}
 use lib.Dec.{ltb}
 use lib.ListN.{getD}
+use Rattle.terms.specs.Limits.{mostVariables}
 use Rattle.terms.proofs.Common.{clash}
 use Rattle.formula.specs.Meaning.{level, isExistential}
 use Rattle.tables.specs.Formula.{variables}
 use Rattle.tables.proofs.Agreeing.{lawful}
 use Rattle.connection.specs.Reach.{Variables, From, Reach}
 use Rattle.connection.specs.Tables.{Table, row, lent, ClassName, ClassRow, WellFormed}
-use Rattle.connection.specs.Growth.{Represents}
+use Rattle.connection.specs.Climb.{Represents}
 use Rattle.connection.proofs.Reach.{reach-one, reach-trans, reach-mono, allow}
 use Rattle.connection.proofs.Represent.{Link, to-class, to-parent, Linked, up, down, linked-sym, linked-tops}
 use Rattle.connection.proofs.Rows.{row-at, row-out}
-use Rattle.connection.proofs.Forest.{represents-rows, represents-forest}
-use Rattle.chains.specs.Loose.{Inside, Equal, Loose, table, ranked, Growing}
+use Rattle.connection.proofs.Forest.{represents-rows, represents-reach, represents-forest}
+use Rattle.chains.specs.Loose.{Inside, Equal, Loose, table, ranked, links, Growing}
 use Rattle.loose.specs.Rows.{EndsAt, Depths, Settled, Written}
-use Rattle.settling.specs.Rows.{Rowed}
+use Rattle.settling.specs.Rows.{Exact, Rowed}
 use Rattle.chains.proofs.Inside.{inside-reach, inside-links, equal-trans}
 use Rattle.chains.proofs.Steps.{no-zero}
 
@@ -31,6 +32,7 @@ abbrev exact : Table → Table
 exact W = record { cls = W .cls; par = λ v. W .cls (W .par v) }
 
 module _ {X : Variables} {W : Table} (loose : Loose X W) (none : X .ex 0 ≡ false) (names : (v : ℕ) → W .cls (W .cls v) ≡ W .cls v) where
+  -- What has no parent has no class of a parent.
   orphan : (v : ℕ) → W .par v ≡ 0 → W .cls (W .par v) ≡ 0
   orphan v e = ap (W .cls) e ∙ loose .universal 0 none .0
 
@@ -47,7 +49,7 @@ module _ {X : Variables} {W : Table} (loose : Loose X W) (none : X .ex 0 ≡ fal
     };
   }
 
-  -- A parent and its class are of the same levels.
+  -- A link to a parent is one to its class and back; and the other way, since a parent and its class are of the same levels.
   exact-old : (i u z : ℕ) → From X i u → From X i z → Link X W u z → Reach (Linked X (exact W)) (From X i) u z
   exact-old i u z fu fz (to-class ex e) = reach-one (up (to-class ex e)) fz
   exact-old i u z fu fz (to-parent n e) =
@@ -63,14 +65,18 @@ module _ {X : Variables} {W : Table} (loose : Loose X W) (none : X .ex 0 ≡ fal
       let p : W .par u ≢ 0 = λ q. n (orphan u q) in
       let r = loose .parent u p in
       let k = exact-class (W .par u) (r .existential) in
-      reach-trans (reach-one (up (to-parent p refl)) (allow (r .existential) (omega (arith, fz .deep, ap (X .lev) e, k .block)))) (reach-one (up (to-class (r .existential) e)) fz)
+      let f : From X i (W .par u) = allow (r .existential) (omega (arith, fz .deep, ap (X .lev) e, k .block)) in
+      reach-trans (reach-one (up (to-parent p refl)) f) (reach-one (up (to-class (r .existential) e)) fz)
 
   exact-equal : Equal X (Linked X W) (Linked X (exact W))
   exact-equal = record { there = inside-links linked-sym exact-old; back = inside-links linked-sym exact-new }
 
 -- A well-formed table represents the joins that its links are equal to.
 represents-links : {X : Variables} {J : ℕ → ℕ → Type 0} {W : Table} → WellFormed X W → Equal X J (Linked X W) → Represents X J W
-represents-links formed equal = record { formed = formed; tops = λ i v y fv fy. Iff·trans (inside-reach (equal .there) fv, inside-reach (equal .back) fv) (linked-tops formed fv fy) }
+represents-links formed equal = record {
+  formed = formed;
+  tops = λ i v y fv fy. Iff·trans (inside-reach (equal .there) fv, inside-reach (equal .back) fv) (linked-tops formed fv fy);
+}
 
 -- The variables of a formula and those of its table of depths.
 module _ {n : ℕ} {es depths : List ℕ} (d : Depths n es depths) where
@@ -90,6 +96,7 @@ module _ {n : ℕ} {es depths : List ℕ} (d : Depths n es depths) where
       go true e = lt-ltb 0 (getD depths v 0) (omega (arith, depth-existential v e)) ∙ sym e
       go false e = le-ltb 0 (getD depths v 0) (omega (arith, d .depth-is v ∙ ap (λ (b : Bool). cond b (level es v + 1) 0) e)) ∙ sym e
 
+  -- What is of level i by the formula is of level i + 1 by depths.
   to-depth : {i v : ℕ} → From X i v → From D (suc i) v
   to-depth {v = v} f = allow (ex-same v ∙ f .existential) (omega (arith, f .deep, depth-existential v (f .existential)))
 
@@ -120,7 +127,10 @@ module _ {n : ℕ} {es depths : List ℕ} (d : Depths n es depths) where
   equal-formula s = record { there = inside-formula (s .there); back = inside-formula (s .back) }
 
   pub equal-linked : {W : Table} → Equal X (Linked D W) (Linked X W)
-  equal-linked = record { there = record { does = λ i u z fu fz l. reach-one (linked-formula u z l) fz }; back = record { does = λ i u z fu fz l. reach-one (formula-linked u z l) fz } }
+  equal-linked = record {
+    there = record { does = λ i u z fu fz l. reach-one (linked-formula u z l) fz };
+    back = record { does = λ i u z fu fz l. reach-one (formula-linked u z l) fz };
+  }
 
   class-formula : {W : Table} {c : ℕ} → ClassName D W c → ClassName X W c
   class-formula {c = c} k = record { existential = sym (ex-same c) ∙ k .existential; itself = k .itself }
@@ -147,7 +157,7 @@ module _ {n : ℕ} {es depths : List ℕ} (d : Depths n es depths) where
   pub depth-none : getD depths 0 0 ≡ 0
   depth-none = depth-out 0 (λ l. absurd (omega arith))
 
-  pub depth-ends : n ≤ 4096 → EndsAt n depths
+  pub depth-ends : n ≤ mostVariables → EndsAt n depths
   depth-ends few = record { few = few; size = d .size; past = λ v h. depth-out v (λ _. h) }
 
   -- The lent rows that are written out are the settled rows.
@@ -167,14 +177,22 @@ module _ {n : ℕ} {es depths : List ℕ} (d : Depths n es depths) where
             let e = loose .universal v (le-ltb 0 (getD depths v 0) (omega (arith, depth-out v h))) in
             (e .0 ∙ sym (row-out n v rows′ h), ap (λ (u : ℕ). getD C u 0) (e .1) ∙ loose .universal 0 none .0 ∙ sym (row-out n v ups′ h))
 
-  -- Loose rows that stand for joins, settled and written out, are their forest.
-  pub grown : {J : ℕ → ℕ → Type 0} {C₀ C P rows rows′ ups ups′ : List ℕ} → Growing depths C₀ P → Equal X J (Linked D (table C₀ P)) → Settled C₀ C → Written n C P rows rows′ ups ups′
-      → Rowed X J rows ups rows′ ups′
+  -- Loose rows, settled and written out, represent what they stand for ...
+  pub written-exact : {C₀ C P rows rows′ ups ups′ : List ℕ} → Growing depths C₀ P → Settled C₀ C → Written n C P rows rows′ ups ups′
+      → Exact X (links depths C₀ P) rows ups rows′ ups′
   unfolding lent
-  grown {J} {C₀} {C} {P} g equal s w =
+  written-exact {P = P} g s w =
       let none = no-zero g in
       let k = s .kept D P none (g .loose) in
       let formed = exact-formed (k .loose) none (s .names) in
       let same = equal-formula (equal-trans (k .equal) (exact-equal (k .loose) none (s .names))) in
-      let rep = represents-links (formed-formula formed) (equal-trans equal (equal-trans same equal-linked)) in
-      record { past = w .past; forest = represents-forest (represents-rows (rows-exact (k .loose) none w) rep) }
+      let rep = represents-links (formed-formula formed) (equal-trans same equal-linked) in
+      record { past = w .past; represents = represents-rows (rows-exact (k .loose) none w) rep }
+
+-- ... and so they are the forest of any joins that reach what these reach.
+pub exact-forest : {X : Variables} {J K : ℕ → ℕ → Type 0} {rows ups rows′ ups′ : List ℕ} → Equal X J K → Exact X K rows ups rows′ ups′
+    → Rowed X J rows ups rows′ ups′
+exact-forest e x = record {
+  past = x .past;
+  forest = represents-forest (represents-reach (λ i v y fv fy. (inside-reach (e .back) fv, inside-reach (e .there) fv)) (x .represents));
+}

@@ -5,6 +5,7 @@ use mathlib.Core.List.{List, [], _∷_, _++_}
 use native.Mathlib.Omega.{arith}
 use lib.IntN.{ℤ}
 use lib.ListN.{length, getD}
+use Rattle.terms.specs.Limits.{variableRows}
 use Rattle.formula.specs.Meaning.{connected}
 use Rattle.tables.specs.Formula.{variables}
 use Rattle.tables.proofs.Agreeing.{lawful}
@@ -14,10 +15,16 @@ use Rattle.connection.proofs.Reach.{reach-one}
 use Rattle.connection.proofs.Represent.{Linked}
 use Rattle.connection.proofs.Joins.{joins-linked}
 use Rattle.connection.proofs.Forest.{same-rows}
-use Rattle.chains.specs.Loose.{Equal, Loose, table, ranked, Growing, Grew}
+use Rattle.chains.specs.Loose.{Equal, Loose, table, ranked, links, Growing, Grew}
 use Rattle.loose.specs.Rows.{Depths}
 use Rattle.chains.proofs.Inside.{equal-trans, equal-sym, equal-snoc, equal-added}
 use Rattle.settling.proofs.Exact.{depth-existential, ex-same, equal-formula, equal-linked, depth-none}
+
+-- C and P are lent rows as they are read into tables with row v for the variable v.
+pub record Loaded (n : ℕ) (classes parents C P : List ℕ) : Type 0 where
+  pub sizes : (length C ≡ variableRows) × (length P ≡ variableRows)
+  pub class : (v : ℕ) → getD C v 0 ≡ row n classes v
+  pub parent : (v : ℕ) → getD P v 0 ≡ row n parents v
 
 module _ {n : ℕ} {es depths : List ℕ} (d : Depths n es depths) where
   abbrev X : Variables
@@ -26,6 +33,7 @@ module _ {n : ℕ} {es depths : List ℕ} (d : Depths n es depths) where
   abbrev D : Variables
   D = ranked depths
 
+  -- Rows that are well formed by the formula are loose by its depths.
   formed-loose : {W : Table} → WellFormed X W → Loose D W
   formed-loose {W} f = record {
     universal = λ v e. f .right v .universal (sym (ex-same d v) ∙ e);
@@ -44,15 +52,15 @@ module _ {n : ℕ} {es depths : List ℕ} (d : Depths n es depths) where
         };
   }
 
-  module _ (classes parents C P : List ℕ) (formed : WellFormed X (lent X classes parents)) (sizes : (length C ≡ 4097) × (length P ≡ 4097))
-      (class : (v : ℕ) → getD C v 0 ≡ row n classes v) (parent : (v : ℕ) → getD P v 0 ≡ row n parents v) where
-    -- The rows that are read are the lent table.
+  module _ {classes parents C P : List ℕ} (formed : WellFormed X (lent X classes parents)) (l : Loaded n classes parents C P) where
+    -- The rows that are read are the lent table ...
     same : lent X classes parents ≡ table C P
     unfolding lent
-    same = same-rows (λ v. (sym (class v), sym (parent v)))
+    same = same-rows (λ v. (sym (l .class v), sym (l .parent v)))
 
+    -- ... and so are loose rows in which a forest can grow.
     pub loaded : Growing depths C P
-    loaded = record { sizes = (d .size, sizes .0, sizes .1); none = depth-none d; loose = subst (Loose D) same (formed-loose formed) }
+    loaded = record { sizes = (d .size, l .sizes .0, l .sizes .1); none = depth-none d; loose = subst (Loose D) same (formed-loose formed) }
 
     -- They stand for its joins ...
     stands : Equal X (Joined (joins X (lent X classes parents))) (Linked D (table C P))
@@ -63,5 +71,6 @@ module _ {n : ℕ} {es depths : List ℕ} (d : Depths n es depths) where
         }) (equal-sym (equal-linked d)))
 
     -- ... and with a clause put in, for those and the clause.
-    pub extended : {C′ P′ : List ℕ} (ls : List ℤ) → Grew depths C P (connected ls) C′ P′ → Equal X (Joined (joins X (lent X classes parents) ++ (connected ls ∷ []))) (Linked D (table C′ P′))
+    pub extended : {C′ P′ : List ℕ} (ls : List ℤ) → Grew depths C P (connected ls) C′ P′
+        → Equal X (Joined (joins X (lent X classes parents) ++ (connected ls ∷ []))) (links depths C′ P′)
     extended ls g = equal-trans equal-snoc (equal-trans (equal-added stands) (equal-formula d (g .equal)))

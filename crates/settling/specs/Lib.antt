@@ -1,2 +1,2 @@
--- The exact rows of a forest in lent tables: what the functions that make them do.
+-- Inner definitions, which only proofs rest on: what the functions do that make exact rows in lent tables, and count.
 pub mod Rows

@@ -1,15 +1,21 @@
--- What is made of lent tables: the rows of a forest, their counts, and how many existentials and class names they have. Only proofs rest on it.
+-- Inner: what is made of lent tables, that is, the rows of a forest, their counts, and how many existentials and class names they have.
 use Prim.Native.Nat.{ℕ, _+_, _≤_, _<_}
 use mathlib.Core.Path.{_≡_}
 use mathlib.Core.List.{List}
 use lib.ListN.{getD}
 use Rattle.connection.specs.Reach.{Variables}
 use Rattle.connection.specs.Tables.{row, lent}
+use Rattle.connection.specs.Climb.{Represents}
 use Rattle.connection.specs.Forest.{Forest}
 use Rattle.connection.specs.Counts.{Counted, how-many, names}
 use Rattle.tables.specs.Formula.{variables}
 use Rattle.tables.specs.Counting.{ForClasses}
 use Rattle.loose.specs.Past.{Past}
+
+-- The rows of classes and parents of 1 to n come to represent the joins J; those past n stay.
+pub record Exact (X : Variables) (J : ℕ → ℕ → Type 0) (classes parents classes′ parents′ : List ℕ) : Type 0 where
+  pub past : Past (X .count) classes classes′ × Past (X .count) parents parents′
+  pub represents : Represents X J (lent X classes′ parents′)
 
 -- The rows of classes and parents of 1 to n become the forest of the joins J; those past n stay.
 pub record Rowed (X : Variables) (J : ℕ → ℕ → Type 0) (classes parents classes′ parents′ : List ℕ) : Type 0 where
@@ -30,4 +36,5 @@ pub record Recounted (n : ℕ) (es classes parents counts counts′ : List ℕ) 
 -- Of 1 to v so many are existential and so many class names, by class rows that are well formed.
 pub record CensusOf (n : ℕ) (classes : List ℕ) (v exs named : ℕ) : Type 0 where
   pub few : (named ≤ exs) × (exs ≤ v) × (v ≤ n)
-  pub right : ForClasses n classes (λ es parents. (exs ≡ how-many (variables n es .ex) v) × (named ≡ how-many (names (variables n es) (lent (variables n es) classes parents)) v))
+  pub right : ForClasses n classes (λ es parents. (exs ≡ how-many (variables n es .ex) v)
+      × (named ≡ how-many (names (variables n es) (lent (variables n es) classes parents)) v))

@@ -28,7 +28,9 @@ digits-same (suc most) (suc most′) value h h′ =
       | true ↦ λ t. digits-small most value (ltb-true value 10 t) ∙ sym (digits-small most′ value (ltb-true value 10 t))
       | false ↦ λ t.
           let large = ltb-false value 10 t in
-          digits-large most value large ∙ ap (λ (xs : List ℕ). xs ++ ((ZERO + value % 10) ∷ [])) (digits-same most most′ (value / 10) (omega arith) (omega arith)) ∙ sym (digits-large most′ value large)
+          digits-large most value large
+          ∙ ap (λ (xs : List ℕ). xs ++ ((ZERO + value % 10) ∷ [])) (digits-same most most′ (value / 10) (omega arith) (omega arith))
+          ∙ sym (digits-large most′ value large)
     ] refl
 
 -- A number below 10 is one digit; any other has those of its tenth, and one more.
@@ -38,7 +40,9 @@ decimal-small value h = digits-small value value h
 
 pub decimal-large : (value : ℕ) → 10 ≤ value → decimal value ≡ decimal (value / 10) ++ ((ZERO + value % 10) ∷ [])
 unfolding decimal
-decimal-large value h = digits-large value value h ∙ ap (λ (xs : List ℕ). xs ++ ((ZERO + value % 10) ∷ [])) (digits-same value (suc (value / 10)) (value / 10) (omega arith) (omega arith))
+decimal-large value h =
+    digits-large value value h
+    ∙ ap (λ (xs : List ℕ). xs ++ ((ZERO + value % 10) ∷ [])) (digits-same value (suc (value / 10)) (value / 10) (omega arith) (omega arith))
 
 -- A number below the k-th power of 10 has at most k digits.
 pub digits-most : (value k : ℕ) → value < 10 ^ suc k → length (decimal value) ≤ suc k

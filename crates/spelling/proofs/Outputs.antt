@@ -10,8 +10,8 @@ use lib.Seq.{sets-eq, length-sets, take-at, drop-at}
 use Rattle.terms.specs.declared.Verdict.{Verdict}
 use Rattle.terms.specs.Refusals.{Causes, First, FirstOf, None, NoneOf}
 use Rattle.terms.proofs.Verdicts.{accepted-then}
-use Rattle.spelling.specs.declared.Output.{Output}
-use Rattle.spelling.specs.declared.Output.the-variants.{Written, Refused}
+use Rattle.terms.specs.declared.Filled.{Filled}
+use Rattle.terms.specs.declared.Filled.the-variants.{Count, Refused}
 use Rattle.spelling.specs.Texts.{TEXT-MOST, Overlong, overlong}
 use Rattle.spelling.specs.Bytes.{Wrote}
 use Rattle.spelling.specs.Stored.{ShortOut, short-out, writeOrder, WriteIs, WritesAfter}
@@ -36,7 +36,7 @@ module _ (text out : List ℕ) (fits : length text ≤ TEXT-MOST) where
       lowest : {number place : ℕ} → ShortOut text out number place → 14 ≤ number
       lowest (short-out x) = omega arith
 
-  pub stored-whole : length text ≤ length out → (out′ : List ℕ) (count : ℕ) → Wrote text out out′ 0 count → WriteIs text out out′ (Written count)
+  pub stored-whole : length text ≤ length out → (out′ : List ℕ) (count : ℕ) → Wrote text out out′ 0 count → WriteIs text out out′ (Count count)
   stored-whole room out′ count w =
       let e : count ≡ length text = w .end ∙ zero-add (length text) in
       let s = w .stored ∙ sets-eq text out 0 (omega arith) in (
@@ -53,6 +53,8 @@ module _ (text out : List ℕ) (fits : length text ≤ TEXT-MOST) where
       not-short number place (short-out h) = omega arith
 
 -- Once the tables are accepted, the writer's answer is that of the call.
-pub writes-accepted : (order : List Causes) (text out out′ : List ℕ) (r : Output) → NoneOf order → WriteIs text out out′ r → WritesAfter order text out out′ r
-writes-accepted order text out out′ (Written count) none w = (accepted-then order (writeOrder text out) {v = Verdict.Accepted} Verdict.Accepted refl none (w .0), w .1)
-writes-accepted order text out out′ (Refused number place) none w = (accepted-then order (writeOrder text out) {v = Verdict.Accepted} (Verdict.Refused number place) refl none (w .0), w .1)
+pub writes-accepted : (order : List Causes) (text out out′ : List ℕ) (r : Filled) → NoneOf order → WriteIs text out out′ r → WritesAfter order text out out′ r
+writes-accepted order text out out′ (Count count) none w =
+    (accepted-then order (writeOrder text out) {v = Verdict.Accepted} Verdict.Accepted refl none (w .0), w .1)
+writes-accepted order text out out′ (Refused number place) none w =
+    (accepted-then order (writeOrder text out) {v = Verdict.Accepted} (Verdict.Refused number place) refl none (w .0), w .1)

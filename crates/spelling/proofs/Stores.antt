@@ -32,12 +32,25 @@ sets-out buffer at (x ∷ xs) h = ap (λ (t : List ℕ). sets t (suc at) xs) (se
 pub wrote-out : (xs buffer : List ℕ) (at : ℕ) {width : ℕ} → width ≡ length xs → length buffer ≤ at → Wrote xs buffer buffer at (at + width)
 wrote-out xs buffer at size h = record { end = ap (λ (k : ℕ). at + k) size; stored = sym (sets-out buffer at xs h) }
 
-pub wrote-more : {xs ys before mid after : List ℕ} {at next last : ℕ} → Wrote xs before mid at next → Wrote ys mid after next last → Wrote (xs ++ ys) before after at last
+pub wrote-more : {xs ys before mid after : List ℕ} {at next last : ℕ} → Wrote xs before mid at next → Wrote ys mid after next last
+    → Wrote (xs ++ ys) before after at last
 wrote-more {xs} {ys} {before} {mid} {after} {at} {next} {last} a b =
     let l = length-append xs ys in
     let e = a .end in
     let f = b .end in
-    record { end = omega arith; stored = b .stored ∙ ap (λ (t : List ℕ). sets t next ys) (a .stored) ∙ ap (λ (k : ℕ). sets (sets before at xs) k ys) e ∙ sym (sets-append before at xs ys) }
+    record {
+      end = omega arith;
+      stored =
+          b .stored ∙ ap (λ (t : List ℕ). sets t next ys) (a .stored) ∙ ap (λ (k : ℕ). sets (sets before at xs) k ys) e
+          ∙ sym (sets-append before at xs ys);
+    }
+
+-- the same bytes by another name, and the buffer as long as it was
+pub wrote-as : {xs ys before after : List ℕ} {at next : ℕ} → ys ≡ xs → Wrote xs before after at next → Wrote ys before after at next
+wrote-as {before = before} {after = after} {at = at} {next = next} e w = subst (λ (bytes : List ℕ). Wrote bytes before after at next) (sym e) w
+
+pub wrote-length : (bytes before after : List ℕ) (at next : ℕ) → Wrote bytes before after at next → length after ≡ length before
+wrote-length bytes before after at next w = ap length (w .stored) ∙ length-sets before at bytes
 
 -- The bytes of an entry, by cases.
 module _ (first : Bool) (entry : ℕ) where
@@ -74,18 +87,18 @@ unfolding ended
 ended-split true word rest = sym (append-assoc word (LF ∷ []) rest)
 ended-split false word rest = sym (append-assoc word [] rest)
 
-pub prefix-split : (first : Bool) (entry : ℕ) (more : List ℕ) → prefixText first (entry ∷ more) ≡ entryBytes first entry ++ prefixText (nextFirst first entry) more
+pub prefix-split : (first : Bool) (entry : ℕ) (more : List ℕ)
+    → prefixText first (entry ∷ more) ≡ entryBytes first entry ++ prefixText (nextFirst first entry) more
 unfolding prefixText entryBytes nextFirst spaced
 prefix-split true entry more = refl
 prefix-split false entry more = ap (λ (xs : List ℕ). SPACE ∷ xs) (ended-split (eqb entry 0) (decimal entry) (prefixText (eqb entry 0) more))
 
-abbrev pub nextClause : Bool → ℤ → Bool
-nextClause first literal = eqb (natAbs literal) 0
-
-pub clause-split : (first : Bool) (entry : ℤ) (more : List ℤ) → clauseText first (entry ∷ more) ≡ literalBytes first entry ++ clauseText (nextClause first entry) more
+pub clause-split : (first : Bool) (entry : ℤ) (more : List ℤ)
+    → clauseText first (entry ∷ more) ≡ literalBytes first entry ++ clauseText (eqb (natAbs entry) 0) more
 unfolding clauseText literalBytes spaced
 clause-split true entry more = ended-split (eqb (natAbs entry) 0) (literalWord entry) (clauseText (eqb (natAbs entry) 0) more)
-clause-split false entry more = ap (λ (xs : List ℕ). SPACE ∷ xs) (ended-split (eqb (natAbs entry) 0) (literalWord entry) (clauseText (eqb (natAbs entry) 0) more))
+clause-split false entry more =
+    ap (λ (xs : List ℕ). SPACE ∷ xs) (ended-split (eqb (natAbs entry) 0) (literalWord entry) (clauseText (eqb (natAbs entry) 0) more))
 
 -- No entry takes more than eight bytes.
 pub ended-most : (b : Bool) → length (ended b []) ≤ 1
@@ -117,61 +130,95 @@ unfolding literalBytes spaced
 literal-most true z h = omega (arith, length-append (literalWord z) (ended (eqb (natAbs z) 0) []), word-most z h, ended-most (eqb (natAbs z) 0))
 literal-most false z h = omega (arith, length-append (literalWord z) (ended (eqb (natAbs z) 0) []), word-most z h, ended-most (eqb (natAbs z) 0))
 
--- A table written up to a row: its text is the bytes stored, and the text of the rows left.
-module _ {A : Type 0} (default : A) (textFrom : Bool → List A → List ℕ) (bytesOf : Bool → A → List ℕ) (nextOf : Bool → A → Bool)
-    (split : (first : Bool) (x : A) (more : List A) → textFrom first (x ∷ more) ≡ bytesOf first x ++ textFrom (nextOf first x) more) where
-  pub record Upto (table : List A) (before now : List ℕ) (at i next : ℕ) (first : Bool) : Type 0 where
-    pub bytes : List ℕ
-    pub is : textFrom true table ≡ bytes ++ textFrom first (drop i table)
-    pub wrote : Wrote bytes before now at next
-    pub few : next ≤ at + 8 * i
-    pub within : i ≤ length table
+-- How a table is written, entry by entry: the text from an entry on, where a line begins or does not, the bytes of one entry, and whether a line begins
+-- after it.
+pub record Script (A : Type 0) : Type 0 where
+  pub default : A
+  pub textFrom : Bool → List A → List ℕ
+  pub bytesOf : Bool → A → List ℕ
+  pub nextOf : Bool → A → Bool
+  pub split : (first : Bool) (x : A) (more : List A) → textFrom first (x ∷ more) ≡ bytesOf first x ++ textFrom (nextOf first x) more
+  pub empty : (first : Bool) → textFrom first [] ≡ []
 
-  pub upto-none : (table : List A) (buffer : List ℕ) (at : ℕ) → Upto table buffer buffer at 0 at true
-  upto-none table buffer at = record { bytes = []; is = refl; wrote = wrote-none buffer at; few = omega arith; within = omega arith }
+-- A table written up to a row: its text is the bytes stored, and the text of the rows left; no row takes more than eight bytes.
+pub record Upto {A : Type 0} (s : Script A) (table : List A) (before now : List ℕ) (at i next : ℕ) (first : Bool) : Type 0 where
+  pub bytes : List ℕ
+  pub is : s .textFrom true table ≡ bytes ++ s .textFrom first (drop i table)
+  pub wrote : Wrote bytes before now at next
+  pub few : next ≤ at + 8 * i
+  pub within : i ≤ length table
 
-  pub upto-more : (table : List A) (before now now′ : List ℕ) (at i next next′ : ℕ) (first : Bool) → Upto table before now at i next first → i < length table
-      → Wrote (bytesOf first (getD table i default)) now now′ next next′ → length (bytesOf first (getD table i default)) ≤ 8 → Upto table before now′ at (i + 1) next′ (nextOf first (getD table i default))
-  upto-more table before now now′ at i next next′ first u h w most =
-      let x = getD table i default in
+pub upto-none : {A : Type 0} (s : Script A) (table : List A) (buffer : List ℕ) (at : ℕ) → Upto s table buffer buffer at 0 at true
+upto-none s table buffer at = record { bytes = []; is = refl; wrote = wrote-none buffer at; few = omega arith; within = omega arith }
+
+module _ {A : Type 0} {s : Script A} {table : List A} {before now : List ℕ} {at i next : ℕ} {first : Bool}
+    (u : Upto s table before now at i next first) where
+  abbrev row : A
+  row = getD table i (s .default)
+
+  -- one row more
+  pub upto-more : {now′ : List ℕ} {next′ : ℕ} {first′ : Bool} → i < length table → Wrote (s .bytesOf first row) now now′ next next′
+      → length (s .bytesOf first row) ≤ 8 → first′ ≡ s .nextOf first row → Upto s table before now′ at (i + 1) next′ first′
+  upto-more {next′ = next′} {first′ = first′} h w most then =
       let few = u .few in
       let end = w .end in
+      let one = s .bytesOf first row in
       record {
-        bytes = u .bytes ++ bytesOf first x;
+        bytes = u .bytes ++ one;
         is =
             u .is ∙ ap (λ (xs : List ℕ). u .bytes ++ xs)
-            (ap (textFrom first) (drop-cons table i default h) ∙ split first x (drop (suc i) table) ∙ ap (λ (k : ℕ). bytesOf first x ++ textFrom (nextOf first x) (drop k table)) (sym (add-one i)))
-            ∙ sym (append-assoc (u .bytes) (bytesOf first x) (textFrom (nextOf first x) (drop (i + 1) table)));
+            (ap (s .textFrom first) (drop-cons table i (s .default) h) ∙ s .split first row (drop (suc i) table)
+            ∙ ap (λ (b : Bool). one ++ s .textFrom b (drop (suc i) table)) (sym then)
+            ∙ ap (λ (k : ℕ). one ++ s .textFrom first′ (drop k table)) (sym (add-one i)))
+            ∙ sym (append-assoc (u .bytes) one (s .textFrom first′ (drop (i + 1) table)));
         wrote = wrote-more (u .wrote) w;
         few = omega arith;
         within = omega arith;
       }
 
-  pub upto-all : (table : List A) (before now : List ℕ) (at i next : ℕ) (first : Bool) → ((b : Bool) → textFrom b [] ≡ []) → Upto table before now at i next first → length table ≤ i → Wrote (textFrom true table) before now at next
-  upto-all table before now at i next first empty u h =
-      subst (λ (xs : List ℕ). Wrote xs before now at next)
-      (sym (u .is ∙ ap (λ (xs : List ℕ). u .bytes ++ xs) (ap (textFrom first) (drop-of-length-le table h) ∙ empty first) ∙ append-nil (u .bytes))) (u .wrote)
+  -- all rows
+  pub upto-all : length table ≤ i → Wrote (s .textFrom true table) before now at next
+  upto-all h =
+      wrote-as
+      (u .is ∙ ap (λ (xs : List ℕ). u .bytes ++ xs) (ap (s .textFrom first) (drop-of-length-le table h) ∙ s .empty first) ∙ append-nil (u .bytes))
+      (u .wrote)
 
-  -- how long it is at most
-  pub text-most : ((b : Bool) → textFrom b [] ≡ []) → (first : Bool) (table : List A) → ((b : Bool) (i : ℕ) → i < length table → length (bytesOf b (getD table i default)) ≤ 8) → length (textFrom first table) ≤ 8 * length table
-  text-most empty first [] most = let e = ap length (empty first) in omega arith
-  text-most empty first (x ∷ more) most =
-      let e = ap length (split first x more) ∙ length-append (bytesOf first x) (textFrom (nextOf first x) more) in
-      let one = most first 0 (omega arith) in
-      let rest = text-most empty (nextOf first x) more (λ b i h. most b (suc i) (omega arith)) in
-      omega arith
+  pub upto-length : length now ≡ length before
+  upto-length = wrote-length (u .bytes) before now at next (u .wrote)
 
-pub wrote-length : (bytes before after : List ℕ) (at next : ℕ) → Wrote bytes before after at next → length after ≡ length before
-wrote-length bytes before after at next w = ap length (w .stored) ∙ length-sets before at bytes
+-- how long a text is at most
+pub text-most : {A : Type 0} (s : Script A) (first : Bool) (table : List A)
+    → ((b : Bool) (i : ℕ) → i < length table → length (s .bytesOf b (getD table i (s .default))) ≤ 8) → length (s .textFrom first table) ≤ 8 * length table
+text-most s first [] most = let e = ap length (s .empty first) in omega arith
+text-most s first (x ∷ more) most =
+    let e = ap length (s .split first x more) ∙ length-append (s .bytesOf first x) (s .textFrom (s .nextOf first x) more) in
+    let one = most first 0 (omega arith) in
+    let rest = text-most s (s .nextOf first x) more (λ b i h. most b (suc i) (omega arith)) in
+    omega arith
 
+-- The two tables of a formula.
 pub no-prefix : (b : Bool) → prefixText b [] ≡ []
 unfolding prefixText
 no-prefix true = refl
 no-prefix false = refl
 
+abbrev pub prefixScript : Script ℕ
+prefixScript = record { default = 0; textFrom = prefixText; bytesOf = entryBytes; nextOf = nextFirst; split = prefix-split; empty = no-prefix }
+
 pub no-clauses : (b : Bool) → clauseText b [] ≡ []
 unfolding clauseText
 no-clauses b = refl
+
+abbrev pub clauseScript : Script ℤ
+clauseScript =
+    record {
+      default = pos 0;
+      textFrom = clauseText;
+      bytesOf = literalBytes;
+      nextOf = λ first literal. eqb (natAbs literal) 0;
+      split = clause-split;
+      empty = no-clauses;
+    }
 
 -- The bytes of a literal in its line, by whether it closes the clause.
 pub clause-last : (first : Bool) (z : ℤ) → eqb (natAbs z) 0 ≡ true → literalBytes first z ≡ (spaced first [] ++ literalWord z) ++ (LF ∷ [])
@@ -209,7 +256,8 @@ count-one z = go (eqb (natAbs z) 0)
     go true = omega arith
     go false = omega arith
 
-pub count-more : (clauses : List ℤ) (i count : ℕ) → i < length clauses → count + clauseCount (drop i clauses) ≡ count + clauseCount (getD clauses i (pos 0) ∷ []) + clauseCount (drop (i + 1) clauses)
+pub count-more : (clauses : List ℤ) (i count : ℕ) → i < length clauses
+    → count + clauseCount (drop i clauses) ≡ count + clauseCount (getD clauses i (pos 0) ∷ []) + clauseCount (drop (i + 1) clauses)
 count-more clauses i count h =
     let e = ap clauseCount (drop-cons clauses i (pos 0) h) ∙ count-split (getD clauses i (pos 0)) (drop (suc i) clauses) in
     let s = ap (λ (k : ℕ). clauseCount (drop k clauses)) (add-one i) in
@@ -231,7 +279,7 @@ problem-most n m hn hm =
     omega (arith, length-append (decimal n) (SPACE ∷ (decimal m ++ (LF ∷ []))), length-append (decimal m) (LF ∷ []), digits-most n 4 hn, digits-most m 4 hm)
 
 pub prefix-most : (first : Bool) (prefix : List ℕ) → SmallEntries prefix → length (prefixText first prefix) ≤ 8 * length prefix
-prefix-most first prefix small = text-most 0 prefixText entryBytes nextFirst prefix-split no-prefix first prefix (λ b i h. entry-most b (getD prefix i 0) (small i h))
+prefix-most first prefix small = text-most prefixScript first prefix (λ b i h. entry-most b (getD prefix i 0) (small i h))
 
 pub count-most : (clauses : List ℤ) → clauseCount clauses ≤ length clauses
 unfolding clauseCount

@@ -1,5 +1,5 @@
 -- What the functions that store the text promise, byte by byte and entry by entry.
-use Prim.Native.Nat.{ℕ, _+_, _<_}
+use Prim.Native.Nat.{ℕ, _+_, _<_, _≤_}
 use mathlib.Core.Path.{_≡_}
 use mathlib.Core.Bool.{Bool, true, false}
 use mathlib.Core.List.{List, [], _∷_, _++_}
@@ -7,6 +7,7 @@ use lib.Dec.{eqb}
 use lib.ListN.{length, getD}
 use lib.Seq.{sets}
 use lib.IntN.{ℤ, pos, natAbs}
+use Rattle.terms.specs.Limits.{prefixEntries, clauseEntries}
 use Rattle.spelling.specs.Texts.{SPACE}
 use Rattle.spelling.specs.Writing.{decimal, markWord, literalWord, spaced, ended}
 
@@ -29,6 +30,11 @@ SmallEntries prefix = (i : ℕ) → i < length prefix → getD prefix i 0 < 1000
 
 abbrev pub SmallLiterals : List ℤ → Type 0
 SmallLiterals clauses = (i : ℕ) → i < length clauses → natAbs (getD clauses i (pos 0)) < 100000
+
+-- What is asked of tables that are written: n and all their numbers have at most five digits, and they are no longer than a formula's tables may be.
+abbrev pub Writable : ℕ → List ℕ → List ℤ → Type 0
+Writable n prefix clauses =
+    (n < 100000) × (length prefix ≤ prefixEntries) × (length clauses ≤ clauseEntries) × SmallEntries prefix × SmallLiterals clauses
 
 -- Whether a line begins after an entry of the prefix table: not after a mark, and else after the closing 0.
 unfoldable pub nextFirst : Bool → ℕ → Bool

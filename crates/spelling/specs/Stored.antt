@@ -5,8 +5,8 @@ use mathlib.Core.Path.{_≡_}
 use mathlib.Core.List.{List, [], _∷_, _++_}
 use lib.ListN.{length, take, drop}
 use Rattle.terms.specs.Refusals.{Causes, FirstOf, NoneOf}
-use Rattle.spelling.specs.declared.Output.{Output}
-use Rattle.spelling.specs.declared.Output.the-variants.{Written, Refused}
+use Rattle.terms.specs.declared.Filled.{Filled}
+use Rattle.terms.specs.declared.Filled.the-variants.{Count, Refused}
 use Rattle.spelling.specs.Texts.{Overlong}
 
 -- 14: the buffer is shorter than the text.
@@ -24,11 +24,11 @@ pub record Stored (text out out′ : List ℕ) (count : ℕ) : Type 0 where
   pub kept : drop count out′ ≡ drop count out
 
 -- What is promised once the tables are accepted.
-abbrev pub WriteIs : List ℕ → List ℕ → List ℕ → Output → Type 0
-WriteIs text out out′ (Written count) = NoneOf (writeOrder text out) × Stored text out out′ count
+abbrev pub WriteIs : List ℕ → List ℕ → List ℕ → Filled → Type 0
+WriteIs text out out′ (Count count) = NoneOf (writeOrder text out) × Stored text out out′ count
 WriteIs text out out′ (Refused number place) = FirstOf (writeOrder text out) number place × (out′ ≡ out)
 
 -- What a call promises that writes a text, with an order of causes before 15 and 14: the text stands in front, or nothing is changed.
-abbrev pub WritesAfter : List Causes → List ℕ → List ℕ → List ℕ → Output → Type 0
-WritesAfter order text out out′ (Written count) = NoneOf (order ++ writeOrder text out) × Stored text out out′ count
+abbrev pub WritesAfter : List Causes → List ℕ → List ℕ → List ℕ → Filled → Type 0
+WritesAfter order text out out′ (Count count) = NoneOf (order ++ writeOrder text out) × Stored text out out′ count
 WritesAfter order text out out′ (Refused number place) = FirstOf (order ++ writeOrder text out) number place × (out′ ≡ out)

@@ -11,8 +11,8 @@ ghost use Rattle.spelling.specs.Bytes.{Wrote};
 
 // Stores a byte if the buffer has room for it.
 pub fn put_byte(out: &mut [u8], at: usize, byte: u8) -> usize
-    requires { ⌜ at < 4294967296 ⌝ }
-    ensures { λ r. ⌜ Wrote (byte ∷ []) (now (out .entry)) (now (out .exit)) at r ⌝ }
+    requires near { ⌜ at < 4294967296 ⌝ }
+    ensures wrote { λ r. ⌜ Wrote (byte ∷ []) (now (out .entry)) (now (out .exit)) at r ⌝ }
 {
     if at < out.len() {
         out[at] = byte;
@@ -23,8 +23,8 @@ pub fn put_byte(out: &mut [u8], at: usize, byte: u8) -> usize
 
 // The decimal digits of a number; where the buffer has no room for the first of them, how many there are says where they end.
 pub fn put_number(out: &mut [u8], at: usize, value: u32) -> usize
-    requires { ⌜ (at < 4294967200) × (value < 100000) ⌝ }
-    ensures { λ r. ⌜ Wrote (decimal value) (now (out .entry)) (now (out .exit)) at r ⌝ }
+    requires small { ⌜ (at < 4294967200) × (value < 100000) ⌝ }
+    ensures wrote { λ r. ⌜ Wrote (decimal value) (now (out .entry)) (now (out .exit)) at r ⌝ }
 {
     if at < out.len() {
         return put_digits(out, at, value);
@@ -34,8 +34,8 @@ pub fn put_number(out: &mut [u8], at: usize, value: u32) -> usize
 
 // The digits one by one, as far as the buffer has room: those of a tenth of the number, and one more.
 fn put_digits(out: &mut [u8], at: usize, value: u32) -> usize
-    requires { ⌜ (at < 4294967200) × (value < 100000) ⌝ }
-    ensures { λ r. ⌜ Wrote (decimal value) (now (out .entry)) (now (out .exit)) at r ⌝ }
+    requires small { ⌜ (at < 4294967200) × (value < 100000) ⌝ }
+    ensures wrote { λ r. ⌜ Wrote (decimal value) (now (out .entry)) (now (out .exit)) at r ⌝ }
 {
     if value < 10 {
         return put_byte(out, at, ZERO + (value as u8));
@@ -46,8 +46,8 @@ fn put_digits(out: &mut [u8], at: usize, value: u32) -> usize
 
 // How many digits a number has.
 fn width(value: u32) -> usize
-    requires { ⌜ value < 100000 ⌝ }
-    ensures { λ r. ⌜ r ≡ length (decimal value) ⌝ }
+    requires small { ⌜ value < 100000 ⌝ }
+    ensures counted { λ r. ⌜ r ≡ length (decimal value) ⌝ }
 {
     if 9999 < value {
         return 5;

@@ -6,12 +6,6 @@ pub mod writing;
 // The most bytes that a text may have.
 pub const TEXT_MOST: usize = 65536;
 
-// What writing answers: the count of bytes, or the number of the refusal and its place.
-pub enum Output {
-    Written { count: usize },
-    Refused { number: u32, place: usize },
-}
-
 // The bytes that the format names.
 pub const LF: u8 = 10;
 

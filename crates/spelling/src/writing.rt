@@ -8,11 +8,11 @@ use crate::LETTER_N;
 use crate::LETTER_P;
 use crate::LF;
 use crate::MINUS;
-use crate::Output;
 use crate::SPACE;
 use crate::TEXT_MOST;
 use crate::bytes::put_byte;
 use crate::bytes::put_number;
+use terms::Filled;
 use terms::Literal;
 ghost use mathlib.Core.Path.{_≡_};
 ghost use mathlib.Core.List.{[], _∷_};
@@ -21,38 +21,33 @@ ghost use lib.ListN.{length};
 ghost use lib.Dec.{eqb};
 ghost use lib.IntN.{natAbs};
 ghost use Rattle.spelling.specs.Writing.{cnfBytes, problemBytes, literalWord, spaced, prefixText, clauseText, clauseCount, textOf};
-ghost use Rattle.spelling.specs.Bytes.{nextFirst, entryBytes, literalBytes, Wrote, SmallEntries, SmallLiterals};
+ghost use Rattle.terms.specs.Limits.{prefixEntries, clauseEntries};
+ghost use Rattle.spelling.specs.Bytes.{nextFirst, entryBytes, literalBytes, Wrote, SmallEntries, SmallLiterals, Writable};
 ghost use Rattle.spelling.specs.Stored.{WriteIs};
 ghost use mathlib.Core.Bool.{true};
 
 // Writes the text of tables that were accepted into a lent buffer. The length is found first, in a buffer of its own that no one sees, so that
 // nothing is written where the text is too long or does not fit.
-pub fn write_accepted(n: u32, prefix: &[u32], clauses: &[i32], out: &mut [u8]) -> Output
-    requires { ⌜ (n < 100000) × (length (now prefix) ≤ 8192) × (length (now clauses) ≤ 16384) × SmallEntries (now prefix) × SmallLiterals (now clauses) ⌝ }
-    ensures { λ r. ⌜ WriteIs (textOf n (now (prefix .entry)) (now (clauses .entry))) (now (out .entry)) (now (out .exit)) r ⌝ }
+pub fn write_accepted(n: u32, prefix: &[u32], clauses: &[i32], out: &mut [u8]) -> Filled
+    requires writable { ⌜ Writable n (now prefix) (now clauses) ⌝ }
+    ensures answered { λ r. ⌜ WriteIs (textOf n (now (prefix .entry)) (now (clauses .entry))) (now (out .entry)) (now (out .exit)) r ⌝ }
 {
     let mut unseen = [0u8; 1];
     let count = put_text(&mut unseen, n, prefix, clauses);
     if TEXT_MOST < count {
-        return Output::Refused {
-            number: 15,
-            place: TEXT_MOST,
-        };
+        return Filled::Refused(15, TEXT_MOST);
     }
     if out.len() < count {
-        return Output::Refused {
-            number: 14,
-            place: 0,
-        };
+        return Filled::Refused(14, 0);
     }
     let written = put_text(out, n, prefix, clauses);
-    Output::Written { count: written }
+    Filled::Count(written as u32)
 }
 
 // The text of n and two tables.
 fn put_text(out: &mut [u8], n: u32, prefix: &[u32], clauses: &[i32]) -> usize
-    requires { ⌜ (n < 100000) × (length (now prefix) ≤ 8192) × (length (now clauses) ≤ 16384) × SmallEntries (now prefix) × SmallLiterals (now clauses) ⌝ }
-    ensures { λ r. ⌜ Wrote (textOf n (now (prefix .entry)) (now (clauses .entry))) (now (out .entry)) (now (out .exit)) 0 r ⌝ }
+    requires writable { ⌜ Writable n (now prefix) (now clauses) ⌝ }
+    ensures wrote { λ r. ⌜ Wrote (textOf n (now (prefix .entry)) (now (clauses .entry))) (now (out .entry)) (now (out .exit)) 0 r ⌝ }
 {
     let count = count_clauses(clauses);
     let lines = put_problem(out, n, count);
@@ -62,8 +57,8 @@ fn put_text(out: &mut [u8], n: u32, prefix: &[u32], clauses: &[i32]) -> usize
 
 // The problem line.
 pub fn put_problem(out: &mut [u8], n: u32, count: u32) -> usize
-    requires { ⌜ (n < 100000) × (count < 100000) ⌝ }
-    ensures { λ r. ⌜ Wrote (problemBytes n count) (now (out .entry)) (now (out .exit)) 0 r ⌝ }
+    requires small { ⌜ (n < 100000) × (count < 100000) ⌝ }
+    ensures wrote { λ r. ⌜ Wrote (problemBytes n count) (now (out .entry)) (now (out .exit)) 0 r ⌝ }
 {
     let start = put_cnf(out);
     let number = put_number(out, start, n);
@@ -74,7 +69,7 @@ pub fn put_problem(out: &mut [u8], n: u32, count: u32) -> usize
 
 // The words `p cnf` and the space after them.
 fn put_cnf(out: &mut [u8]) -> usize
-    ensures { λ r. ⌜ Wrote cnfBytes (now (out .entry)) (now (out .exit)) 0 r ⌝ }
+    ensures wrote { λ r. ⌜ Wrote cnfBytes (now (out .entry)) (now (out .exit)) 0 r ⌝ }
 {
     let space = put_byte(out, 0, LETTER_P);
     let c = put_byte(out, space, SPACE);
@@ -86,8 +81,8 @@ fn put_cnf(out: &mut [u8]) -> usize
 
 // How many clauses a clause table has.
 pub fn count_clauses(clauses: &[i32]) -> u32
-    requires { ⌜ (length (now clauses) ≤ 16384) × SmallLiterals (now clauses) ⌝ }
-    ensures { λ r. ⌜ r ≡ clauseCount (now (clauses .entry)) ⌝ }
+    requires small { ⌜ (length (now clauses) ≤ clauseEntries) × SmallLiterals (now clauses) ⌝ }
+    ensures counted { λ r. ⌜ r ≡ clauseCount (now (clauses .entry)) ⌝ }
 {
     let mut i = 0;
     let mut count: u32 = 0;
@@ -100,8 +95,8 @@ pub fn count_clauses(clauses: &[i32]) -> u32
 
 // A count of clauses with one more entry.
 fn count_more(count: u32, literal: i32) -> u32
-    requires { ⌜ count < 16384 ⌝ }
-    ensures { λ r. ⌜ r ≡ count + clauseCount (literal ∷ []) ⌝ }
+    requires few { ⌜ count < clauseEntries ⌝ }
+    ensures counted { λ r. ⌜ r ≡ count + clauseCount (literal ∷ []) ⌝ }
 {
     if closes(literal) {
         return count + 1;
@@ -111,8 +106,8 @@ fn count_more(count: u32, literal: i32) -> u32
 
 // The lines of the prefix table.
 pub fn put_prefix(out: &mut [u8], at: usize, prefix: &[u32]) -> usize
-    requires { ⌜ (at < 4096) × (length (now prefix) ≤ 8192) × SmallEntries (now prefix) ⌝ }
-    ensures { λ r. ⌜ Wrote (prefixText true (now (prefix .entry))) (now (out .entry)) (now (out .exit)) at r ⌝ }
+    requires small { ⌜ (at < 4096) × (length (now prefix) ≤ prefixEntries) × SmallEntries (now prefix) ⌝ }
+    ensures wrote { λ r. ⌜ Wrote (prefixText true (now (prefix .entry))) (now (out .entry)) (now (out .exit)) at r ⌝ }
 {
     let mut i = 0;
     let mut next = at;
@@ -128,8 +123,8 @@ pub fn put_prefix(out: &mut [u8], at: usize, prefix: &[u32]) -> usize
 
 // One entry of the prefix table: a mark as its letter, or a number after a space, with LF after the closing 0.
 pub fn put_entry(out: &mut [u8], at: usize, first: bool, entry: u32) -> usize
-    requires { ⌜ (at < 4294967000) × (entry < 100000) ⌝ }
-    ensures { λ r. ⌜ Wrote (entryBytes first entry) (now (out .entry)) (now (out .exit)) at r ⌝ }
+    requires small { ⌜ (at < 4294967000) × (entry < 100000) ⌝ }
+    ensures wrote { λ r. ⌜ Wrote (entryBytes first entry) (now (out .entry)) (now (out .exit)) at r ⌝ }
 {
     if first {
         if entry == 1 {
@@ -147,7 +142,7 @@ pub fn put_entry(out: &mut [u8], at: usize, first: bool, entry: u32) -> usize
 
 // Whether a line begins after an entry of the prefix table.
 fn starts(first: bool, entry: u32) -> bool
-    ensures { λ r. ⌜ r ≡ nextFirst first entry ⌝ }
+    ensures told { λ r. ⌜ r ≡ nextFirst first entry ⌝ }
 {
     if first {
         return false;
@@ -157,8 +152,8 @@ fn starts(first: bool, entry: u32) -> bool
 
 // The lines of the clause table.
 pub fn put_clauses(out: &mut [u8], at: usize, clauses: &[i32]) -> usize
-    requires { ⌜ (at < 1048576) × (length (now clauses) ≤ 16384) × SmallLiterals (now clauses) ⌝ }
-    ensures { λ r. ⌜ Wrote (clauseText true (now (clauses .entry))) (now (out .entry)) (now (out .exit)) at r ⌝ }
+    requires small { ⌜ (at < 1048576) × (length (now clauses) ≤ clauseEntries) × SmallLiterals (now clauses) ⌝ }
+    ensures wrote { λ r. ⌜ Wrote (clauseText true (now (clauses .entry))) (now (out .entry)) (now (out .exit)) at r ⌝ }
 {
     let mut i = 0;
     let mut next = at;
@@ -174,8 +169,8 @@ pub fn put_clauses(out: &mut [u8], at: usize, clauses: &[i32]) -> usize
 
 // One entry of the clause table: a literal after a space unless its clause begins here, with LF after the closing 0.
 fn put_clause_entry(out: &mut [u8], at: usize, first: bool, literal: i32) -> usize
-    requires { ⌜ (at < 4294967000) × (natAbs literal < 100000) ⌝ }
-    ensures { λ r. ⌜ Wrote (literalBytes first literal) (now (out .entry)) (now (out .exit)) at r ⌝ }
+    requires small { ⌜ (at < 4294967000) × (natAbs literal < 100000) ⌝ }
+    ensures wrote { λ r. ⌜ Wrote (literalBytes first literal) (now (out .entry)) (now (out .exit)) at r ⌝ }
 {
     let start = put_space(out, at, first);
     let end = put_literal(out, start, literal);
@@ -187,8 +182,8 @@ fn put_clause_entry(out: &mut [u8], at: usize, first: bool, literal: i32) -> usi
 
 // A space unless a line begins here.
 fn put_space(out: &mut [u8], at: usize, first: bool) -> usize
-    requires { ⌜ at < 4294967296 ⌝ }
-    ensures { λ r. ⌜ Wrote (spaced first []) (now (out .entry)) (now (out .exit)) at r ⌝ }
+    requires near { ⌜ at < 4294967296 ⌝ }
+    ensures wrote { λ r. ⌜ Wrote (spaced first []) (now (out .entry)) (now (out .exit)) at r ⌝ }
 {
     if first {
         return at;
@@ -198,8 +193,8 @@ fn put_space(out: &mut [u8], at: usize, first: bool) -> usize
 
 // The word of a literal, with `-` where it is negative.
 fn put_literal(out: &mut [u8], at: usize, literal: i32) -> usize
-    requires { ⌜ (at < 4294967100) × (natAbs literal < 100000) ⌝ }
-    ensures { λ r. ⌜ Wrote (literalWord literal) (now (out .entry)) (now (out .exit)) at r ⌝ }
+    requires small { ⌜ (at < 4294967100) × (natAbs literal < 100000) ⌝ }
+    ensures wrote { λ r. ⌜ Wrote (literalWord literal) (now (out .entry)) (now (out .exit)) at r ⌝ }
 {
     let variable = Literal::new(literal).variable().0;
     if literal < 0 {
@@ -211,7 +206,7 @@ fn put_literal(out: &mut [u8], at: usize, literal: i32) -> usize
 
 // Whether an entry of the clause table is the closing 0.
 fn closes(literal: i32) -> bool
-    ensures { λ r. ⌜ r ≡ eqb (natAbs literal) 0 ⌝ }
+    ensures told { λ r. ⌜ r ≡ eqb (natAbs literal) 0 ⌝ }
 {
     let variable = Literal::new(literal).variable().0;
     variable == 0

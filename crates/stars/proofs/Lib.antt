@@ -1,1 +1,2 @@
+-- The laws of a clause put in as a star.
 pub mod Stars

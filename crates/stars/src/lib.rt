@@ -1,14 +1,16 @@
-// A clause put into loose rows: the chain of each of its existentials is joined to that of the deepest.
+// A clause put into loose rows as a star: the chain of each of its existentials is joined to that of the deepest, so that k literals cost k joins.
 // At every level on which two of them are allowed the deepest is allowed too, so these pairs connect all that the clause connects.
 
 use chains::merge;
 use formula::clauses::variable_at;
 use formula::truth::always_true;
+use terms::Literal;
 use terms::Variable;
 ghost use Prim.Native.Nat.{_+_};
 ghost use mathlib.Core.Path.{_≡_};
 ghost use mathlib.Core.List.{map};
 ghost use lib.ListN.{length, getD};
+ghost use Rattle.terms.specs.Limits.{variableRows};
 ghost use Rattle.terms.specs.Literals.{variableOf};
 ghost use Rattle.formula.specs.Lookup.{InRows, Stamps};
 ghost use Rattle.formula.specs.Meaning.{connected};
@@ -17,8 +19,10 @@ ghost use Rattle.stars.specs.Deepest.{Deepest};
 
 // The deepest existential of a clause; a variable of depth 0 where it has none.
 fn deepest(depths: &[u32], clause: &[i32]) -> Variable
-    requires { ⌜ (length (now depths) ≡ 4097) × (getD (now depths) 0 0 ≡ 0) × InRows (now clause) ⌝ }
-    ensures { λ r. ⌜ Deepest (now (depths .entry)) (now (clause .entry)) (r .0) ⌝ }
+    requires sized { ⌜ length (now depths) ≡ variableRows ⌝ }
+    requires zero { ⌜ getD (now depths) 0 0 ≡ 0 ⌝ }
+    requires literals { ⌜ InRows (now clause) ⌝ }
+    ensures deepest { λ r. ⌜ Deepest (now (depths .entry)) (now (clause .entry)) (r .0) ⌝ }
 {
     let mut found: u32 = 0;
     let mut depth: u32 = 0;
@@ -46,8 +50,11 @@ fn join_all(
     clause: &[i32],
     deep: Variable,
 )
-    requires { ⌜ Growing (now depths) (now classes) (now parents) × InRows (now clause) × Deepest (now depths) (now clause) (deep .0) ⌝ }
-    ensures { λ r. ⌜ Grew (now (depths .entry)) (now (classes .entry)) (now (parents .entry)) (map variableOf (now (clause .entry))) (now (classes .exit)) (now (parents .exit)) ⌝ }
+    requires rows { ⌜ Growing (now depths) (now classes) (now parents) ⌝ }
+    requires literals { ⌜ InRows (now clause) ⌝ }
+    requires deepest { ⌜ Deepest (now depths) (now clause) (deep .0) ⌝ }
+    ensures joined { λ r. ⌜ Grew (now (depths .entry)) (now (classes .entry)) (now (parents .entry)) (map variableOf (now (clause .entry)))
+        (now (classes .exit)) (now (parents .exit)) ⌝ }
 {
     let mut i = 0;
     while i < clause.len() {
@@ -64,7 +71,7 @@ fn join_all(
     }
 }
 
-// Puts a clause into the rows; one that is always true connects nothing. `seen` and the stamp are for telling that.
+// Puts a clause into the rows; one that is always true connects nothing, which is told by the stamps in `seen`.
 pub fn put(
     depths: &[u32],
     classes: &mut [u32],
@@ -73,9 +80,12 @@ pub fn put(
     seen: &mut [u16],
     stamp: u16,
 )
-    requires { ⌜ Growing (now depths) (now classes) (now parents) × InRows (now clause) × Stamps (now seen) stamp ⌝ }
-    ensures { λ r. ⌜ Grew (now (depths .entry)) (now (classes .entry)) (now (parents .entry)) (connected (now (clause .entry))) (now (classes .exit)) (now (parents .exit)) ⌝ }
-    ensures { λ r. ⌜ Stamps (now (seen .exit)) (stamp + 1) ⌝ }
+    requires rows { ⌜ Growing (now depths) (now classes) (now parents) ⌝ }
+    requires literals { ⌜ InRows (now clause) ⌝ }
+    requires stamps { ⌜ Stamps (now seen) stamp ⌝ }
+    ensures joined { λ r. ⌜ Grew (now (depths .entry)) (now (classes .entry)) (now (parents .entry)) (connected (now (clause .entry)))
+        (now (classes .exit)) (now (parents .exit)) ⌝ }
+    ensures stamps { λ r. ⌜ Stamps (now (seen .exit)) (stamp + 1) ⌝ }
 {
     if always_true(clause, seen, stamp) {
         return;
@@ -84,11 +94,13 @@ pub fn put(
     join_all(depths, classes, parents, clause, deep);
 }
 
-// Puts a single clause into the rows.
+// Puts a single clause into the rows, with a new table of stamps.
 pub fn put_one(depths: &[u32], classes: &mut [u32], parents: &mut [u32], clause: &[i32])
-    requires { ⌜ Growing (now depths) (now classes) (now parents) × InRows (now clause) ⌝ }
-    ensures { λ r. ⌜ Grew (now (depths .entry)) (now (classes .entry)) (now (parents .entry)) (connected (now (clause .entry))) (now (classes .exit)) (now (parents .exit)) ⌝ }
+    requires rows { ⌜ Growing (now depths) (now classes) (now parents) ⌝ }
+    requires literals { ⌜ InRows (now clause) ⌝ }
+    ensures joined { λ r. ⌜ Grew (now (depths .entry)) (now (classes .entry)) (now (parents .entry)) (connected (now (clause .entry)))
+        (now (classes .exit)) (now (parents .exit)) ⌝ }
 {
-    let mut seen = [0u16; 8194];
+    let mut seen = [0u16; Literal::ROWS];
     put(depths, classes, parents, clause, &mut seen, 1);
 }

@@ -2,4 +2,3 @@
 pub mod Sizes
 pub mod Composed
 pub mod Filed
-pub mod Built

@@ -1,47 +1,45 @@
 -- How long the parts of a file are.
 use Prim.Native.Nat.{ℕ, _+_, _*_, _≤_}
 use mathlib.Core.Path.{_≡_}
-use mathlib.Core.List.{List}
 use native.Mathlib.Omega.{arith}
-use lib.IntN.{ℤ}
 use lib.ListN.{length, length-append}
+use Rattle.formula.specs.Lent.{Formula}
+use Rattle.tables.specs.Lent.{Rows}
 use Rattle.records.specs.Layout.{prefixRecord, clausesRecord, rowsRecord, closingRecord}
 use Rattle.records.proofs.Lengths.{prefix-length, clauses-length, rows-length, closing-length}
 use Rattle.encoding.specs.Parts.{closing}
-use Rattle.storing.specs.Parts.{formulaPart, frontOf, wholeOf, sizeOf}
+use Rattle.storing.specs.Parts.{formulaPart, frontOf, wholeOf, sizeOf, Small}
 
--- a file of tables within the limits is small
-pub size-most : (entries literals rows : ℕ) → entries ≤ 8192 → literals ≤ 16384 → rows ≤ 4096 → sizeOf entries literals rows ≤ 131100
-size-most entries literals rows a b c = omega arith
-
-pub formula-length : (n : ℕ) (es : List ℕ) (ls : List ℤ) → length (formulaPart n es ls) ≡ 14 + 2 * length es + 4 * length ls
+pub formula-length : (f : Formula) → length (formulaPart f) ≡ 14 + 2 * length (f .prefix) + 4 * length (f .clauses)
 unfolding formulaPart
-formula-length n es ls =
-    let l = length-append (prefixRecord n es) (clausesRecord ls) in
-    let a = prefix-length n es in
-    let b = clauses-length ls in
+formula-length f =
+    let l = length-append (prefixRecord (f .n) (f .prefix)) (clausesRecord (f .clauses)) in
+    let a = prefix-length (f .n) (f .prefix) in
+    let b = clauses-length (f .clauses) in
     omega arith
 
--- the front, of which the size is that of the file less its last record
-module _ (n : ℕ) (es : List ℕ) (ls : List ℤ) (classes parents counts : List ℕ) where
-  pub front-length : length parents ≡ length classes → length counts ≡ length classes → length (frontOf n es ls classes parents counts) + 8 ≡ sizeOf (length es) (length ls) (length classes)
-  unfolding frontOf
-  front-length p c =
-      let l = length-append (formulaPart n es ls) (rowsRecord classes parents counts) in
-      let f = formula-length n es ls in
-      let r = rows-length classes parents counts in
-      omega arith
+module _ (f : Formula) (r : Rows) where
+  abbrev pub size : ℕ
+  size = sizeOf (length (f .prefix)) (length (f .clauses)) (length (r .classes))
 
-  -- which is what the records of the formula and the one of its rows take
-  pub front-parts : length (frontOf n es ls classes parents counts) ≡ length (formulaPart n es ls) + length (rowsRecord classes parents counts)
+  -- the front is what the records of the formula and the one of its rows take
+  pub front-parts : length (frontOf f r) ≡ length (formulaPart f) + length (rowsRecord (r .classes) (r .parents) (r .counts))
   unfolding frontOf
-  front-parts = length-append (formulaPart n es ls) (rowsRecord classes parents counts)
+  front-parts = length-append (formulaPart f) (rowsRecord (r .classes) (r .parents) (r .counts))
 
-  pub whole-length : length parents ≡ length classes → length counts ≡ length classes → length (wholeOf n es ls classes parents counts) ≡ sizeOf (length es) (length ls) (length classes)
-  unfolding wholeOf
-  whole-length p c =
-      let front = frontOf n es ls classes parents counts in
-      let l = length-append front (closingRecord (closing front)) in
-      let f = front-length p c in
-      let e = closing-length (closing front) in
-      omega arith
+  module _ (small : Small f r) where
+    -- a file of tables within the limits is small
+    pub size-most : size ≤ 131100
+    size-most = omega (arith, small .entries, small .literals, small .few)
+
+    -- the size of the front is that of the file less its last record
+    pub front-length : length (frontOf f r) + 8 ≡ size
+    front-length = omega (arith, front-parts, formula-length f, rows-length (r .classes) (r .parents) (r .counts), small .parents-many, small .counts-many)
+
+    pub whole-length : length (wholeOf f r) ≡ size
+    unfolding wholeOf
+    whole-length =
+        let l = length-append (frontOf f r) (closingRecord (closing (frontOf f r))) in
+        let a = front-length in
+        let e = closing-length (closing (frontOf f r)) in
+        omega arith

@@ -1,46 +1,47 @@
-// Writing the file of a forest under a reading rule: the formula is checked and its forest is built.
+// Writing the file of a forest under a reading rule: the formula is judged once, and its forest is built.
 
 mod whole;
 
+use growth::building::build_sound;
+use joining::as_read;
+use joining::read_formula;
 use terms::Filled;
-use terms::Tally;
-use terms::Verdict;
+use terms::Level;
+use terms::Variable;
 use whole::store_file;
-ghost use mathlib.Core.Path.{_≡_};
-ghost use lib.ListN.{length, take};
-ghost use Rattle.terms.specs.Refusals.{NoneOf};
-ghost use Rattle.joining.specs.Rules.{readAs, checkOrderUnder};
-ghost use Rattle.records.specs.Layout.{ForestRows};
+ghost use Prim.Native.Nat.{_≤_};
+ghost use lib.ListN.{length};
+ghost use Rattle.terms.specs.Limits.{prefixEntries};
+ghost use Rattle.formula.specs.Lent.{formulaIn};
+ghost use Rattle.formula.specs.Levels.{SoundPrefix};
+ghost use Rattle.formula.specs.Lookup.{SoundClauses};
 ghost use Rattle.records.specs.Promises.{Stores};
-ghost use Rattle.storing.specs.Parts.{StoresAccepted};
+ghost use Rattle.storing.specs.Parts.{StoresRead};
 
 // Writes the file of a formula with its forest into a lent table; with the count of its bytes. The prefix is written as it is lent.
 pub fn store(rule: u32, n: u32, prefix: &[u32], clauses: &[i32], file: &mut [u8]) -> Filled
-    ensures { λ r. ⌜ Stores rule n (now (prefix .entry)) (now (clauses .entry)) (now (file .entry)) (now (file .exit)) r ⌝ }
+    ensures stored { λ r. ⌜ Stores rule (formulaIn n prefix clauses) (now (file .entry)) (now (file .exit)) r ⌝ }
 {
-    match ruled::check(rule, n, prefix, clauses) {
-        Verdict::Refused(number, place) => Filled::Refused(number, place),
-        Verdict::Accepted => store_sound(rule, n, prefix, clauses, file),
+    let mut joined = [0u32; Level::JOINED];
+    match read_formula(rule, n, prefix, clauses, &mut joined) {
+        Filled::Refused(number, place) => Filled::Refused(number, place),
+        Filled::Count(count) => {
+            let read = as_read(rule, prefix, &joined, count);
+            store_read(n, prefix, read, clauses, file)
+        }
     }
 }
 
-// The same, once the formula is accepted.
-fn store_sound(rule: u32, n: u32, prefix: &[u32], clauses: &[i32], file: &mut [u8]) -> Filled
-    requires { ⌜ NoneOf (checkOrderUnder rule n (now prefix) (now clauses)) ⌝ }
-    ensures { λ r. ⌜ StoresAccepted rule n (now (prefix .entry)) (now (clauses .entry)) (now (file .entry)) (now (file .exit)) r ⌝ }
+// Writes the file of an accepted formula, whose prefix is at hand as it is lent and as it is read: its forest is built in tables of its own, which
+// are never too short for it.
+fn store_read(n: u32, prefix: &[u32], read: &[u32], clauses: &[i32], file: &mut [u8]) -> Filled
+    requires sound { ⌜ SoundPrefix n (now read) × SoundClauses (now clauses) × (length (now prefix) ≤ prefixEntries) ⌝ }
+    ensures stored { λ r. ⌜ StoresRead (formulaIn n prefix clauses) (now (read .entry)) (now (file .entry)) (now (file .exit)) r ⌝ }
 {
-    let mut classes = [0u32; 4096];
-    let mut parents = [0u32; 4096];
-    let mut counts = [0u32; 4096];
-    fill_rows(
-        rule,
-        n,
-        prefix,
-        clauses,
-        &mut classes,
-        &mut parents,
-        &mut counts,
-    );
+    let mut classes = [0u32; Variable::MOST as usize];
+    let mut parents = [0u32; Variable::MOST as usize];
+    let mut counts = [0u32; Variable::MOST as usize];
+    build_sound(n, read, clauses, &mut classes, &mut parents, &mut counts);
     let rows = n as usize;
     store_file(
         n,
@@ -51,25 +52,4 @@ fn store_sound(rule: u32, n: u32, prefix: &[u32], clauses: &[i32], file: &mut [u
         &counts[..rows],
         file,
     )
-}
-
-// The forest of an accepted formula. Tables of 4,096 rows are never too short for it.
-fn fill_rows(
-    rule: u32,
-    n: u32,
-    prefix: &[u32],
-    clauses: &[i32],
-    classes: &mut [u32],
-    parents: &mut [u32],
-    counts: &mut [u32],
-)
-    requires { ⌜ NoneOf (checkOrderUnder rule n (now prefix) (now clauses)) × (length (now classes) ≡ 4096) × (length (now parents) ≡ 4096) × (length (now counts) ≡ 4096) ⌝ }
-    ensures { λ r. ⌜ ForestRows n (readAs rule (now (prefix .entry))) (now (clauses .entry)) (take n (now (classes .exit))) (take n (now (parents .exit))) (take n (now (counts .exit))) ⌝ }
-{
-    let none = Tally {
-        clauses: 0,
-        merges: 0,
-        classes: 0,
-    };
-    ruled::building::build_tallied(rule, n, prefix, clauses, classes, parents, counts, none);
 }

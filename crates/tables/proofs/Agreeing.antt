@@ -1,4 +1,5 @@
--- The level table agrees with the prefix on every variable that counts, so what is right by the one is right by the other; and no cause of refusal 12 means well formed.
+-- The level table agrees with the prefix on every variable that counts, so what is right by the one is right by the other; and no cause of refusal 12
+-- means well formed.
 use Prim.Native.Nat.{ℕ, _≤_}
 use mathlib.Core.Path.{_≡_, refl, sym, ap, _∙_}
 use mathlib.Core.Bool.{Bool, true, false, not, _&&_}
@@ -17,8 +18,10 @@ use Rattle.connection.specs.Tables.{Table, row, lent, ClassName, Row, WellForme
 use Rattle.connection.specs.Counts.{CountRow, Counted}
 use Rattle.connection.proofs.Counts.{row-is}
 use Rattle.connection.proofs.Counting.{counts-counted}
-use Rattle.tables.specs.Formula.{variables, universal, tabled, existentialIn, universalIn}
+use Rattle.tables.specs.Formula.{variables, universal}
+use Rattle.tables.specs.Tabled.{tabled, existentialIn, universalIn}
 use Rattle.tables.specs.Causes.{ForestCause, bad-row, bad-count}
+use Rattle.tables.specs.Lent.{rows}
 use Rattle.tables.specs.Rows.{rowsOf, FirstBad}
 use Rattle.tables.proofs.Formed.{bad-same}
 use Rattle.tables.proofs.Readings.{row-none, row-over, flag-over, flag-within}
@@ -39,10 +42,21 @@ module _ {X Y : Variables} (s : Same X Y) where
   row-same {W} {v} r =
       record {
         universal = λ u. r .universal (s .ex v ∙ u);
-        class = λ e. let k = r .class (s .ex v ∙ e) in record { most = k .most; name = class-same (k .name); block = sym (s .lev (W .cls v) (k .name .existential)) ∙ k .block ∙ s .lev v (s .ex v ∙ e) };
+        class = λ e. let k = r .class (s .ex v ∙ e) in
+            record {
+              most = k .most;
+              name = class-same (k .name);
+              block = sym (s .lev (W .cls v) (k .name .existential)) ∙ k .block
+                  ∙ s .lev v (s .ex v ∙ e);
+            };
         parent = λ some.
             let p = r .parent some in
-            record { child = class-same (p .child); name = class-same (p .name); less = let q = s .lev (W .par v) (p .name .existential) in let o = s .lev v (p .child .existential) in omega (arith, p .less) };
+            record {
+              child = class-same (p .child);
+              name = class-same (p .name);
+              less = let q = s .lev (W .par v) (p .name .existential) in
+                  let o = s .lev v (p .child .existential) in omega (arith, p .less);
+            };
       }
 
   pub formed-same : {W : Table} → WellFormed X W → WellFormed Y W
@@ -54,12 +68,22 @@ unfolding isExistential
 lawful n es = record { within = λ v e. let (a, b, _) = flag-within n v (not (isUniversal es v)) e in (a, b) }
 
 -- Rows that are right from 1 to n are well formed: outside nothing is existential and both rows read 0.
-pub rows-formed : {X : Variables} (classes parents : List ℕ) → Lawful X → ((v : ℕ) → 1 ≤ v → v ≤ X .count → Row X (lent X classes parents) v) → WellFormed X (lent X classes parents)
+pub rows-formed : {X : Variables} (classes parents : List ℕ) → Lawful X → ((v : ℕ) → 1 ≤ v → v ≤ X .count → Row X (lent X classes parents) v)
+    → WellFormed X (lent X classes parents)
 unfolding lent
-rows-formed {X} classes parents law rows = record { right = λ v. by-cases (decLe v (X .count)) (λ l. by-cases (ℕ-discrete v 0) (λ z. outside v (λ e. let w = law .within v e in let a = w .0 in omega arith) (λ rows. row-none (X .count) rows v z)) (λ some. rows v (omega arith) l)) (λ l. outside v (λ e. let w = law .within v e in let b = w .1 in omega arith) (λ rows. row-over (X .count) rows v (omega arith))) }
+rows-formed {X} classes parents law rows =
+    record {
+      right = λ v. by-cases (decLe v (X .count))
+          (λ l. by-cases (ℕ-discrete v 0)
+          (λ z. outside v (λ e. let w = law .within v e in let a = w .0 in omega arith) (λ rows. row-none (X .count) rows v z))
+          (λ some. rows v (omega arith) l)) (λ l. outside v (λ e. let w = law .within v e in let b = w .1 in omega arith)
+          (λ rows. row-over (X .count) rows v (omega arith)));
+    }
   where
-    outside : (v : ℕ) → (X .ex v ≡ true → ⊥) → ((rows : List ℕ) → row (X .count) rows v ≡ 0) → Row X (record { cls = row (X .count) classes; par = row (X .count) parents }) v
-    outside v none zero′ = record { universal = λ _. (zero′ classes, zero′ parents); class = λ e. absurd (none e); parent = λ some. absurd (some (zero′ parents)) }
+    outside : (v : ℕ) → (X .ex v ≡ true → ⊥) → ((rows : List ℕ) → row (X .count) rows v ≡ 0)
+        → Row X (record { cls = row (X .count) classes; par = row (X .count) parents }) v
+    outside v none zero′ =
+        record { universal = λ _. (zero′ classes, zero′ parents); class = λ e. absurd (none e); parent = λ some. absurd (some (zero′ parents)) }
 
 -- The level table of an accepted prefix.
 module _ {n : ℕ} {es levels : List ℕ} {universals : List Bool} (sound : SoundPrefix n es) (table : Levelled es levels universals) where
@@ -80,12 +104,14 @@ module _ {n : ℕ} {es levels : List ℕ} {universals : List Bool} (sound : Soun
   tables-agree = record { ex = λ v. flag-agrees not v; lev = λ v e. level-agrees v (flag-within n v (not (getD universals v false)) e .1) }
 
   -- The first bad row by the level table is the first one ...
-  pub bad-rows : (classes parents : List ℕ) {bad : ℕ} → FirstBad (Row (tabled n levels universals) (rowsOf n classes parents)) n bad → FirstBad (Row (variables n es) (lent (variables n es) classes parents)) n bad
+  pub bad-rows : (classes parents : List ℕ) {bad : ℕ} → FirstBad (Row (tabled n levels universals) (rowsOf n classes parents)) n bad
+      → FirstBad (Row (variables n es) (lent (variables n es) classes parents)) n bad
   unfolding lent
   bad-rows classes parents f = bad-same (λ v. (row-same tables-agree, row-same (same-back tables-agree))) f
 
   -- ... and where there is none the rows are well formed.
-  pub fine-rows : (classes parents : List ℕ) → FirstBad (Row (tabled n levels universals) (rowsOf n classes parents)) n 0 → WellFormed (variables n es) (lent (variables n es) classes parents)
+  pub fine-rows : (classes parents : List ℕ) → FirstBad (Row (tabled n levels universals) (rowsOf n classes parents)) n 0
+      → WellFormed (variables n es) (lent (variables n es) classes parents)
   fine-rows classes parents f = rows-formed classes parents (lawful n es) (λ v a b. bad-rows classes parents f .right v a b (λ z. absurd (z refl)))
 
 -- x universal is one of 1 to n
@@ -110,26 +136,43 @@ row-steady h =
       universal = λ u. (steady (λ n. h (λ r. n (r .universal u .0))), steady (λ n. h (λ r. n (r .universal u .1))));
       class = λ e. record {
         most = steady-less (λ n. h (λ r. n (r .class e .most)));
-        name = record { existential = steady-flag _ (λ n. h (λ r. n (r .class e .name .existential))); itself = steady (λ n. h (λ r. n (r .class e .name .itself))) };
+        name = record {
+          existential = steady-flag _ (λ n. h (λ r. n (r .class e .name .existential)));
+          itself = steady (λ n. h (λ r. n (r .class e .name .itself)));
+        };
         block = steady (λ n. h (λ r. n (r .class e .block)));
       };
       parent = λ p. record {
-        child = record { existential = steady-flag _ (λ n. h (λ r. n (r .parent p .child .existential))); itself = steady (λ n. h (λ r. n (r .parent p .child .itself))) };
-        name = record { existential = steady-flag _ (λ n. h (λ r. n (r .parent p .name .existential))); itself = steady (λ n. h (λ r. n (r .parent p .name .itself))) };
+        child = record {
+          existential = steady-flag _ (λ n. h (λ r. n (r .parent p .child .existential)));
+          itself = steady (λ n. h (λ r. n (r .parent p .child .itself)));
+        };
+        name = record {
+          existential = steady-flag _ (λ n. h (λ r. n (r .parent p .name .existential)));
+          itself = steady (λ n. h (λ r. n (r .parent p .name .itself)));
+        };
         less = steady-less (λ n. h (λ r. n (r .parent p .less)));
       };
     }
 
 -- No cause of refusal 12: the tables are well formed ...
-module _ {n : ℕ} {es classes parents counts : List ℕ} (none : None (ForestCause n es classes parents counts)) where
+module _ {n : ℕ} {es classes parents counts : List ℕ} (none : None (ForestCause n es (rows classes parents counts))) where
   pub none-formed : WellFormed (variables n es) (lent (variables n es) classes parents)
   none-formed = rows-formed classes parents (lawful n es) (λ v a b. row-steady (λ wrong. none 12 v (bad-row refl a b wrong)))
 
   -- ... and every count is right.
   pub none-counted : Counted (variables n es) (lent (variables n es) classes parents) (row n counts)
-  none-counted = record { right = λ v. by-cases (decLe v n) (λ l. by-cases (ℕ-discrete v 0) (λ z. outside v (λ e. let w = lawful n es .within v e in let a = w .0 in omega arith) (row-none n counts v z)) (λ some. inside v (omega arith) l)) (λ l. outside v (λ e. let w = lawful n es .within v e in let b = w .1 in omega arith) (row-over n counts v (omega arith))) }
+  none-counted =
+      record {
+        right = λ v. by-cases (decLe v n)
+            (λ l. by-cases (ℕ-discrete v 0)
+            (λ z. outside v (λ e. let w = lawful n es .within v e in let a = w .0 in omega arith) (row-none n counts v z))
+            (λ some. inside v (omega arith) l)) (λ l. outside v (λ e. let w = lawful n es .within v e in let b = w .1 in omega arith)
+            (row-over n counts v (omega arith)));
+      }
     where
-      outside : (v : ℕ) → (variables n es .ex v ≡ true → ⊥) → row n counts v ≡ 0 → CountRow (variables n es) (lent (variables n es) classes parents) (row n counts) v
+      outside : (v : ℕ) → (variables n es .ex v ≡ true → ⊥) → row n counts v ≡ 0
+          → CountRow (variables n es) (lent (variables n es) classes parents) (row n counts) v
       outside v no′ z = record { class = λ c. absurd (no′ (c .existential)); none = λ _. z }
 
       inside : (v : ℕ) → 1 ≤ v → v ≤ n → CountRow (variables n es) (lent (variables n es) classes parents) (row n counts) v

@@ -69,7 +69,8 @@ module _ (n : ℕ) (es classes parents : List ℕ) (formed : FormedBy n es class
       go false un = absurd (some (formed .right v .universal un .0))
 
   pub class-small : (v : ℕ) → n ≤ 4096 → row n classes v < 4097
-  class-small v few = by-cases (ℕ-discrete (row n classes v) 0) (λ z. omega arith) (λ some. let w = class-within v (has-class v some) in let b = w .1 in omega arith)
+  class-small v few =
+      by-cases (ℕ-discrete (row n classes v) 0) (λ z. omega arith) (λ some. let w = class-within v (has-class v some) in let b = w .1 in omega arith)
 
   -- The members of each class, one variable after another.
   pub members-none : {table : List ℕ} → length table ≡ 4097 → ((v : ℕ) → getD table v 0 ≡ 0) → Counting (Placed X W 0) table
@@ -78,7 +79,8 @@ module _ (n : ℕ) (es classes parents : List ℕ) (formed : FormedBy n es class
   pub members-over : {m : ℕ} {table : List ℕ} → row n classes (m + 1) ≡ 0 → Counting (Placed X W m) table → Counting (Placed X W (m + 1)) table
   members-over {m} z k = record { size = k .size; rows = placed-over (no-class (m + 1) z) (k .rows) }
 
-  pub members-more : {m c : ℕ} {table : List ℕ} → n ≤ 4096 → c ≡ row n classes (m + 1) → c ≢ 0 → Counting (Placed X W m) table → Counting (Placed X W (m + 1)) (set table c (getD table c 0 + 1))
+  pub members-more : {m c : ℕ} {table : List ℕ} → n ≤ 4096 → c ≡ row n classes (m + 1) → c ≢ 0 → Counting (Placed X W m) table
+      → Counting (Placed X W (m + 1)) (set table c (getD table c 0 + 1))
   unfolding lent
   members-more {m} {c} {table} few is some k =
       let small = class-small (m + 1) few in
@@ -86,7 +88,8 @@ module _ (n : ℕ) (es classes parents : List ℕ) (formed : FormedBy n es class
       record {
         size = length-set table c (getD table c 0 + 1) ∙ k .size;
         rows = placed-more (has-class (m + 1) (λ z. some (is ∙ z)))
-            (subst (λ (d : ℕ). getD (set table c (getD table c 0 + 1)) d 0 ≡ getD table d 0 + 1) is (getD-set-same table c (getD table c 0 + 1) 0 (omega arith)))
+            (subst (λ (d : ℕ). getD (set table c (getD table c 0 + 1)) d 0 ≡ getD table d 0 + 1) is
+            (getD-set-same table c (getD table c 0 + 1) 0 (omega arith)))
             (λ d other. getD-set-other table c d (getD table c 0 + 1) 0 (λ q. other (q ∙ is)))
             (k .rows);
       }
@@ -102,7 +105,12 @@ module _ (n : ℕ) (es classes parents : List ℕ) (formed : FormedBy n es class
     passing-most k c = numbered-most (λ v w. lawful n es .within v (w .existential)) (k .rows .row c)
 
     pub passing-none : {i : ℕ} {table : List ℕ} → length es ≤ i → Counting (Placed X W n) table → Passing i table
-    passing-none l k = record { size = k .size; rows = placed-all (lawful n es) (λ c d some. let (e, over, there, is) = d in let within = there .0 in omega arith) (k .rows) }
+    passing-none l k =
+        record {
+          size = k .size;
+          rows = placed-all (lawful n es) (λ c d some. let (e, over, there, is) = d in let within = there .0 in omega arith)
+              (k .rows);
+        }
 
     -- An entry that names nothing.
     pub passing-over : {i : ℕ} {table : List ℕ} → (VariableAt es i → ⊥) → Passing (i + 1) table → Passing i table
@@ -112,7 +120,9 @@ module _ (n : ℕ) (es classes parents : List ℕ) (formed : FormedBy n es class
         wider c d = let (e, over, there, is) = d in (e, omega arith, there, is)
 
         narrower : (c : ℕ) → NamedFrom es i c → NamedFrom es (i + 1) c
-        narrower c d = let (e, over, there, is) = d in (e, by-cases (ℕ-discrete e i) (λ q. absurd (none (subst (VariableAt es) q there))) (λ other. omega arith), there, is)
+        narrower c d =
+            let (e, over, there, is) = d in
+            (e, by-cases (ℕ-discrete e i) (λ q. absurd (none (subst (VariableAt es) q there))) (λ other. omega arith), there, is)
 
     module _ {i : ℕ} (there : VariableAt es i) where
       finishes : Finishes (NamedFrom es (i + 1)) (at es i) (NamedFrom es i)
@@ -143,7 +153,8 @@ module _ (n : ℕ) (es classes parents : List ℕ) (formed : FormedBy n es class
           (λ some. subst (Passing i) (sym (passed-some table (at es i) some))
           (record {
             size = length-set table p _ ∙ k .size;
-            rows = pass-up formed finishes some undone (parent-undone some) (getD-set-same table p _ 0 (small some)) (λ c other. getD-set-other table p c _ 0 other) (k .rows);
+            rows = pass-up formed finishes some undone (parent-undone some) (getD-set-same table p _ 0 (small some))
+                (λ c other. getD-set-other table p c _ 0 other) (k .rows);
           }))
         where
           p : ℕ
@@ -158,7 +169,9 @@ module _ (n : ℕ) (es classes parents : List ℕ) (formed : FormedBy n es class
 
     pub parent-small : (w : ℕ) → n ≤ 4096 → row n parents w < 4097
     unfolding lent
-    parent-small w few = by-cases (ℕ-discrete (row n parents w) 0) (λ z. omega arith) (λ some. let k = lawful n es .within (row n parents w) (formed .right w .parent some .name .existential) in let b = k .1 in omega arith)
+    parent-small w few =
+        by-cases (ℕ-discrete (row n parents w) 0) (λ z. omega arith)
+        (λ some. let k = lawful n es .within (row n parents w) (formed .right w .parent some .name .existential) in let b = k .1 in omega arith)
 
     -- Where the whole prefix is passed, every class that has a parent is: a parent stands in a lesser block, and so its child in one that names it.
     pub passing-all : {table : List ℕ} → Passing 0 table → CountsOf n es classes parents table

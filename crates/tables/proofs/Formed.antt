@@ -13,8 +13,10 @@ use Rattle.terms.proofs.Verdicts.{first-at}
 use Rattle.connection.specs.Reach.{Variables}
 use Rattle.connection.specs.Tables.{Table, row, lent, ClassName, ClassRow, ParentRow, Row, WellFormed}
 use Rattle.connection.specs.Counts.{CountRow}
-use Rattle.tables.specs.Formula.{variables, tabled, existentialIn}
+use Rattle.tables.specs.Formula.{variables}
+use Rattle.tables.specs.Tabled.{tabled, existentialIn}
 use Rattle.tables.specs.Causes.{ForestCause, short, bad-row, bad-count}
+use Rattle.tables.specs.Lent.{rows}
 use Rattle.tables.specs.Rows.{rowsOf, FirstBad}
 
 module _ (n : ℕ) (levels : List ℕ) (universals : List Bool) (classes parents : List ℕ) where
@@ -60,7 +62,9 @@ module _ (n : ℕ) (levels : List ℕ) (universals : List Bool) (classes parents
   -- A class row that is its own name.
   pub class-own : (v k : ℕ) → k ≡ row n classes v → k ≡ v → existentialIn n universals v ≡ true → ClassRow X W v
   unfolding lent
-  class-own v k is same ex = class-right v k (getD levels k 0) (getD levels v 0) is (omega arith) (subst Named (sym same) (ex, sym is ∙ same)) refl refl (ap (λ c. getD levels c 0) same)
+  class-own v k is same ex =
+      class-right v k (getD levels k 0) (getD levels v 0) is (omega arith) (subst Named (sym same) (ex, sym is ∙ same)) refl refl
+      (ap (λ c. getD levels c 0) same)
 
   -- A parent row, from what the parent p says; and what a right one says of p.
   pub parent-right : (v p b o : ℕ) → p ≡ row n parents v → Named v → Named p → b ≡ getD levels p 0 → o ≡ getD levels v 0 → b < o → ParentRow X W v
@@ -74,30 +78,46 @@ module _ (n : ℕ) (levels : List ℕ) (universals : List Bool) (classes parents
 
   pub parent-block : (v p b o : ℕ) → p ≡ row n parents v → b ≡ getD levels p 0 → o ≡ getD levels v 0 → ParentRow X W v → b < o
   unfolding lent
-  parent-block v p b o is block own r = let less : getD levels p 0 < getD levels v 0 = subst (λ c. getD levels c 0 < getD levels v 0) (sym is) (r .less) in omega arith
+  parent-block v p b o is block own r =
+      let less : getD levels p 0 < getD levels v 0 = subst (λ c. getD levels c 0 < getD levels v 0) (sym is) (r .less) in omega arith
 
 -- The class row does not depend on the parents.
-pub class-alone : (n : ℕ) (levels : List ℕ) (universals : List Bool) (classes ps qs : List ℕ) {v : ℕ} → ClassRow (X n levels universals classes ps) (W n levels universals classes ps) v → ClassRow (X n levels universals classes qs) (W n levels universals classes qs) v
+pub class-alone : (n : ℕ) (levels : List ℕ) (universals : List Bool) (classes ps qs : List ℕ) {v : ℕ}
+    → ClassRow (X n levels universals classes ps) (W n levels universals classes ps) v
+    → ClassRow (X n levels universals classes qs) (W n levels universals classes qs) v
 unfolding lent
-class-alone n levels universals classes ps qs r = record { most = r .most; name = record { existential = r .name .existential; itself = r .name .itself }; block = r .block }
+class-alone n levels universals classes ps qs r =
+    record { most = r .most; name = record { existential = r .name .existential; itself = r .name .itself }; block = r .block }
 
-module _ (n : ℕ) (levels : List ℕ) (universals : List Bool) (classes parents : List ℕ) (v k p : ℕ) (class-is : k ≡ row n classes v) (parent-is : p ≡ row n parents v) where
+module _ (n : ℕ) (levels : List ℕ) (universals : List Bool) (classes parents : List ℕ) (v k p : ℕ) (class-is : k ≡ row n classes v)
+    (parent-is : p ≡ row n parents v) where
   -- The rows of an existential ...
-  pub existential-right : existentialIn n universals v ≡ true → ClassRow (X n levels universals classes parents) (W n levels universals classes parents) v → (p ≢ 0 → ParentRow (X n levels universals classes parents) (W n levels universals classes parents) v) → Row (X n levels universals classes parents) (W n levels universals classes parents) v
+  pub existential-right : existentialIn n universals v ≡ true
+      → ClassRow (X n levels universals classes parents) (W n levels universals classes parents) v
+      → (p ≢ 0 → ParentRow (X n levels universals classes parents) (W n levels universals classes parents) v)
+      → Row (X n levels universals classes parents) (W n levels universals classes parents) v
   unfolding lent
-  existential-right ex class parent = record { universal = λ u. absurd (clash ex u); class = λ _. class; parent = λ some. parent (λ z. some (sym parent-is ∙ z)) }
+  existential-right ex class parent =
+      record { universal = λ u. absurd (clash ex u); class = λ _. class; parent = λ some. parent (λ z. some (sym parent-is ∙ z)) }
 
   -- ... and of any other variable.
-  pub universal-right : existentialIn n universals v ≡ false → k ≡ 0 → p ≡ 0 → Row (X n levels universals classes parents) (W n levels universals classes parents) v
+  pub universal-right : existentialIn n universals v ≡ false → k ≡ 0 → p ≡ 0
+      → Row (X n levels universals classes parents) (W n levels universals classes parents) v
   unfolding lent
   universal-right un zk zp =
-      record { universal = λ _. (sym class-is ∙ zk, sym parent-is ∙ zp); class = λ ex. absurd (clash ex un); parent = λ some. absurd (some (sym parent-is ∙ zp)) }
+      record {
+        universal = λ _. (sym class-is ∙ zk, sym parent-is ∙ zp);
+        class = λ ex. absurd (clash ex un);
+        parent = λ some. absurd (some (sym parent-is ∙ zp));
+      }
 
-  pub universal-class : existentialIn n universals v ≡ false → Row (X n levels universals classes parents) (W n levels universals classes parents) v → (k ≡ 0) × (p ≡ 0)
+  pub universal-class : existentialIn n universals v ≡ false → Row (X n levels universals classes parents) (W n levels universals classes parents) v
+      → (k ≡ 0) × (p ≡ 0)
   unfolding lent
   universal-class un r = (class-is ∙ r .universal un .0, parent-is ∙ r .universal un .1)
 
-  pub row-parent : p ≢ 0 → Row (X n levels universals classes parents) (W n levels universals classes parents) v → ParentRow (X n levels universals classes parents) (W n levels universals classes parents) v
+  pub row-parent : p ≢ 0 → Row (X n levels universals classes parents) (W n levels universals classes parents) v
+      → ParentRow (X n levels universals classes parents) (W n levels universals classes parents) v
   unfolding lent
   row-parent some r = r .parent (λ z. some (parent-is ∙ z))
 
@@ -120,7 +140,8 @@ module _ (P : ℕ → Type 0) (n : ℕ) where
 
 -- The first bad row of what holds alike.
 pub bad-same : {P Q : ℕ → Type 0} {n bad : ℕ} → ((v : ℕ) → P v ↔ Q v) → FirstBad P n bad → FirstBad Q n bad
-bad-same {bad = bad} same f = record { right = λ v a b first. same v .0 (f .right v a b first); wrong = λ some. let w = f .wrong some in (w .0, λ q. w .1 (same bad .1 q)) }
+bad-same {bad = bad} same f =
+    record { right = λ v a b first. same v .0 (f .right v a b first); wrong = λ some. let w = f .wrong some in (w .0, λ q. w .1 (same bad .1 q)) }
 
 -- No table is too short.
 all-long : {n c p k : ℕ} → n ≤ c → n ≤ p → n ≤ k → (c < n) ⊎ (p < n) ⊎ (k < n) → ⊥
@@ -130,33 +151,36 @@ all-long a b d (inr (inr l)) = omega arith
 
 -- A forest's verdict: tables that are too short, the first bad row, and once the rows are well formed the first bad count.
 module _ {n : ℕ} {es classes parents counts : List ℕ} where
-  low : (k p : ℕ) → ForestCause n es classes parents counts k p → 12 ≤ k
+  low : (k p : ℕ) → ForestCause n es (rows classes parents counts) k p → 12 ≤ k
   low k p (short q _ _) = omega arith
   low k p (bad-row q _ _ _) = omega arith
   low k p (bad-count q _ _ _ _) = omega arith
 
-  pub forest-short : (length classes < n) ⊎ (length parents < n) ⊎ (length counts < n) → First (ForestCause n es classes parents counts) 12 0
+  pub forest-short : (length classes < n) ⊎ (length parents < n) ⊎ (length counts < n) → First (ForestCause n es (rows classes parents counts)) 12 0
   forest-short small = first-at (λ e l. absurd (omega arith)) (short refl refl small) (λ k. low k 0)
 
   module _ (long : n ≤ length classes) (long′ : n ≤ length parents) (long″ : n ≤ length counts) where
-    pub forest-bad : (bad : ℕ) → bad ≢ 0 → FirstBad (Row (variables n es) (lent (variables n es) classes parents)) n bad → First (ForestCause n es classes parents counts) 12 bad
+    pub forest-bad : (bad : ℕ) → bad ≢ 0 → FirstBad (Row (variables n es) (lent (variables n es) classes parents)) n bad
+        → First (ForestCause n es (rows classes parents counts)) 12 bad
     forest-bad bad some f = first-at clean (bad-row refl (omega arith) (f .wrong some .0) (f .wrong some .1)) (λ k. low k bad)
       where
-        clean : (e : ℕ) → e < bad → (k : ℕ) → ForestCause n es classes parents counts k e → ⊥
+        clean : (e : ℕ) → e < bad → (k : ℕ) → ForestCause n es (rows classes parents counts) k e → ⊥
         clean e l k (short _ _ small) = all-long long long′ long″ small
         clean e l k (bad-row _ some′ most wrong) = wrong (f .right e some′ most (λ _. l))
         clean e l k (bad-count _ _ _ formed _) = f .wrong some .1 (formed .right bad)
 
     module _ (formed : WellFormed (variables n es) (lent (variables n es) classes parents)) where
-      pub forest-miscounted : (bad : ℕ) → bad ≢ 0 → FirstBad (CountRow (variables n es) (lent (variables n es) classes parents) (row n counts)) n bad → First (ForestCause n es classes parents counts) 12 bad
+      pub forest-miscounted : (bad : ℕ) → bad ≢ 0 → FirstBad (CountRow (variables n es) (lent (variables n es) classes parents) (row n counts)) n bad
+          → First (ForestCause n es (rows classes parents counts)) 12 bad
       forest-miscounted bad some f = first-at clean (bad-count refl (omega arith) (f .wrong some .0) formed (f .wrong some .1)) (λ k. low k bad)
         where
-          clean : (e : ℕ) → e < bad → (k : ℕ) → ForestCause n es classes parents counts k e → ⊥
+          clean : (e : ℕ) → e < bad → (k : ℕ) → ForestCause n es (rows classes parents counts) k e → ⊥
           clean e l k (short _ _ small) = all-long long long′ long″ small
           clean e l k (bad-row _ some′ most wrong) = wrong (formed .right e)
           clean e l k (bad-count _ some′ most _ wrong) = wrong (f .right e some′ most (λ _. l))
 
-      pub forest-fine : FirstBad (CountRow (variables n es) (lent (variables n es) classes parents) (row n counts)) n 0 → None (ForestCause n es classes parents counts)
+      pub forest-fine : FirstBad (CountRow (variables n es) (lent (variables n es) classes parents) (row n counts)) n 0
+          → None (ForestCause n es (rows classes parents counts))
       forest-fine f k e (short _ _ small) = all-long long long′ long″ small
       forest-fine f k e (bad-row _ some most wrong) = wrong (formed .right e)
       forest-fine f k e (bad-count _ some most _ wrong) = wrong (f .right e some most (λ z. absurd (z refl)))

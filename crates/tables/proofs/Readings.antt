@@ -35,7 +35,9 @@ row-stored n rows v x some l long = row-at n (set rows (v - 1) x) v some l ∙ g
 
 pub row-kept : (n : ℕ) (rows : List ℕ) (v x w : ℕ) → v ≢ 0 → w ≢ v → row n (set rows (v - 1) x) w ≡ row n rows w
 row-kept n rows v x w some other = by-cases (ℕ-discrete w 0) (λ z. row-none n (set rows (v - 1) x) w z ∙ sym (row-none n rows w z))
-    (λ named. by-cases (decLe w n) (λ l. row-at n (set rows (v - 1) x) w named l ∙ getD-set-other rows (v - 1) (w - 1) x 0 (λ q. other (omega arith)) ∙ sym (row-at n rows w named l))
+    (λ named. by-cases (decLe w n)
+    (λ l. row-at n (set rows (v - 1) x) w named l ∙ getD-set-other rows (v - 1) (w - 1) x 0 (λ q. other (omega arith))
+    ∙ sym (row-at n rows w named l))
     (λ l. row-over n (set rows (v - 1) x) w (omega arith) ∙ sym (row-over n rows w (omega arith))))
 
 -- A flag of a variable from 1 to n is itself, and any other is none.
@@ -72,4 +74,6 @@ told-both false there back h = λ q. h (back q)
 
 -- In a new table all rows are 0.
 pub new-zero : (k v : ℕ) → getD (replicate {A = ℕ} k 0) v 0 ≡ 0
-new-zero k v = by-cases (decLt v k) (λ l. getD-replicate {A = ℕ} k v 0 0 l) (λ l. List·getD-eq-default (replicate {A = ℕ} k 0) 0 {n = v} (let q = length-replicate {A = ℕ} k 0 in omega arith))
+new-zero k v =
+    by-cases (decLt v k) (λ l. getD-replicate {A = ℕ} k v 0 0 l)
+    (λ l. List·getD-eq-default (replicate {A = ℕ} k 0) 0 {n = v} (let q = length-replicate {A = ℕ} k 0 in omega arith))

@@ -7,13 +7,17 @@ use lib.ListN.{length}
 use Rattle.connection.specs.Tables.{row, lent, Row, WellFormed}
 use Rattle.connection.specs.Counts.{CountRow}
 use Rattle.tables.specs.Formula.{variables}
+use Rattle.tables.specs.Lent.{Rows}
 
--- 12: forest tables lent as input not well formed
-pub data ForestCause (n : ℕ) (es classes parents counts : List ℕ) (number place : ℕ) : Type 0 where
+-- 12: forest tables lent as input not well formed, by n and the prefix
+pub data ForestCause (n : ℕ) (es : List ℕ) (r : Rows) (number place : ℕ) : Type 0 where
   -- shorter than n: place 0
-  short : number ≡ 12 → place ≡ 0 → (length classes < n) ⊎ (length parents < n) ⊎ (length counts < n) → ForestCause n es classes parents counts number place
+  short : number ≡ 12 → place ≡ 0 → (length (r .classes) < n) ⊎ (length (r .parents) < n) ⊎ (length (r .counts) < n)
+      → ForestCause n es r number place
   -- else the variable of a bad row of class names or parents
-  bad-row : number ≡ 12 → 1 ≤ place → place ≤ n → (Row (variables n es) (lent (variables n es) classes parents) place → ⊥) → ForestCause n es classes parents counts number place
+  bad-row : number ≡ 12 → 1 ≤ place → place ≤ n → (Row (variables n es) (lent (variables n es) (r .classes) (r .parents)) place → ⊥)
+      → ForestCause n es r number place
   -- and once all of these are well formed, of a bad count
-  bad-count : number ≡ 12 → 1 ≤ place → place ≤ n → WellFormed (variables n es) (lent (variables n es) classes parents)
-      → (CountRow (variables n es) (lent (variables n es) classes parents) (row n counts) place → ⊥) → ForestCause n es classes parents counts number place
+  bad-count : number ≡ 12 → 1 ≤ place → place ≤ n → WellFormed (variables n es) (lent (variables n es) (r .classes) (r .parents))
+      → (CountRow (variables n es) (lent (variables n es) (r .classes) (r .parents)) (row n (r .counts)) place → ⊥)
+      → ForestCause n es r number place

@@ -1,10 +1,9 @@
--- A lent formula as the theory of connection takes it: its variables, the joins of its clauses, and those of a variable by its sign; and the same variables as the level table has them.
+-- A lent formula as the theory of connection takes it: its variables, the joins of its clauses, and those of a variable by its sign.
 use Prim.Native.Nat.{ℕ}
-use mathlib.Core.Bool.{Bool, true, false, not, _&&_}
+use mathlib.Core.Bool.{Bool, true, false, _&&_}
 use mathlib.Core.List.{List, map, List·Memᴰ}
 use lib.Dec.{leb}
 use lib.IntN.{ℤ, pos, negℤ}
-use lib.ListN.{getD}
 use Rattle.formula.specs.Meaning.{level, isUniversal, isExistential, clauses, connected}
 use Rattle.connection.specs.Reach.{Variables, Joined}
 
@@ -35,13 +34,3 @@ pub record SharesBy (ls : List ℤ) (sign : Bool) (x y : ℕ) : Type 0 where
   pub listed : List·Memᴰ clause (clauses ls)
   pub literal : List·Memᴰ (signed sign x) clause
   pub connects : List·Memᴰ y (connected clause)
-
--- What the level table says, row v for variable v: existential, universal, and the variables as a whole.
-unfoldable pub existentialIn : ℕ → List Bool → ℕ → Bool
-existentialIn n universals v = leb 1 v && leb v n && not (getD universals v false)
-
-unfoldable pub universalIn : ℕ → List Bool → ℕ → Bool
-universalIn n universals v = leb 1 v && leb v n && getD universals v false
-
-abbrev pub tabled : ℕ → List ℕ → List Bool → Variables
-tabled n levels universals = record { count = n; lev = λ v. getD levels v 0; ex = existentialIn n universals }

@@ -11,12 +11,11 @@ ghost use mathlib.Core.List.{[], _∷_};
 ghost use lib.ListN.{length, getD};
 ghost use Rattle.terms.specs.Refusals.{Judged};
 ghost use Rattle.formula.specs.Levels.{SoundPrefix, Levelled};
-ghost use Rattle.connection.specs.Tables.{row, lent};
-ghost use Rattle.connection.specs.Counts.{CountRow};
-ghost use Rattle.tables.specs.Formula.{variables};
+ghost use Rattle.connection.specs.Tables.{row};
 ghost use Rattle.tables.specs.Causes.{ForestCause};
+ghost use Rattle.tables.specs.Lent.{rowsIn};
 ghost use Rattle.tables.specs.Rows.{FirstBad};
-ghost use Rattle.tables.specs.Counting.{FormedBy};
+ghost use Rattle.tables.specs.Counting.{FormedBy, RightCount};
 
 // Refused as 12 at the first bad row, then at the first bad count; at 0 where a table is shorter than n. The level table is that of the prefix.
 pub fn check_forest(
@@ -28,8 +27,8 @@ pub fn check_forest(
     parents: &[u32],
     counts: &[u32],
 ) -> Verdict
-    requires { ⌜ SoundPrefix n (now prefix) × Levelled (now prefix) (now levels) (now universals) ⌝ }
-    ensures { λ r. ⌜ Judged (ForestCause n (now (prefix .entry)) (now (classes .entry)) (now (parents .entry)) (now (counts .entry)) ∷ []) r ⌝ }
+    requires levelled { ⌜ SoundPrefix n (now prefix) × Levelled (now prefix) (now levels) (now universals) ⌝ }
+    ensures judged { λ r. ⌜ Judged (ForestCause n (now (prefix .entry)) (rowsIn classes parents counts) ∷ []) r ⌝ }
 {
     let size = n as usize;
     if classes.len() < size {
@@ -54,18 +53,19 @@ pub fn check_forest(
 
 // The first variable whose count is not right, 0 where all are.
 fn first_miscounted(n: u32, prefix: &[u32], classes: &[u32], parents: &[u32], counts: &[u32]) -> u32
-    requires { ⌜ SoundPrefix n (now prefix) × FormedBy n (now prefix) (now classes) (now parents) ⌝ }
-    ensures { λ r. ⌜ FirstBad (CountRow (variables n (now (prefix .entry))) (lent (variables n (now (prefix .entry))) (now (classes .entry)) (now (parents .entry))) (row n (now (counts .entry)))) n r ⌝ }
+    requires sound { ⌜ SoundPrefix n (now prefix) ⌝ }
+    requires formed { ⌜ FormedBy n (now prefix) (now classes) (now parents) ⌝ }
+    ensures first { λ r. ⌜ FirstBad (RightCount n (now (prefix .entry)) (now (classes .entry)) (now (parents .entry)) (now (counts .entry))) n r ⌝ }
 {
-    let mut right = [0u32; 4097];
+    let mut right = [0u32; Variable::ROWS];
     fill_counts(n, prefix, classes, parents, &mut right);
     first_other(n, &right, counts)
 }
 
 // The first variable whose row is another than that of a table with row v for the variable v, 0 where none is.
 fn first_other(n: u32, table: &[u32], rows: &[u32]) -> u32
-    requires { ⌜ n < length (now table) ⌝ }
-    ensures { λ r. ⌜ FirstBad (λ v. row n (now (rows .entry)) v ≡ getD (now (table .entry)) v 0) n r ⌝ }
+    requires rows { ⌜ n < length (now table) ⌝ }
+    ensures first { λ r. ⌜ FirstBad (λ v. row n (now (rows .entry)) v ≡ getD (now (table .entry)) v 0) n r ⌝ }
 {
     let mut passed: u32 = 0;
     while passed < n {

@@ -7,18 +7,18 @@ ghost use Prim.Native.Nat.{ℕ, _≤_, _<_};
 ghost use mathlib.Core.Path.{_≡_};
 ghost use mathlib.Core.List.{List};
 ghost use lib.ListN.{length, getD};
+ghost use Rattle.terms.specs.Limits.{mostVariables, variableRows};
 ghost use Rattle.formula.specs.Tables.{VariableAt};
 ghost use Rattle.formula.specs.Levels.{SoundPrefix};
-ghost use Rattle.connection.specs.Tables.{row, lent};
-ghost use Rattle.connection.specs.Passing.{Placed};
-ghost use Rattle.tables.specs.Formula.{variables};
+ghost use Rattle.connection.specs.Tables.{row};
 ghost use Rattle.tables.specs.Rows.{Tells};
-ghost use Rattle.tables.specs.Counting.{Counting, FormedBy, ForClasses, passedUp, CountsOf};
+ghost use Rattle.tables.specs.Counting.{FormedBy, ForClasses, MembersTo, passedUp, CountsOf, PassesUp};
 
 // Fills a table, which is 0 throughout, with the counts of well-formed rows.
 pub fn fill_counts(n: u32, prefix: &[u32], classes: &[u32], parents: &[u32], counts: &mut [u32])
-    requires { ⌜ SoundPrefix n (now prefix) × FormedBy n (now prefix) (now classes) (now parents) × (length (now counts) ≡ 4097) × ((v : ℕ) → getD (now counts) v 0 ≡ 0) ⌝ }
-    ensures { λ r. ⌜ CountsOf n (now (prefix .entry)) (now (classes .entry)) (now (parents .entry)) (now (counts .exit)) ⌝ }
+    requires ready { ⌜ SoundPrefix n (now prefix) × FormedBy n (now prefix) (now classes) (now parents)
+        × (length (now counts) ≡ variableRows) × ((v : ℕ) → getD (now counts) v 0 ≡ 0) ⌝ }
+    ensures counted { λ r. ⌜ CountsOf n (now (prefix .entry)) (now (classes .entry)) (now (parents .entry)) (now (counts .exit)) ⌝ }
 {
     count_members(n, classes, counts);
     pass_all_up(n, prefix, parents, counts);
@@ -26,8 +26,11 @@ pub fn fill_counts(n: u32, prefix: &[u32], classes: &[u32], parents: &[u32], cou
 
 // Counts each variable in its class.
 fn count_members(n: u32, classes: &[u32], counts: &mut [u32])
-    requires { ⌜ (n ≤ 4096) × (length (now counts) ≡ 4097) × ((v : ℕ) → getD (now counts) v 0 ≡ 0) × ((es : List ℕ) × (parents : List ℕ) × FormedBy n es (now classes) parents) ⌝ }
-    ensures { λ r. ⌜ ForClasses n (now (classes .entry)) (λ es parents. Counting (Placed (variables n es) (lent (variables n es) (now (classes .entry)) parents) n) (now (counts .exit))) ⌝ }
+    requires few { ⌜ n ≤ mostVariables ⌝ }
+    requires size { ⌜ length (now counts) ≡ variableRows ⌝ }
+    requires zeros { ⌜ ((v : ℕ) → getD (now counts) v 0 ≡ 0) ⌝ }
+    requires formed { ⌜ ((es : List ℕ) × (parents : List ℕ) × FormedBy n es (now classes) parents) ⌝ }
+    ensures members { λ r. ⌜ ForClasses n (now (classes .entry)) (λ es parents. MembersTo n es (now (classes .entry)) parents n (now (counts .exit))) ⌝ }
 {
     let mut passed: u32 = 0;
     while passed < n {
@@ -45,8 +48,10 @@ fn count_members(n: u32, classes: &[u32], counts: &mut [u32])
 
 // Passes the count of each class up to its parent, the deepest first.
 fn pass_all_up(n: u32, prefix: &[u32], parents: &[u32], counts: &mut [u32])
-    requires { ⌜ SoundPrefix n (now prefix) × ((classes : List ℕ) × FormedBy n (now prefix) classes (now parents) × Counting (Placed (variables n (now prefix)) (lent (variables n (now prefix)) classes (now parents)) n) (now counts)) ⌝ }
-    ensures { λ r. ⌜ ((classes : List ℕ) → FormedBy n (now (prefix .entry)) classes (now (parents .entry)) → Counting (Placed (variables n (now (prefix .entry))) (lent (variables n (now (prefix .entry))) classes (now (parents .entry))) n) (now (counts .entry)) → CountsOf n (now (prefix .entry)) classes (now (parents .entry)) (now (counts .exit))) ⌝ }
+    requires sound { ⌜ SoundPrefix n (now prefix) ⌝ }
+    requires members { ⌜ ((classes : List ℕ) × FormedBy n (now prefix) classes (now parents)
+        × MembersTo n (now prefix) classes (now parents) n (now counts)) ⌝ }
+    ensures counted { λ r. ⌜ PassesUp n (now (prefix .entry)) (now (parents .entry)) (now (counts .entry)) (now (counts .exit)) ⌝ }
 {
     let mut i = prefix.len();
     while 0 < i {
@@ -59,8 +64,8 @@ fn pass_all_up(n: u32, prefix: &[u32], parents: &[u32], counts: &mut [u32])
 
 // Whether an entry of a prefix names a variable: it is no 0, and neither is the one before it.
 fn names_at(prefix: &[u32], i: usize) -> bool
-    requires { ⌜ i < length (now prefix) ⌝ }
-    ensures { λ r. ⌜ Tells r (VariableAt (now (prefix .entry)) i) ⌝ }
+    requires within { ⌜ i < length (now prefix) ⌝ }
+    ensures tells { λ r. ⌜ Tells r (VariableAt (now (prefix .entry)) i) ⌝ }
 {
     if prefix[i] == 0 {
         return false;
@@ -76,8 +81,10 @@ fn names_at(prefix: &[u32], i: usize) -> bool
 
 // Passes the count of w up to its parent, if it has one.
 fn pass_up(n: u32, w: Variable, parents: &[u32], counts: &mut [u32])
-    requires { ⌜ (w .0 < length (now counts)) × (row n (now parents) (w .0) < length (now counts)) × ((v : ℕ) → getD (now counts) v 0 ≤ 4096) ⌝ }
-    ensures { λ r. ⌜ now (counts .exit) ≡ passedUp (row n (now (parents .entry)) (w .0)) (w .0) (now (counts .entry)) ⌝ }
+    requires own { ⌜ w .0 < length (now counts) ⌝ }
+    requires parent { ⌜ row n (now parents) (w .0) < length (now counts) ⌝ }
+    requires small { ⌜ ((v : ℕ) → getD (now counts) v 0 ≤ mostVariables) ⌝ }
+    ensures passed { λ r. ⌜ now (counts .exit) ≡ passedUp (row n (now (parents .entry)) (w .0)) (w .0) (now (counts .entry)) ⌝ }
 {
     let parent = row_of(n, parents, w);
     if parent.0 == 0 {

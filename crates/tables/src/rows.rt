@@ -2,14 +2,12 @@
 
 use terms::Level;
 use terms::Variable;
-ghost use Prim.Native.Nat.{_<_};
 ghost use mathlib.Core.Path.{_≡_};
-ghost use mathlib.Core.Bool.{true, false};
-ghost use mathlib.Core.List.{[]};
+ghost use mathlib.Core.Bool.{false};
 ghost use lib.ListN.{getD};
-ghost use Rattle.connection.specs.Tables.{row, ClassRow, ParentRow, Row};
-ghost use Rattle.tables.specs.Formula.{existentialIn, universalIn, tabled};
-ghost use Rattle.tables.specs.Rows.{Tells, rowsOf, FirstBad};
+ghost use Rattle.connection.specs.Tables.{row};
+ghost use Rattle.tables.specs.Tabled.{existentialIn, universalIn};
+ghost use Rattle.tables.specs.Rows.{Tells, NamesClass, RightClass, RightParent, RightRow, FirstBad};
 
 // The first variable whose rows are not right, 0 where all are.
 pub fn first_bad(
@@ -19,7 +17,7 @@ pub fn first_bad(
     classes: &[u32],
     parents: &[u32],
 ) -> u32
-    ensures { λ r. ⌜ FirstBad (Row (tabled n (now (levels .entry)) (now (universals .entry))) (rowsOf n (now (classes .entry)) (now (parents .entry)))) n r ⌝ }
+    ensures first { λ r. ⌜ FirstBad (RightRow n (now (levels .entry)) (now (universals .entry)) (now (classes .entry)) (now (parents .entry))) n r ⌝ }
 {
     let mut passed = 0;
     while passed < n {
@@ -42,7 +40,7 @@ fn row_is_right(
     parents: &[u32],
     v: Variable,
 ) -> bool
-    ensures { λ r. ⌜ Tells r (Row (tabled n (now (levels .entry)) (now (universals .entry))) (rowsOf n (now (classes .entry)) (now (parents .entry))) (v .0)) ⌝ }
+    ensures tells { λ r. ⌜ Tells r (RightRow n (now (levels .entry)) (now (universals .entry)) (now (classes .entry)) (now (parents .entry)) (v .0)) ⌝ }
 {
     let class = row_of(n, classes, v);
     let parent = row_of(n, parents, v);
@@ -69,7 +67,7 @@ fn row_is_right(
 
 // Whether the class row of v is right: at most v, a class name, and of v's block.
 fn class_is_right(n: u32, levels: &[u32], universals: &[bool], classes: &[u32], v: Variable) -> bool
-    ensures { λ r. ⌜ Tells r (ClassRow (tabled n (now (levels .entry)) (now (universals .entry))) (rowsOf n (now (classes .entry)) []) (v .0)) ⌝ }
+    ensures tells { λ r. ⌜ Tells r (RightClass n (now (levels .entry)) (now (universals .entry)) (now (classes .entry)) (v .0)) ⌝ }
 {
     let class = row_of(n, classes, v);
     if v.0 < class.0 {
@@ -95,8 +93,8 @@ fn parent_is_right(
     parents: &[u32],
     v: Variable,
 ) -> bool
-    requires { ⌜ (existentialIn n (now universals) (v .0) ≡ true) × (row n (now classes) (v .0) ≡ v .0) ⌝ }
-    ensures { λ r. ⌜ Tells r (ParentRow (tabled n (now (levels .entry)) (now (universals .entry))) (rowsOf n (now (classes .entry)) (now (parents .entry))) (v .0)) ⌝ }
+    requires name { ⌜ NamesClass n (now universals) (now classes) (v .0) ⌝ }
+    ensures tells { λ r. ⌜ Tells r (RightParent n (now (levels .entry)) (now (universals .entry)) (now (classes .entry)) (now (parents .entry)) (v .0)) ⌝ }
 {
     let parent = row_of(n, parents, v);
     if !names_class(n, universals, classes, parent) {
@@ -112,7 +110,7 @@ fn parent_is_right(
 
 // Whether c is a class name: an existential that names itself.
 fn names_class(n: u32, universals: &[bool], classes: &[u32], c: Variable) -> bool
-    ensures { λ r. ⌜ Tells r ((existentialIn n (now (universals .entry)) (c .0) ≡ true) × (row n (now (classes .entry)) (c .0) ≡ c .0)) ⌝ }
+    ensures tells { λ r. ⌜ Tells r (NamesClass n (now (universals .entry)) (now (classes .entry)) (c .0)) ⌝ }
 {
     if !existential_at(n, universals, c) {
         return false;
@@ -126,7 +124,7 @@ fn names_class(n: u32, universals: &[bool], classes: &[u32], c: Variable) -> boo
 
 // What lent rows say of v: row v - 1, and 0 for a variable outside 1 to n.
 pub fn row_of(n: u32, rows: &[u32], v: Variable) -> Variable
-    ensures { λ r. ⌜ r .0 ≡ row n (now (rows .entry)) (v .0) ⌝ }
+    ensures read { λ r. ⌜ r .0 ≡ row n (now (rows .entry)) (v .0) ⌝ }
 {
     let number = v.0;
     if number == 0 {
@@ -145,7 +143,7 @@ pub fn row_of(n: u32, rows: &[u32], v: Variable) -> Variable
 
 // The level of v by the level table; 0 past its end.
 pub fn level_at(levels: &[u32], v: Variable) -> Level
-    ensures { λ r. ⌜ r .0 ≡ getD (now (levels .entry)) (v .0) 0 ⌝ }
+    ensures read { λ r. ⌜ r .0 ≡ getD (now (levels .entry)) (v .0) 0 ⌝ }
 {
     let at = v.0 as usize;
     if at < levels.len() {
@@ -157,7 +155,7 @@ pub fn level_at(levels: &[u32], v: Variable) -> Level
 
 // The flag of v; none past the end of the table.
 pub fn flag_at(flags: &[bool], v: Variable) -> bool
-    ensures { λ r. ⌜ r ≡ getD (now (flags .entry)) (v .0) false ⌝ }
+    ensures read { λ r. ⌜ r ≡ getD (now (flags .entry)) (v .0) false ⌝ }
 {
     let at = v.0 as usize;
     if at < flags.len() { flags[at] } else { false }
@@ -165,7 +163,7 @@ pub fn flag_at(flags: &[bool], v: Variable) -> bool
 
 // Whether v is one of the variables 1 to n and existential.
 pub fn existential_at(n: u32, universals: &[bool], v: Variable) -> bool
-    ensures { λ r. ⌜ r ≡ existentialIn n (now (universals .entry)) (v .0) ⌝ }
+    ensures told { λ r. ⌜ r ≡ existentialIn n (now (universals .entry)) (v .0) ⌝ }
 {
     if v.0 == 0 {
         return false;
@@ -178,7 +176,7 @@ pub fn existential_at(n: u32, universals: &[bool], v: Variable) -> bool
 
 // Whether v is one of the variables 1 to n and universal.
 pub fn universal_at(n: u32, universals: &[bool], v: Variable) -> bool
-    ensures { λ r. ⌜ r ≡ universalIn n (now (universals .entry)) (v .0) ⌝ }
+    ensures told { λ r. ⌜ r ≡ universalIn n (now (universals .entry)) (v .0) ⌝ }
 {
     if v.0 == 0 {
         return false;

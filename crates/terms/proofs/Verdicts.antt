@@ -10,7 +10,8 @@ use Rattle.terms.specs.declared.Verdict.the-variants.{Accepted, Refused}
 use Rattle.terms.specs.Refusals.{Causes, At0, None, First, FirstOf, NoneOf, Judged}
 
 -- A cause that has none to its left, and no lower number at its place, is the first.
-pub first-at : {causes : Causes} {number place : ℕ} → ((e : ℕ) → e < place → (k : ℕ) → causes k e → ⊥) → causes number place → ((k : ℕ) → causes k place → number ≤ k) → First causes number place
+pub first-at : {causes : Causes} {number place : ℕ} → ((e : ℕ) → e < place → (k : ℕ) → causes k e → ⊥) → causes number place
+    → ((k : ℕ) → causes k place → number ≤ k) → First causes number place
 first-at {place = place} clean here low =
     record { holds = here; leftmost = λ k e cause. let left : ¬ (e < place) = λ l. clean e l k cause in omega arith; lowest = low }
 

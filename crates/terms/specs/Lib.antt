@@ -1,5 +1,9 @@
-pub mod Answers
+-- What to believe of the words of the library: limits, literals, refusals and answers. Pairs is inner.
 pub mod Limits
 pub mod Literals
-pub mod Pairs
 pub mod Refusals
+pub mod Listed
+pub mod Answers
+-- Inner, which nobody needs to believe.
+pub mod LiteralRows
+pub mod Pairs

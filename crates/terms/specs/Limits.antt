@@ -28,3 +28,14 @@ literalRows = 8194
 -- the most entries of a prefix whose neighbouring blocks are joined: all variables, and a mark and a 0 for each block
 abbrev pub joinedEntries : ℕ
 joinedEntries = 4224
+
+-- the largest variable count of a formula of which resolution paths are asked
+abbrev pub mostResolutionVariables : ℕ
+mostResolutionVariables = 512
+
+-- the rows of a table with one for each number from 0 to that, and of one with two for each, one for each literal
+abbrev pub resolutionRows : ℕ
+resolutionRows = 513
+
+abbrev pub resolutionLiteralRows : ℕ
+resolutionLiteralRows = 1026

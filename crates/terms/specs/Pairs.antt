@@ -1,4 +1,4 @@
--- Two numbers in one row of a table, each less than 65,536.
+-- Inner: two numbers in one row of a table, each less than 65,536. No promise of a call rests on it.
 use Prim.Native.Nat.{ℕ, _/_, _%_}
 
 abbrev pub lowOf : ℕ → ℕ

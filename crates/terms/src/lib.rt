@@ -1,9 +1,12 @@
-// The words of the library: variables, levels and literals, kept apart at compile time, with the limits of each, and the verdict of a call.
+// The words of the library: variables, levels and literals, kept apart at compile time, with the limits of each, and what calls answer.
 
 pub mod pairs;
 
+ghost use Prim.Native.Nat.{_≤_};
 ghost use mathlib.Core.Path.{_≡_};
-ghost use Rattle.terms.specs.Literals.{variableOf, rowOf, otherRow};
+ghost use lib.IntN.{pos, negℤ};
+ghost use Rattle.terms.specs.Literals.{mostLiteral, variableOf};
+ghost use Rattle.terms.specs.LiteralRows.{rowBy, rowOf, otherRow};
 
 // A variable by its number, from 1 on; 0 stands for none.
 pub struct Variable(pub u32);
@@ -19,11 +22,32 @@ impl Variable {
     pub const MOST: u32 = 4096;
     // The rows of a table with one for each number from 0 to that: row v is for variable v.
     pub const ROWS: usize = 4097;
+    // The largest variable count of a formula of which resolution paths are asked.
+    pub const RESOLUTION_MOST: u32 = 512;
+    // The rows of a table with one for each number from 0 to that.
+    pub const RESOLUTION_ROWS: usize = 513;
 
     pub fn new(number: u32) -> Variable
-        ensures { λ r. ⌜ r .0 ≡ number ⌝ }
+        ensures holds { λ r. ⌜ r .0 ≡ number ⌝ }
     {
         Variable(number)
+    }
+
+    // The literal of the variable.
+    pub fn literal(self) -> Literal
+        requires fits { ⌜ self .0 ≤ mostLiteral ⌝ }
+        ensures plain { λ r. ⌜ r .0 ≡ pos (self .0) ⌝ }
+    {
+        Literal(self.0 as i32)
+    }
+
+    // The literal of its negation.
+    pub fn negation(self) -> Literal
+        requires fits { ⌜ self .0 ≤ mostLiteral ⌝ }
+        ensures negated { λ r. ⌜ r .0 ≡ negℤ (pos (self .0)) ⌝ }
+    {
+        let literal = self.0 as i32;
+        Literal(-literal)
     }
 }
 
@@ -34,9 +58,11 @@ impl Level {
     pub const ENTRIES: usize = 8192;
     // The most that it may have once neighbouring blocks are joined: all variables, and a mark and a 0 for each block.
     pub const JOINED: usize = 4224;
+    // A number that no block has and that nothing is deeper than: a pass over the universals begins with the tops over it, which are none.
+    pub const NONE_DEEPER: u32 = 4294967295;
 
     pub fn new(number: u32) -> Level
-        ensures { λ r. ⌜ r .0 ≡ number ⌝ }
+        ensures holds { λ r. ⌜ r .0 ≡ number ⌝ }
     {
         Level(number)
     }
@@ -47,48 +73,48 @@ impl Literal {
     pub const ENTRIES: usize = 16384;
     // The rows of a table with two for each number from 0 to the largest variable count, one for each literal.
     pub const ROWS: usize = 8194;
+    // The rows of such a table where resolution paths are asked for.
+    pub const RESOLUTION_ROWS: usize = 1026;
 
     pub fn new(number: i32) -> Literal
-        ensures { λ r. ⌜ r .0 ≡ number ⌝ }
+        ensures holds { λ r. ⌜ r .0 ≡ number ⌝ }
     {
         Literal(number)
     }
 
     // The variable of any literal, the smallest 32-bit one included.
     pub fn variable(self) -> Variable
-        ensures { λ r. ⌜ r .0 ≡ variableOf (self .0) ⌝ }
+        ensures own { λ r. ⌜ r .0 ≡ variableOf (self .0) ⌝ }
     {
         Variable(magnitude(self.0))
     }
 
     // The row of the literal in a table with two rows for each variable: 2v for v, and the next for its negation.
     pub fn row(self) -> usize
-        ensures { λ r. ⌜ r ≡ rowOf (self .0) ⌝ }
+        ensures own { λ r. ⌜ r ≡ rowOf (self .0) ⌝ }
     {
-        let half = magnitude(self.0) as usize;
-        if self.0 < 0 {
-            half + half + 1
-        } else {
-            half + half
-        }
+        row_by(magnitude(self.0), self.0 < 0)
     }
 
     // The row of the literal with the other sign.
     pub fn other_row(self) -> usize
-        ensures { λ r. ⌜ r ≡ otherRow (self .0) ⌝ }
+        ensures other { λ r. ⌜ r ≡ otherRow (self .0) ⌝ }
     {
-        let half = magnitude(self.0) as usize;
-        if self.0 < 0 {
-            half + half
-        } else {
-            half + half + 1
-        }
+        row_by(magnitude(self.0), !(self.0 < 0))
     }
+}
+
+// The first or the second row of a variable in a table with two for each.
+fn row_by(variable: u32, second: bool) -> usize
+    ensures chosen { λ r. ⌜ r ≡ rowBy variable second ⌝ }
+{
+    let half = variable as usize;
+    if second { half + half + 1 } else { half + half }
 }
 
 // The magnitude of any 32-bit number, with no negation that could wrap: the complement of a negative number is one less.
 fn magnitude(number: i32) -> u32
-    ensures { λ r. ⌜ r ≡ variableOf number ⌝ }
+    ensures size { λ r. ⌜ r ≡ variableOf number ⌝ }
 {
     if number < 0 {
         let below = !number;
@@ -112,6 +138,52 @@ pub enum Filled {
     Refused(u32, usize),
 }
 
+// What the entry point call says: the class and the number of rises, or the number of the refusal and its place.
+pub enum EntryAnswer {
+    At(Variable, u32),
+    // the number of the refusal, and its place
+    Refused(u32, usize),
+}
+
+// What reading a text says: n and the counts of the entries of its prefix and of its clauses, or the number of the refusal and its place.
+pub enum Reading {
+    Read {
+        n: u32,
+        prefix: usize,
+        clauses: usize,
+    },
+    // the number of the refusal, and its place
+    Refused(u32, usize),
+}
+
+// What reading a text with dependency lists says: beside those counts that of the entries of its lists.
+pub enum ListedReading {
+    Read {
+        n: u32,
+        prefix: usize,
+        clauses: usize,
+        lists: usize,
+    },
+    // the number of the refusal, and its place
+    Refused(u32, usize),
+}
+
+// What expanding a universal says: n of the result, and how many entries its prefix and its clause table have; or the number of the refusal and
+// its place.
+pub enum Expanded {
+    Formula(u32, u32, u32),
+    // the number of the refusal, and its place
+    Refused(u32, usize),
+}
+
+// What reading a file says: n, how many entries its prefix and its clause table have, and whether it has sets; or the number of the refusal and
+// its place.
+pub enum Loaded {
+    Formula(u32, usize, usize, bool),
+    // the number of the refusal, and its place
+    Refused(u32, usize),
+}
+
 // Which dependencies are asked for: the standard ones, reached from clauses that have x in either sign, or the strict ones, reached both from
 // clauses with x and from clauses with its negation.
 pub enum Scheme {
@@ -124,6 +196,12 @@ pub struct Tally {
     pub clauses: u32,
     pub merges: u32,
     pub classes: u32,
+}
+
+// What a call that keeps a tally comes to: its answer, and the tally afterwards.
+pub struct Tallied {
+    pub answer: Filled,
+    pub tally: Tally,
 }
 
 impl Tally {

@@ -1,5 +1,5 @@
 -- The chains that tie a universal to its clauses: in which clause an entry stands, and how the chains grow entry by entry.
-use Prim.Native.Nat.{ℕ, suc, _+_, _-_, _*_, _/_, _%_, _≤_, _<_}
+use Prim.Native.Nat.{ℕ, suc, _+_, _-_, _≤_, _<_}
 use mathlib.Core.Path.{_≡_, refl, sym, ap, _∙_, subst}
 use mathlib.Core.Bool.{Bool, true, false}
 use mathlib.Core.List.{List}
@@ -11,6 +11,7 @@ use lib.IntN.{ℤ}
 use lib.ListN.{length, getD, set, take, drop}
 use lib.Seq.{getD-set-same, getD-set-other}
 use Rattle.terms.specs.Literals.{variableOf}
+use Rattle.terms.specs.Pairs.{lowOf, highOf}
 use Rattle.terms.proofs.Common.{clash}
 use Rattle.formula.specs.Tables.{literalAt}
 use Rattle.formula.specs.Meaning.{alwaysTrue}
@@ -23,7 +24,8 @@ opens-at : {ls : List ℤ} {s : ℕ} → Begins ls s → (s ≡ 0) ⊎ (variable
 opens-at (first q) = inl q
 opens-at {ls} {s} (after b z _ next l q) = inr (let e : s - 1 ≡ z = omega arith in ap (λ i. variableOf (literalAt ls i)) e ∙ next .closes l)
 
-not-before : (ls : List ℤ) {s t p : ℕ} → (t ≡ 0) ⊎ (variableOf (literalAt ls (t - 1)) ≡ 0) → s < t → t ≤ p → ((e : ℕ) → s ≤ e → e < p → variableOf (literalAt ls e) ≢ 0) → ⊥
+not-before : (ls : List ℤ) {s t p : ℕ} → (t ≡ 0) ⊎ (variableOf (literalAt ls (t - 1)) ≡ 0) → s < t → t ≤ p
+    → ((e : ℕ) → s ≤ e → e < p → variableOf (literalAt ls e) ≢ 0) → ⊥
 not-before ls (inl z) l m literals = omega arith
 not-before ls {t = t} (inr q) l m literals = literals (t - 1) (omega arith) (omega arith) q
 
@@ -61,40 +63,59 @@ on-set : {next : List ℕ} {p k i : ℕ} (a : ℕ) → ((r : ℕ) → On next r 
 on-set a all here = here
 on-set {next} {p} {k} {i} a all (later {q = q} o) =
     let less = all q here in
-    later (subst (On (set next i a) p) (sym (ap (λ row. row % 65536) (getD-set-other next i q a 0 (λ e. omega arith)))) (on-set a (λ r o′. all r (later o′)) o))
+    later (subst (On (set next i a) p) (sym (ap lowOf (getD-set-other next i q a 0 (λ e. omega arith)))) (on-set a (λ r o′. all r (later o′)) o))
 
 on-unset : {next : List ℕ} {p k j i : ℕ} (a : ℕ) → k ≡ j → ((r : ℕ) → On next r j → r < i) → On (set next i a) p k → On next p j
 on-unset {p = p} a e all here = on-here p (sym e)
 on-unset {next} {p} {k} {j} {i} a e all (later {q = q} o) =
     let less = all q (on-here q (sym e)) in
-    on-later q (sym e) (on-unset a (ap (λ row. row % 65536) (getD-set-other next i q a 0 (λ e. omega arith))) (λ r o′. all r (on-later q (sym e) o′)) o)
+    on-later q (sym e) (on-unset a (ap lowOf (getD-set-other next i q a 0 (λ e. omega arith))) (λ r o′. all r (on-later q (sym e) o′)) o)
 
--- The tables at first, past entries of no universal, and past one of a universal: in a clause that is always true, in one that it is tied to, and in one that it is tied to now.
+-- The tables at first, past entries of no universal, and past one of a universal: in a clause that is always true, in one that it is tied to, and in
+-- one that it is tied to now.
 pub threaded-none : (ls : List ℤ) (universals : List Bool) (heads next : List ℕ) → ((x : ℕ) → getD heads x 0 ≡ 0) → Threaded ls universals heads next 0
 threaded-none ls universals heads next none = record { sound = λ x p o. absurd (on-some o (none x)); complete = λ x s p u l. absurd (omega arith) }
 
 noted-more : {ls : List ℤ} {next : List ℕ} {i x p : ℕ} (k : ℕ) → i ≤ k → Noted ls next i x p → Noted ls next k x p
-noted-more k low n = record { before = let l = n .before in omega arith; falls = n .falls; start = n .start; begun = n .begun; inside = n .inside; connecting = n .connecting; is = n .is }
+noted-more k low n =
+    record {
+      before = let l = n .before in omega arith;
+      falls = n .falls;
+      start = n .start;
+      begun = n .begun;
+      inside = n .inside;
+      connecting = n .connecting;
+      is = n .is;
+    }
 
 module _ {ls : List ℤ} {universals : List Bool} {heads next : List ℕ} {i : ℕ} (t : Threaded ls universals heads next i) where
   -- nothing to be tied at entry i
-  pass-entry : ((x s : ℕ) → getD universals x false ≡ true → Inside ls s i → Connecting ls s → variableOf (literalAt ls i) ≡ x → (q : ℕ) × On next q (getD heads x 0) × Inside ls s q) → Threaded ls universals heads next (i + 1)
+  pass-entry : ((x s : ℕ) → getD universals x false ≡ true → Inside ls s i → Connecting ls s → variableOf (literalAt ls i) ≡ x
+      → (q : ℕ) × On next q (getD heads x 0) × Inside ls s q) → Threaded ls universals heads next (i + 1)
   pass-entry done =
       record {
         sound = λ x p o. noted-more (i + 1) (omega arith) (t .sound x p o);
-        complete = λ x s p u l inside plain is. by-cases (ℕ-discrete p i) (λ q. done x s u (subst (Inside ls s) q inside) plain (ap (λ e. variableOf (literalAt ls e)) (sym q) ∙ is)) (λ other. t .complete x s p u (omega arith) inside plain is);
+        complete =
+            λ x s p u l inside plain is. by-cases (ℕ-discrete p i)
+            (λ q. done x s u (subst (Inside ls s) q inside) plain (ap (λ e. variableOf (literalAt ls e)) (sym q) ∙ is))
+            (λ other. t .complete x s p u (omega arith) inside plain is);
       }
 
   -- no entry from i up to k is of a universal
-  pub threaded-jump : (k : ℕ) → i ≤ k → ((p : ℕ) → i ≤ p → p < k → variableOf (literalAt ls p) ≢ 0 → getD universals (variableOf (literalAt ls p)) false ≡ true → ⊥) → Threaded ls universals heads next k
+  pub threaded-jump : (k : ℕ) → i ≤ k
+      → ((p : ℕ) → i ≤ p → p < k → variableOf (literalAt ls p) ≢ 0 → getD universals (variableOf (literalAt ls p)) false ≡ true → ⊥)
+      → Threaded ls universals heads next k
   threaded-jump k low none =
       record {
         sound = λ x p o. noted-more k low (t .sound x p o);
-        complete = λ x s p u l inside plain is. by-cases (decLt p i) (λ before. t .complete x s p u before inside plain is) (λ over. absurd (none p (omega arith) l (inside .literals p (inside .from) (omega arith)) (ap (λ w. getD universals w false) is ∙ u)));
+        complete =
+            λ x s p u l inside plain is. by-cases (decLt p i) (λ before. t .complete x s p u before inside plain is)
+            (λ over. absurd (none p (omega arith) l (inside .literals p (inside .from) (omega arith)) (ap (λ w. getD universals w false) is ∙ u)));
       }
 
   -- an entry of a clause that is always true
-  pub threaded-skip : {start : ℕ} {skip : Bool} {seen : List ℕ} → Inside ls start i → Skipping ls start skip seen → skip ≡ true → Threaded ls universals heads next (i + 1)
+  pub threaded-skip : {start : ℕ} {skip : Bool} {seen : List ℕ} → Inside ls start i → Skipping ls start skip seen → skip ≡ true
+      → Threaded ls universals heads next (i + 1)
   threaded-skip {start} inside′ skips yes′ =
       pass-entry (λ x s u inside plain is. absurd (clash (sym (skips .told) ∙ yes′) (same (inside-one inside inside′) plain)))
     where
@@ -107,47 +128,47 @@ module _ {ls : List ℤ} {universals : List Bool} {heads next : List ℕ} {i : �
     pub threaded-tied : (start last : ℕ) → Inside ls start i → last ≡ getD heads v 0 → start < last → Threaded ls universals heads next (i + 1)
     threaded-tied start last inside′ is-last l = pass-entry tied
       where
-        tied : (x s : ℕ) → getD universals x false ≡ true → Inside ls s i → Connecting ls s → variableOf (literalAt ls i) ≡ x → (q : ℕ) × On next q (getD heads x 0) × Inside ls s q
+        tied : (x s : ℕ) → getD universals x false ≡ true → Inside ls s i → Connecting ls s → variableOf (literalAt ls i) ≡ x
+            → (q : ℕ) × On next q (getD heads x 0) × Inside ls s q
         tied x s u inside plain is =
             let q = last - 1 in
             let same : s ≡ start = inside-one inside inside′ in
-            let on : On next q (getD heads x 0) = on-here q (let e : last ≡ suc (last - 1) = omega arith in ap (λ w. getD heads w 0) (sym (own ∙ is)) ∙ sym is-last ∙ e) in
+            let on : On next q (getD heads x 0) = on-here q
+            (let e : last ≡ suc (last - 1) = omega arith in ap (λ w. getD heads w 0) (sym (own ∙ is)) ∙ sym is-last ∙ e) in
             let less = t .sound x q on .before in
             (q, on, inside-between q inside (omega arith) (omega arith))
 
-    -- the new entry in front of the chain of its variable
-    module _ (start last : ℕ) (inside′ : Inside ls start i) (connecting′ : Connecting ls start) (is-last : last ≡ getD heads v 0) (low : last ≤ start) (short : i < 16384) (room : v < length heads) (room′ : i < length next) where
+    -- the new entry in front of the chain of its variable, with a row that holds what comes after it and the start of its clause
+    module _ (start last row : ℕ) (inside′ : Inside ls start i) (connecting′ : Connecting ls start) (is-last : last ≡ getD heads v 0) (low : last ≤ start)
+        (packed : (lowOf row ≡ last) × (highOf row ≡ start)) (room : v < length heads) (room′ : i < length next) where
       abbrev heads′ : List ℕ
       heads′ = set heads v (i + 1)
 
       abbrev next′ : List ℕ
-      next′ = set next i (start * 65536 + last)
+      next′ = set next i row
 
       head-own : getD heads′ v 0 ≡ suc i
       head-own = getD-set-same heads v (i + 1) 0 room ∙ add-one i
 
-      row-own : getD next′ i 0 ≡ start * 65536 + last
-      row-own = getD-set-same next i (start * 65536 + last) 0 room′
-
       link-own : linkAt next′ i ≡ getD heads v 0
-      link-own = let q = row-own in let f = inside′ .from in omega arith
+      link-own = ap lowOf (getD-set-same next i row 0 room′) ∙ packed .0 ∙ is-last
 
       start-own : startAt next′ i ≡ start
-      start-own = let q = row-own in let f = inside′ .from in omega arith
+      start-own = ap highOf (getD-set-same next i row 0 room′) ∙ packed .1
 
       before-all : (x r : ℕ) → On next r (getD heads x 0) → r < i
       before-all x r o = t .sound x r o .before
 
       row-other : (p : ℕ) → p < i → getD next′ p 0 ≡ getD next p 0
-      row-other p l = getD-set-other next i p (start * 65536 + last) 0 (λ q. omega arith)
+      row-other p l = getD-set-other next i p row 0 (λ q. omega arith)
 
       noted-still : {x p : ℕ} → Noted ls next i x p → Noted ls next′ (i + 1) x p
       noted-still {x} {p} n =
           record {
             before = let l = n .before in omega arith;
-            falls = subst (λ row. row % 65536 ≤ p) (sym (row-other p (n .before))) (n .falls);
+            falls = subst (λ r. lowOf r ≤ p) (sym (row-other p (n .before))) (n .falls);
             start = n .start;
-            begun = ap (λ row. row / 65536) (row-other p (n .before)) ∙ n .begun;
+            begun = ap highOf (row-other p (n .before)) ∙ n .begun;
             inside = n .inside;
             connecting = n .connecting;
             is = n .is;
@@ -168,24 +189,28 @@ module _ {ls : List ℤ} {universals : List Bool} {heads next : List ℕ} {i : �
             connecting = connecting′;
             is = ap (λ e. variableOf (literalAt ls e)) q ∙ sym own;
           }
-      sound-own p (inr o) = noted-still (t .sound v p (on-unset (start * 65536 + last) link-own (before-all v) o))
+      sound-own p (inr o) = noted-still (t .sound v p (on-unset row link-own (before-all v) o))
 
       pub threaded-now : Threaded ls universals heads′ next′ (i + 1)
       threaded-now = record { sound = sound′; complete = complete′ }
         where
           sound′ : (x p : ℕ) → On next′ p (getD heads′ x 0) → Noted ls next′ (i + 1) x p
           sound′ x p o =
-              by-cases (ℕ-discrete x v) (λ q. subst (λ w. Noted ls next′ (i + 1) w p) (sym q) (sound-own p (on-cases i (ap (λ w. getD heads′ w 0) q ∙ head-own) o)))
-              (λ other. noted-still (t .sound x p (on-unset (start * 65536 + last) (head-other x other) (before-all x) o)))
+              by-cases (ℕ-discrete x v)
+              (λ q. subst (λ w. Noted ls next′ (i + 1) w p) (sym q) (sound-own p (on-cases i (ap (λ w. getD heads′ w 0) q ∙ head-own) o)))
+              (λ other. noted-still (t .sound x p (on-unset row (head-other x other) (before-all x) o)))
 
-          complete′ : (x s p : ℕ) → getD universals x false ≡ true → p < i + 1 → Inside ls s p → Connecting ls s → variableOf (literalAt ls p) ≡ x → (q : ℕ) × On next′ q (getD heads′ x 0) × Inside ls s q
+          complete′ : (x s p : ℕ) → getD universals x false ≡ true → p < i + 1 → Inside ls s p → Connecting ls s
+              → variableOf (literalAt ls p) ≡ x → (q : ℕ) × On next′ q (getD heads′ x 0) × Inside ls s q
           complete′ x s p u l inside plain is =
               by-cases (ℕ-discrete p i)
-              (λ q. (i, on-here i (ap (λ w. getD heads′ w 0) (sym is ∙ ap (λ e. variableOf (literalAt ls e)) q ∙ sym own) ∙ head-own), subst (Inside ls s) q inside))
+              (λ q.
+              (i, on-here i (ap (λ w. getD heads′ w 0) (sym is ∙ ap (λ e. variableOf (literalAt ls e)) q ∙ sym own) ∙ head-own), subst (Inside ls s) q inside))
               (λ other.
               let (q, on, in′) = t .complete x s p u (omega arith) inside plain is in
-              let old : On next′ q (getD heads x 0) = on-set (start * 65536 + last) (before-all x) on in
-              by-cases (ℕ-discrete x v) (λ e. (q, on-later i (ap (λ w. getD heads′ w 0) e ∙ head-own) (subst (On next′ q) (ap (λ w. getD heads w 0) e ∙ sym link-own) old), in′))
+              let old : On next′ q (getD heads x 0) = on-set row (before-all x) on in
+              by-cases (ℕ-discrete x v)
+              (λ e. (q, on-later i (ap (λ w. getD heads′ w 0) e ∙ head-own) (subst (On next′ q) (ap (λ w. getD heads w 0) e ∙ sym link-own) old), in′))
               (λ e. (q, subst (On next′ q) (sym (head-other x e)) old, in′)))
 
 -- What the pass knows of the clause that it is in.
@@ -213,7 +238,13 @@ module _ {ls : List ℤ} {start i : ℕ} (p : Passing ls start i) (l : i < lengt
 
   module _ (some : variableOf (literalAt ls i) ≢ 0) where
     pub passing-inside : Inside ls start i
-    passing-inside = record { begins = p .begins; from = p .from; literals = λ e f g. by-cases (ℕ-discrete e i) (λ q. subst (λ j. variableOf (literalAt ls j) ≢ 0) (sym q) some) (λ other. p .literals e (omega arith) f) }
+    passing-inside =
+        record {
+          begins = p .begins;
+          from = p .from;
+          literals =
+              λ e f g. by-cases (ℕ-discrete e i) (λ q. subst (λ j. variableOf (literalAt ls j) ≢ 0) (sym q) some) (λ other. p .literals e (omega arith) f);
+        }
 
     pub passing-more : Passing ls start (i + 1)
     passing-more =

@@ -17,11 +17,12 @@ use Rattle.formula.proofs.Lookups.{clauses-unclosed}
 use Rattle.tables.specs.Formula.{signed, SharesBy}
 use Rattle.marks.specs.declared.Side.{Side}
 use Rattle.marks.specs.declared.Signs.{Signs}
-use Rattle.marks.specs.Flags.{Has, HasLiteral, Sided, By, Connects, Via}
-use Rattle.threads.specs.Threads.{Begins, first, after, Inside, Connecting, Beside, Together, linkAt, startAt, On, Noted, Threaded, Closed}
+use Rattle.marks.specs.Flags.{Has, HasLiteral, Sided, By, sideBy, Connects, Via}
+use Rattle.threads.specs.Threads.{Begins, first, after, Inside, Connecting, Beside, Together, linkAt, startAt, On, Noted, Threaded, Tied, Closed}
 use Rattle.threads.proofs.Chains.{inside-one, on-some, on-here, on-later, on-cases}
-use Rattle.marks.proofs.Sides.{signed-variable, sign-of}
-use Rattle.marks.proofs.Flags.{literal-past, next-none, via-as, via-or, connects-all, connects-has, connects-open, signed-split, sides-apart}
+use Rattle.marks.proofs.Sides.{signed-variable, sign-of, side-has, side-not}
+use Rattle.marks.proofs.Flags.{unclosed-none, unclosed-zero, unclosed-end, literal-past, next-none, via-as}
+use Rattle.marks.proofs.Flags.{via-or, connects-all, connects-has, connects-open, signed-split, sides-apart}
 
 -- An entry of a clause stands within the table, and before the next 0.
 inside-within : {ls : List ℤ} {s p : ℕ} → Inside ls s p → p < length ls
@@ -36,10 +37,13 @@ module _ {ls : List ℤ} {s p q : ℕ} (i : Inside ls s p) (j : Inside ls s q) (
   one-side a b =
       let (z, next, plain) = connecting in
       let to : z ≤ length ls = next .within (let l = inside-within i in let f = i .from in omega arith) in
-      let here : Connects ls s z x = connects-all ls s z (next .from) to plain x .1 (record { place = p; from = i .from; before = inside-before next i; is = ap variableOf a ∙ signed-variable true x }) in
-      sides-apart ls x s z next to x (record { place = p; from = i .from; before = inside-before next i; is = a }) (record { place = q; from = j .from; before = inside-before next j; is = b }) here
+      let here : Connects ls s z x = connects-all ls s z (next .from) to plain x .1
+      (record { place = p; from = i .from; before = inside-before next i; is = ap variableOf a ∙ signed-variable true x }) in
+      sides-apart ls x s z next to x (record { place = p; from = i .from; before = inside-before next i; is = a })
+      (record { place = q; from = j .from; before = inside-before next j; is = b }) here
 
-same-side : {ls : List ℤ} {s p q : ℕ} (sign : Bool) → Inside ls s p → Inside ls s q → Connecting ls s → (x : ℕ) → literalAt ls p ≡ signed sign x → variableOf (literalAt ls q) ≡ x → literalAt ls q ≡ signed sign x
+same-side : {ls : List ℤ} {s p q : ℕ} (sign : Bool) → Inside ls s p → Inside ls s q → Connecting ls s → (x : ℕ)
+    → literalAt ls p ≡ signed sign x → variableOf (literalAt ls q) ≡ x → literalAt ls q ≡ signed sign x
 same-side {ls} {s} {p} {q} sign i j connecting x a own = let (other, is) = sign-of (literalAt ls q) in go sign other a (is ∙ ap (signed other) own)
   where
     go : (sign other : Bool) → literalAt ls p ≡ signed sign x → literalAt ls q ≡ signed other x → literalAt ls q ≡ signed sign x
@@ -92,7 +96,8 @@ module _ {ls : List ℤ} {next : List ℕ} {signs : Signs} {x k v : ℕ} (q : �
   along-past : Along ls next signs x (linkAt next q) v → Along ls next signs x k v
   along-past a = record { entry = a .entry; on = on-later q e (a .on); own = a .own; beside = a .beside }
 
-along-of : (ls : List ℤ) (next : List ℕ) (signs : Signs) (x k v : ℕ) → By signs (λ sign. (q : ℕ) × On next q k × (literalAt ls q ≡ signed sign x) × Beside ls q v) → Along ls next signs x k v
+along-of : (ls : List ℤ) (next : List ℕ) (signs : Signs) (x k v : ℕ)
+    → By signs (λ sign. (q : ℕ) × On next q k × (literalAt ls q ≡ signed sign x) × Beside ls q v) → Along ls next signs x k v
 along-of ls next Signs.Either x k v (inl (q, on, is, b)) = record { entry = q; on = on; own = inl is; beside = b }
 along-of ls next Signs.Either x k v (inr (q, on, is, b)) = record { entry = q; on = on; own = inr is; beside = b }
 along-of ls next Signs.Positive x k v (q, on, is, b) = record { entry = q; on = on; own = is; beside = b }
@@ -107,10 +112,12 @@ pub record Following (n : ℕ) (tops : List ℕ) (ls : List ℤ) (next : List �
   pub noted : Heading ls next x k
   pub told : (e : ℕ) → Asked e → (New e ⊎ Via n tops (Along ls next signs x k) e) ↔ (Old e ⊎ Via n tops (Along ls next signs x head) e)
 
-pub follow-none : (n : ℕ) (tops : List ℕ) (ls : List ℤ) (next : List ℕ) (signs : Signs) (x head : ℕ) (Asked Old : ℕ → Type 0) → Heading ls next x head → Following n tops ls next signs x head Asked Old Old head
+pub follow-none : (n : ℕ) (tops : List ℕ) (ls : List ℤ) (next : List ℕ) (signs : Signs) (x head : ℕ) (Asked Old : ℕ → Type 0)
+    → Heading ls next x head → Following n tops ls next signs x head Asked Old Old head
 follow-none n tops ls next signs x head Asked Old noted = record { noted = noted; told = λ e l. (λ s. s, λ s. s) }
 
-module _ {n : ℕ} {tops : List ℕ} {ls : List ℤ} {next : List ℕ} {signs : Signs} {x head : ℕ} {Asked Old New : ℕ → Type 0} {k : ℕ} (f : Following n tops ls next signs x head Asked Old New k) where
+module _ {n : ℕ} {tops : List ℕ} {ls : List ℤ} {next : List ℕ} {signs : Signs} {x head : ℕ} {Asked Old New : ℕ → Type 0} {k : ℕ}
+    (f : Following n tops ls next signs x head Asked Old New k) where
   module _ (entry : ℕ) (is : k ≡ suc entry) where
     -- the entry that the chain stands at
     pub follow-noted : Noted ls next (length ls) x entry
@@ -124,7 +131,8 @@ module _ {n : ℕ} {tops : List ℕ} {ls : List ℤ} {next : List ℕ} {signs : 
     follow-clause = subst (Connecting ls) (sym (follow-noted .begun)) (follow-noted .connecting)
 
     -- it is a literal of x, of one sign only
-    pub follow-side : (side : Side) (z : ℤ) → z ≡ literalAt ls entry → Sided side (λ sign. z ≡ signed sign (variableOf z)) → Sided side (λ sign. literalAt ls entry ≡ signed sign x)
+    pub follow-side : (side : Side) (z : ℤ) → z ≡ literalAt ls entry → Sided side (λ sign. z ≡ signed sign (variableOf z))
+        → Sided side (λ sign. literalAt ls entry ≡ signed sign x)
     follow-side side z read s = go side s
       where
         own : (sign : Bool) → (z ≡ signed sign (variableOf z)) ↔ (literalAt ls entry ≡ signed sign x)
@@ -141,15 +149,23 @@ module _ {n : ℕ} {tops : List ℕ} {ls : List ℤ} {next : List ℕ} {signs : 
     follow-apart = one-side (follow-noted .inside) (follow-noted .inside) (follow-noted .connecting) x
 
     -- One entry with one of the signs is passed: all beside it is told.
-    pub follow-more : (New′ : ℕ → Type 0) (z : ℕ) → By signs (λ sign. literalAt ls entry ≡ signed sign x) → NextZero ls (startAt next entry) z → ((e : ℕ) → Asked e → New′ e ↔ (New e ⊎ Via n tops (Has ls (startAt next entry) z) e)) → Following n tops ls next signs x head Asked Old New′ (linkAt next entry)
+    pub follow-more : (New′ : ℕ → Type 0) (z : ℕ) → By signs (λ sign. literalAt ls entry ≡ signed sign x)
+        → NextZero ls (startAt next entry) z → ((e : ℕ) → Asked e → New′ e ↔ (New e ⊎ Via n tops (Has ls (startAt next entry) z) e))
+        → Following n tops ls next signs x head Asked Old New′ (linkAt next entry)
     follow-more New′ z own nz more =
         record {
           noted = λ p o. f .noted p (on-later entry is o);
           told = λ e l.
               let m = f .told e l in
               let k = more e l in (
-                ⊎-elim (λ t. ⊎-elim (λ o. m .0 (inl o)) (λ h. m .0 (inr (via-as (λ v g. along-here entry is own (has-beside inside follow-clause nz v g)) h))) (k .0 t)) (λ a. m .0 (inr (via-as (λ v b. along-past entry is b) a))),
-                λ t. ⊎-elim (λ o. inl (k .1 (inl o))) (λ a. ⊎-elim (λ b. inl (k .1 (inr (via-as (λ v g. beside-has inside follow-clause nz v (g .1)) b)))) inr (via-or (via-as (λ v b. along-cases entry is b) a))) (m .1 t),
+                ⊎-elim
+                    (λ t. ⊎-elim (λ o. m .0 (inl o))
+                    (λ h. m .0 (inr (via-as (λ v g. along-here entry is own (has-beside inside follow-clause nz v g)) h))) (k .0 t))
+                    (λ a. m .0 (inr (via-as (λ v b. along-past entry is b) a))),
+                λ t. ⊎-elim (λ o. inl (k .1 (inl o)))
+                    (λ a. ⊎-elim (λ b. inl (k .1 (inr (via-as (λ v g. beside-has inside follow-clause nz v (g .1)) b)))) inr
+                    (via-or (via-as (λ v b. along-cases entry is b) a)))
+                    (m .1 t),
               );
         }
 
@@ -173,10 +189,13 @@ module _ {n : ℕ} {tops : List ℕ} {ls : List ℤ} {next : List ℕ} {signs : 
       (here .before, let l = here .falls in omega arith)
 
   -- The chain is at its end, and what is along the chain of a universal is what is together with it in a clause.
-  pub follow-all : (universals : List Bool) (heads : List ℕ) → head ≡ getD heads x 0 → Threaded ls universals heads next (length ls) → getD universals x false ≡ true → k ≡ 0 → (e : ℕ) → Asked e → New e ↔ (Old e ⊎ Via n tops (λ v. By signs (λ sign. Together ls sign x v)) e)
+  pub follow-all : (universals : List Bool) (heads : List ℕ) → head ≡ getD heads x 0 → Threaded ls universals heads next (length ls)
+      → getD universals x false ≡ true → k ≡ 0 → (e : ℕ) → Asked e
+      → New e ↔ (Old e ⊎ Via n tops (λ v. By signs (λ sign. Together ls sign x v)) e)
   follow-all universals heads is threaded u done e l = (
     λ t. ⊎-elim inl (λ a. inr (via-as there a)) (f .told e l .0 (inl t)),
-    λ t. ⊎-elim (λ o. o) (λ a. absurd (on-some (a .holds .on) done)) (f .told e l .1 (⊎-elim inl (λ a. inr (via-as (λ v b. along-of ls next signs x head v (by-as signs (back v) b)) a)) t)),
+    λ t. ⊎-elim (λ o. o) (λ a. absurd (on-some (a .holds .on) done))
+        (f .told e l .1 (⊎-elim inl (λ a. inr (via-as (λ v b. along-of ls next signs x head v (by-as signs (back v) b)) a)) t)),
   )
     where
       there : (v : ℕ) → Along ls next signs x head v → By signs (λ sign. Together ls sign x v)
@@ -185,14 +204,91 @@ module _ {n : ℕ} {tops : List ℕ} {ls : List ℤ} {next : List ℕ} {signs : 
       back : (v : ℕ) (sign : Bool) → Together ls sign x v → (q : ℕ) × On next q head × (literalAt ls q ≡ signed sign x) × Beside ls q v
       back v sign t =
           let b = t .beside in
-          let (q, on, inside) = threaded .complete x (b .start) (t .place) u (inside-within (b .own)) (b .own) (b .connecting) (ap variableOf (t .is) ∙ signed-variable sign x) in
-          let own = threaded .sound x q on .is in
-          (q, subst (On next q) (sym is) on, same-side sign (b .own) inside (b .connecting) x (t .is) own, record { start = b .start; place = b .place; own = inside; other = b .other; connecting = b .connecting; is = b .is })
+          let (q, on, inside) = threaded .complete x (b .start) (t .place) u (inside-within (b .own)) (b .own) (b .connecting)
+          (ap variableOf (t .is) ∙ signed-variable sign x) in
+          let own = threaded .sound x q on .is in (
+            q,
+            subst (On next q) (sym is) on,
+            same-side sign (b .own) inside (b .connecting) x (t .is) own,
+            record { start = b .start; place = b .place; own = inside; other = b .other; connecting = b .connecting; is = b .is },
+          )
+
+-- The loop along a chain, whatever it tells. It does not name the variable that the chain is of: what is said is said of any, and there is one.
+pub record Tracing (n : ℕ) (tops : List ℕ) (ls : List ℤ) (next : List ℕ) (signs : Signs) (head : ℕ) (Asked Old New : ℕ → Type 0) (k : ℕ) : Type 0 where
+  pub follows : (x : ℕ) → Heading ls next x head → Following n tops ls next signs x head Asked Old New k
+  pub whose : ℕ
+  pub heading : Heading ls next whose head
+  pub small : k < 4294967296
+
+pub trace-none : {n : ℕ} {tops : List ℕ} {ls : List ℤ} {first next : List ℕ} {signs : Signs} {x head : ℕ} {Asked Old : ℕ → Type 0}
+    → Tied ls first next x → head ≡ getD first x 0 → head < 4294967296 → Tracing n tops ls next signs head Asked Old Old head
+trace-none {n} {tops} {ls} {first} {next} {signs} {x} {head} {Asked} {Old} tied is small =
+    record {
+      follows = λ x noted. follow-none n tops ls next signs x head Asked Old noted;
+      whose = x;
+      heading = λ p o. tied .threaded .sound x p (subst (On next p) is o);
+      small = small;
+    }
+
+module _ {n : ℕ} {tops : List ℕ} {ls : List ℤ} {next : List ℕ} {signs : Signs} {head : ℕ} {Asked Old New : ℕ → Type 0} {k : ℕ}
+    (t : Tracing n tops ls next signs head Asked Old New k) where
+  module _ (some : k ≢ 0) where
+    is-next : k ≡ suc (k - 1)
+    is-next = omega arith
+
+    here : Following n tops ls next signs (t .whose) head Asked Old New k
+    here = t .follows (t .whose) (t .heading)
+
+    -- The entry stands within the table, and the chain goes on to one before.
+    pub trace-link : (k - 1 < length ls) × (linkAt next (k - 1) < k)
+    trace-link = follow-link here some
+
+    -- Its clause ends somewhere.
+    pub trace-clause : {begin : ℕ} → begin ≡ startAt next (k - 1) → (z : ℕ) × NextZero ls begin z
+    trace-clause high = let (z, closes, _) = follow-clause here (k - 1) is-next in (z, subst (λ s. NextZero ls s z) (sym high) closes)
+
+    -- The entry was read, and its row: what comes after it, and where its clause begins.
+    module _ {z : ℤ} (read : z ≡ literalAt ls (k - 1)) (side : Side) (sided : Sided side (λ sign. z ≡ signed sign (variableOf z)))
+        {after begin : ℕ} (low : after ≡ linkAt next (k - 1)) (high : begin ≡ startAt next (k - 1)) where
+      less : after < 4294967296
+      less = let small = t .small in let falls = trace-link .1 in omega arith
+
+      -- It has one of the signs: all beside it is told.
+      pub trace-more : (New′ : ℕ → Type 0) → sideBy signs side ≡ true → (z : ℕ) → NextZero ls begin z
+          → ((e : ℕ) → Asked e → New′ e ↔ (New e ⊎ Via n tops (Has ls begin z) e)) → Tracing n tops ls next signs head Asked Old New′ after
+      trace-more New′ has z closes more = record { follows = follows′; whose = t .whose; heading = t .heading; small = less }
+        where
+          follows′ : (x : ℕ) → Heading ls next x head → Following n tops ls next signs x head Asked Old New′ after
+          follows′ x noted =
+              let f = t .follows x noted in
+              let own = side-has signs side _ has (follow-side f (k - 1) is-next side _ read sided) in
+              subst (Following n tops ls next signs x head Asked Old New′) (sym low)
+              (follow-more f (k - 1) is-next New′ z own (subst (λ s. NextZero ls s z) high closes)
+              (subst (λ s. (e : ℕ) → Asked e → New′ e ↔ (New e ⊎ Via n tops (Has ls s z) e)) high more))
+
+      -- It has none of them: nothing is.
+      pub trace-past : sideBy signs side ≡ false → Tracing n tops ls next signs head Asked Old New after
+      trace-past not = record { follows = follows′; whose = t .whose; heading = t .heading; small = less }
+        where
+          follows′ : (x : ℕ) → Heading ls next x head → Following n tops ls next signs x head Asked Old New after
+          follows′ x noted =
+              let f = t .follows x noted in
+              let own = follow-side f (k - 1) is-next side _ read sided in
+              subst (Following n tops ls next signs x head Asked Old New) (sym low)
+              (follow-past f (k - 1) is-next (side-not signs side _ not own (follow-apart f (k - 1) is-next)))
+
+  -- At the end of the chain of the universal x all that is together with it in a clause is told.
+  pub trace-all : {x : ℕ} {first : List ℕ} → Tied ls first next x → head ≡ getD first x 0 → k ≡ 0
+      → (e : ℕ) → Asked e → New e ↔ (Old e ⊎ Via n tops (λ v. By signs (λ sign. Together ls sign x v)) e)
+  trace-all {x} {first} tied is done =
+      follow-all (t .follows x (λ p o. tied .threaded .sound x p (subst (On next p) is o))) (tied .universals) first is (tied .threaded) (tied .universal) done
 
 -- The next 0, found entry by entry.
 pub next-from : (ls : List ℤ) (k start : ℕ) → start + k ≡ length ls → (z : ℕ) × NextZero ls start z
-next-from ls zero start q = (start, record { from = omega arith; within = λ w. w; literals = λ e f l. absurd (omega arith); closes = λ l. absurd (omega arith) })
-next-from ls (suc k) start q = by-cases (ℕ-discrete (variableOf (literalAt ls start)) 0) (λ z. (start, record { from = omega arith; within = λ w. w; literals = λ e f l. absurd (omega arith); closes = λ _. z })) (λ some. more some (next-from ls k (suc start) (omega arith)))
+next-from ls zero start q = (start, unclosed-end (unclosed-none ls start) (omega arith))
+next-from ls (suc k) start q =
+    by-cases (ℕ-discrete (variableOf (literalAt ls start)) 0) (λ z. (start, unclosed-zero (unclosed-none ls start) refl z))
+    (λ some. more some (next-from ls k (suc start) (omega arith)))
   where
     more : variableOf (literalAt ls start) ≢ 0 → (z : ℕ) × NextZero ls (suc start) z → (z : ℕ) × NextZero ls start z
     more some (z, n) = (
@@ -200,14 +296,17 @@ next-from ls (suc k) start q = by-cases (ℕ-discrete (variableOf (literalAt ls 
       record {
         from = let f = n .from in omega arith;
         within = λ w. n .within (omega arith);
-        literals = λ e f l. by-cases (ℕ-discrete e start) (λ s. subst (λ i. variableOf (literalAt ls i) ≢ 0) (sym s) some) (λ other. n .literals e (omega arith) l);
+        literals =
+            λ e f l. by-cases (ℕ-discrete e start) (λ s. subst (λ i. variableOf (literalAt ls i) ≢ 0) (sym s) some) (λ other. n .literals e (omega arith) l);
         closes = n .closes;
       },
     )
 
 -- In a table that does not end inside a clause every clause is closed.
 pub closed-next : {ls : List ℤ} {s z : ℕ} → Closed ls → s < length ls → NextZero ls s z → z < length ls
-closed-next {ls} {s} {z} closed l next = by-cases (decLt z (length ls)) (λ c. c) (λ c. absurd (closed (omega arith, λ q. next .literals (length ls - 1) (omega arith) (omega arith) (ap variableOf q))))
+closed-next {ls} {s} {z} closed l next =
+    by-cases (decLt z (length ls)) (λ c. c)
+    (λ c. absurd (closed (omega arith, λ q. next .literals (length ls - 1) (omega arith) (omega arith) (ap variableOf q))))
 
 module _ (ls : List ℤ) (sign : Bool) (x v : ℕ) where
   -- v shares one of the clauses from `start` on with the literal of x
@@ -225,14 +324,27 @@ module _ (ls : List ℤ) (sign : Bool) (x v : ℕ) where
   rest-together : (fuel start : ℕ) → length ls ≤ start + fuel → Begins ls start → Rest start → Together ls sign x v
   rest-together zero start enough begins r = absurd (no-rest start (omega arith) r)
   rest-together (suc fuel) start enough begins r =
-      by-cases (decLt start (length ls)) (λ l. by (next-from ls (length ls - start) start (omega arith)) (λ z low b r′. rest-together fuel (z + 1) (omega arith) b r′))
+      by-cases (decLt start (length ls))
+      (λ l. by (next-from ls (length ls - start) start (omega arith)) (λ z low b r′. rest-together fuel (z + 1) (omega arith) b r′))
       (λ l. absurd (no-rest start (omega arith) r))
     where
       both : (z : ℕ) → NextZero ls start z → z < length ls → HasLiteral ls start z (signed sign x) → Connects ls start z v → Together ls sign x v
       both z next c own other =
           let has = connects-has ls start z (next .from) (omega arith) v other in
           let plain = connects-open ls start z (next .from) (omega arith) v other in
-          record { place = own .place; is = own .is; beside = record { start = start; place = has .place; own = entry (own .place) (own .from) (own .before); other = entry (has .place) (has .from) (has .before); connecting = (z, next, plain); is = has .is } }
+          record {
+            place = own .place;
+            is = own .is;
+            beside =
+                record {
+                  start = start;
+                  place = has .place;
+                  own = entry (own .place) (own .from) (own .before);
+                  other = entry (has .place) (has .from) (has .before);
+                  connecting = (z, next, plain);
+                  is = has .is;
+                };
+          }
         where
           entry : (p : ℕ) → start ≤ p → p < z → Inside ls start p
           entry p low high = record { begins = begins; from = low; literals = λ e f g. next .literals e f (omega arith) }
@@ -240,7 +352,8 @@ module _ (ls : List ℤ) (sign : Bool) (x v : ℕ) where
       by : (z : ℕ) × NextZero ls start z → ((z : ℕ) → start ≤ z → Begins ls (z + 1) → Rest (z + 1) → Together ls sign x v) → Together ls sign x v
       by (z, next) onward =
           by-cases (decLt z (length ls))
-          (λ c. ⊎-elim (λ h. both z next c (h .0) (h .1)) (λ r′. onward z (next .from) (after start z begins next c refl) r′) (signed-split ls sign x start z next c v .0 r))
+          (λ c. ⊎-elim (λ h. both z next c (h .0) (h .1)) (λ r′. onward z (next .from) (after start z begins next c refl) r′)
+          (signed-split ls sign x start z next c v .0 r))
           (λ c. absurd (empty-rest start (clauses-unclosed ls start z next (omega arith)) r))
 
   -- And back to the first.
@@ -260,4 +373,5 @@ module _ (ls : List ℤ) (sign : Bool) (x v : ℕ) where
           let closes = closed-next closed (omega arith) next in
           let own : HasLiteral ls (b .start) z (signed sign x) = record { place = t .place; from = low; before = inside-before next (b .own); is = t .is } in
           let other : Has ls (b .start) z v = record { place = b .place; from = b .other .from; before = inside-before next (b .other); is = b .is } in
-          rest-first (b .own .begins) (signed-split ls sign x (b .start) z next closes v .1 (inl (own, connects-all ls (b .start) z (next .from) (omega arith) plain v .1 other)))
+          rest-first (b .own .begins)
+          (signed-split ls sign x (b .start) z next closes v .1 (inl (own, connects-all ls (b .start) z (next .from) (omega arith) plain v .1 other)))

@@ -13,6 +13,7 @@ use lib.IntN.{ℤ}
 use lib.ListN.{length, getD, set}
 use lib.Seq.{getD-set-same, getD-set-other}
 use Rattle.terms.specs.Literals.{variableOf}
+use Rattle.terms.specs.Limits.{literalRows}
 use Rattle.terms.proofs.Common.{clash}
 use Rattle.formula.specs.Tables.{literalAt, cut, push}
 use Rattle.formula.specs.Meaning.{isZero, blocks, has, names, markOf, saidOf, isUniversal}
@@ -20,7 +21,7 @@ use Rattle.formula.specs.Levels.{Levelled}
 use Rattle.formula.specs.Lookup.{NextZero, Stamps, SoundClauses}
 use Rattle.formula.proofs.Signs.{stamps-more}
 use Rattle.marks.proofs.Flags.{next-none}
-use Rattle.threads.specs.Threads.{Inside, Skipping, Known, Covered, marked, Gathered, Threaded}
+use Rattle.threads.specs.Threads.{Inside, Skipping, Recalled, Covered, marked, Gathered, Threaded}
 use Rattle.threads.proofs.Chains.{inside-one, threaded-none, threaded-jump, Passing, passing-zero, passing-more}
 
 -- What is marked is a flagged variable, and no 0.
@@ -72,7 +73,9 @@ names-zero (mark ∷ variables) h = go (eqb mark 0) h
 
 said-zero : (lists : List (List ℕ)) → NoZero lists → (number : ℕ) → saidOf (λ number mark. eqb mark 2) lists number false 0 ≡ false
 said-zero [] r number = refl
-said-zero (block ∷ rest) r number = ap (λ b. saidOf (λ number mark. eqb mark 2) rest (suc number) (cond b (eqb (markOf block) 2) false) 0) (names-zero block (r .0)) ∙ said-zero rest (r .1) (suc number)
+said-zero (block ∷ rest) r number =
+    ap (λ b. saidOf (λ number mark. eqb mark 2) rest (suc number) (cond b (eqb (markOf block) 2) false) 0) (names-zero block (r .0))
+    ∙ said-zero rest (r .1) (suc number)
 
 universal-zero : (es : List ℕ) → isUniversal es 0 ≡ false
 unfolding isUniversal blocks
@@ -103,7 +106,8 @@ gathered-none ls universals places starts =
       complete = λ p l m. absurd (omega arith);
     }
 
-module _ {ls : List ℤ} {universals : List Bool} {places starts : List ℕ} {count i : ℕ} (g : Gathered ls universals places starts count i) (start : ℕ) (room : count < length places) (room′ : count < length starts) where
+module _ {ls : List ℤ} {universals : List Bool} {places starts : List ℕ} {count i : ℕ} (g : Gathered ls universals places starts count i)
+    (start : ℕ) (room : count < length places) (room′ : count < length starts) where
   abbrev places′ : List ℕ
   places′ = set places count i
 
@@ -141,7 +145,9 @@ module _ {ls : List ℤ} {universals : List Bool} {places starts : List ℕ} {co
         universal = old-universal;
         inside = old-inside;
         rises = old-rises;
-        complete = λ p l m. by-cases (ℕ-discrete p i) (λ q. absurd (clash m (ap (λ e. marked universals (variableOf (literalAt ls e))) q ∙ none))) (λ other. old-complete p (omega arith) m);
+        complete =
+            λ p l m. by-cases (ℕ-discrete p i) (λ q. absurd (clash m (ap (λ e. marked universals (variableOf (literalAt ls e))) q ∙ none)))
+            (λ other. old-complete p (omega arith) m);
       }
 
   gathered-one : marked universals (variableOf (literalAt ls i)) ≡ true → Inside ls start i → Gathered ls universals places′ starts′ (count + 1) (i + 1)
@@ -149,21 +155,35 @@ module _ {ls : List ℤ} {universals : List Bool} {places starts : List ℕ} {co
       record {
         few = let f = g .few in omega arith;
         before = below-more (λ j. getD places′ j 0 < i + 1) count old-before (let own = place-own in omega arith);
-        universal = below-more (λ j. marked universals (variableOf (literalAt ls (getD places′ j 0))) ≡ true) count old-universal (subst (λ p. marked universals (variableOf (literalAt ls p)) ≡ true) (sym place-own) is);
-        inside = below-more (λ j. Inside ls (getD starts′ j 0) (getD places′ j 0)) count old-inside (subst (λ s. Inside ls s (getD places′ count 0)) (sym (getD-set-same starts count start 0 room′)) (subst (Inside ls start) (sym place-own) within));
+        universal =
+            below-more (λ j. marked universals (variableOf (literalAt ls (getD places′ j 0))) ≡ true) count old-universal
+            (subst (λ p. marked universals (variableOf (literalAt ls p)) ≡ true) (sym place-own) is);
+        inside =
+            below-more (λ j. Inside ls (getD starts′ j 0) (getD places′ j 0)) count old-inside
+            (subst (λ s. Inside ls s (getD places′ count 0)) (sym (getD-set-same starts count start 0 room′)) (subst (Inside ls start) (sym place-own) within));
         rises = λ j k l m. by-cases (decLt k count) (λ less. old-rises j k l less)
-            (λ over. let q : k ≡ count = omega arith in let high : getD places′ k 0 ≡ getD places′ count 0 = ap (λ c. getD places′ c 0) q in let own = place-own in let low = place-kept j (omega arith) in let b = g .before j (omega arith) in omega arith);
-        complete = λ p l m. by-cases (ℕ-discrete p i) (λ q. (count, omega arith, place-own ∙ sym q)) (λ other. let (j, less, at) = old-complete p (omega arith) m in (j, omega arith, at));
+            (λ over. let q : k ≡ count = omega arith in let high : getD places′ k 0
+            ≡ getD places′ count 0 = ap (λ c. getD places′ c 0) q in
+            let own = place-own in
+            let low = place-kept j (omega arith) in
+            let b = g .before j (omega arith) in
+            omega arith);
+        complete =
+            λ p l m. by-cases (ℕ-discrete p i) (λ q. (count, omega arith, place-own ∙ sym q))
+            (λ other. let (j, less, at) = old-complete p (omega arith) m in (j, omega arith, at));
       }
 
-  pub gathered-more : (b : Bool) → marked universals (variableOf (literalAt ls i)) ≡ b → (b ≡ true → Inside ls start i) → Gathered ls universals places′ starts′ (count + cond b 1 0) (i + 1)
+  pub gathered-more : (b : Bool) → marked universals (variableOf (literalAt ls i)) ≡ b → (b ≡ true → Inside ls start i)
+      → Gathered ls universals places′ starts′ (count + cond b 1 0) (i + 1)
   gathered-more true is within = gathered-one is (within refl)
   gathered-more false is within = let q : count ≡ count + 0 = omega arith in subst (λ k. Gathered ls universals places′ starts′ k (i + 1)) q (gathered-not is)
 
 -- Where the clause of the next entry begins.
-pub passing-begun : {ls : List ℤ} {start i : ℕ} → Passing ls start i → i < length ls → Passing ls (cond (eqb (variableOf (literalAt ls i)) 0) (i + 1) start) (i + 1)
+pub passing-begun : {ls : List ℤ} {start i : ℕ} → Passing ls start i → i < length ls
+    → Passing ls (cond (eqb (variableOf (literalAt ls i)) 0) (i + 1) start) (i + 1)
 passing-begun {ls} {start} {i} p l =
-    by-cases (ℕ-discrete (variableOf (literalAt ls i)) 0) (λ z. subst (λ b. Passing ls (cond b (i + 1) start) (i + 1)) (sym (eq-eqb (variableOf (literalAt ls i)) 0 z)) (passing-zero p l z))
+    by-cases (ℕ-discrete (variableOf (literalAt ls i)) 0)
+    (λ z. subst (λ b. Passing ls (cond b (i + 1) start) (i + 1)) (sym (eq-eqb (variableOf (literalAt ls i)) 0 z)) (passing-zero p l z))
     (λ some. subst (λ b. Passing ls (cond b (i + 1) start) (i + 1)) (sym (ne-eqb (variableOf (literalAt ls i)) 0 some)) (passing-more p l some))
 
 -- Tying: the gathered entries before j are tied, and all entries before the next of them are passed.
@@ -174,28 +194,42 @@ pub record Tying (ls : List ℤ) (universals : List Bool) (places heads next : L
   pub ahead : (b : ℕ) → j ≤ b → b < count → upto ≤ getD places b 0
   pub behind : (b : ℕ) → b < j → getD places b 0 < upto
 
-pub tying-none : (ls : List ℤ) (universals : List Bool) (places heads next : List ℕ) (count : ℕ) → ((x : ℕ) → getD heads x 0 ≡ 0) → Tying ls universals places heads next count 0
-tying-none ls universals places heads next count none = record { upto = 0; most = omega arith; threaded = threaded-none ls universals heads next none; ahead = λ b low l. omega arith; behind = λ b l. absurd (omega arith) }
+pub tying-none : (ls : List ℤ) (universals : List Bool) (places heads next : List ℕ) (count : ℕ) → ((x : ℕ) → getD heads x 0 ≡ 0)
+    → Tying ls universals places heads next count 0
+tying-none ls universals places heads next count none =
+    record {
+      upto = 0;
+      most = omega arith;
+      threaded = threaded-none ls universals heads next none;
+      ahead = λ b low l. omega arith;
+      behind = λ b l. absurd (omega arith);
+    }
 
 module _ {ls : List ℤ} {universals : List Bool} {places starts : List ℕ} {count : ℕ} (g : Gathered ls universals places starts count (length ls)) where
   -- entries that are gathered later stand later
   place-from : (j b : ℕ) → j ≤ b → b < count → getD places j 0 ≤ getD places b 0
-  place-from j b low l = by-cases (decLt j b) (λ m. let r = g .rises j b m l in omega arith) (λ m. let q : j ≡ b = omega arith in let same : getD places j 0 ≡ getD places b 0 = ap (λ c. getD places c 0) q in omega arith)
+  place-from j b low l =
+      by-cases (decLt j b) (λ m. let r = g .rises j b m l in omega arith)
+      (λ m. let q : j ≡ b = omega arith in let same : getD places j 0 ≡ getD places b 0 = ap (λ c. getD places c 0) q in omega arith)
 
   module _ {heads next : List ℕ} {j : ℕ} (t : Tying ls universals places heads next count j) where
     -- no universal stands before the next entry that is gathered
-    gap : (k : ℕ) → k ≤ length ls → ((b : ℕ) → j ≤ b → b < count → k ≤ getD places b 0) → (p : ℕ) → t .upto ≤ p → p < k → variableOf (literalAt ls p) ≢ 0 → getD universals (variableOf (literalAt ls p)) false ≡ true → ⊥
+    gap : (k : ℕ) → k ≤ length ls → ((b : ℕ) → j ≤ b → b < count → k ≤ getD places b 0) → (p : ℕ) → t .upto ≤ p → p < k
+        → variableOf (literalAt ls p) ≢ 0 → getD universals (variableOf (literalAt ls p)) false ≡ true → ⊥
     gap k within all p low high some u =
         let (b, less, is) = g .complete p (omega arith) (marked-of universals (variableOf (literalAt ls p)) some u) in
         by-cases (decLt b j) (λ past. let l = t .behind b past in omega arith) (λ l. let h = all b (omega arith) less in omega arith)
 
     pub tying-here : j < count → Threaded ls universals heads next (getD places j 0)
-    tying-here less = threaded-jump (t .threaded) (getD places j 0) (t .ahead j (omega arith) less) (gap (getD places j 0) (let b = g .before j less in omega arith) (place-from j))
+    tying-here less =
+        threaded-jump (t .threaded) (getD places j 0) (t .ahead j (omega arith) less)
+        (gap (getD places j 0) (let b = g .before j less in omega arith) (place-from j))
 
     pub tying-end : count ≤ j → Threaded ls universals heads next (length ls)
     tying-end done = threaded-jump (t .threaded) (length ls) (t .most) (gap (length ls) (omega arith) (λ b low l. absurd (omega arith)))
 
-  pub tying-more : {heads next : List ℕ} (j : ℕ) → j < count → Threaded ls universals heads next (getD places j 0 + 1) → Tying ls universals places heads next count (j + 1)
+  pub tying-more : {heads next : List ℕ} (j : ℕ) → j < count → Threaded ls universals heads next (getD places j 0 + 1)
+      → Tying ls universals places heads next count (j + 1)
   tying-more j less after =
       record {
         upto = getD places j 0 + 1;
@@ -207,9 +241,12 @@ module _ {ls : List ℤ} {universals : List Bool} {places starts : List ℕ} {co
 
 -- The clause that was judged last: none at first, and then one with an entry before all that are still to be tied.
 abbrev pub Judging : List ℤ → List ℕ → ℕ → ℕ → Bool → List ℕ → ℕ → Type 0
-Judging ls places count judged skip seen j = ((judged ≡ length ls) × Stamps seen 1) ⊎ (Skipping ls judged skip seen × ((q : ℕ) × Inside ls judged q × ((b : ℕ) → j ≤ b → b < count → q < getD places b 0)))
+Judging ls places count judged skip seen j =
+    ((judged ≡ length ls) × Stamps seen 1)
+    ⊎ (Skipping ls judged skip seen × ((q : ℕ) × Inside ls judged q × ((b : ℕ) → j ≤ b → b < count → q < getD places b 0)))
 
-pub judging-size : (ls : List ℤ) (places : List ℕ) (count judged : ℕ) (skip : Bool) (seen : List ℕ) (j : ℕ) → Judging ls places count judged skip seen j → length seen ≡ 8194
+pub judging-size : (ls : List ℤ) (places : List ℕ) (count judged : ℕ) (skip : Bool) (seen : List ℕ) (j : ℕ)
+    → Judging ls places count judged skip seen j → length seen ≡ literalRows
 judging-size ls places count judged skip seen j (inl (none, stamps)) = stamps .size
 judging-size ls places count judged skip seen j (inr (skips, later)) = skips .stamps .size
 
@@ -217,17 +254,24 @@ judging-size ls places count judged skip seen j (inr (skips, later)) = skips .st
 later-start : {ls : List ℤ} {s t p q z : ℕ} → Inside ls s q → Inside ls t p → NextZero ls s z → q < p → t ≢ s → z < t
 later-start {ls} {s} {t} {p} {q} {z} i k next l other =
     by-cases (decLt z t) (λ g. g)
-    (λ low. by-cases (decLt p z) (λ b. absurd (other (inside-one k (record { begins = i .begins; from = let f = i .from in omega arith; literals = λ e f g. next .literals e f (omega arith) }))))
+    (λ low. by-cases (decLt p z) (λ b. absurd (other (inside-one k (same b))))
     (λ b. absurd (k .literals z (omega arith) (omega arith) (next-none next))))
+  where
+    same : p < z → Inside ls s p
+    same b = let f = i .from in record { begins = i .begins; from = omega arith; literals = λ e f g. next .literals e f (omega arith) }
 
-pub judging-known : (ls : List ℤ) (places : List ℕ) (count judged : ℕ) (skip : Bool) (seen : List ℕ) (j start : ℕ) → Judging ls places count judged skip seen j → j < count → Inside ls start (getD places j 0) → getD places j 0 < length ls
-    → Known ls start judged skip seen
-judging-known ls places count judged skip seen j start (inl (none, stamps)) less inside within = (λ q. absurd (let f = inside .from in omega arith), λ _. stamps-more stamps (omega arith))
-judging-known ls places count judged skip seen j start (inr (skips, (q, own, later))) less inside within = (
+pub judging-recalled : (ls : List ℤ) (places : List ℕ) (count judged : ℕ) (skip : Bool) (seen : List ℕ) (j start : ℕ)
+    → Judging ls places count judged skip seen j → j < count → Inside ls start (getD places j 0) → getD places j 0 < length ls
+    → Recalled ls start judged skip seen
+judging-recalled ls places count judged skip seen j start (inl (none, stamps)) less inside within =
+    (λ q. absurd (let f = inside .from in omega arith), λ _. stamps-more stamps (omega arith))
+judging-recalled ls places count judged skip seen j start (inr (skips, (q, own, later))) less inside within = (
   λ same. subst (λ s. Skipping ls s skip seen) (sym same) skips,
   λ other. stamps-more (skips .stamps) (let l = later-start own inside (skips .next) (later j (omega arith) less) other in omega arith),
 )
 
-pub judging-more : {ls : List ℤ} {universals : List Bool} {places starts : List ℕ} {count : ℕ} (g : Gathered ls universals places starts count (length ls)) (start : ℕ) (skip : Bool) (seen : List ℕ) (j : ℕ) → j < count → Inside ls start (getD places j 0) → Skipping ls start skip seen
+pub judging-more : {ls : List ℤ} {universals : List Bool} {places starts : List ℕ} {count : ℕ}
+    (g : Gathered ls universals places starts count (length ls)) (start : ℕ) (skip : Bool) (seen : List ℕ) (j : ℕ) → j < count → Inside ls
+    start (getD places j 0) → Skipping ls start skip seen
     → Judging ls places count start skip seen (j + 1)
 judging-more {places = places} g start skip seen j less inside skips = inr (skips, (getD places j 0, inside, λ b low l. g .rises j b (omega arith) l))

@@ -40,7 +40,8 @@ module _ {other old flags : List Bool} {i : ℕ} (k : Keeping other old flags i)
         size = length-set flags i b ∙ k .size;
         done = λ e l. by-cases (decLt e i)
             (λ low. let same = kept e (λ q. omega arith) in (λ t. k .done e low .0 (sym same ∙ t), λ s. same ∙ k .done e low .1 s))
-            (λ over. let q : e ≡ i = omega arith in subst (λ d. (getD (set flags i b) d false ≡ true) ↔ ((getD other d false ≡ true) × (getD old d false ≡ true))) (sym q) own);
+            (λ over. let q : e
+            ≡ i = omega arith in subst (λ d. (getD (set flags i b) d false ≡ true) ↔ ((getD other d false ≡ true) × (getD old d false ≡ true))) (sym q) own);
         rest = λ e l. kept e (λ q. omega arith) ∙ k .rest e (omega arith);
       }
     where
@@ -50,17 +51,25 @@ module _ {other old flags : List Bool} {i : ℕ} (k : Keeping other old flags i)
       own : (getD (set flags i b) i false ≡ true) ↔ ((getD other i false ≡ true) × (getD old i false ≡ true))
       own =
           let now = getD-set-same flags i b false room ∙ is in
-          let was = k .rest i (omega arith) in
-          (λ t. let (one, two) = and-both (getD other i false) (getD flags i false) (sym now ∙ t) in (one, sym was ∙ two), λ s. now ∙ both-and (s .0) (was ∙ s .1))
+          let was = k .rest i (omega arith) in (
+            λ t. let (one, two) = and-both (getD other i false) (getD flags i false) (sym now ∙ t) in (one, sym was ∙ two),
+            λ s. now ∙ both-and (s .0) (was ∙ s .1),
+          )
 
   pub keep-all : length flags ≤ i → Common other old flags
-  keep-all all e = by-cases (decLt e i) (k .done e) (λ over. (λ t. absurd (clash t (List·getD-eq-default flags false {n = e} (omega arith))), λ s. k .rest e (omega arith) ∙ s .1))
+  keep-all all e =
+      by-cases (decLt e i) (k .done e)
+      (λ over. (λ t. absurd (clash t (List·getD-eq-default flags false {n = e} (omega arith))), λ s. k .rest e (omega arith) ∙ s .1))
 
 -- The tops that both signs of x have are those that are flagged by both.
-pub entered-both : {n : ℕ} {tops : List ℕ} {ls : List ℤ} {x : ℕ} {old first blank second new : List Bool} → Blank old → Flagged (Via n tops (Together ls true x)) old first → Blank blank → Flagged (Via n tops (Together ls false x)) blank second
+pub entered-both : {n : ℕ} {tops : List ℕ} {ls : List ℤ} {x : ℕ} {old first blank second new : List Bool} → Blank old
+    → Flagged (Via n tops (Together ls true x)) old first → Blank blank → Flagged (Via n tops (Together ls false x)) blank second
     → Common first second new → EnteredBy Strict n tops ls x new
 entered-both b f b′ g both =
     record {
-      tells = λ e l. let p = flags-are b f e l in let q = flags-are b′ g e l in let c = both e in (λ t. (p .0 (c .0 t .0), q .0 (c .0 t .1)), λ s. c .1 (p .1 (s .0), q .1 (s .1)));
+      tells = λ e l. let p = flags-are b f e l in
+          let q = flags-are b′ g e l in
+          let c = both e in
+          (λ t. (p .0 (c .0 t .0), q .0 (c .0 t .1)), λ s. c .1 (p .1 (s .0), q .1 (s .1)));
       same = λ y. refl;
     }

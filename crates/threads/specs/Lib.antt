@@ -1,1 +1,3 @@
+-- What the inner functions of this crate promise.
 pub mod Threads
+pub mod SoleTops

@@ -1,5 +1,5 @@
 -- Where clauses begin, and the chains that tie a variable to its clauses: what the inner functions of the call for all sets find.
-use Prim.Native.Nat.{ℕ, zero, suc, _+_, _-_, _/_, _%_, _≤_, _<_}
+use Prim.Native.Nat.{ℕ, zero, suc, _+_, _-_, _≤_, _<_}
 use mathlib.Core.Path.{_≡_}
 use mathlib.Core.Bool.{Bool, true, false}
 use mathlib.Core.List.{List}
@@ -7,6 +7,7 @@ use mathlib.Core.Logic.{_⊎_, _≢_, _↔_}
 use lib.IntN.{ℤ, pos}
 use lib.ListN.{length, getD, take, drop}
 use Rattle.terms.specs.Literals.{variableOf}
+use Rattle.terms.specs.Pairs.{lowOf, highOf}
 use Rattle.formula.specs.Tables.{literalAt, EndsInside}
 use Rattle.formula.specs.Meaning.{alwaysTrue}
 use Rattle.formula.specs.Lookup.{NextZero, Stamps}
@@ -42,9 +43,9 @@ pub record Skipping (ls : List ℤ) (s : ℕ) (skip : Bool) (seen : List ℕ) : 
   pub told : skip ≡ alwaysTrue (take (end - s) (drop s ls))
   pub stamps : Stamps seen (end + 1 + 1)
 
--- the same of the clause that was judged last; for any other, no stamp is as great as its own
-abbrev pub Known : List ℤ → ℕ → ℕ → Bool → List ℕ → Type 0
-Known ls s judged skip seen = (s ≡ judged → Skipping ls s skip seen) × (s ≢ judged → Stamps seen (s + 1))
+-- what is recalled for the clause that begins with s: whether it is always true, if it was judged last, and else that no stamp is as great as its own
+abbrev pub Recalled : List ℤ → ℕ → ℕ → Bool → List ℕ → Type 0
+Recalled ls s judged skip seen = (s ≡ judged → Skipping ls s skip seen) × (s ≢ judged → Stamps seen (s + 1))
 
 -- there is a flag for the variable of every entry, and none is set for 0
 pub record Covered (ls : List ℤ) (universals : List Bool) : Type 0 where
@@ -88,19 +89,20 @@ EnteredBy scheme n tops ls x flags = Entering n (λ e. Takes scheme (λ sign. Vi
 abbrev pub Common : List Bool → List Bool → List Bool → Type 0
 Common other old new = (e : ℕ) → (getD new e false ≡ true) ↔ ((getD other e false ≡ true) × (getD old e false ≡ true))
 
--- a row of `next`: where the chain goes on, and in the upper half the entry that the clause begins with
+-- the two numbers in a row of `next`: where the chain goes on, and the entry that the clause begins with
 abbrev pub linkAt : List ℕ → ℕ → ℕ
-linkAt next p = getD next p 0 % 65536
+linkAt next p = lowOf (getD next p 0)
 
 abbrev pub startAt : List ℕ → ℕ → ℕ
-startAt next p = getD next p 0 / 65536
+startAt next p = highOf (getD next p 0)
 
 -- Entry p is on the chain from k: 0 ends it, and suc q stands for entry q, whose row in `next` goes on.
 pub data On (next : List ℕ) (p : ℕ) : ℕ → Type 0 where
   here : On next p (suc p)
   later : {q : ℕ} → On next p (linkAt next q) → On next p (suc q)
 
--- what holds of an entry p before i on the chain of x: it is x in a clause that is not always true, its row has the start of the clause, and the chain goes on to an entry before it
+-- what holds of an entry p before i on the chain of x: it is x in a clause that is not always true, its row has the start of the clause, and the
+-- chain goes on to an entry before it
 pub record Noted (ls : List ℤ) (next : List ℕ) (i x p : ℕ) : Type 0 where
   pub before : p < i
   pub falls : linkAt next p ≤ p
@@ -110,10 +112,12 @@ pub record Noted (ls : List ℤ) (next : List ℕ) (i x p : ℕ) : Type 0 where
   pub connecting : Connecting ls start
   pub is : variableOf (literalAt ls p) ≡ x
 
--- each variable is tied to its clauses among the entries before i, those that are always true left out: what is on its chain is noted, and a universal has an entry in each
+-- each variable is tied to its clauses among the entries before i, those that are always true left out: what is on its chain is noted, and a
+-- universal has an entry in each
 pub record Threaded (ls : List ℤ) (universals : List Bool) (first next : List ℕ) (i : ℕ) : Type 0 where
   pub sound : (x p : ℕ) → On next p (getD first x 0) → Noted ls next i x p
-  pub complete : (x s p : ℕ) → getD universals x false ≡ true → p < i → Inside ls s p → Connecting ls s → variableOf (literalAt ls p) ≡ x → (q : ℕ) × On next q (getD first x 0) × Inside ls s q
+  pub complete : (x s p : ℕ) → getD universals x false ≡ true → p < i → Inside ls s p → Connecting ls s → variableOf (literalAt ls p) ≡ x
+      → (q : ℕ) × On next q (getD first x 0) × Inside ls s q
 
 -- the chain of the universal x ties it to all its clauses
 pub record Tied (ls : List ℤ) (first next : List ℕ) (x : ℕ) : Type 0 where

@@ -1,6 +1,8 @@
 // Chains through the clause table, one for each universal, that tie it to its clauses: its entry points are then found without a scan of all
 // clauses. A chain holds one entry of each clause that has the universal, the last clause first; k + 1 stands for entry k, and 0 ends it. The row of
-// an entry holds what comes after it on the chain, and in its upper half the entry that its clause begins with.
+// an entry holds two numbers: what comes after it on the chain, and the entry that its clause begins with.
+
+pub mod soles;
 
 use formula::clauses::literal_at;
 use formula::clauses::next_zero;
@@ -10,8 +12,11 @@ use marks::Signs;
 use marks::flag_after;
 use marks::has_sign;
 use marks::side_of;
+use terms::Literal;
 use terms::Scheme;
 use terms::Variable;
+use terms::pairs::pack;
+use terms::pairs::unpack;
 ghost use Prim.Native.Nat.{ℕ, _+_, _≤_, _<_};
 ghost use mathlib.Core.Path.{_≡_};
 ghost use mathlib.Core.Bool.{Bool, false, cond, _&&_};
@@ -19,16 +24,19 @@ ghost use mathlib.Core.List.{List};
 ghost use lib.Dec.{eqb};
 ghost use lib.ListN.{length, getD};
 ghost use Rattle.terms.specs.Literals.{variableOf};
+ghost use Rattle.terms.specs.Limits.{clauseEntries};
 ghost use Rattle.formula.specs.Tables.{literalAt};
 ghost use Rattle.formula.specs.Lookup.{SoundClauses};
 ghost use Rattle.terms.specs.declared.Scheme.the-variants.{Strict};
 ghost use Rattle.marks.specs.Flags.{By, Flagged, Via, Blank};
-ghost use Rattle.threads.specs.Threads.{Inside, Connecting, Skipping, Known, Covered, marked, Gathered, Together, EnteredBy, Common, Threaded, Tied};
+ghost use Rattle.threads.specs.Threads.{Inside, Connecting, Skipping, Recalled, Covered, marked, Gathered, Together, EnteredBy, Common, Threaded, Tied};
 
 // Ties every universal to its clauses, those that are always true left out. Few clauses take short tables, which are cleared sooner.
 pub fn thread(clauses: &[i32], universals: &[bool], first: &mut [u32], next: &mut [u32])
-    requires { ⌜ SoundClauses (now clauses) × (length (now universals) ≤ length (now first)) × (length (now clauses) ≤ length (now next)) × ((x : ℕ) → getD (now first) x 0 ≡ 0) × Covered (now clauses) (now universals) ⌝ }
-    ensures { λ r. ⌜ Threaded (now (clauses .entry)) (now (universals .entry)) (now (first .exit)) (now (next .exit)) (length (now (clauses .entry))) ⌝ }
+    requires sound { ⌜ SoundClauses (now clauses) × (length (now universals) ≤ length (now first)) × (length (now clauses) ≤ length (now next))
+        × ((x : ℕ) → getD (now first) x 0 ≡ 0) × Covered (now clauses) (now universals) ⌝ }
+    ensures threaded { λ r. ⌜ Threaded (now (clauses .entry)) (now (universals .entry)) (now (first .exit)) (now (next .exit))
+        (length (now (clauses .entry))) ⌝ }
 {
     if clauses.len() <= 2048 {
         let mut places = [0u16; 2048];
@@ -36,12 +44,12 @@ pub fn thread(clauses: &[i32], universals: &[bool], first: &mut [u32], next: &mu
         thread_by(clauses, universals, &mut places, &mut starts, first, next);
         return;
     }
-    let mut places = [0u16; 16384];
-    let mut starts = [0u16; 16384];
+    let mut places = [0u16; Literal::ENTRIES];
+    let mut starts = [0u16; Literal::ENTRIES];
     thread_by(clauses, universals, &mut places, &mut starts, first, next);
 }
 
-// The same by tables with a row for each entry: the entries of universals are gathered in one pass and tied in another.
+// Ties them by way of two tables with a row for each entry: the entries of universals are gathered in one pass and tied in another.
 fn thread_by(
     clauses: &[i32],
     universals: &[bool],
@@ -50,8 +58,11 @@ fn thread_by(
     first: &mut [u32],
     next: &mut [u32],
 )
-    requires { ⌜ SoundClauses (now clauses) × (length (now universals) ≤ length (now first)) × (length (now clauses) ≤ length (now next)) × ((x : ℕ) → getD (now first) x 0 ≡ 0) × (length (now clauses) ≤ length (now places)) × (length (now clauses) ≤ length (now starts)) × Covered (now clauses) (now universals) ⌝ }
-    ensures { λ r. ⌜ Threaded (now (clauses .entry)) (now (universals .entry)) (now (first .exit)) (now (next .exit)) (length (now (clauses .entry))) ⌝ }
+    requires sound { ⌜ SoundClauses (now clauses) × (length (now universals) ≤ length (now first)) × (length (now clauses) ≤ length (now next))
+        × ((x : ℕ) → getD (now first) x 0 ≡ 0) × (length (now clauses) ≤ length (now places)) × (length (now clauses) ≤ length (now starts))
+        × Covered (now clauses) (now universals) ⌝ }
+    ensures threaded { λ r. ⌜ Threaded (now (clauses .entry)) (now (universals .entry)) (now (first .exit)) (now (next .exit))
+        (length (now (clauses .entry))) ⌝ }
 {
     let count = gather(clauses, universals, places, starts);
     tie_places(clauses, places, starts, count, first, next);
@@ -60,8 +71,10 @@ fn thread_by(
 // Writes the entries of all universals, ascending, and beside each the entry that its clause begins with; gives their count. Each entry of the
 // clauses is stored, and counted if it is a universal's, so that no branch hangs on what cannot be foreseen.
 fn gather(clauses: &[i32], universals: &[bool], places: &mut [u16], starts: &mut [u16]) -> usize
-    requires { ⌜ SoundClauses (now clauses) × (length (now clauses) ≤ length (now places)) × (length (now clauses) ≤ length (now starts)) × Covered (now clauses) (now universals) ⌝ }
-    ensures { λ r. ⌜ Gathered (now (clauses .entry)) (now (universals .entry)) (now (places .exit)) (now (starts .exit)) r (length (now (clauses .entry))) ⌝ }
+    requires sound { ⌜ SoundClauses (now clauses) × (length (now clauses) ≤ length (now places)) × (length (now clauses) ≤ length (now starts))
+        × Covered (now clauses) (now universals) ⌝ }
+    ensures gathered { λ r. ⌜ Gathered (now (clauses .entry)) (now (universals .entry)) (now (places .exit)) (now (starts .exit)) r
+        (length (now (clauses .entry))) ⌝ }
 {
     let mut count: usize = 0;
     let mut start: usize = 0;
@@ -79,8 +92,8 @@ fn gather(clauses: &[i32], universals: &[bool], places: &mut [u16], starts: &mut
 
 // What the entry of a variable counts: 1 if that is a universal, else 0; the 0 of a clause has no flag.
 fn counted(universals: &[bool], variable: Variable) -> usize
-    requires { ⌜ (variable .0 < length (now universals)) × (getD (now universals) 0 false ≡ false) ⌝ }
-    ensures { λ r. ⌜ r ≡ cond (marked (now (universals .entry)) (variable .0)) 1 0 ⌝ }
+    requires covered { ⌜ (variable .0 < length (now universals)) × (getD (now universals) 0 false ≡ false) ⌝ }
+    ensures counted { λ r. ⌜ r ≡ cond (marked (now (universals .entry)) (variable .0)) 1 0 ⌝ }
 {
     if universals[variable.0 as usize] {
         1
@@ -91,7 +104,7 @@ fn counted(universals: &[bool], variable: Variable) -> usize
 
 // Where the clause of the next entry begins: there, behind a 0, and else where that of this entry does.
 fn begun(variable: Variable, start: usize, next: usize) -> usize
-    ensures { λ r. ⌜ r ≡ cond (eqb (variable .0) 0) next start ⌝ }
+    ensures begun { λ r. ⌜ r ≡ cond (eqb (variable .0) 0) next start ⌝ }
 {
     if variable.0 == 0 { next } else { start }
 }
@@ -105,11 +118,15 @@ fn tie_places(
     first: &mut [u32],
     next: &mut [u32],
 )
-    requires { ⌜ SoundClauses (now clauses) × (length (now clauses) ≤ length (now next)) × ((x : ℕ) → getD (now first) x 0 ≡ 0) ⌝ }
-    requires { ⌜ (count ≤ length (now places)) × (count ≤ length (now starts)) × ((universals : List Bool) × (length universals ≤ length (now first)) × Gathered (now clauses) universals (now places) (now starts) count (length (now clauses))) ⌝ }
-    ensures { λ r. ⌜ ((universals : List Bool) → Gathered (now (clauses .entry)) universals (now (places .entry)) (now (starts .entry)) count (length (now (clauses .entry))) → Threaded (now (clauses .entry)) universals (now (first .exit)) (now (next .exit)) (length (now (clauses .entry)))) ⌝ }
+    requires sound { ⌜ SoundClauses (now clauses) × (length (now clauses) ≤ length (now next)) × ((x : ℕ) → getD (now first) x 0 ≡ 0) ⌝ }
+    requires gathered { ⌜ (count ≤ length (now places)) × (count ≤ length (now starts))
+        × ((universals : List Bool) × (length universals ≤ length (now first))
+        × Gathered (now clauses) universals (now places) (now starts) count (length (now clauses))) ⌝ }
+    ensures threaded { λ r. ⌜ ((universals : List Bool)
+        → Gathered (now (clauses .entry)) universals (now (places .entry)) (now (starts .entry)) count (length (now (clauses .entry)))
+        → Threaded (now (clauses .entry)) universals (now (first .exit)) (now (next .exit)) (length (now (clauses .entry)))) ⌝ }
 {
-    let mut seen = [0u16; 8194];
+    let mut seen = [0u16; Literal::ROWS];
     let mut skip = false;
     let mut judged = clauses.len();
     let mut j: usize = 0;
@@ -128,8 +145,8 @@ fn tie_places(
 
 // Whether the clause from `start` on is always true; where it was the last that was judged, `skip` says it.
 fn is_true(clauses: &[i32], start: usize, judged: usize, skip: bool, seen: &mut [u16]) -> bool
-    requires { ⌜ SoundClauses (now clauses) × (start ≤ length (now clauses)) × Known (now clauses) start judged skip (now seen) ⌝ }
-    ensures { λ r. ⌜ Skipping (now (clauses .entry)) start r (now (seen .exit)) ⌝ }
+    requires recalled { ⌜ SoundClauses (now clauses) × (start ≤ length (now clauses)) × Recalled (now clauses) start judged skip (now seen) ⌝ }
+    ensures told { λ r. ⌜ Skipping (now (clauses .entry)) start r (now (seen .exit)) ⌝ }
 {
     if start == judged {
         return skip;
@@ -141,8 +158,10 @@ fn is_true(clauses: &[i32], start: usize, judged: usize, skip: bool, seen: &mut 
 
 // Puts entry i, of the clause that begins with `start`, in front of the chain of its variable, if that has no entry of this clause yet.
 fn note(clauses: &[i32], start: usize, i: usize, first: &mut [u32], next: &mut [u32])
-    requires { ⌜ (i < 16384) × (variableOf (literalAt (now clauses) i) < length (now first)) × (i < length (now next)) × Inside (now clauses) start i × Connecting (now clauses) start ⌝ }
-    ensures { λ r. ⌜ ((universals : List Bool) → Threaded (now (clauses .entry)) universals (now (first .entry)) (now (next .entry)) i → Threaded (now (clauses .entry)) universals (now (first .exit)) (now (next .exit)) (i + 1)) ⌝ }
+    requires inside { ⌜ (i < clauseEntries) × (variableOf (literalAt (now clauses) i) < length (now first)) × (i < length (now next))
+        × Inside (now clauses) start i × Connecting (now clauses) start ⌝ }
+    ensures threaded { λ r. ⌜ ((universals : List Bool) → Threaded (now (clauses .entry)) universals (now (first .entry)) (now (next .entry)) i
+        → Threaded (now (clauses .entry)) universals (now (first .exit)) (now (next .exit)) (i + 1)) ⌝ }
 {
     let variable = variable_at(clauses, i);
     let at = variable.0 as usize;
@@ -150,7 +169,7 @@ fn note(clauses: &[i32], start: usize, i: usize, first: &mut [u32], next: &mut [
     if start < last as usize {
         return;
     }
-    next[i] = start as u32 * 65536 + last;
+    next[i] = pack(last, start as u32);
     first[at] = (i + 1) as u32;
 }
 
@@ -166,8 +185,8 @@ pub fn flag_points(
     tops: &[u32],
     flags: &mut [bool],
 )
-    requires { ⌜ Tied (now clauses) (now first) (now next) (x .0) × Blank (now flags) ⌝ }
-    ensures { λ r. ⌜ EnteredBy scheme n (now (tops .entry)) (now (clauses .entry)) (x .0) (now (flags .exit)) ⌝ }
+    requires tied { ⌜ Tied (now clauses) (now first) (now next) (x .0) × Blank (now flags) ⌝ }
+    ensures entered { λ r. ⌜ EnteredBy scheme n (now (tops .entry)) (now (clauses .entry)) (x .0) (now (flags .exit)) ⌝ }
 {
     match scheme {
         Scheme::Standard => flag_along(Signs::Either, n, clauses, first, next, x, tops, flags),
@@ -185,10 +204,10 @@ fn flag_both(
     tops: &[u32],
     flags: &mut [bool],
 )
-    requires { ⌜ Tied (now clauses) (now first) (now next) (x .0) × Blank (now flags) ⌝ }
-    ensures { λ r. ⌜ EnteredBy Strict n (now (tops .entry)) (now (clauses .entry)) (x .0) (now (flags .exit)) ⌝ }
+    requires tied { ⌜ Tied (now clauses) (now first) (now next) (x .0) × Blank (now flags) ⌝ }
+    ensures entered { λ r. ⌜ EnteredBy Strict n (now (tops .entry)) (now (clauses .entry)) (x .0) (now (flags .exit)) ⌝ }
 {
-    let mut positive = [false; 4097];
+    let mut positive = [false; Variable::ROWS];
     flag_along(
         Signs::Positive,
         n,
@@ -205,8 +224,8 @@ fn flag_both(
 
 // Takes back every flag that the other table does not have. Every row is stored, so that many are at once.
 fn keep_common(other: &[bool], flags: &mut [bool])
-    requires { ⌜ length (now flags) ≤ length (now other) ⌝ }
-    ensures { λ r. ⌜ Common (now (other .entry)) (now (flags .entry)) (now (flags .exit)) ⌝ }
+    requires enough { ⌜ length (now flags) ≤ length (now other) ⌝ }
+    ensures common { λ r. ⌜ Common (now (other .entry)) (now (flags .entry)) (now (flags .exit)) ⌝ }
 {
     let mut i = 0;
     while i < flags.len() {
@@ -217,7 +236,7 @@ fn keep_common(other: &[bool], flags: &mut [bool])
 
 // Whether both flags are set.
 fn both(one: bool, other: bool) -> bool
-    ensures { λ r. ⌜ r ≡ one && other ⌝ }
+    ensures told { λ r. ⌜ r ≡ one && other ⌝ }
 {
     if one { other } else { false }
 }
@@ -233,17 +252,18 @@ fn flag_along(
     tops: &[u32],
     flags: &mut [bool],
 )
-    requires { ⌜ Tied (now clauses) (now first) (now next) (x .0) ⌝ }
-    ensures { λ r. ⌜ Flagged (Via n (now (tops .entry)) (λ y. By signs (λ sign. Together (now (clauses .entry)) sign (x .0) y))) (now (flags .entry)) (now (flags .exit)) ⌝ }
+    requires tied { ⌜ Tied (now clauses) (now first) (now next) (x .0) ⌝ }
+    ensures flagged { λ r. ⌜ Flagged (Via n (now (tops .entry)) (λ y. By signs (λ sign. Together (now (clauses .entry)) sign (x .0) y)))
+        (now (flags .entry)) (now (flags .exit)) ⌝ }
 {
     let mut at = first[x.0 as usize];
     while at != 0 {
         let entry = (at - 1) as usize;
-        let row = next[entry];
-        at = row % 65536;
+        let row = unpack(next[entry]);
+        at = row.low;
         let side = side_of(literal_at(clauses, entry));
         if has_sign(signs, side) {
-            flag_after(n, clauses, (row / 65536) as usize, tops, flags);
+            flag_after(n, clauses, row.high as usize, tops, flags);
         }
     }
 }

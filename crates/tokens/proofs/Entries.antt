@@ -1,19 +1,20 @@
 -- The laws of entries: what the next word of a line says of the line as a row of entries.
 use Prim.Native.Nat.{ℕ, _+_}
 use mathlib.Core.Path.{_≡_, refl, sym, ap, _∙_, subst}
-use mathlib.Core.Bool.{Bool, true, false, cond}
+use mathlib.Core.Bool.{Bool, true, false, cond, _&&_}
 use mathlib.Core.List.{List, [], _∷_}
 use native.Mathlib.Omega.{arith}
-use lib.Dec.{eqb}
+use borrow.Author.Tests.{eqb-true}
+use lib.Dec.{eqb, leb}
+use lib.ListN.{length}
 use lib.Seq.{slice}
+use Rattle.tokens.specs.declared.Word.{Word}
 use Rattle.tokens.specs.declared.Word.the-variants.{Found}
 use Rattle.tokens.specs.declared.Number.{Number}
 use Rattle.tokens.specs.declared.Number.the-variants.{Not}
-use Rattle.tokens.specs.declared.Item.{Item}
-use Rattle.tokens.specs.declared.Item.the-variants.{Closing, Plain, Negated, Other}
 use Rattle.tokens.specs.declared.Entry.{Entry}
 use Rattle.tokens.specs.declared.Entry.the-variants.{Unfit, Close, Take, Negate}
-use Rattle.tokens.specs.Words.{MINUS, isNumber, numberOf, plainItem, negatedItem, itemOf}
+use Rattle.tokens.specs.Words.{Item, Closing, Plain, Negated, Other, MINUS, allDigits, isNumber, numberOf, plainItem, negatedItem, itemOf}
 use Rattle.tokens.specs.Places.{signed, bare, signedItem, wordAt, Passed, Taken, words-left, no-feed, CloseIs, ItemIs, early, endless, strange, EntryIs}
 use Rattle.tokens.proofs.Lines.{FoundIs, found-parts}
 
@@ -23,15 +24,34 @@ unfolding itemOf signedItem signed bare numberOf isNumber plainItem
 item-signed [] = refl
 item-signed (byte ∷ bytes) = go (eqb byte MINUS)
   where
-    go : (t : Bool) → cond t (negatedItem (numberOf bytes)) (plainItem (numberOf (byte ∷ bytes))) ≡ cond t (negatedItem (numberOf (cond t bytes (byte ∷ bytes)))) (plainItem (numberOf (cond t bytes (byte ∷ bytes))))
+    go : (t : Bool)
+        → cond t (negatedItem (numberOf bytes)) (plainItem (numberOf (byte ∷ bytes)))
+        ≡ cond t (negatedItem (numberOf (cond t bytes (byte ∷ bytes)))) (plainItem (numberOf (cond t bytes (byte ∷ bytes))))
     go true = refl
     go false = refl
 
-pub found-item : (text : List ℕ) (at s e : ℕ) (number : Number) (negative : Bool) → wordAt text at ≡ Found s e number negative → itemOf (slice s e text) ≡ signedItem negative number
-found-item text at s e number negative q =
-    let p = found-parts text at s e number negative q in
+pub found-item : (text : List ℕ) (at : ℕ) {s e : ℕ} {number : Number} {negative : Bool} {r : Word} → r ≡ wordAt text at → r ≡ Found s e number negative
+    → itemOf (slice s e text) ≡ signedItem negative number
+found-item text at {s} {e} {negative = negative} w q =
+    let p = found-parts text at w q in
     let word = slice s e text in
     item-signed word ∙ ap (λ (b : Bool). signedItem b (numberOf (bare word))) (p .1) ∙ ap (signedItem negative) (p .0)
+
+-- a word with no `-` is a number as a whole, and one with `-` is none
+and-false : (b : Bool) → (b && false) ≡ false
+and-false true = refl
+and-false false = refl
+
+pub plain-number : (word : List ℕ) → signed word ≡ false → numberOf (bare word) ≡ numberOf word
+unfolding signed bare
+plain-number [] e = refl
+plain-number (byte ∷ bytes) e = rw e
+
+pub signed-number : (word : List ℕ) → signed word ≡ true → numberOf word ≡ Not
+unfolding signed numberOf isNumber allDigits
+signed-number [] e = let no : _≡_ {A = ℕ} 0 1 = cc in let no : ⊥ = omega arith in absurd no
+signed-number (byte ∷ bytes) e =
+    rw (eqb-true byte MINUS e, and-false (leb 1 (length (MINUS ∷ bytes)) && leb (length (MINUS ∷ bytes)) 5))
 
 -- what is no number is no item, with `-` or without
 pub not-item : (negative : Bool) → signedItem negative Not ≡ Other

@@ -1,6 +1,6 @@
 -- The laws of bytes that pass a test, which each scan of the text cites.
 use Prim.Native.Nat.{ℕ, suc, _+_, _<_, _≤_}
-use mathlib.Core.Path.{_≡_, sym, ap, _∙_}
+use mathlib.Core.Path.{_≡_, refl, sym, ap, _∙_}
 use mathlib.Core.Bool.{Bool, true, false, cond}
 use mathlib.Core.List.{List, [], _∷_}
 use native.Mathlib.Omega.{arith}
@@ -51,8 +51,26 @@ module _ (test : ℕ → Bool) (text : List ℕ) (i : ℕ) where
       let left = length-drop i text in
       omega arith
 
+-- A scan from a place, which has come to i: where the bytes that pass from i on end is where those from the place do.
+pub record Passing (test : ℕ → Bool) (text : List ℕ) (at i : ℕ) : Type 0 where
+  pub so-far : past test text i ≡ past test text at
+
+pub passing-none : (test : ℕ → Bool) (text : List ℕ) (at : ℕ) → Passing test text at at
+passing-none test text at = record { so-far = refl }
+
+module _ {test : ℕ → Bool} {text : List ℕ} {at i : ℕ} (passing : Passing test text at i) where
+  pub passing-more : i < length text → test (getD text i 0) ≡ true → Passing test text at (i + 1)
+  passing-more h e = record { so-far = sym (past-more test text i h e) ∙ passing .so-far }
+
+  pub passing-stop : i < length text → test (getD text i 0) ≡ false → i ≡ past test text at
+  passing-stop h e = sym (past-stop test text i h e) ∙ passing .so-far
+
+  pub passing-end : length text ≤ i → i ≡ past test text at
+  passing-end h = sym (past-end test text i h) ∙ passing .so-far
+
 -- the word at a place where no space stands, from where its bytes end
-pub from-found : (text : List ℕ) (start end : ℕ) → end ≡ past inWord text start → start < end → wordFrom text start (past inWord text start) ≡ foundFrom text start end
+pub from-found : (text : List ℕ) (start end : ℕ) → end ≡ past inWord text start → start < end
+    → wordFrom text start (past inWord text start) ≡ foundFrom text start end
 unfolding wordFrom
 from-found text start end e h = rw (← e, lt-ltb start end h)
 

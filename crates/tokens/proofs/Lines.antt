@@ -9,10 +9,12 @@ use borrow.Author.Tests.{ltb-true, ltb-false, eqb-true, ne-eqb}
 use lib.Dec.{eqb, ltb}
 use lib.ListN.{length, take, drop, length-drop}
 use lib.Seq.{slice, take-nil, drop-drop, length-take-le}
+use Rattle.tokens.specs.declared.Word.{Word}
 use Rattle.tokens.specs.declared.Word.the-variants.{Found, End}
 use Rattle.tokens.specs.declared.Number.{Number}
 use Rattle.tokens.specs.Words.{LF, SPACE, onto, pieces, filled, words, numberOf}
-use Rattle.tokens.specs.Places.{leading, isSpace, inWord, inLine, past, signed, bare, foundFrom, wordFrom, wordAt, front, later, lineAt, afterAt, wordsAt, Passed}
+use Rattle.tokens.specs.Places.{leading, isSpace, inWord, inLine, past, signed, bare, foundFrom, wordFrom, wordAt, front, later, lineAt, afterAt}
+use Rattle.tokens.specs.Places.{wordsAt, Passed}
 use Rattle.tokens.proofs.Leading.{leading-most}
 
 -- A byte is a space, an LF or neither.
@@ -35,7 +37,8 @@ unfolding pieces onto front later
 front-later mark [] = refl
 front-later mark (b ∷ bs) = go (eqb b mark) (pieces mark bs) (front-later mark bs)
   where
-    go : (s : Bool) (ps : List (List ℕ)) → ps ≡ front ps ∷ later ps → cond s ([] ∷ ps) (onto b ps) ≡ front (cond s ([] ∷ ps) (onto b ps)) ∷ later (cond s ([] ∷ ps) (onto b ps))
+    go : (s : Bool) (ps : List (List ℕ)) → ps ≡ front ps ∷ later ps
+        → cond s ([] ∷ ps) (onto b ps) ≡ front (cond s ([] ∷ ps) (onto b ps)) ∷ later (cond s ([] ∷ ps) (onto b ps))
     go true ps e = refl
     go false [] e = refl
     go false (p ∷ ps) e = refl
@@ -106,7 +109,8 @@ unfolding pieces leading words filled front later
 run [] = record { same = same-none []; first = refl; rest = refl }
 run (b ∷ bs) =
     elim (byte b) as (λ d. Run (b ∷ bs) (leading inWord (b ∷ bs))) [
-      | space s l ↦ rw s (record { same = same-none (b ∷ bs); first = rw l (rw (front-onto b LF bs) (rw s refl)); rest = rw l (rw (front-onto b LF bs) (rw s refl)) })
+      | space s l ↦
+          rw s (record { same = same-none (b ∷ bs); first = rw l (rw (front-onto b LF bs) (rw s refl)); rest = rw l (rw (front-onto b LF bs) (rw s refl)) })
       | feed s l ↦ rw (s, l) (record { same = same-none (b ∷ bs); first = rw l refl; rest = rw l refl })
       | letter s l ↦
           rw (s, l) (record {
@@ -159,7 +163,9 @@ module _ (text : List ℕ) (at k : ℕ) (same : Same (drop at text) k) where
   after-at = same .after ∙ ap (λ (xs : List ℕ). later (pieces LF xs)) (drop-drop k at text)
 
   line-at : past inLine text at ≡ past inLine text (at + k)
-  line-at = ap (λ (n : ℕ). at + n) (same .line ∙ ap (λ (xs : List ℕ). k + leading inLine xs) (drop-drop k at text)) ∙ sym (add-assoc at k (leading inLine (drop (at + k) text)))
+  line-at =
+      ap (λ (n : ℕ). at + n) (same .line ∙ ap (λ (xs : List ℕ). k + leading inLine xs) (drop-drop k at text))
+      ∙ sym (add-assoc at k (leading inLine (drop (at + k) text)))
 
 -- The word that stands next in a text: the first of the line's words.
 pub record FoundIs (text : List ℕ) (at start end : ℕ) : Type 0 where
@@ -203,10 +209,12 @@ module _ (text : List ℕ) (at : ℕ) where
       let r = run (drop start text) in
       record {
         first =
-            gap-words ∙ ap filled (front-later SPACE (lineAt text start)) ∙ ap (λ (w : List ℕ). filled (w ∷ later (pieces SPACE (lineAt text start)))) (r .first)
+            gap-words ∙ ap filled (front-later SPACE (lineAt text start))
+            ∙ ap (λ (w : List ℕ). filled (w ∷ later (pieces SPACE (lineAt text start)))) (r .first)
             ∙ filled-some (take size (drop start text)) (later (pieces SPACE (lineAt text start))) (omega arith)
             ∙ ap (λ (w : List ℕ). w ∷ filled (later (pieces SPACE (lineAt text start)))) (sym (slice-take start size text))
-            ∙ ap (λ (ws : List (List ℕ)). slice start (start + size) text ∷ ws) (r .rest ∙ ap (λ (xs : List ℕ). words (front (pieces LF xs))) (drop-drop size start text));
+            ∙ ap (λ (ws : List (List ℕ)). slice start (start + size) text ∷ ws)
+            (r .rest ∙ ap (λ (xs : List ℕ). words (front (pieces LF xs))) (drop-drop size start text));
         after = gap-after ∙ after-at text start size (r .same);
         line = gap-line ∙ line-at text start size (r .same);
         from = omega arith;
@@ -217,35 +225,45 @@ module _ (text : List ℕ) (at : ℕ) where
   end-is : past inWord text start ≤ start → EndIs text at start
   end-is h =
       let left = length-drop start text in
-      let none-left : leading isSpace (drop start text) ≡ 0 = sym (ap (leading isSpace) (drop-drop (leading isSpace (drop at text)) at text)) ∙ no-gap (drop at text) in
+      let none-left : leading isSpace (drop start text) ≡ 0 =
+      sym (ap (leading isSpace) (drop-drop (leading isSpace (drop at text)) at text)) ∙ no-gap (drop at text) in
       let e = ends (drop start text) none-left (omega arith) in
       let line : start ≡ past inLine text at = sym (gap-line ∙ ap (λ (n : ℕ). start + n) (e .stop) ∙ add-zero start) in
       record {
         none = gap-words ∙ e .no-words;
         line = line;
         from = omega arith;
-        fed = λ in-text. record { after = gap-after ∙ e .fed (omega arith) ∙ ap (pieces LF) (drop-drop 1 start text); place = ap (λ (n : ℕ). n + 1) line; within = omega arith };
+        fed =
+            λ in-text.
+            record {
+              after = gap-after ∙ e .fed (omega arith) ∙ ap (pieces LF) (drop-drop 1 start text);
+              place = ap (λ (n : ℕ). n + 1) line;
+              within = omega arith;
+            };
         over = λ past-text. gap-after ∙ e .over (omega arith);
       }
 
-  -- the same, from the word itself
-  pub found-of : (s e : ℕ) (number : Number) (negative : Bool) → wordAt text at ≡ Found s e number negative → FoundIs text at s e
+  -- what the word that was found says, and what the line's end does
+  pub found-of : {s e : ℕ} {number : Number} {negative : Bool} {r : Word} → r ≡ wordAt text at → r ≡ Found s e number negative → FoundIs text at s e
   unfolding wordAt wordFrom
-  found-of s e number negative q = go (ltb start (past inWord text start)) refl q
+  found-of {s} {e} {number} {negative} w q = go (ltb start (past inWord text start)) refl (sym w ∙ q)
     where
-      go : (t : Bool) → ltb start (past inWord text start) ≡ t → cond t (foundFrom text start (past inWord text start)) (End start) ≡ Found s e number negative → FoundIs text at s e
+      go : (t : Bool) → ltb start (past inWord text start) ≡ t
+          → cond t (foundFrom text start (past inWord text start)) (End start) ≡ Found s e number negative → FoundIs text at s e
       go true t-is r =
           let p : start ≡ s = cc in
           let o : past inWord text start ≡ e = cc in
           subst₂ (λ (x y : ℕ). FoundIs text at x y) p o (found-is (ltb-true start (past inWord text start) t-is))
       go false t-is r = let no : _≡_ {A = ℕ} 0 1 = cc in let no : ⊥ = omega arith in absurd no
 
-  -- and the number and the sign that come with it are its own
-  pub found-parts : (s e : ℕ) (number : Number) (negative : Bool) → wordAt text at ≡ Found s e number negative → (numberOf (bare (slice s e text)) ≡ number) × (signed (slice s e text) ≡ negative)
+  -- the number and the sign that come with a word are its own
+  pub found-parts : {s e : ℕ} {number : Number} {negative : Bool} {r : Word} → r ≡ wordAt text at → r ≡ Found s e number negative
+      → (numberOf (bare (slice s e text)) ≡ number) × (signed (slice s e text) ≡ negative)
   unfolding wordAt wordFrom
-  found-parts s e number negative q = go (ltb start (past inWord text start)) q
+  found-parts {s} {e} {number} {negative} w q = go (ltb start (past inWord text start)) (sym w ∙ q)
     where
-      go : (t : Bool) → cond t (foundFrom text start (past inWord text start)) (End start) ≡ Found s e number negative → (numberOf (bare (slice s e text)) ≡ number) × (signed (slice s e text) ≡ negative)
+      go : (t : Bool) → cond t (foundFrom text start (past inWord text start)) (End start) ≡ Found s e number negative
+          → (numberOf (bare (slice s e text)) ≡ number) × (signed (slice s e text) ≡ negative)
       go true r =
           let p : start ≡ s = cc in
           let o : past inWord text start ≡ e = cc in
@@ -254,9 +272,9 @@ module _ (text : List ℕ) (at : ℕ) where
           subst₂ (λ (x y : ℕ). (numberOf (bare (slice x y text)) ≡ number) × (signed (slice x y text) ≡ negative)) p o (n, m)
       go false r = let no : _≡_ {A = ℕ} 0 1 = cc in let no : ⊥ = omega arith in absurd no
 
-  pub end-of : (s : ℕ) → wordAt text at ≡ End s → EndIs text at s
+  pub end-of : {s : ℕ} {r : Word} → r ≡ wordAt text at → r ≡ End s → EndIs text at s
   unfolding wordAt wordFrom
-  end-of s q = go (ltb start (past inWord text start)) refl q
+  end-of {s} w q = go (ltb start (past inWord text start)) refl (sym w ∙ q)
     where
       go : (t : Bool) → ltb start (past inWord text start) ≡ t → cond t (foundFrom text start (past inWord text start)) (End start) ≡ End s → EndIs text at s
       go true t-is r = let no : _≡_ {A = ℕ} 0 1 = cc in let no : ⊥ = omega arith in absurd no

@@ -12,14 +12,14 @@ use lib.ListN.{length, getD}
 use lib.Seq.{slice, slice-cons, slice-empty}
 use Rattle.tokens.specs.declared.Number.{Number}
 use Rattle.tokens.specs.declared.Number.the-variants.{Is, Not}
-use Rattle.tokens.specs.declared.Item.{Item}
-use Rattle.tokens.specs.declared.Item.the-variants.{Closing, Plain, Negated, Other}
-use Rattle.tokens.specs.Words.{MINUS, ZERO, NINE, allDigits, spelt, isNumber, numberOf, plainItem, negatedItem, itemOf}
+use Rattle.tokens.specs.Words.{Item, Closing, Plain, Negated, Other, MINUS, ZERO, NINE, allDigits, spelt, isNumber, numberOf, plainItem, negatedItem}
+use Rattle.tokens.specs.Words.{itemOf}
 use Rattle.tokens.specs.Places.{speltOf}
 
 module _ (value i end : ℕ) (text : List ℕ) (h : i < end) (e : end ≤ length text) where
   -- the first byte of what is left is a digit: the number goes on
-  pub spelt-digit : ZERO ≤ getD text i 0 → getD text i 0 ≤ NINE → speltOf value (slice i end text) ≡ speltOf (value * 10 + (getD text i 0 - ZERO)) (slice (i + 1) end text)
+  pub spelt-digit : ZERO ≤ getD text i 0 → getD text i 0 ≤ NINE
+      → speltOf value (slice i end text) ≡ speltOf (value * 10 + (getD text i 0 - ZERO)) (slice (i + 1) end text)
   unfolding speltOf allDigits spelt
   spelt-digit low high =
       rw (slice-cons i end text 0 h e, le-leb ZERO (getD text i 0) low, le-leb (getD text i 0) NINE high, add-one)

@@ -86,7 +86,8 @@ module _ (text : List ℕ) (start from end : ℕ) (sign : SignIs text start from
       cons = slice-cons start end text 0 h e
 
       go : SignIs text start from → (bare (slice start end text) ≡ slice from end text) × (signed (slice start end text) ≡ ltb start from)
-      go (minus inside m f) = (rw (cons, eq-eqb (getD text start 0) MINUS m, f, add-one), rw (cons, eq-eqb (getD text start 0) MINUS m, lt-ltb start from (omega arith)))
+      go (minus inside m f) =
+          (rw (cons, eq-eqb (getD text start 0) MINUS m, f, add-one), rw (cons, eq-eqb (getD text start 0) MINUS m, lt-ltb start from (omega arith)))
       go (unsigned m f) =
           let whole : bare (slice start end text) ≡ getD text start 0 ∷ slice (suc start) end text = rw (cons, ne-eqb (getD text start 0) MINUS m) in
           (whole ∙ sym cons ∙ ap (λ (k : ℕ). slice k end text) (sym f), rw (cons, ne-eqb (getD text start 0) MINUS m, le-ltb start from (omega arith)))
@@ -96,7 +97,8 @@ module _ (text : List ℕ) (start from end : ℕ) (sign : SignIs text start from
   signed-word number stop h e is =
       let s = signs h e in
       let word = slice start end text in
-      ap (λ (n : Number). Found start end n (ltb start from)) (is ∙ ap numberOf (sym (s .0))) ∙ ap (λ (b : Bool). Found start end (numberOf (bare word)) b) (sym (s .1))
+      ap (λ (n : Number). Found start end n (ltb start from)) (is ∙ ap numberOf (sym (s .0)))
+      ∙ ap (λ (b : Bool). Found start end (numberOf (bare word)) b) (sym (s .1))
       ∙ sym (from-found text start end stop h)
 
   -- a number that was read with its end
@@ -107,7 +109,8 @@ module _ (text : List ℕ) (start from end : ℕ) (sign : SignIs text start from
       go (minus inside m f) =
           let some = n .some in
           let letter : inWord (getD text start 0) ≡ true = rw m in
-          signed-word (Is value) (n .stop ∙ ap (λ (k : ℕ). past inWord text k) f ∙ sym (past-more inWord text start inside letter)) (omega arith) (n .within) (sym (n .is))
+          signed-word (Is value) (n .stop ∙ ap (λ (k : ℕ). past inWord text k) f ∙ sym (past-more inWord text start inside letter)) (omega arith)
+          (n .within) (sym (n .is))
       go (unsigned m f) =
           let some = n .some in
           signed-word (Is value) (n .stop ∙ ap (λ (k : ℕ). past inWord text k) f) (omega arith) (n .within) (sym (n .is))

@@ -10,8 +10,7 @@ use lib.ListN.{length, getD, take}
 use lib.Seq.{slice, slice-empty, slice-cons, length-slice, getD-drop, getD-take}
 use Rattle.tokens.specs.declared.Spelt.the-variants.{Missing}
 use Rattle.tokens.specs.declared.Word.the-variants.{End}
-use Rattle.tokens.specs.Places.{wordsAt, past, isSpace, inWord, signed, bare, foundFrom, wordAt, wordFrom}
-use Rattle.tokens.specs.Words.{numberOf}
+use Rattle.tokens.specs.Places.{wordsAt, past, isSpace, inWord, foundFrom, wordAt, wordFrom}
 use Rattle.tokens.specs.Expected.{Goes, SpeltIs}
 use Rattle.tokens.proofs.Lines.{FoundIs, EndIs, found-of, end-of}
 
@@ -51,7 +50,8 @@ module _ {text : List ℕ} {at start end : ℕ} (found : FoundIs text at start e
       slice-cons start end text 0 (found .some) (found .within) ∙ ap (λ (k : ℕ). getD text start 0 ∷ slice (suc start) k text) last
       ∙ ap (λ (w : List ℕ). getD text start 0 ∷ w) (slice-empty (suc start) text) ∙ ap (λ (b : ℕ). b ∷ []) is
 
-  pub spelt-three : (a b d : ℕ) → end - start ≡ 3 → getD text start 0 ≡ a → getD text (start + 1) 0 ≡ b → getD text (start + 2) 0 ≡ d → slice start end text ≡ a ∷ b ∷ d ∷ []
+  pub spelt-three : (a b d : ℕ) → end - start ≡ 3 → getD text start 0 ≡ a → getD text (start + 1) 0 ≡ b → getD text (start + 2) 0 ≡ d
+      → slice start end text ≡ a ∷ b ∷ d ∷ []
   spelt-three a b d size first second third =
       let s = found .some in
       let w = found .within in
@@ -80,6 +80,6 @@ spelt-unlike text at letter differs = go (ltb start stop) refl
 
     go : (t : Bool) → ltb start stop ≡ t → SpeltIs (letter ∷ []) text at Missing
     go true is =
-        let f = found-of text at start stop (numberOf (bare (slice start stop text))) (signed (slice start stop text)) (ap (λ (t : Bool). cond t (foundFrom text start stop) (End start)) is) in
+        let f = found-of text at refl (ap (λ (t : Bool). cond t (foundFrom text start stop) (End start)) is) in
         spelt-other f (letter ∷ []) 0 (let more = f .some in omega arith) (λ e. differs (sym (ap (λ (n : ℕ). getD text n 0) (add-zero start)) ∙ e))
-    go false is = spelt-end (end-of text at start (ap (λ (t : Bool). cond t (foundFrom text start stop) (End start)) is)) (letter ∷ [])
+    go false is = spelt-end (end-of text at refl (ap (λ (t : Bool). cond t (foundFrom text start stop) (End start)) is)) (letter ∷ [])

@@ -12,8 +12,6 @@ use Rattle.tokens.specs.declared.Word.{Word}
 use Rattle.tokens.specs.declared.Word.the-variants.{Found, End}
 use Rattle.tokens.specs.declared.Number.{Number}
 use Rattle.tokens.specs.declared.Number.the-variants.{Is, Not}
-use Rattle.tokens.specs.declared.Item.{Item}
-use Rattle.tokens.specs.declared.Item.the-variants.{Closing, Plain, Negated, Other}
 use Rattle.tokens.specs.declared.Ended.{Ended}
 use Rattle.tokens.specs.declared.Ended.the-variants.{Nowhere, Next}
 use Rattle.tokens.specs.declared.Entry.{Entry}
@@ -22,7 +20,8 @@ use Rattle.tokens.specs.declared.Row.{Row}
 use Rattle.tokens.specs.declared.Row.the-variants.{Broken, Whole}
 use Rattle.tokens.specs.declared.Counted.{Counted}
 use Rattle.tokens.specs.declared.Counted.the-variants.{Uncounted, Count}
-use Rattle.tokens.specs.Words.{LF, SPACE, MINUS, pieces, words, allDigits, spelt, numberOf, plainItem, negatedItem, itemOf, Kind, entriesOf}
+use Rattle.tokens.specs.Words.{Item, Closing, Plain, Negated, Other, LF, SPACE, MINUS, pieces, words, allDigits, spelt, numberOf, plainItem}
+use Rattle.tokens.specs.Words.{negatedItem, itemOf, Kind, entriesOf}
 
 -- How many bytes that pass a test stand in front: spaces, the bytes of a word, the bytes of a line.
 unfoldable pub leading : (ℕ → Bool) → List ℕ → ℕ
@@ -80,7 +79,7 @@ abbrev pub NumeralIs : List ℕ → ℕ → Counted → Type 0
 NumeralIs text from Uncounted = Unit {0}
 NumeralIs text from (Count value end) = Numeral text from value end
 
--- The same for digits up to a place, by the byte that stands there.
+-- Digits up to a place are a number where the byte that stands there ends their word.
 abbrev pub StopIs : ℕ → ℕ → ℕ → ℕ → Counted → Type 0
 StopIs byte value from end Uncounted = Unit {0}
 StopIs byte value from end (Count v e) = (v ≡ value) × (e ≡ end) × (from < end) × (inWord byte ≡ false)

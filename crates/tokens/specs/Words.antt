@@ -7,8 +7,6 @@ use lib.Dec.{eqb, leb}
 use lib.ListN.{length}
 use Rattle.tokens.specs.declared.Number.{Number}
 use Rattle.tokens.specs.declared.Number.the-variants.{Is, Not}
-use Rattle.tokens.specs.declared.Item.{Item}
-use Rattle.tokens.specs.declared.Item.the-variants.{Closing, Plain, Negated, Other}
 pub use Rattle.spelling.specs.Texts.{LF, SPACE, MINUS, ZERO, NINE, LETTER-A, LETTER-C, LETTER-E, LETTER-F, LETTER-N, LETTER-P}
 
 -- A byte in front of the first piece.
@@ -49,6 +47,12 @@ unfoldable pub numberOf : List ℕ → Number
 numberOf word = cond (isNumber word) (Is (spelt 0 word)) Not
 
 -- A word of a quantifier or clause line: the closing 0, a nonzero number, a nonzero number that carries `-`, or none of these.
+pub data Item : Type 0 where
+  Closing : Item
+  Plain : ℕ → Item
+  Negated : ℕ → Item
+  Other : Item
+
 unfoldable pub plainItem : Number → Item
 plainItem (Is value) = cond (eqb value 0) Closing (Plain value)
 plainItem Not = Other

@@ -5,7 +5,6 @@ use crate::Ended;
 use crate::Number;
 use crate::Spelt;
 use crate::Word;
-use crate::words::number_in;
 use crate::words::word_in;
 use spelling::LETTER_C;
 use spelling::LETTER_F;
@@ -17,7 +16,7 @@ ghost use Rattle.tokens.specs.Places.{EndedIs};
 
 // Whether the next word of a line is one letter.
 pub fn letter_at(text: &[u8], at: usize, letter: u8) -> Spelt
-    ensures { λ r. ⌜ SpeltIs (letter ∷ []) (now (text .entry)) at r ⌝ }
+    ensures looked { λ r. ⌜ SpeltIs (letter ∷ []) (now (text .entry)) at r ⌝ }
 {
     match word_in(text, at) {
         Word::End { at: _ } => Spelt::Missing,
@@ -40,7 +39,7 @@ pub fn letter_at(text: &[u8], at: usize, letter: u8) -> Spelt
 
 // Whether the next word of a line is `cnf`.
 pub fn cnf_at(text: &[u8], at: usize) -> Spelt
-    ensures { λ r. ⌜ SpeltIs (LETTER-C ∷ LETTER-N ∷ LETTER-F ∷ []) (now (text .entry)) at r ⌝ }
+    ensures looked { λ r. ⌜ SpeltIs (LETTER-C ∷ LETTER-N ∷ LETTER-F ∷ []) (now (text .entry)) at r ⌝ }
 {
     match word_in(text, at) {
         Word::End { at: _ } => Spelt::Missing,
@@ -69,25 +68,30 @@ pub fn cnf_at(text: &[u8], at: usize) -> Spelt
 
 // Whether the next word of a line is a number.
 pub fn number_at(text: &[u8], at: usize) -> Counted
-    ensures { λ r. ⌜ CountedIs (now (text .entry)) at r ⌝ }
+    ensures looked { λ r. ⌜ CountedIs (now (text .entry)) at r ⌝ }
 {
     match word_in(text, at) {
         Word::End { at: _ } => Counted::Uncounted,
         Word::Found {
-            start,
+            start: _,
             end,
-            number: _,
-            negative: _,
-        } => match number_in(text, start, end) {
-            Number::Is(value) => Counted::Count { value, next: end },
-            Number::Not => Counted::Uncounted,
-        },
+            number,
+            negative,
+        } => {
+            if negative {
+                return Counted::Uncounted;
+            }
+            match number {
+                Number::Is(value) => Counted::Count { value, next: end },
+                Number::Not => Counted::Uncounted,
+            }
+        }
     }
 }
 
 // Whether the line at a place has nothing left but spaces and its LF.
 pub fn line_ended(text: &[u8], at: usize) -> Ended
-    ensures { λ r. ⌜ EndedIs (now (text .entry)) at r ⌝ }
+    ensures looked { λ r. ⌜ EndedIs (now (text .entry)) at r ⌝ }
 {
     match word_in(text, at) {
         Word::Found {

@@ -11,7 +11,7 @@ ghost use Rattle.tokens.specs.Places.{signedItem, ItemIs, CloseIs, Entry
 
 // What stands next in a line of entries.
 pub fn entry_at(text: &[u8], at: usize) -> Entry
-    ensures { λ r. ⌜ EntryIs (now (text .entry)) at r ⌝ }
+    ensures read { λ r. ⌜ EntryIs (now (text .entry)) at r ⌝ }
 {
     match word_in(text, at) {
         Word::End { at: _ } => Entry::Unfit,
@@ -29,7 +29,7 @@ pub fn entry_at(text: &[u8], at: usize) -> Entry
 
 // What a number says, with `-` or without, where the line goes on at a place: only one that is not 0 may carry `-`.
 fn numbered(text: &[u8], next: usize, value: u32, negative: bool) -> Entry
-    ensures { λ r. ⌜ ItemIs (signedItem negative (Is value)) (now (text .entry)) next r ⌝ }
+    ensures read { λ r. ⌜ ItemIs (signedItem negative (Is value)) (now (text .entry)) next r ⌝ }
 {
     if value == 0 {
         if negative {
@@ -46,7 +46,7 @@ fn numbered(text: &[u8], next: usize, value: u32, negative: bool) -> Entry
 
 // After a 0, the line has to end.
 fn close_at(text: &[u8], at: usize) -> Entry
-    ensures { λ r. ⌜ CloseIs (now (text .entry)) at r ⌝ }
+    ensures read { λ r. ⌜ CloseIs (now (text .entry)) at r ⌝ }
 {
     match line_ended(text, at) {
         Ended::Nowhere => Entry::Unfit,

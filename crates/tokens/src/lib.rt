@@ -4,14 +4,6 @@ pub mod expected;
 pub mod items;
 pub mod words;
 
-// A word of a quantifier or clause line: the closing 0, a nonzero number, one that carries `-`, or none of these.
-pub enum Item {
-    Closing,
-    Plain(u32),
-    Negated(u32),
-    Other,
-}
-
 // A word as a number.
 pub enum Number {
     Is(u32),

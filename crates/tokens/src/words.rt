@@ -23,28 +23,28 @@ pub struct Words<'a> {
 
 // The word that stands next in a text from a place on, through a reader: whoever calls this holds no reader.
 pub fn word_in(text: &[u8], at: usize) -> Word
-    ensures { λ r. ⌜ r ≡ wordAt (now (text .entry)) at ⌝ }
+    ensures found { λ r. ⌜ r ≡ wordAt (now (text .entry)) at ⌝ }
 {
     next(reader(text, at))
 }
 
 // A reader of a text at a place.
 fn reader<'a>(text: &'a [u8], at: usize) -> Words<'a>
-    ensures { λ r. ⌜ (r .text ≡ text .entry) × (r .at ≡ at) ⌝ }
+    ensures holds { λ r. ⌜ (r .text ≡ text .entry) × (r .at ≡ at) ⌝ }
 {
     Words { text, at }
 }
 
 // The word that stands next.
 fn next<'a>(words: Words<'a>) -> Word
-    ensures { λ r. ⌜ r ≡ wordAt (now (words .entry .text)) (words .entry .at) ⌝ }
+    ensures found { λ r. ⌜ r ≡ wordAt (now (words .entry .text)) (words .entry .at) ⌝ }
 {
     word_at(words.text, words.at)
 }
 
 // The word that stands next in a line. Nearly all are short numbers, which are read while their end is found.
 fn word_at(text: &[u8], at: usize) -> Word
-    ensures { λ r. ⌜ r ≡ wordAt (now (text .entry)) at ⌝ }
+    ensures found { λ r. ⌜ r ≡ wordAt (now (text .entry)) at ⌝ }
 {
     let start = gap_end(text, at);
     let from = after_sign(text, start);
@@ -61,8 +61,8 @@ fn word_at(text: &[u8], at: usize) -> Word
 
 // The word at a place at which no space stands, whatever it is, where the place after its `-` is known.
 fn any_word(text: &[u8], start: usize, from: usize) -> Word
-    requires { ⌜ SignIs (now text) start from ⌝ }
-    ensures { λ r. ⌜ r ≡ wordFrom (now (text .entry)) start (past inWord (now (text .entry)) start) ⌝ }
+    requires signed { ⌜ SignIs (now text) start from ⌝ }
+    ensures found { λ r. ⌜ r ≡ wordFrom (now (text .entry)) start (past inWord (now (text .entry)) start) ⌝ }
 {
     let end = run_end(text, start);
     if start < end {
@@ -79,7 +79,7 @@ fn any_word(text: &[u8], start: usize, from: usize) -> Word
 
 // The place after a `-`, if one stands at a place.
 fn after_sign(text: &[u8], at: usize) -> usize
-    ensures { λ r. ⌜ SignIs (now (text .entry)) at r ⌝ }
+    ensures signed { λ r. ⌜ SignIs (now (text .entry)) at r ⌝ }
 {
     if text.len() <= at {
         return at;
@@ -89,7 +89,7 @@ fn after_sign(text: &[u8], at: usize) -> usize
 
 // The number that stands at a place, if it is one to five digits and a space or LF follows: what is not told here has to be looked at again.
 fn digits_at(text: &[u8], from: usize) -> Counted
-    ensures { λ r. ⌜ NumeralIs (now (text .entry)) from r ⌝ }
+    ensures counted { λ r. ⌜ NumeralIs (now (text .entry)) from r ⌝ }
 {
     let mut value: u32 = 0;
     let mut i = from;
@@ -112,7 +112,7 @@ fn digits_at(text: &[u8], from: usize) -> Counted
 
 // The number of the digits up to a place, if there are any and the byte there ends their word.
 fn number_to(byte: u8, value: u32, from: usize, end: usize) -> Counted
-    ensures { λ r. ⌜ StopIs byte value from end r ⌝ }
+    ensures counted { λ r. ⌜ StopIs byte value from end r ⌝ }
 {
     if end <= from {
         return Counted::Uncounted;
@@ -128,7 +128,7 @@ fn number_to(byte: u8, value: u32, from: usize, end: usize) -> Counted
 
 // The place after the spaces that stand at a place.
 pub fn gap_end(text: &[u8], at: usize) -> usize
-    ensures { λ r. ⌜ r ≡ past isSpace (now (text .entry)) at ⌝ }
+    ensures passed { λ r. ⌜ r ≡ past isSpace (now (text .entry)) at ⌝ }
 {
     let mut i = at;
     while i < text.len() {
@@ -142,7 +142,7 @@ pub fn gap_end(text: &[u8], at: usize) -> usize
 
 // The place after the bytes that stand at a place before the next space or LF.
 fn run_end(text: &[u8], at: usize) -> usize
-    ensures { λ r. ⌜ r ≡ past inWord (now (text .entry)) at ⌝ }
+    ensures passed { λ r. ⌜ r ≡ past inWord (now (text .entry)) at ⌝ }
 {
     let mut i = at;
     while i < text.len() {
@@ -159,9 +159,9 @@ fn run_end(text: &[u8], at: usize) -> usize
 }
 
 // A word as a number.
-pub fn number_in(text: &[u8], start: usize, end: usize) -> Number
-    requires { ⌜ (start ≤ end) × (end ≤ length (now text)) ⌝ }
-    ensures { λ r. ⌜ r ≡ numberOf (slice start end (now (text .entry))) ⌝ }
+fn number_in(text: &[u8], start: usize, end: usize) -> Number
+    requires within { ⌜ (start ≤ end) × (end ≤ length (now text)) ⌝ }
+    ensures counted { λ r. ⌜ r ≡ numberOf (slice start end (now (text .entry))) ⌝ }
 {
     let size = end - start;
     if size < 1 {
@@ -175,8 +175,8 @@ pub fn number_in(text: &[u8], start: usize, end: usize) -> Number
 
 // The number that the digits from a place up to an end spell, at most five.
 fn digits_in(text: &[u8], start: usize, end: usize) -> Number
-    requires { ⌜ (start ≤ end) × (end ≤ start + 5) × (end ≤ length (now text)) ⌝ }
-    ensures { λ r. ⌜ r ≡ speltOf 0 (slice start end (now (text .entry))) ⌝ }
+    requires few { ⌜ (start ≤ end) × (end ≤ start + 5) × (end ≤ length (now text)) ⌝ }
+    ensures counted { λ r. ⌜ r ≡ speltOf 0 (slice start end (now (text .entry))) ⌝ }
 {
     let mut value: u32 = 0;
     let mut i = start;

@@ -1,5 +1,4 @@
 -- The laws of verifying the file of a forest, in reading order.
 pub mod Agreement
-pub mod OwnForest
 pub mod Disagree
 pub mod Judging

@@ -3,24 +3,37 @@ use Prim.Native.Nat.{ℕ, _+_, _*_}
 use mathlib.Core.Path.{_≡_}
 use mathlib.Core.List.{List, [], _∷_, _++_}
 use mathlib.Core.Logic.{_⊎_}
-use lib.IntN.{ℤ}
 use Rattle.terms.specs.Refusals.{Causes, At0, Judged}
 use Rattle.terms.specs.declared.Verdict.{Verdict}
 use Rattle.terms.specs.declared.Verdict.the-variants.{Accepted, Refused}
-use Rattle.joining.specs.Rules.{NoRule, checkOrderUnder}
+use Rattle.formula.specs.Lent.{Formula}
+use Rattle.formula.specs.Levels.{SoundPrefix}
+use Rattle.formula.specs.Lookup.{SoundClauses}
+use Rattle.joining.specs.Rules.{NoRule, readBy, checkOrder}
+use Rattle.connection.specs.Tables.{lent}
+use Rattle.connection.specs.Forest.{Forest}
+use Rattle.tables.specs.Formula.{Shares}
+use Rattle.tables.specs.Lent.{Rows, rows, variablesOf}
+use Rattle.threads.specs.Threads.{Closed}
 use Rattle.records.specs.Numbers.{numbersAt}
-use Rattle.records.specs.Places.{payloadAt, thirdAt, countIn, prefixIn, clausesIn}
+use Rattle.records.specs.Places.{payloadAt, thirdAt, countIn, formulaHeld}
 use Rattle.records.specs.Causes.{RightRows, ForestFileCause, fileOrder, afterRule}
 
 -- the number of a reading rule
 abbrev pub IsRule : ℕ → Type 0
 IsRule rule = (rule ≡ 1) ⊎ (rule ≡ 2)
 
--- a formula in tables is that of the file
-pub record HeldIn (file : List ℕ) (n : ℕ) (es : List ℕ) (ls : List ℤ) : Type 0 where
-  pub count : n ≡ countIn file
-  pub prefix : es ≡ prefixIn file
-  pub clauses : ls ≡ clausesIn file
+-- a formula that is accepted as it is read
+abbrev pub SoundFormula : Formula → Type 0
+SoundFormula f = SoundPrefix (f .n) (f .prefix) × SoundClauses (f .clauses) × Closed (f .clauses)
+
+-- class names and parents are those of its forest
+abbrev pub OwnForest : Formula → List ℕ → List ℕ → Type 0
+OwnForest f classes parents = Forest (variablesOf f) (Shares (f .clauses)) (lent (variablesOf f) classes parents)
+
+-- the most numbers that the record of kind 4 may have: two bytes each, in the longest file
+abbrev pub setNumbers : ℕ
+setNumbers = 131072
 
 -- the rows that the record of kind 3 has: class names, parents, and counts
 unfoldable pub classesIn : List ℕ → List ℕ
@@ -32,27 +45,31 @@ parentsIn file = numbersAt 4 file (payloadAt (thirdAt file) + 4 * countIn file) 
 unfoldable pub countsIn : List ℕ → List ℕ
 countsIn file = numbersAt 4 file (payloadAt (thirdAt file) + 4 * countIn file + 4 * countIn file) (countIn file)
 
--- they are those of the formula, its prefix read by a rule
-abbrev pub OwnRows : ℕ → List ℕ → Type 0
-OwnRows rule file = RightRows rule file (classesIn file) (parentsIn file) (countsIn file)
+abbrev pub rowsHeld : List ℕ → Rows
+rowsHeld file = rows (classesIn file) (parentsIn file) (countsIn file)
 
-abbrev pub Agreed : ℕ → List ℕ → Verdict → Type 0
-Agreed rule file Accepted = OwnRows rule file
-Agreed rule file (Refused number place) = Unit {0}
+-- What a verdict on a file finds by an order, where a formula is read in it: the first cause, or that the file has the rows of the formula.
+abbrev pub Agreed : Formula → List ℕ → Verdict → Type 0
+Agreed f file Accepted = (r : Rows) × RightRows f file r
+Agreed f file (Refused number place) = Unit {0}
 
--- the verdict on what a file holds: the table refusals, then 22; and on its rows and sets alone
-abbrev pub contentsOrder : ℕ → List ℕ → List Causes
-contentsOrder rule file = checkOrderUnder rule (countIn file) (prefixIn file) (clausesIn file) ++ (ForestFileCause rule file ∷ [])
+abbrev pub Finds : List Causes → Formula → List ℕ → Verdict → Type 0
+Finds order f file v = Judged order v × Agreed f file v
 
-abbrev pub Judges : ℕ → List ℕ → Verdict → Type 0
-Judges rule file v = Judged (contentsOrder rule file) v × Agreed rule file v
+-- the verdict on the rows and sets of a file, by an accepted formula: 22
+abbrev pub JudgesRows : Formula → List ℕ → Verdict → Type 0
+JudgesRows f file = Finds (ForestFileCause f file ∷ []) f file
 
-abbrev pub JudgesRows : ℕ → List ℕ → Verdict → Type 0
-JudgesRows rule file v = Judged (ForestFileCause rule file ∷ []) v × Agreed rule file v
+-- the verdict on what a file holds, by the formula that is lent: the table refusals, then 22
+abbrev pub contentsOrder : ℕ → Formula → List ℕ → List Causes
+contentsOrder rule f file = checkOrder rule f ++ (ForestFileCause (readBy rule f) file ∷ [])
+
+abbrev pub Judges : ℕ → Formula → List ℕ → Verdict → Type 0
+Judges rule f file = Finds (contentsOrder rule f file) (readBy rule f) file
 
 -- the verdict on the whole file: 23, those of its records, and those of what it holds
 abbrev pub verifyOrder : ℕ → List ℕ → List Causes
-verifyOrder rule file = At0 23 (NoRule rule) ∷ (fileOrder file ++ afterRule (contentsOrder rule file))
+verifyOrder rule file = At0 23 (NoRule rule) ∷ (fileOrder file ++ afterRule (contentsOrder rule (formulaHeld file) file))
 
 abbrev pub Verifies : ℕ → List ℕ → Verdict → Type 0
-Verifies rule file v = Judged (verifyOrder rule file) v × Agreed rule file v
+Verifies rule file = Finds (verifyOrder rule file) (readBy rule (formulaHeld file)) file

@@ -11,7 +11,7 @@ ghost use Rattle.verifying.specs.Verified.{IsRule, Verifies};
 
 // The first cause of refusal in a file: 23, then 19 to 21 in its records, those of its formula with the prefix read by the rule, and 22.
 pub fn file_verdict(rule: u32, file: &[u8]) -> Verdict
-    ensures { λ r. ⌜ Verifies rule (now (file .entry)) r ⌝ }
+    ensures judged { λ r. ⌜ Verifies rule (now (file .entry)) r ⌝ }
 {
     if !is_rule(rule) {
         return Verdict::Refused(23, 0);
@@ -24,7 +24,7 @@ pub fn file_verdict(rule: u32, file: &[u8]) -> Verdict
 
 // Whether a number is that of a reading rule.
 fn is_rule(rule: u32) -> bool
-    ensures { λ r. ⌜ Tells r (IsRule rule) ⌝ }
+    ensures told { λ r. ⌜ Tells r (IsRule rule) ⌝ }
 {
     if rule == 1 {
         return true;

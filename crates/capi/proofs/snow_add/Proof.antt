@@ -1,37 +1,26 @@
--- `capi::snow_add` meets its contract.
+-- The tally is taken from its cells, and what add answers and leaves is laid out.
 use borrow.Author.Needs.{needs}
+use Rattle.tables.specs.Lent.{rows}
 use Rattle.capi.proofs.Rewritten.{fits-added, tell-added}
 use Rattle.capi.proofs.snow_add.Statement.{statement}
 use Rattle.capi.proofs.snow_add.Tie as tie
 
-tally-in-requires : tie.Need-tally-in-requires
-tally-in-requires c κs = search needs
-
-add-tallied-requires : tie.Need-add-tallied-requires
-add-tallied-requires c κs = search needs
-
 lay-added-requires : tie.Need-lay-added-requires
 lay-added-requires c κs =
-    let at-add-tallied = c .before .before .before .before .before .before .before .before in
-    fits-added (at-add-tallied .add-tallied .ensures)
-
-same-length : tie.Need-same-length
-same-length c = search needs
-
-same-length-2 : tie.Need-same-length-2
-same-length-2 c = search needs
-
-same-length-3 : tie.Need-same-length-3
-same-length-3 c = search needs
+    let at-call = c .before .before .before .before .before .before .before .before in
+    let at-start = at-call .before .before .before .before .before .before .before .before .before .before in
+    fits-added (at-start .args .prefix .now) (at-call .add .result .answer) (at-call .add .ensures)
 
 returns : tie.Need-returns
 returns c =
-    let at-add-tallied = c .before .before .before .before .before .before .before .before .before in
-    let at-tally-in = at-add-tallied .before .before .before .before in
+    let at-call = c .before .before .before .before .before .before .before .before .before in
+    let at-tally-in = at-call .before .before .before .before in
     let at-start = at-tally-in .before .before .before .before .before .before in
     let a = at-start .args in
-    let b = at-add-tallied .add-tallied in
-    tell-added (a .classes .now) (a .parents .now) (a .counts .now) (a .tally .now) _ _ _ (a .rule) (a .n) (a .prefix .now) (a .clause .now) (b .result .tally) (b .result .answer) (at-tally-in .tally-in .ensures) (c .lay-added .ensures) (b .ensures)
+    let b = at-call .add in
+    tell-added (rows (a .classes .now) (a .parents .now) (a .counts .now)) (rows (b .last .1 .1 .1 .0) (b .last .1 .1 .1 .1 .0) (b .last .1 .1 .1 .1 .1 .0))
+    (a .tally .now) (a .rule) (a .n) (a .prefix .now) (a .clause .now) (b .result .tally) (b .result .answer) (at-tally-in .tally-in .ensures) (c .lay-added .ensures) (b .ensures)
 
 pub snow-add-spec : {M : Type 1} → statement M
-snow-add-spec = tie.close (tie.spec tally-in-requires add-tallied-requires lay-added-requires same-length same-length-2 same-length-3 returns)
+snow-add-spec =
+    tie.close (tie.spec (λ c κs. search needs) (λ c κs. search needs) lay-added-requires (λ c. search needs) (λ c. search needs) (λ c. search needs) returns)

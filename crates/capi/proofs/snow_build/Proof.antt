@@ -1,37 +1,31 @@
--- `capi::snow_build` meets its contract.
+-- The tally is taken from its cells, and what build answers and leaves is laid out.
 use borrow.Author.Needs.{needs}
+use Rattle.formula.specs.Lent.{Formula, formulaOf}
+use Rattle.tables.specs.Lent.{rows}
 use Rattle.capi.proofs.Rewritten.{fits-built, tell-built}
 use Rattle.capi.proofs.snow_build.Statement.{statement}
 use Rattle.capi.proofs.snow_build.Tie as tie
 
-tally-in-requires : tie.Need-tally-in-requires
-tally-in-requires c κs = search needs
-
-build-tallied-requires : tie.Need-build-tallied-requires
-build-tallied-requires c κs = search needs
+-- the formula that is lent
+abbrev formula : tie.Start → Formula
+formula at-start = let a = at-start .args in formulaOf (a .n) (a .prefix .now) (a .clauses .now)
 
 lay-built-requires : tie.Need-lay-built-requires
 lay-built-requires c κs =
-    let at-build-tallied = c .before .before .before .before .before .before .before .before .before in
-    fits-built (at-build-tallied .build-tallied .ensures)
-
-same-length : tie.Need-same-length
-same-length c = search needs
-
-same-length-2 : tie.Need-same-length-2
-same-length-2 c = search needs
-
-same-length-3 : tie.Need-same-length-3
-same-length-3 c = search needs
+    let at-call = c .before .before .before .before .before .before .before .before .before in
+    let at-start = at-call .before .before .before .before .before .before .before .before .before .before in
+    fits-built (formula at-start) (at-call .build .result .answer) (at-call .build .ensures)
 
 returns : tie.Need-returns
 returns c =
-    let at-build-tallied = c .before .before .before .before .before .before .before .before .before .before in
-    let at-tally-in = at-build-tallied .before .before .before .before in
+    let at-call = c .before .before .before .before .before .before .before .before .before .before in
+    let at-tally-in = at-call .before .before .before .before in
     let at-start = at-tally-in .before .before .before .before .before .before in
     let a = at-start .args in
-    let b = at-build-tallied .build-tallied in
-    tell-built (a .classes .now) (a .parents .now) (a .counts .now) (a .tally .now) _ _ _ (a .rule) (a .n) (a .prefix .now) (a .clauses .now) (b .result .tally) (b .result .answer) (at-tally-in .tally-in .ensures) (c .lay-built .ensures) (b .ensures)
+    let b = at-call .build in
+    tell-built (rows (a .classes .now) (a .parents .now) (a .counts .now)) (rows (b .last .1 .1 .1 .1 .0) (b .last .1 .1 .1 .1 .1 .0) (b .last .1 .1 .1 .1 .1 .1 .0))
+    (a .tally .now) (a .rule) (formula at-start) (b .result .tally) (b .result .answer) (at-tally-in .tally-in .ensures) (c .lay-built .ensures) (b .ensures)
 
 pub snow-build-spec : {M : Type 1} → statement M
-snow-build-spec = tie.close (tie.spec tally-in-requires build-tallied-requires lay-built-requires same-length same-length-2 same-length-3 returns)
+snow-build-spec =
+    tie.close (tie.spec (λ c κs. search needs) (λ c κs. search needs) lay-built-requires (λ c. search needs) (λ c. search needs) (λ c. search needs) returns)

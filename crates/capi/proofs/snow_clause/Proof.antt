@@ -1,4 +1,5 @@
--- `capi::snow_clause` meets its contract.
+-- What the check of the asked clause refuses is told so; where it accepts, the clause is there, so that the lookup finds it, and its place and length
+-- fit.
 use Prim.Native.Nat.{_<_, _≤_, _-_}
 use mathlib.Core.Path.{_≡_, refl, sym, ap, subst, _∙_}
 use native.Mathlib.Omega.{arith}
@@ -8,7 +9,7 @@ use lib.Seq.{length-take-le}
 use Rattle.terms.specs.Refusals.{Judged}
 use Rattle.formula.specs.Causes.{clauseOrder}
 use Rattle.formula.specs.Lookup.{Stands}
-use Rattle.formula.specs.declared.clauses.Found.the-variants.{At}
+use Rattle.formula.specs.declared.clauses.Span.the-variants.{At}
 use Rattle.capi.proofs.Places.{small-clause}
 use Rattle.capi.proofs.Telling.{tell-accepted, tell-refused, named}
 use Rattle.capi.proofs.snow_clause.Statement.{statement}
@@ -19,10 +20,14 @@ cast-place c =
     let at-clause-verdict = c .before .before .before in
     let at-start = at-clause-verdict .before in
     let a = at-start .args in
-    record { fits = small-clause (a .n) (a .clauses .now) (a .asked) _ _ (named (clauseOrder (a .n) (a .clauses .now) (a .asked)) (c .before .number .given .1) (at-clause-verdict .clause-verdict .ensures)) }
+    record {
+      fits = small-clause (a .n) (a .clauses .now) (a .asked) _ _
+          (named (clauseOrder (a .n) (a .clauses .now) (a .asked)) (c .before .number .given .1) (at-clause-verdict .clause-verdict .ensures));
+    }
 
 -- where the clause stands, once it is found, in a table within its limit
-found : (c : tie.After-known-told2) → Stands (c .before .before .before .before .before .before .before .args .clauses .now) (c .before .before .before .before .before .before .before .args .asked) (At (c .before .from .given .0 .0) (c .before .from .given .0 .1 .0))
+found : (c : tie.After-known-told2) → Stands (c .before .before .before .before .before .before .before .args .clauses .now)
+    (c .before .before .before .before .before .before .before .args .asked) (At (c .before .from .given .0 .0) (c .before .from .given .0 .1 .0))
 found c =
     let at-find = c .before .before .before in
     let at-start = at-find .before .before .before .before in
@@ -68,7 +73,8 @@ returns-2 c =
     let end = c .before .from .given .0 .1 .0 in
     let from = found c .0 in
     let to = found c .1 in
-    let size : length (take (end - start) (drop start (a .clauses .now))) ≡ end - start = length-take-le (end - start) (drop start (a .clauses .now)) (rw (length-drop start (a .clauses .now)) (omega arith)) in
+    let size : length (take (end - start) (drop start (a .clauses .now))) ≡ end - start = length-take-le (end - start) (drop start (a .clauses .now))
+    (rw (length-drop start (a .clauses .now)) (omega arith)) in
     tell-accepted (clauseOrder (a .n) (a .clauses .now) (a .asked)) _ (at-enum-told .enum-told .given .1) (at-clause-verdict .clause-verdict .ensures) (found c .4, sym size ∙ ap length (found c .3))
 
 returns-3 : tie.Need-returns-3

@@ -1,15 +1,12 @@
--- `capi::snow_size` meets its contract.
+-- The number of the strict scheme asks for the strict scheme, so that what is told by it is what is told where no scheme is named.
 use borrow.Author.Needs.{needs}
 use Rattle.cells.specs.Codes.{schemeOf}
 use Rattle.capi.proofs.snow_size.Statement.{statement}
 use Rattle.capi.proofs.snow_size.Tie as tie
-
-snow-size-by-requires : tie.Need-snow-size-by-requires
-snow-size-by-requires c κs = search needs
 
 returns : tie.Need-returns
 unfolding schemeOf
 returns c = c .snow-size-by .ensures
 
 pub snow-size-spec : {M : Type 1} → statement M
-snow-size-spec = tie.close (tie.spec snow-size-by-requires returns)
+snow-size-spec = tie.close (tie.spec (λ c κs. search needs) returns)

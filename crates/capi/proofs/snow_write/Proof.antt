@@ -1,33 +1,33 @@
--- `capi::snow_write` meets its contract.
+-- What write answers is laid out: its places fit, since those of check do and a text has at most as many bytes as may be written.
 use borrow.Author.Needs.{needs}
-use Rattle.joining.specs.Rules.{checkOrderUnder}
-use Rattle.spelling.specs.Writing.{textOf}
+use Rattle.formula.specs.Lent.{Formula, formulaOf}
+use Rattle.joining.specs.Rules.{checkOrder}
+use Rattle.qdimacs.specs.Stored.{formulaText}
 use Rattle.capi.proofs.Places.{small-check}
 use Rattle.capi.proofs.Writes.{fits-write, tell-write}
 use Rattle.capi.proofs.snow_write.Statement.{statement}
 use Rattle.capi.proofs.snow_write.Tie as tie
 
-write-requires : tie.Need-write-requires
-write-requires c κs = search needs
+-- the formula that is lent
+abbrev lent : tie.Start → Formula
+lent at-start = let a = at-start .args in formulaOf (a .n) (a .prefix .now) (a .clauses .now)
 
-lay-output-requires : tie.Need-lay-output-requires
-lay-output-requires c κs =
+lay-requires : tie.Need-lay-requires
+lay-requires c κs =
     let at-write = c .before .before .before .before in
     let at-start = at-write .before .before .before .before in
     let a = at-start .args in
-    let b = at-write .write in
-    fits-write (checkOrderUnder (a .rule) (a .n) (a .prefix .now) (a .clauses .now)) (textOf (a .n) (a .prefix .now) (a .clauses .now)) (a .text .now) _ (b .result) (small-check (a .rule) (a .n) (a .prefix .now) (a .clauses .now)) (b .ensures)
-
-same-length : tie.Need-same-length
-same-length c = search needs
+    let order = checkOrder (a .rule) (lent at-start) in
+    fits-write order (formulaText (lent at-start)) (a .text .now) _ (at-write .write .result) (small-check (a .rule) (lent at-start))
+    (at-write .write .ensures)
 
 returns : tie.Need-returns
 returns c =
     let at-write = c .before .before .before .before .before in
     let at-start = at-write .before .before .before .before in
     let a = at-start .args in
-    let b = at-write .write in
-    tell-write (checkOrderUnder (a .rule) (a .n) (a .prefix .now) (a .clauses .now)) (textOf (a .n) (a .prefix .now) (a .clauses .now)) (a .text .now) _ (b .result) (c .lay-output .ensures) (b .ensures)
+    let order = checkOrder (a .rule) (lent at-start) in
+    tell-write order (formulaText (lent at-start)) (a .text .now) _ (at-write .write .result) (c .lay .ensures) (at-write .write .ensures)
 
 pub snow-write-spec : {M : Type 1} → statement M
-snow-write-spec = tie.close (tie.spec write-requires lay-output-requires same-length returns)
+snow-write-spec = tie.close (tie.spec (λ c κs. search needs) lay-requires (λ c. search needs) returns)

@@ -1,16 +1,10 @@
--- `cells::lay` meets its contract.
+-- Each variant stores what it holds, so that the answer is laid out as it stands; the place fits its cell by what is required.
 use mathlib.Core.Path.{refl, ap, subst}
 use borrow.Author.Needs.{needs}
 use Rattle.terms.specs.declared.Filled.{Filled}
 use Rattle.cells.specs.Cells.{Fits, given, placed, filledSaid, Any}
 use Rattle.cells.proofs.lay.Statement.{statement}
 use Rattle.cells.proofs.lay.Tie as tie
-
-enum-known-answer : tie.Need-enum-known-answer
-enum-known-answer c = search needs
-
-enum-known-answer-2 : tie.Need-enum-known-answer-2
-enum-known-answer-2 c = search needs
 
 cast-place : tie.Need-cast-place
 cast-place c =
@@ -24,4 +18,5 @@ returns-2 : tie.Need-returns-2
 returns-2 c = placed (ap filledSaid (c .before .answer2 .given .1)) refl refl refl
 
 pub lay-spec : {M : Type 1} → statement M
-lay-spec = tie.close (tie.spec enum-known-answer enum-known-answer-2 cast-place returns returns-2)
+lay-spec =
+    tie.close (tie.spec (λ c. search needs) (λ c. search needs) cast-place returns returns-2)

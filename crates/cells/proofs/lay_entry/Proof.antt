@@ -1,16 +1,10 @@
--- `cells::lay_entry` meets its contract.
+-- Each variant stores what it holds: the class and the rises in their cells, or the place, which fits its cell by what is required.
 use mathlib.Core.Path.{refl, ap, subst}
 use borrow.Author.Needs.{needs}
-use Rattle.forest.specs.declared.EntryAnswer.{EntryAnswer}
+use Rattle.terms.specs.declared.EntryAnswer.{EntryAnswer}
 use Rattle.cells.specs.Cells.{Fits, given, placed, entrySaid, Any}
 use Rattle.cells.proofs.lay_entry.Statement.{statement}
 use Rattle.cells.proofs.lay_entry.Tie as tie
-
-enum-known-answer : tie.Need-enum-known-answer
-enum-known-answer c = search needs
-
-enum-known-answer-2 : tie.Need-enum-known-answer-2
-enum-known-answer-2 c = search needs
 
 cast-place : tie.Need-cast-place
 cast-place c =
@@ -24,4 +18,5 @@ returns-2 : tie.Need-returns-2
 returns-2 c = placed (ap entrySaid (c .before .answer2 .given .1)) refl refl refl
 
 pub lay-entry-spec : {M : Type 1} → statement M
-lay-entry-spec = tie.close (tie.spec enum-known-answer enum-known-answer-2 cast-place returns returns-2)
+lay-entry-spec =
+    tie.close (tie.spec (λ c. search needs) (λ c. search needs) cast-place returns returns-2)

@@ -1,16 +1,10 @@
--- `cells::lay_verdict` meets its contract.
+-- One that accepts stores nothing and returns 0, and a refusal stores its place, which fits the cell by what is required.
 use mathlib.Core.Path.{refl, ap, subst}
 use borrow.Author.Needs.{needs}
 use Rattle.terms.specs.declared.Verdict.{Verdict}
 use Rattle.cells.specs.Cells.{Fits, Any, given, placed, verdictSaid}
 use Rattle.cells.proofs.lay_verdict.Statement.{statement}
 use Rattle.cells.proofs.lay_verdict.Tie as tie
-
-enum-told : tie.Need-enum-told
-enum-told c = search needs
-
-enum-known-verdict : tie.Need-enum-known-verdict
-enum-known-verdict c = search needs
 
 cast-place : tie.Need-cast-place
 cast-place c =
@@ -24,4 +18,4 @@ returns-2 : tie.Need-returns-2
 returns-2 c = placed (ap verdictSaid (c .before .verdict .given .1)) refl refl refl
 
 pub lay-verdict-spec : {M : Type 1} → statement M
-lay-verdict-spec = tie.close (tie.spec enum-told enum-known-verdict cast-place returns returns-2)
+lay-verdict-spec = tie.close (tie.spec (λ c. search needs) (λ c. search needs) cast-place returns returns-2)

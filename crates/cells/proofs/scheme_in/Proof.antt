@@ -1,4 +1,4 @@
--- `cells::scheme_in` meets its contract.
+-- The scheme is chosen by the very test that the code makes, and either branch knows its outcome.
 use mathlib.Core.Path.{sym, ap}
 use mathlib.Core.Bool.{Bool, cond}
 use borrow.Author.Tests.{eq-eqb, ne-eqb}

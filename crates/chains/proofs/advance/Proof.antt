@@ -1,53 +1,44 @@
--- `chains::advance` meets its contract.
+-- Both roots are found in rows that stand for the same, so that joining them joins the pair (`both`); then there is one root and nothing is left, or one
+-- step joins two.
 use borrow.Author.Needs.{needs}
-use Rattle.chains.proofs.Steps.{first-falling, second-falling, at-roots, advance-same, advance-roots, advance-step}
+use Rattle.chains.proofs.Steps.{AtRoots, first-falling, second-falling, at-roots, advance-same, advance-roots, advance-step}
 use Rattle.chains.proofs.advance.Statement.{statement}
 use Rattle.chains.proofs.advance.Tie as tie
 
 root-requires : tie.Need-root-requires
 root-requires c κs =
-    let at-start = c .before .before .before .before in
-    let p = at-start .pre in first-falling (p .0) (p .1) (p .2)
+    let p = c .before .before .before .before .pre in
+    first-falling (p .0) (p .1 .0) (p .1 .1)
 
 root-requires-2 : tie.Need-root-requires-2
 root-requires-2 c κs =
     let at-root = c .before .before .before in
-    let at-start = at-root .before .before .before .before .before in
-    let p = at-start .pre in
+    let p = at-root .before .before .before .before .before .pre in
+    second-falling (p .0) (p .1 .0) (p .1 .1) (at-root .root .kept .0) (at-root .root .ensures)
+
+-- once both roots are found
+both : (c : tie.After-root2) → let one = c .before .before .before .before in let a = one .before .before .before .before .before .args in
+    AtRoots (a .depths .now) (a .classes .now) (a .parents .now) (a .left .0 .0) (a .left .1 .0)
+    (c .root2 .last .0) (one .root .result .0) (c .root2 .result .0)
+both c =
+    let at-root = c .before .before .before .before in
+    let p = at-root .before .before .before .before .before .pre in
     let one = at-root .root in
-    second-falling (p .0) (p .1) (p .2) (one .kept .0) (one .ensures)
+    let two = c .root2 in
+    at-roots (p .0) (p .1 .0) (p .1 .1) (one .last .0) (two .last .0) (one .kept .0) (two .kept .0) (one .ensures) (two .ensures)
 
 returns : tie.Need-returns
-returns c =
-    let at-root2 = c .before .before .before .before .before in
-    let at-root = at-root2 .before .before .before .before in
-    let at-start = at-root .before .before .before .before .before in
-    let p = at-start .pre in
-    let one = at-root .root in
-    let two = at-root2 .root2 in
-    advance-same (at-roots (p .0) (p .1) (p .2) (one .last .0) (two .last .0) (one .kept .0) (two .kept .0) (one .ensures) (two .ensures)) (c .if1 .taken)
+returns c = advance-same (both (c .before .before .before .before .before)) (c .if1 .taken)
 
 step-requires : tie.Need-step-requires
 step-requires c κs =
     let at-if1 = c .before .before in
-    let at-root2 = at-if1 .before .before .before .before .before in
-    let at-root = at-root2 .before .before .before .before in
-    let at-start = at-root .before .before .before .before .before in
-    let p = at-start .pre in
-    let one = at-root .root in
-    let two = at-root2 .root2 in
-    advance-roots (at-roots (p .0) (p .1) (p .2) (one .last .0) (two .last .0) (one .kept .0) (two .kept .0) (one .ensures) (two .ensures)) (at-if1 .if1 .left)
+    advance-roots (both (at-if1 .before .before .before .before .before)) (at-if1 .if1 .left)
 
 returns-2 : tie.Need-returns-2
 returns-2 c =
     let at-step = c .before .before .before .before in
-    let at-root2 = at-step .before .before .before .before .before .before .before .before in
-    let at-root = at-root2 .before .before .before .before in
-    let at-start = at-root .before .before .before .before .before in
-    let p = at-start .pre in
-    let one = at-root .root in
-    let two = at-root2 .root2 in
-    advance-step (at-roots (p .0) (p .1) (p .2) (one .last .0) (two .last .0) (one .kept .0) (two .kept .0) (one .ensures) (two .ensures)) (at-step .step .ensures)
+    advance-step (both (at-step .before .before .before .before .before .before .before .before)) (at-step .step .ensures)
 
 pub advance-spec : {M : Type 1} → statement M
 advance-spec =

@@ -1,4 +1,5 @@
--- `chains::merge` meets its contract.
+-- The invariant: what is left to be joined, with the rows as they are, reaches what the two given ones reach with the rows as they were (Merging). Each
+-- step keeps it and leaves a pair of lesser depths; where nothing is left, the rows alone do.
 use Prim.Native.Nat.{_+_}
 use mathlib.Core.Path.{sym, _∙_}
 use lib.ListN.{getD}
@@ -7,7 +8,8 @@ use Rattle.chains.proofs.merge.Statement.{statement}
 use Rattle.chains.proofs.merge.Tie as tie
 
 abbrev Inv-loop : tie.InvT-loop
-Inv-loop depths classes₀ parents₀ left₀ classes parents left = Merging depths classes₀ parents₀ (left₀ .0 .0) (left₀ .1 .0) classes parents (left .0 .0) (left .1 .0)
+Inv-loop depths classes₀ parents₀ left₀ classes parents left =
+    Merging depths classes₀ parents₀ (left₀ .0 .0) (left₀ .1 .0) classes parents (left .0 .0) (left .1 .0)
 
 abbrev μ-loop : tie.MeasureT-loop
 μ-loop depths classes₀ parents₀ left₀ classes parents left = getD depths (left .0 .0) 0 + getD depths (left .1 .0) 0
@@ -21,7 +23,7 @@ advance-requires : tie.Need-advance-requires Inv-loop μ-loop
 advance-requires c κs =
     let at-if1 = c .before .before in
     let at-loop = at-if1 .before .before in
-    let m = at-loop .loop .inv in (m .growing, m .pending, at-if1 .if1 .taken)
+    let m = at-loop .loop .inv in (m .growing, (m .pending, at-if1 .if1 .taken))
 
 loop-less : tie.Need-loop-less Inv-loop μ-loop
 loop-less c =

@@ -1,19 +1,14 @@
--- `chains::step` meets its contract.
-use native.Mathlib.Omega.{arith}
+-- Both roots have depths to compare, and each arm's call promises the step.
 use borrow.Author.Needs.{needs}
-use Rattle.chains.proofs.Steps.{step-inside}
+use Rattle.chains.proofs.Steps.{step-rows}
 use Rattle.chains.proofs.step.Statement.{statement}
 use Rattle.chains.proofs.step.Tie as tie
 
 shared-slice-read-if1 : tie.Need-shared-slice-read-if1
-shared-slice-read-if1 c =
-    let at-start = c .before .before .before .before .before in
-    let r = at-start .pre in omega (arith, step-inside r .0, r .growing .sizes .0)
+shared-slice-read-if1 c = step-rows (c .before .before .before .before .before .pre) .0 .depth
 
 shared-slice-read-if1-2 : tie.Need-shared-slice-read-if1-2
-shared-slice-read-if1-2 c =
-    let at-start = c .before .before .before .before .before .before .before in
-    let r = at-start .pre in omega (arith, step-inside r .1, r .growing .sizes .0)
+shared-slice-read-if1-2 c = step-rows (c .before .before .before .before .before .before .before .pre) .1 .depth
 
 returns : tie.Need-returns
 returns c =

@@ -1,20 +1,23 @@
--- `checks::clause` meets its contract.
+-- Where nothing is refused the clause is found, for 13 has no cause, and the part from its first entry to its 0 is the clause; else the part is empty.
 use mathlib.Core.Path.{refl, subst}
 use native.Mathlib.Omega.{arith}
 use borrow.Author.Needs.{needs}
 use Rattle.terms.specs.Refusals.{Judged}
 use Rattle.formula.specs.Causes.{clauseOrder}
-use Rattle.formula.specs.Lookup.{Stands, accepted, refused}
-use Rattle.formula.specs.declared.clauses.Found.the-variants.{At}
+use Rattle.formula.specs.Lookup.{Stands}
+use Rattle.formula.specs.Clause.{accepted, refused}
+use Rattle.formula.specs.declared.clauses.Span.the-variants.{At}
 use Rattle.checks.proofs.clause.Statement.{statement}
 use Rattle.checks.proofs.clause.Tie as tie
 
 -- where the clause stands, once it is found
-found : (c : tie.After-known-told) → Stands (c .before .before .before .before .before .before .before .args .clauses .now) (c .before .before .before .before .before .before .before .args .asked) (At (c .before .start .given .0 .0) (c .before .start .given .0 .1 .0))
+found : (c : tie.After-known-told)
+    → Stands (c .before .before .before .before .before .before .before .args .clauses .now)
+    (c .before .before .before .before .before .before .before .args .asked) (At (c .before .start .given .0 .0) (c .before .start .given .0 .1 .0))
 found c =
     let at-find = c .before .before .before in
-    let at-start = at-find .before .before .before .before in
-    subst (Stands (at-start .args .clauses .now) (at-start .args .asked)) (c .before .start .given .1) (at-find .find .ensures)
+    let a = at-find .before .before .before .before .args in
+    subst (Stands (a .clauses .now) (a .asked)) (c .before .start .given .1) (at-find .find .ensures)
 
 mul-result : tie.Need-mul-result
 unfolding Stands
@@ -42,10 +45,9 @@ unfolding Stands
 returns c =
     let at-enum-told = c .before .before .before .before .before in
     let at-clause-verdict = at-enum-told .before .before in
-    let at-start = at-clause-verdict .before in
-    let a = at-start .args in
-    accepted (subst (Judged (clauseOrder (a .n) (a .clauses .now) (a .asked))) (at-enum-told .enum-told .given .1) (at-clause-verdict .clause-verdict .ensures))
-    (found (c .before) .3)
+    let a = at-clause-verdict .before .args in
+    let order = clauseOrder (a .n) (a .clauses .now) (a .asked) in
+    accepted (subst (Judged order) (at-enum-told .enum-told .given .1) (at-clause-verdict .clause-verdict .ensures)) (found (c .before) .3)
 
 returns-2 : tie.Need-returns-2
 unfolding Stands
@@ -53,19 +55,19 @@ returns-2 c =
     let at-find = c .before .before .before in
     let at-enum-told = at-find .before in
     let at-clause-verdict = at-enum-told .before .before in
-    let at-start = at-clause-verdict .before in
-    let a = at-start .args in
-    let none = subst (Judged (clauseOrder (a .n) (a .clauses .now) (a .asked))) (at-enum-told .enum-told .given .1) (at-clause-verdict .clause-verdict .ensures) in
+    let a = at-clause-verdict .before .args in
+    let order = clauseOrder (a .n) (a .clauses .now) (a .asked) in
+    let none = subst (Judged order) (at-enum-told .enum-told .given .1) (at-clause-verdict .clause-verdict .ensures) in
     let past = subst (Stands (a .clauses .now) (a .asked)) (c .before .enum-told2 .given .1) (at-find .find .ensures) in
     absurd (none .1 .1 .1 .0 13 0 (refl, refl, past))
 
 returns-3 : tie.Need-returns-3
 returns-3 c =
     let at-clause-verdict = c .before .before .before in
-    let at-start = at-clause-verdict .before in
-    let a = at-start .args in
+    let a = at-clause-verdict .before .args in
+    let order = clauseOrder (a .n) (a .clauses .now) (a .asked) in
     let said = c .before .enum-told3 .given in
-    refused (said .0 .0) (said .0 .1 .0) (subst (Judged (clauseOrder (a .n) (a .clauses .now) (a .asked))) (said .1) (at-clause-verdict .clause-verdict .ensures)) refl
+    refused (said .0 .0) (said .0 .1 .0) (subst (Judged order) (said .1) (at-clause-verdict .clause-verdict .ensures)) refl
 
 pub clause-spec : {M : Type 1} → statement M
 clause-spec =

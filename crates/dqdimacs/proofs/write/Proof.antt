@@ -1,40 +1,51 @@
--- `dqdimacs::write` meets its contract.
+-- What the check of lists refuses is refused so, before 15 and 14; what it accepts can be written (fit), and the writer's answer is that of the call.
 use mathlib.Core.Path.{refl, subst}
 use borrow.Author.Needs.{needs}
+use Rattle.terms.specs.Refusals.{NoneOf}
 use Rattle.terms.proofs.Verdicts.{refused-first}
+use Rattle.formula.specs.Lent.{Formula, formulaOf}
 use Rattle.spelling.specs.Stored.{writeOrder}
 use Rattle.spelling.proofs.Outputs.{writes-accepted}
 use Rattle.lists.specs.Causes.{checkListsOrder}
 use Rattle.lists.specs.Answers.{ListsChecked}
-use Rattle.dqspelling.specs.Writing.{listedTextOf}
+use Rattle.dqdimacs.specs.Stored.{listedText}
 use Rattle.dqdimacs.proofs.Accepted.{fit}
 use Rattle.dqdimacs.proofs.write.Statement.{statement}
 use Rattle.dqdimacs.proofs.write.Tie as tie
 
+-- the formula that is lent
+abbrev lent : tie.Start → Formula
+lent at-start = let a = at-start .args in formulaOf (a .n) (a .prefix .now) (a .clauses .now)
+
+-- where the check accepted, none of its causes holds
+abbrev start : tie.After-enum-told → tie.Start
+start c = c .before .before .before .before .before .before
+
+accepted : (c : tie.After-enum-told) → NoneOf (checkListsOrder (start c .args .rule) (lent (start c)) (start c .args .lists .now))
+accepted c =
+    subst (ListsChecked (start c .args .rule) (lent (start c)) (start c .args .lists .now)) (c .enum-told .given .1) (c .before .before .check .ensures)
+
 write-accepted-requires : tie.Need-write-accepted-requires
-write-accepted-requires c κs =
-    let at-check = c .before .before .before in
-    let at-start = at-check .before .before .before .before in
-    let a = at-start .args in
-    fit (a .rule) (a .n) (a .prefix .now) (a .clauses .now) (a .lists .now) (subst (ListsChecked (a .rule) (a .n) (a .prefix .now) (a .clauses .now) (a .lists .now)) (c .before .enum-told .given .1) (at-check .check .ensures))
+write-accepted-requires c κs = let at-start = start (c .before) in fit (at-start .args .rule) (lent at-start) (at-start .args .lists .now) (accepted (c .before))
 
 returns : tie.Need-returns
 returns c =
     let at-check = c .before .before .before in
     let at-start = at-check .before .before .before .before in
     let a = at-start .args in
-    (refused-first (checkListsOrder (a .rule) (a .n) (a .prefix .now) (a .clauses .now) (a .lists .now)) (writeOrder (listedTextOf (a .n) (a .prefix .now) (a .clauses .now) (a .lists .now)) (a .out .now)) (c .before .number .given .1) (at-check .check .ensures), refl)
+    let order = checkListsOrder (a .rule) (lent at-start) (a .lists .now) in
+    let text = listedText (lent at-start) (a .lists .now) in
+    (refused-first order (writeOrder text (a .out .now)) (c .before .number .given .1) (at-check .check .ensures), refl)
 
 returns-2 : tie.Need-returns-2
 returns-2 c =
-    let at-write-accepted = c .before .before in
-    let at-enum-told = at-write-accepted .before .before in
-    let at-check = at-enum-told .before .before in
-    let at-start = at-check .before .before .before .before in
+    let at-write = c .before .before in
+    let at-told = at-write .before .before in
+    let at-start = start at-told in
     let a = at-start .args in
-    let w = at-write-accepted .write-accepted in
-    let none = subst (ListsChecked (a .rule) (a .n) (a .prefix .now) (a .clauses .now) (a .lists .now)) (at-enum-told .enum-told .given .1) (at-check .check .ensures) in
-    writes-accepted (checkListsOrder (a .rule) (a .n) (a .prefix .now) (a .clauses .now) (a .lists .now)) (listedTextOf (a .n) (a .prefix .now) (a .clauses .now) (a .lists .now)) (a .out .now) _ (w .result) none (w .ensures)
+    let w = at-write .write-accepted in
+    let order = checkListsOrder (a .rule) (lent at-start) (a .lists .now) in
+    writes-accepted order (listedText (lent at-start) (a .lists .now)) (a .out .now) _ (w .result) (accepted at-told) (w .ensures)
 
 pub write-spec : {M : Type 1} → statement M
 write-spec =

@@ -1,32 +1,54 @@
--- `expansion::fill` meets its contract.
+-- Both lengths are counted before anything is written, so that the refusals stand in their order; then the two writes leave the formula.
 use mathlib.Core.Path.{refl}
-use mathlib.Core.Logic.{inl, inr}
+use mathlib.Core.Logic.{inl, inr, ⊎-elim}
 use native.Mathlib.Omega.{arith}
-use Rattle.copying.proofs.Storing.{stored-at}
 use borrow.Author.Needs.{needs}
+use Rattle.terms.proofs.Verdicts.{at0-first, at0-none}
+use Rattle.formula.specs.Lent.{Formula, formulaOf}
+use Rattle.copying.specs.Copied.{tabled}
+use Rattle.expansion.specs.Promise.{ResultTables, resultTables, expandedWith, Long, Short}
 use Rattle.expansion.proofs.fill.Statement.{statement}
 use Rattle.expansion.proofs.fill.Tie as tie
 
+-- the formula that is to be written
+abbrev result : tie.Start → Formula
+result at-start =
+    let a = at-start .args in
+    expandedWith (a .count) (a .x .0) (tabled (a .copies .now)) (formulaOf (a .count) (a .prefix .now) (a .clauses .now))
+
+-- behind the second test it is within the limits
+abbrev start : tie.Else2 → tie.Start
+start c = c .before .before .before .before .before .before .before
+
+within : (c : tie.Else2) → Long (result (start c)) → ⊥
+within c =
+    ⊎-elim (λ l. omega (arith, c .before .before .if1 .left, c .before .before .before .prefix-entries .ensures))
+    (λ l. omega (arith, c .if2 .left, c .before .clause-entries .ensures))
+
+-- and behind the fourth there is room for it
+abbrev out : tie.Start → ResultTables
+out at-start = let a = at-start .args in resultTables (a .out-prefix .now) (a .out-clauses .now)
+
+roomy : (c : tie.Else4) → Short (out (start (c .before .before))) (result (start (c .before .before))) → ⊥
+roomy c =
+    ⊎-elim (λ l. omega (arith, c .before .if3 .left, c .before .before .before .before .before .prefix-entries .ensures))
+    (λ l. omega (arith, c .if4 .left, c .before .before .before .clause-entries .ensures))
+
 returns : tie.Need-returns
-returns c = (refl, refl, refl, inl (refl, λ w. omega (arith, w .0, c .if1 .taken, c .before .prefix-entries .ensures)))
+returns c = (inl (at0-first 2 (inl (omega (arith, c .if1 .taken, c .before .prefix-entries .ensures)))), refl)
 
 returns-2 : tie.Need-returns-2
-returns-2 c = (refl, refl, refl, inl (refl, λ w. omega (arith, w .1, c .if2 .taken, c .before .clause-entries .ensures)))
+returns-2 c = (inl (at0-first 2 (inr (omega (arith, c .if2 .taken, c .before .clause-entries .ensures)))), refl)
 
 returns-3 : tie.Need-returns-3
 returns-3 c =
-    let at-clause-entries = c .before .before in
-    let at-if1 = at-clause-entries .before in
-    let at-prefix-entries = at-if1 .before in
-    (refl, refl, refl, inr (refl, (omega (arith, at-if1 .if1 .left, at-prefix-entries .prefix-entries .ensures), omega (arith, c .before .if2 .left, at-clause-entries .clause-entries .ensures)), λ w. omega (arith, w .0, c .if3 .taken, at-prefix-entries .prefix-entries .ensures)))
+    let entries = c .before .before .before .before .prefix-entries .ensures in
+    (inr (at0-none 2 (within (c .before)), inl (at0-first 14 (inl (omega (arith, c .if3 .taken, entries))))), refl)
 
 returns-4 : tie.Need-returns-4
 returns-4 c =
-    let at-if2 = c .before .before in
-    let at-clause-entries = at-if2 .before in
-    let at-if1 = at-clause-entries .before in
-    let at-prefix-entries = at-if1 .before in
-    (refl, refl, refl, inr (refl, (omega (arith, at-if1 .if1 .left, at-prefix-entries .prefix-entries .ensures), omega (arith, at-if2 .if2 .left, at-clause-entries .clause-entries .ensures)), λ w. omega (arith, w .1, c .if4 .taken, at-clause-entries .clause-entries .ensures)))
+    let literals = c .before .before .before .clause-entries .ensures in
+    (inr (at0-none 2 (within (c .before .before)), inl (at0-first 14 (inr (omega (arith, c .if4 .taken, literals))))), refl)
 
 cast-t16 : tie.Need-cast-t16
 cast-t16 c =
@@ -40,16 +62,18 @@ cast-t17 c =
 
 returns-5 : tie.Need-returns-5
 returns-5 c =
-    let at-lay = c .before .before .before .before .before in
-    let at-if4 = at-lay .before .before in
-    let at-if3 = at-if4 .before in
-    let at-if2 = at-if3 .before in
-    let at-clause-entries = at-if2 .before in
-    let at-if1 = at-clause-entries .before in
-    let at-prefix-entries = at-if1 .before in
-    let p = at-prefix-entries .prefix-entries .ensures in
-    let q = at-clause-entries .clause-entries .ensures in
-    (refl, (omega (arith, at-if1 .if1 .left, p), omega (arith, at-if2 .if2 .left, q)), (omega (arith, at-if3 .if3 .left, p), omega (arith, at-if4 .if4 .left, q)), stored-at p (at-lay .lay .ensures), stored-at q (c .before .copy-clauses .ensures))
+    let laid = c .before .before .before .before .before in
+    let at-if4 = laid .before .before in
+    let at-if2 = at-if4 .before .before in (
+      (at0-none 2 (within at-if2), (at0-none 14 (roomy at-if4), tt)),
+      record {
+        count-is = refl;
+        entries-is = at-if2 .before .before .before .prefix-entries .ensures;
+        literals-is = at-if2 .before .clause-entries .ensures;
+        prefix-is = laid .lay .ensures .store;
+        clauses-is = c .before .copy-clauses .ensures .store;
+      },
+    )
 
 pub fill-spec : {M : Type 1} → statement M
 fill-spec =

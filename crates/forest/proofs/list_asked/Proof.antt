@@ -1,47 +1,82 @@
--- `forest::list_asked` meets its contract.
+-- The formula is judged by the rule; what is listed by the prefix that is at hand stands behind that in the order.
 use Prim.Native.Nat.{ℕ}
-use mathlib.Core.Path.{refl, subst}
-use mathlib.Core.Bool.{false}
-use mathlib.Core.List.{[], _∷_}
-use lib.ListN.{length-replicate}
-use Rattle.terms.specs.Refusals.{At0, Judged}
-use Rattle.terms.proofs.Verdicts.{refused-first}
-use Rattle.connection.specs.Tables.{lent}
-use Rattle.tables.specs.Formula.{variables}
-use Rattle.forest.specs.Answers.{EntriesBy}
-use Rattle.forest.specs.Causes.{readOrder}
-use Rattle.forest.specs.Listed.{TooLong}
-use Rattle.picking.specs.Picked.{pick}
-use Rattle.forest.specs.Wanted.{Enters, Wanted}
-use Rattle.forest.proofs.Listings.{picks-listing, asked-listed}
+use mathlib.Core.Path.{refl}
+use mathlib.Core.List.{List, [], _∷_, _++_}
 use borrow.Author.Needs.{needs}
+use Rattle.terms.specs.Answers.{Listing, TooLong}
+use Rattle.terms.specs.Listed.{Listed}
+use Rattle.terms.specs.Refusals.{Causes, At0}
+use Rattle.terms.proofs.Answers.{carry-filling}
+use Rattle.formula.specs.Lent.{Formula, formulaOf}
+use Rattle.joining.specs.Rules.{checkOrder, readAs}
+use Rattle.joining.proofs.Reading.{refused-read, hand-read, sound-read, more-read, behind-read}
+use Rattle.tables.specs.Lent.{Rows, rows}
+use Rattle.forest.specs.Causes.{behindCheck}
+use Rattle.forest.specs.Wanted.{Wanted}
 use Rattle.forest.proofs.list_asked.Statement.{statement}
 use Rattle.forest.proofs.list_asked.Tie as tie
 
-enter-requires : tie.Need-enter-requires
-enter-requires c κs = (length-replicate {A = ℕ} 4097 0, length-replicate 4097 false)
+-- the formula and the rows that are lent
+abbrev formula : tie.Start → Formula
+formula at-start = let a = at-start .args in formulaOf (a .n) (a .prefix .now) (a .clauses .now)
+
+abbrev lent : tie.Start → Rows
+lent at-start = let a = at-start .args in rows (a .classes .now) (a .parents .now) (a .counts .now)
+
+-- what is asked for of the prefix that is read, and what is looked for behind check
+abbrev Asked-for : tie.Start → List ℕ → ℕ → Type 0
+Asked-for at-start read =
+    let a = at-start .args in
+    Wanted (a .question .scheme) (a .question .asked) (formulaOf (a .n) read (a .clauses .now)) (lent at-start) (a .question .x .0)
+
+abbrev later : tie.Start → List ℕ → List Causes
+later at-start read =
+    let a = at-start .args in
+    behindCheck (a .n) read (lent at-start) (a .question .x .0) ++ (At0 14 (TooLong (Asked-for at-start read) (a .out .now)) ∷ [])
+
+as-read-requires : tie.Need-as-read-requires
+as-read-requires c κs =
+    let at-read = c .before .before .before .before .before in
+    let at-start = at-read .before .before .before .before .before .before .before in
+    let a = at-start .args in
+    hand-read (checkOrder (a .rule) (formula at-start)) _ (a .rule) (a .n) (a .prefix .now) _ (c .before .before .count .given .1) (at-read .read-formula .ensures)
+
+sound-list-requires : tie.Need-sound-list-requires
+sound-list-requires c κs =
+    let at-count = c .before .before .before .before in
+    let at-read = at-count .before .before .before in
+    let at-start = at-read .before .before .before .before .before .before .before in
+    let a = at-start .args in
+    let order = checkOrder (a .rule) (formula at-start) in (
+      sound-read order _ (a .rule) (a .n) (a .prefix .now) _ (at-count .count .given .1) (at-read .read-formula .ensures) (c .before .as-read .ensures),
+      more-read order _ (a .rule) (a .n) (a .prefix .now) _ (at-count .count .given .1) (at-read .read-formula .ensures),
+    )
 
 returns : tie.Need-returns
 returns c =
-    let at-enter = c .before .before .before .before .before in
-    let at-start = at-enter .before .before .before .before .before .before .before .before in
-    let a = at-start .args in
-    (refused-first (readOrder (a .n) (a .prefix .now) (a .clauses .now) (a .classes .now) (a .parents .now) (a .counts .now) (a .x .0)) (At0 14 (TooLong (Wanted (a .scheme) (a .asked) (a .n) (a .prefix .now) (a .clauses .now) (a .classes .now) (a .parents .now) (a .x .0)) (a .out .now)) ∷ []) (c .before .number .given .1) (at-enter .enter .ensures .0), refl)
+    let at-read = c .before .before .before .before in
+    let at-start = at-read .before .before .before .before .before .before .before in
+    let a = at-start .args in (
+      refused-read (checkOrder (a .rule) (formula at-start)) _ (a .rule) (a .n) (a .prefix .now) _ (later at-start (readAs (a .rule) (a .prefix .now)))
+          (c .before .number .given .1) (at-read .read-formula .ensures),
+      refl,
+    )
 
 returns-2 : tie.Need-returns-2
 returns-2 c =
-    let at-list-picked = c .before .before in
-    let at-enum-told = at-list-picked .before .before .before .before in
-    let at-enter = at-enum-told .before .before .before .before in
-    let at-start = at-enter .before .before .before .before .before .before .before .before in
+    let at-list = c .before .before in
+    let at-count = at-list .before .before .before .before .before in
+    let at-read = at-count .before .before .before in
+    let at-start = at-read .before .before .before .before .before .before .before in
     let a = at-start .args in
-    let tops = at-enter .enter .last .1 .1 .1 .1 .1 .1 .1 .1 .0 in
-    let entered = at-enter .enter .last .1 .1 .1 .1 .1 .1 .1 .1 .1 .0 in
-    let none = subst (Judged (readOrder (a .n) (a .prefix .now) (a .clauses .now) (a .classes .now) (a .parents .now) (a .counts .now) (a .x .0))) (at-enum-told .enum-told .given .1) (at-enter .enter .ensures .0) in
-    let enters = subst (Enters (variables (a .n) (a .prefix .now)) (lent (variables (a .n) (a .prefix .now)) (a .classes .now) (a .parents .now)) (EntriesBy (a .scheme) (a .n) (a .prefix .now) (a .clauses .now) (a .classes .now) (a .parents .now) (a .x .0)) (a .x .0) tops entered) (at-enum-told .enum-told .given .1) (at-enter .enter .ensures .1) in
-    picks-listing (readOrder (a .n) (a .prefix .now) (a .clauses .now) (a .classes .now) (a .parents .now) (a .counts .now) (a .x .0)) (pick (a .asked) (a .n) entered tops) (a .n) (a .out .now) (at-list-picked .list-picked .last .1 .1 .1 .1 .0) none (asked-listed (a .x .0) none (a .scheme) tops enters (a .asked)) (at-list-picked .list-picked .result) (at-list-picked .list-picked .ensures)
+    let after = at-list .sound-list .last .1 .1 .1 .1 .1 .1 .1 .0 in
+    let answer = at-list .sound-list .result in
+    behind-read (checkOrder (a .rule) (formula at-start)) _ (a .rule) (a .n) (a .prefix .now) _ (at-count .count .given .1) (at-read .read-formula .ensures)
+    (λ order read. Listing order (Asked-for at-start read) (a .out .now) after answer)
+    (λ order order′ read. carry-filling (Listed (Asked-for at-start read)) (a .out .now) after answer order order′)
+    (later at-start) (at-list .before .before .as-read .ensures) (at-list .sound-list .ensures)
 
 pub list-asked-spec : {M : Type 1} → statement M
 list-asked-spec =
-    tie.close (tie.spec (λ c. search needs) (λ c. search needs) enter-requires (λ c. search needs) (λ c. search needs) (λ c. search needs)
-    (λ c. search needs) (λ c κs. search needs) returns (λ c. search needs) returns-2)
+    tie.close (tie.spec (λ c. search needs) (λ c κs. search needs) (λ c. search needs) (λ c. search needs) (λ c. search needs) as-read-requires
+    sound-list-requires returns (λ c. search needs) returns-2)

@@ -1,4 +1,4 @@
--- `joining::rule_verdict` meets its contract.
+-- By the rule number: neither is 23, rule 1 judges as the plain order does, and rule 2 by the joined causes.
 use mathlib.Core.Path.{refl}
 use mathlib.Core.List.{[], _∷_}
 use mathlib.Core.Logic.{_⊎_, inl, inr, ⊎-elim}
@@ -32,13 +32,15 @@ returns-4 : tie.Need-returns-4
 returns-4 c =
     let at-if2 = c .before .before in
     let at-start = at-if2 .before .before .before in
-    let a = at-start .args in rule-two (a .rule) (a .n) (a .prefix .now) (a .entries) (at-if2 .if2 .left) (Refused 2 0) (inr (at0-none 1 (λ over. omega arith), inl (at0-first 2 (inl (c .if4 .taken)))))
+    let a = at-start .args in rule-two (a .rule) (a .n) (a .prefix .now) (a .entries) (at-if2 .if2 .left) (Refused 2 0)
+    (inr (at0-none 1 (λ over. omega arith), inl (at0-first 2 (inl (c .if4 .taken)))))
 
 returns-5 : tie.Need-returns-5
 returns-5 c =
     let at-if2 = c .before .before .before in
     let at-start = at-if2 .before .before .before in
-    let a = at-start .args in rule-two (a .rule) (a .n) (a .prefix .now) (a .entries) (at-if2 .if2 .left) (Refused 2 0) (inr (at0-none 1 (λ over. omega arith), inl (at0-first 2 (inr (c .if5 .taken)))))
+    let a = at-start .args in rule-two (a .rule) (a .n) (a .prefix .now) (a .entries) (at-if2 .if2 .left) (Refused 2 0)
+    (inr (at0-none 1 (λ over. omega arith), inl (at0-first 2 (inr (c .if5 .taken)))))
 
 returns-6 : tie.Need-returns-6
 returns-6 c =
@@ -50,7 +52,8 @@ returns-6 c =
     let short = at-if4 .if4 .left in
     let small = c .before .if5 .left in
     rule-two (a .rule) (a .n) (a .prefix .now) (a .entries) (b .if2 .left) (c .joined-verdict .result)
-    (accepted-then (VariableCount (a .n) ∷ At0 2 (PrefixLong (a .prefix .now) ⊎ ClausesLong (a .entries)) ∷ []) (JoinedCause (a .n) (a .prefix .now) ∷ []) {v = Accepted} (c .joined-verdict .result) refl
+    (accepted-then (VariableCount (a .n) ∷ At0 2 (PrefixLong (a .prefix .now) ⊎ ClausesLong (a .entries)) ∷ [])
+    (JoinedCause (a .n) (a .prefix .now) ∷ []) {v = Accepted} (c .joined-verdict .result) refl
     (at0-none 1 (λ over. omega arith), (at0-none 2 (⊎-elim (λ m. omega arith) (λ m. omega arith)), tt)) (c .joined-verdict .ensures))
 
 pub rule-verdict-spec : {M : Type 1} → statement M

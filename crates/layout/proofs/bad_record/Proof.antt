@@ -1,59 +1,43 @@
--- `layout::bad_record` meets its contract.
+-- A record that goes past the end is cut; any other is wrong exactly if its length does not fit its kind (wrong-record, right-record).
 use mathlib.Core.Path.{refl}
 use native.Mathlib.Omega.{arith}
-use Rattle.records.specs.Causes.{cut}
-use Rattle.layout.proofs.Heads.{kind-read, size-read, told-back}
-use Rattle.layout.proofs.Walks.{wrong-record, right-record}
 use borrow.Author.Needs.{needs}
+use Rattle.records.specs.Causes.{cut}
+use Rattle.layout.proofs.Heads.{told-back}
+use Rattle.layout.proofs.Walks.{record-near, wrong-record, right-record}
 use Rattle.layout.proofs.bad_record.Statement.{statement}
 use Rattle.layout.proofs.bad_record.Tie as tie
 
 next-at-requires : tie.Need-next-at-requires
-next-at-requires c κs =
-    let small = c .before .pre .0 in
-    let l = c .before .pre .1 .goes-on in
-    omega arith
+next-at-requires c κs = omega (arith, record-near (c .before .args .file .now) (c .before .pre .0) (c .before .pre .1))
 
 returns : tie.Need-returns
 returns c =
     let at-start = c .before .before .before in
-    let q = c .before .next-at .ensures in cut refl (at-start .pre .1) (let l = c .if1 .taken in omega arith)
+    cut refl (at-start .pre .1) (omega (arith, c .if1 .taken, c .before .next-at .ensures))
 
-four-at-requires : tie.Need-four-at-requires
-four-at-requires c κs =
+size-at-requires : tie.Need-size-at-requires
+size-at-requires c κs =
     let at-start = c .before .before .before in
-    let small = at-start .pre .0 in
-    let l = at-start .pre .1 .goes-on in
-    omega arith
+    omega (arith, record-near (at-start .args .file .now) (at-start .pre .0) (at-start .pre .1))
 
-add-two-at : tie.Need-add-two-at
-add-two-at c =
+kind-at-requires : tie.Need-kind-at-requires
+kind-at-requires c κs =
     let at-start = c .before .before .before .before in
-    let small = at-start .pre .0 in
-    let l = at-start .pre .1 .goes-on in
-    omega arith
-
-two-at-requires : tie.Need-two-at-requires
-two-at-requires c κs =
-    let at-start = c .before .before .before .before in
-    let small = at-start .pre .0 in
-    let l = at-start .pre .1 .goes-on in
-    omega arith
+    omega (arith, record-near (at-start .args .file .now) (at-start .pre .0) (at-start .pre .1))
 
 returns-2 : tie.Need-returns-2
 returns-2 c =
-    let at-four-at = c .before .before in
-    let at-if1 = at-four-at .before in
+    let at-size-at = c .before .before in
+    let at-if1 = at-size-at .before in
     let at-next-at = at-if1 .before in
     let at-start = at-next-at .before .before in
-    let a = at-start .args in
-    let pre = at-start .pre in
-    let kind = kind-read (a .file .now) (a .at) (c .before .two-at .ensures .0) in
-    let size = size-read (a .file .now) (a .at) (at-four-at .four-at .ensures) in
-    let q = at-next-at .next-at .ensures in
-    let l = at-if1 .if1 .left in
-    told-back (c .wrong-size .result) (wrong-record (a .file .now) (pre .1) kind size) (right-record (a .file .now) kind size (omega arith)) (c .wrong-size .ensures)
+    let file = at-start .args .file .now in
+    let kind = c .before .kind-at .ensures in
+    let size = at-size-at .size-at .ensures in
+    told-back (c .wrong-size .result) (wrong-record file (at-start .pre .1) kind size)
+    (right-record file kind size (omega (arith, at-next-at .next-at .ensures, at-if1 .if1 .left))) (c .wrong-size .ensures)
 
 pub bad-record-spec : {M : Type 1} → statement M
 bad-record-spec =
-    tie.close (tie.spec next-at-requires returns four-at-requires add-two-at two-at-requires (λ c κs. search needs) returns-2)
+    tie.close (tie.spec next-at-requires returns size-at-requires kind-at-requires (λ c κs. search needs) returns-2)

@@ -1,4 +1,5 @@
--- `layout::shape_verdict` meets its contract: no record before the place reached is wrong.
+-- The invariant: a record begins at the place, or the file ends, and no record before it is wrong (Shaped). So the first one that is wrong
+-- is the first cause.
 use Prim.Native.Nat.{_-_}
 use mathlib.Core.Logic.{inl}
 use native.Mathlib.Omega.{arith}
@@ -26,27 +27,21 @@ returns : tie.Need-returns Inv-loop μ-loop
 returns c =
     let at-loop = c .before .before .before in
     let at-start = at-loop .before .before in
-    let a = at-start .args in
-    inl (shaped-fault (a .file .now) (at-loop .loop .inv) (told (c .before .bad-record .result) (c .if1 .taken) (c .before .bad-record .ensures)))
+    let bad = c .before .bad-record in
+    inl (shaped-fault (at-start .args .file .now) (at-loop .loop .inv) (told (bad .result) (c .if1 .taken) (bad .ensures)))
 
 next-at-requires : tie.Need-next-at-requires Inv-loop μ-loop
 next-at-requires c κs =
     let at-loop-test = c .before .before in
     let at-start = at-loop-test .before .before .before in
-    let small = at-start .pre in
-    let l = at-loop-test .loop-test .taken in
-    omega arith
+    omega (arith, at-start .pre, at-loop-test .loop-test .taken)
 
 loop-less : tie.Need-loop-less Inv-loop μ-loop
 loop-less c =
     let at-loop-test = c .before .before .before in
     let at-loop = at-loop-test .before in
     let at-start = at-loop .before .before in
-    let a = at-start .args in
-    let l = at-loop-test .loop-test .taken in
-    let n = next-past (a .file .now) (at-loop .loop .at) in
-    let q = c .next-at .ensures in
-    omega arith
+    omega (arith, at-loop-test .loop-test .taken, next-past (at-start .args .file .now) (at-loop .loop .at), c .next-at .ensures)
 
 loop-again : tie.Need-loop-again Inv-loop μ-loop
 loop-again c =
@@ -54,8 +49,9 @@ loop-again c =
     let at-loop-test = at-bad-record .before in
     let at-loop = at-loop-test .before in
     let at-start = at-loop .before .before in
-    let a = at-start .args in
-    shaped-more (a .file .now) (at-loop .loop .inv) (c .next-at .result) (c .next-at .ensures) (at-loop-test .loop-test .taken) (told-not (at-bad-record .bad-record .result) (c .before .if1 .left) (at-bad-record .bad-record .ensures))
+    let bad = at-bad-record .bad-record in
+    let right = told-not (bad .result) (c .before .if1 .left) (bad .ensures) in
+    shaped-more (at-start .args .file .now) (at-loop .loop .inv) (c .next-at .result) (c .next-at .ensures) (at-loop-test .loop-test .taken) right
 
 returns-2 : tie.Need-returns-2 Inv-loop μ-loop
 returns-2 c =

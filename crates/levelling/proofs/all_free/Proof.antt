@@ -1,16 +1,18 @@
--- `levelling::all_free` meets its contract: every row passed is that of a free variable.
+-- Every row passed is that of a free variable, and one row is passed after another (filled-more).
 use Prim.Native.Nat.{ℕ, _≤_, _<_, _-_}
 use mathlib.Core.Path.{_≡_, sym, _∙_}
 use mathlib.Core.Bool.{false}
 use native.Mathlib.Omega.{arith}
-use lib.ListN.{length, getD, length-set}
+use lib.ListN.{getD, length-set}
 use Rattle.terms.proofs.Common.{filled-more}
+use Rattle.formula.specs.Levels.{LevelRows}
 use Rattle.levelling.proofs.all_free.Statement.{statement}
 use Rattle.levelling.proofs.all_free.Tie as tie
 
 abbrev Inv-loop : tie.InvT-loop
 Inv-loop free levels₀ universals₀ v₀ levels universals v =
-    (v ≤ 4097) × ((length levels ≡ 4097) × (length universals ≡ 4097)) × ((k : ℕ) → k < v → getD levels k 0 ≡ free) × ((k : ℕ) → k < v → getD universals k false ≡ false)
+    (v ≤ 4097) × LevelRows levels universals
+    × ((k : ℕ) → k < v → getD levels k 0 ≡ free) × ((k : ℕ) → k < v → getD universals k false ≡ false)
 
 abbrev μ-loop : tie.MeasureT-loop
 μ-loop free levels₀ universals₀ v₀ levels universals v = 4097 - v
@@ -26,27 +28,22 @@ slice-write-universals c = let size = c .before .loop .inv .1 .1 in omega arith
 
 loop-again : tie.Need-loop-again Inv-loop μ-loop
 loop-again c =
-    let at-start = c .before .before in
-    let free = at-start .args .free in
+    let free = c .before .before .args .free in
     let l = c .before .loop in
-    let inv = l .inv in
-    let levels-size = inv .1 .0 in
-    let universals-size = inv .1 .1 in (
+    let (_, sizes, levels, universals) = l .inv in
+    let levels-size = sizes .0 in
+    let universals-size = sizes .1 in (
       omega arith,
-      (length-set (l .levels) (l .v) free ∙ inv .1 .0, length-set (l .universals) (l .v) false ∙ inv .1 .1),
-      filled-more (l .levels) free 0 (l .v) (omega arith) (inv .2),
-      filled-more (l .universals) false false (l .v) (omega arith) (inv .3),
+      (length-set (l .levels) (l .v) free ∙ sizes .0, length-set (l .universals) (l .v) false ∙ sizes .1),
+      filled-more (l .levels) free 0 (l .v) (omega arith) levels,
+      filled-more (l .universals) false false (l .v) (omega arith) universals,
     )
 
 same-length : tie.Need-same-length Inv-loop μ-loop
-same-length c =
-    let at-start = c .before .before in
-    c .before .loop .inv .1 .0 ∙ sym (at-start .pre .0)
+same-length c = c .before .loop .inv .1 .0 ∙ sym (c .before .before .pre .0)
 
 same-length-2 : tie.Need-same-length-2 Inv-loop μ-loop
-same-length-2 c =
-    let at-start = c .before .before in
-    c .before .loop .inv .1 .1 ∙ sym (at-start .pre .1)
+same-length-2 c = c .before .loop .inv .1 .1 ∙ sym (c .before .before .pre .1)
 
 returns : tie.Need-returns Inv-loop μ-loop
 returns c =

@@ -1,4 +1,4 @@
--- `levelling::fill_levels` meets its contract.
+-- Once every variable stands there as a free one, of the level that the first mark gives, the pass over the prefix does the rest.
 use mathlib.Core.Path.{_∙_}
 use borrow.Author.Needs.{needs}
 use Rattle.levelling.proofs.fill_levels.Statement.{statement}
@@ -10,13 +10,9 @@ name-levels-requires c κs =
     let at-free-level = at-all-free .before .before .before in
     let at-start = at-free-level .before .before .before .before in
     let pre = at-start .pre in
-    let free = at-all-free .all-free in (
-      pre .0,
-      (
-        (free .kept .1 .0 ∙ pre .1 .0, free .kept .1 .1 .0 ∙ pre .1 .1),
-        (λ v l. free .ensures .0 v l ∙ at-free-level .free-level .ensures, free .ensures .1),
-      ),
-    )
+    let free = at-all-free .all-free in
+    let level = at-free-level .free-level .ensures in
+    (pre .0, ((free .kept .1 .0 ∙ pre .1 .0, free .kept .1 .1 .0 ∙ pre .1 .1), (λ v l. free .ensures .0 v l ∙ level, free .ensures .1)))
 
 pub fill-levels-spec : {M : Type 1} → statement M
 fill-levels-spec =

@@ -1,4 +1,4 @@
--- `levelling::free_level` meets its contract.
+-- The free level hangs on the mark of the first block, and that is the first entry (free-of-first).
 use mathlib.Core.Path.{ap, sym, _∙_}
 use mathlib.Core.Bool.{cond}
 use borrow.Author.Needs.{needs}
@@ -10,9 +10,6 @@ use Rattle.levelling.proofs.free_level.Tie as tie
 
 returns : tie.Need-returns
 returns c = free-of-none (c .before .args .prefix .now) (c .if1 .taken)
-
-shared-slice-read-if2 : tie.Need-shared-slice-read-if2
-shared-slice-read-if2 c = search needs
 
 returns-2 : tie.Need-returns-2
 returns-2 c =
@@ -29,4 +26,4 @@ returns-3 c =
     sym (ap (λ b. cond b 1 0) (ne-eqb (at es 0) 1 (c .if2 .left))) ∙ free-of-first es (at-start .pre .1) (at-if1 .if1 .left)
 
 pub free-level-spec : {M : Type 1} → statement M
-free-level-spec = tie.close (tie.spec returns shared-slice-read-if2 returns-2 returns-3)
+free-level-spec = tie.close (tie.spec returns (λ c. search needs) returns-2 returns-3)

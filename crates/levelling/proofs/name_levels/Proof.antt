@@ -1,4 +1,5 @@
--- `levelling::name_levels` meets its contract: the invariant is `Levelling`.
+-- What the rows say, together with what the rest of the prefix says, is what all blocks say (`Levelling`): each entry moves a part from the rest
+-- into the rows.
 use Prim.Native.Nat.{_-_, _<_}
 use mathlib.Core.Path.{sym, _∙_}
 use native.Mathlib.Omega.{arith}
@@ -10,20 +11,23 @@ use Rattle.levelling.proofs.name_levels.Statement.{statement}
 use Rattle.levelling.proofs.name_levels.Tie as tie
 
 abbrev Inv-loop : tie.InvT-loop
-Inv-loop prefix levels₀ universals₀ opens₀ mark₀ block₀ i₀ levels universals opens mark block i = Levelling prefix i opens mark block levels universals
+Inv-loop prefix levels₀ universals₀ opens₀ mark₀ block₀ i₀ levels universals opens mark block i =
+    Levelling prefix i opens mark block levels universals
 
 abbrev μ-loop : tie.MeasureT-loop
 μ-loop prefix levels₀ universals₀ opens₀ mark₀ block₀ i₀ levels universals opens mark block i = length prefix - i
 
 loop-holds : tie.Need-loop-holds Inv-loop μ-loop
-loop-holds c = level-none (c .args .prefix .now) (c .args .levels .now) (c .args .universals .now) (c .pre .1 .0) (c .pre .1 .1 .0) (c .pre .1 .1 .1)
+loop-holds c =
+    let a = c .args in
+    let (rows, free) = c .pre .1 in
+    level-none (a .prefix .now) (a .levels .now) (a .universals .now) rows (free .0) (free .1)
 
 add-block : tie.Need-add-block Inv-loop μ-loop
 add-block c =
     let at-loop = c .before .before .before in
-    let at-start = at-loop .before in
     let few = at-loop .loop .inv .few in
-    let short = at-start .pre .0 .1 .short in
+    let short = at-loop .before .pre .0 .1 .short in
     omega arith
 
 loop-again : tie.Need-loop-again Inv-loop μ-loop
@@ -41,13 +45,14 @@ loop-again-2 c =
     level-close (at-start .pre .0 .1) (at-loop .loop .inv) (at-loop-test .loop-test .taken) (c .before .if1 .left) (c .if2 .taken)
 
 -- a variable of an accepted prefix has a row
-small : (c : tie.Else2 Inv-loop μ-loop) → at (c .before .before .before .before .before .args .prefix .now) (c .before .before .before .before .loop .i) < 4097
+small : (c : tie.Else2 Inv-loop μ-loop)
+    → at (c .before .before .before .before .before .args .prefix .now) (c .before .before .before .before .loop .i) < 4097
 small c =
     let at-loop-test = c .before .before .before in
     let at-loop = at-loop-test .before in
     let at-start = at-loop .before in
-    let s = at-loop .loop .inv in
-    variable-small (at-start .pre .0 .1) (at-loop .loop .i) (at-loop-test .loop-test .taken) (sym (s .opening-is) ∙ c .before .if1 .left) (c .if2 .left)
+    let shut = sym (at-loop .loop .inv .opening-is) ∙ c .before .if1 .left in
+    variable-small (at-start .pre .0 .1) (at-loop .loop .i) (at-loop-test .loop-test .taken) shut (c .if2 .left)
 
 cast-v : tie.Need-cast-v Inv-loop μ-loop
 cast-v c = let l = small c in omega arith
@@ -57,15 +62,13 @@ mul-levels c = let l = small c in omega arith
 
 slice-write-levels : tie.Need-slice-write-levels Inv-loop μ-loop
 slice-write-levels c =
-    let at-loop = c .before .before .before .before in
-    let size = at-loop .loop .inv .sizes .0 in
+    let size = c .before .before .before .before .loop .inv .sizes .0 in
     let l = small c in
     omega arith
 
 slice-write-universals : tie.Need-slice-write-universals Inv-loop μ-loop
 slice-write-universals c =
-    let at-loop = c .before .before .before .before in
-    let size = at-loop .loop .inv .sizes .1 in
+    let size = c .before .before .before .before .loop .inv .sizes .1 in
     let l = small c in
     omega arith
 
@@ -77,14 +80,10 @@ loop-again-3 c =
     level-variable (at-start .pre .0 .1) (at-loop .loop .inv) (at-loop-test .loop-test .taken) (c .before .if1 .left) (c .if2 .left)
 
 same-length : tie.Need-same-length Inv-loop μ-loop
-same-length c =
-    let at-start = c .before .before in
-    c .before .loop .inv .sizes .0 ∙ sym (at-start .pre .1 .0 .0)
+same-length c = c .before .loop .inv .sizes .0 ∙ sym (c .before .before .pre .1 .0 .0)
 
 same-length-2 : tie.Need-same-length-2 Inv-loop μ-loop
-same-length-2 c =
-    let at-start = c .before .before in
-    c .before .loop .inv .sizes .1 ∙ sym (at-start .pre .1 .0 .1)
+same-length-2 c = c .before .loop .inv .sizes .1 ∙ sym (c .before .before .pre .1 .0 .1)
 
 returns : tie.Need-returns Inv-loop μ-loop
 returns c = levelled (c .before .loop .inv) (c .loop-test .left)

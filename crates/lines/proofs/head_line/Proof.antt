@@ -1,4 +1,4 @@
--- `lines::head_line` meets its contract.
+-- Three words with their numbers and the last word, each run behind those before it; each is short, and so is the line.
 use native.Mathlib.Omega.{arith}
 use Rattle.spelling.proofs.Stores.{wrote-more}
 use Rattle.lines.specs.Lines.{headLine}

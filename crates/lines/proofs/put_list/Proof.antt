@@ -1,19 +1,10 @@
--- `lines::put_list` meets its contract.
+-- The word and the numbers behind it, seven bytes at most for each.
 use native.Mathlib.Omega.{arith}
 use Rattle.spelling.proofs.Stores.{wrote-more}
 use Rattle.lines.proofs.Spelt.{numbers-most}
 use borrow.Author.Needs.{needs}
 use Rattle.lines.proofs.put_list.Statement.{statement}
 use Rattle.lines.proofs.put_list.Tie as tie
-
-put-word-requires : tie.Need-put-word-requires
-put-word-requires c κs = search needs
-
-put-numbers-requires : tie.Need-put-numbers-requires
-put-numbers-requires c κs = search needs
-
-same-length : tie.Need-same-length
-same-length c = search needs
 
 returns : tie.Need-returns
 returns c =
@@ -30,4 +21,4 @@ returns c =
     record { wrote = wrote-more word list; near = omega arith }
 
 pub put-list-spec : {M : Type 1} → statement M
-put-list-spec = tie.close (tie.spec put-word-requires put-numbers-requires same-length returns)
+put-list-spec = tie.close (tie.spec (λ c κs. search needs) (λ c κs. search needs) (λ c. search needs) returns)

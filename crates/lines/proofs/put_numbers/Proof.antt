@@ -1,31 +1,30 @@
--- `lines::put_numbers` meets its contract: the numbers up to one are stored.
+-- The numbers up to i are stored (Upto), each with its space; six digits at most keep each within eight bytes.
 use Prim.Native.Nat.{_-_}
+use mathlib.Core.Path.{refl}
+use mathlib.Core.Bool.{true}
 use native.Mathlib.Omega.{arith}
 use borrow.Author.Needs.{needs}
-use lib.ListN.{length}
-use Rattle.spelling.proofs.Stores.{wrote-length, wrote-more}
-use Rattle.lines.proofs.Spelt.{Numbers, numbers-start, numbers-more, numbers-all}
+use lib.ListN.{length, getD}
+use Rattle.spelling.proofs.Stores.{wrote-more, Upto, upto-none, upto-more, upto-all, upto-length}
+use Rattle.lines.proofs.Spelt.{number-most, numbersScript}
 use Rattle.lines.proofs.put_numbers.Statement.{statement}
 use Rattle.lines.proofs.put_numbers.Tie as tie
 
 abbrev Inv-loop : tie.InvT-loop
-Inv-loop out₀ at list i₀ next₀ out i next = Numbers list out₀ out at i next
+Inv-loop out₀ at list i₀ next₀ out i next = Upto numbersScript list out₀ out at i next true
 
 abbrev μ-loop : tie.MeasureT-loop
 μ-loop out₀ at list i₀ next₀ out i next = length list - i
 
 loop-holds : tie.Need-loop-holds Inv-loop μ-loop
-loop-holds c =
-    let at-start = c .before .before in
-    let a = at-start .args in numbers-start (a .list .now) (a .out .now) (a .at)
+loop-holds c = let a = c .before .before .args in upto-none numbersScript (a .list .now) (a .out .now) (a .at)
 
 put-byte-requires : tie.Need-put-byte-requires Inv-loop μ-loop
 put-byte-requires c κs =
     let at-loop = c .before .before in
-    let at-start = at-loop .before .before .before in
     let few = at-loop .loop .inv .few in
     let more = c .before .loop-test .taken in
-    let pre = at-start .pre in
+    let pre = at-loop .before .before .before .pre in
     let short = pre .1 .few in
     omega arith
 
@@ -34,11 +33,10 @@ put-number-requires c κs =
     let at-put-byte = c .before .before .before .before in
     let at-loop-test = at-put-byte .before .before in
     let at-loop = at-loop-test .before in
-    let at-start = at-loop .before .before .before in
     let few = at-loop .loop .inv .few in
     let more = at-loop-test .loop-test .taken in
     let end = at-put-byte .put-byte .ensures .end in
-    let pre = at-start .pre in
+    let pre = at-loop .before .before .before .pre in
     let short = pre .1 .few in
     let small = pre .1 .short (at-loop .loop .i) more in
     omega arith
@@ -50,28 +48,13 @@ loop-again c =
     let at-loop-test = at-put-byte .before .before in
     let at-loop = at-loop-test .before in
     let at-start = at-loop .before .before .before in
-    let a = at-start .args in
-    let l = at-loop .loop in
+    let i = at-loop .loop .i in
     let more = at-loop-test .loop-test .taken in
-    let o = at-put-number .put-number in
-    numbers-more (a .list .now) (a .out .now) (l .out) (o .last .0) (a .at) (l .i) (l .next) (o .result) (l .inv) more
-    (wrote-more (at-put-byte .put-byte .ensures) (o .ensures)) (at-start .pre .1 .short (l .i) more)
-
-same-length : tie.Need-same-length Inv-loop μ-loop
-same-length c =
-    let at-start = c .before .before .before .before in
-    let a = at-start .args in
-    let l = c .before .loop in
-    wrote-length (l .inv .bytes) (a .out .now) (l .out) (a .at) (l .next) (l .inv .wrote)
-
-returns : tie.Need-returns Inv-loop μ-loop
-returns c =
-    let at-start = c .before .before .before .before in
-    let a = at-start .args in
-    let l = c .before .loop in
-    numbers-all (a .list .now) (a .out .now) (l .out) (a .at) (l .i) (l .next) (l .inv) (c .loop-test .left)
+    let most = number-most (getD (at-start .args .list .now) i 0) (at-start .pre .1 .short i more) in
+    upto-more (at-loop .loop .inv) more (wrote-more (at-put-byte .put-byte .ensures) (at-put-number .put-number .ensures)) (omega arith) refl
 
 pub put-numbers-spec : {M : Type 1} → statement M
 put-numbers-spec =
     tie.close (tie.spec Inv-loop μ-loop loop-holds put-byte-requires (λ c. search needs) (λ c. search needs) put-number-requires
-    (λ c. omega arith) (λ c. omega arith) loop-again same-length returns)
+    (λ c. omega arith) (λ c. omega arith) loop-again (λ c. upto-length (c .before .loop .inv))
+    (λ c. upto-all (c .before .loop .inv) (c .loop-test .left)))

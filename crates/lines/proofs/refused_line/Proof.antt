@@ -1,4 +1,4 @@
--- `lines::refused_line` meets its contract.
+-- Two words with their numbers and LF, each run behind those before it.
 use native.Mathlib.Omega.{arith}
 use Rattle.spelling.proofs.Stores.{wrote-more}
 use Rattle.lines.specs.Lines.{refusedLine}

@@ -1,4 +1,4 @@
--- `lines::universal_line` meets its contract.
+-- The number, the level, the two lists and LF, each run behind those before it; each is within its bound, and so is the line.
 use native.Mathlib.Omega.{arith}
 use Rattle.spelling.proofs.Stores.{wrote-more}
 use Rattle.lines.specs.Lines.{universalLine}
@@ -24,7 +24,8 @@ returns c =
     let n3 = s3 .near in
     let last = at-put-byte .put-byte .ensures in
     let end = last .end in
-    record { wrote = wrote-more (wrote-more (wrote-more (wrote-more (s0 .wrote) (s1 .wrote)) (s2 .wrote)) (s3 .wrote)) last; near = omega arith }
+    let lists = wrote-more (wrote-more (wrote-more (s0 .wrote) (s1 .wrote)) (s2 .wrote)) (s3 .wrote) in
+    record { wrote = wrote-more lists last; near = omega arith }
 
 pub universal-line-spec : {M : Type 1} → statement M
 universal-line-spec =

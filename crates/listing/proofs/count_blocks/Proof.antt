@@ -1,11 +1,12 @@
--- `listing::count_blocks` meets its contract: the zeros before an entry are counted.
+-- The invariant says that the zeros before entry i are counted, which each entry keeps, and behind the last there are as many as blocks.
 use Prim.Native.Nat.{_-_}
+use mathlib.Core.Bool.{true, false}
 use native.Mathlib.Omega.{arith}
 use borrow.Author.Needs.{needs}
 use borrow.Author.Tests.{eq-eqb, ne-eqb}
 use lib.ListN.{length, getD}
 use Rattle.formula.specs.Meaning.{isZero, blocks}
-use Rattle.listing.proofs.Counts.{Counted, counted-none, counted-zero, counted-other, counted-all}
+use Rattle.listing.proofs.Counts.{Counted, counted-none, counted-next, counted-all}
 use Rattle.listing.proofs.count_blocks.Statement.{statement}
 use Rattle.listing.proofs.count_blocks.Tie as tie
 
@@ -30,7 +31,7 @@ loop-again c =
     let at-start = at-loop .before in
     let es = at-start .args .prefix .now in
     let l = at-loop .loop in
-    counted-zero isZero 0 es (l .count) (l .i) (l .inv) (at-loop-test .loop-test .taken) (eq-eqb (getD es (l .i) 0) 0 (c .if1 .taken))
+    counted-next isZero 0 es (l .count) (l .i) true (l .inv) (at-loop-test .loop-test .taken) (eq-eqb (getD es (l .i) 0) 0 (c .if1 .taken))
 
 loop-again-2 : tie.Need-loop-again-2 Inv-loop μ-loop
 loop-again-2 c =
@@ -39,13 +40,14 @@ loop-again-2 c =
     let at-start = at-loop .before in
     let es = at-start .args .prefix .now in
     let l = at-loop .loop in
-    counted-other isZero 0 es (l .count) (l .i) (l .inv) (at-loop-test .loop-test .taken) (ne-eqb (getD es (l .i) 0) 0 (c .if1 .left))
+    counted-next isZero 0 es (l .count) (l .i) false (l .inv) (at-loop-test .loop-test .taken) (ne-eqb (getD es (l .i) 0) 0 (c .if1 .left))
 
 returns : tie.Need-returns Inv-loop μ-loop
 unfolding blocks
 returns c =
     let at-start = c .before .before in
-    let l = c .before .loop in counted-all isZero 0 (at-start .args .prefix .now) (l .count) (l .i) (l .inv) (c .loop-test .left)
+    let l = c .before .loop in
+    counted-all isZero 0 (at-start .args .prefix .now) (l .count) (l .i) (l .inv) (c .loop-test .left)
 
 pub count-blocks-spec : {M : Type 1} → statement M
 count-blocks-spec =

@@ -1,7 +1,7 @@
--- `listing::count_clauses` meets its contract: the zeros before an entry are counted.
+-- As for blocks: the zeros before entry i are counted, and behind the last there are as many as clauses. An entry is 0 where its variable is.
 use Prim.Native.Nat.{_-_}
 use mathlib.Core.Path.{_∙_, sym}
-use mathlib.Core.Bool.{Bool}
+use mathlib.Core.Bool.{Bool, true, false}
 use native.Mathlib.Omega.{arith}
 use borrow.Author.Needs.{needs}
 use borrow.Author.Tests.{eq-eqb, ne-eqb}
@@ -9,7 +9,7 @@ use lib.IntN.{ℤ, pos}
 use lib.ListN.{length}
 use Rattle.terms.specs.Literals.{variableOf}
 use Rattle.formula.specs.Meaning.{isZero, clauses}
-use Rattle.listing.proofs.Counts.{Counted, counted-none, counted-zero, counted-other, counted-all}
+use Rattle.listing.proofs.Counts.{Counted, counted-none, counted-next, counted-all}
 use Rattle.listing.proofs.count_clauses.Statement.{statement}
 use Rattle.listing.proofs.count_clauses.Tie as tie
 
@@ -38,7 +38,8 @@ loop-again c =
     let at-loop = at-loop-test .before in
     let at-start = at-loop .before in
     let l = at-loop .loop in
-    counted-zero closes (pos 0) (at-start .args .clauses .now) (l .count) (l .i) (l .inv) (at-loop-test .loop-test .taken) (eq-eqb _ 0 (sym (at-variable-at .variable-at .ensures) ∙ c .if1 .taken))
+    let zero = eq-eqb _ 0 (sym (at-variable-at .variable-at .ensures) ∙ c .if1 .taken) in
+    counted-next closes (pos 0) (at-start .args .clauses .now) (l .count) (l .i) true (l .inv) (at-loop-test .loop-test .taken) zero
 
 loop-again-2 : tie.Need-loop-again-2 Inv-loop μ-loop
 loop-again-2 c =
@@ -47,13 +48,15 @@ loop-again-2 c =
     let at-loop = at-loop-test .before in
     let at-start = at-loop .before in
     let l = at-loop .loop in
-    counted-other closes (pos 0) (at-start .args .clauses .now) (l .count) (l .i) (l .inv) (at-loop-test .loop-test .taken) (ne-eqb _ 0 (λ z. c .if1 .left (at-variable-at .variable-at .ensures ∙ z)))
+    let other = ne-eqb _ 0 (λ z. c .if1 .left (at-variable-at .variable-at .ensures ∙ z)) in
+    counted-next closes (pos 0) (at-start .args .clauses .now) (l .count) (l .i) false (l .inv) (at-loop-test .loop-test .taken) other
 
 returns : tie.Need-returns Inv-loop μ-loop
 unfolding clauses
 returns c =
     let at-start = c .before .before in
-    let l = c .before .loop in counted-all closes (pos 0) (at-start .args .clauses .now) (l .count) (l .i) (l .inv) (c .loop-test .left)
+    let l = c .before .loop in
+    counted-all closes (pos 0) (at-start .args .clauses .now) (l .count) (l .i) (l .inv) (c .loop-test .left)
 
 pub count-clauses-spec : {M : Type 1} → statement M
 count-clauses-spec =

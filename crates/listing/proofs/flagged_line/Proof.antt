@@ -1,4 +1,4 @@
--- `listing::flagged_line` meets its contract.
+-- The flags are those that flag_points sets in a new table, and the line is picked by them.
 use Rattle.marks.proofs.Flags.{fresh}
 use borrow.Author.Needs.{needs}
 use Rattle.listing.proofs.flagged_line.Statement.{statement}

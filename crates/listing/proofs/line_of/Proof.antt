@@ -1,66 +1,100 @@
--- `listing::line_of` meets its contract.
+-- Where the tops that both signs have are several, they are flagged, and the line is that by the flags. Where there is one at most, its own flag alone
+-- would flag it, and the run to which its row leads is its set: so that the line is again that by flags.
 use Prim.Native.Nat.{ℕ, _≤_}
-use mathlib.Core.Path.{sym, subst}
+use mathlib.Core.Path.{_≡_, sym, ap, _∙_, subst}
 use mathlib.Core.Bool.{Bool}
 use mathlib.Core.List.{List}
+use mathlib.Core.Logic.{_↔_}
 use native.Mathlib.Omega.{arith}
+use lib.ListN.{length}
+use Rattle.terms.specs.Pairs.{lowOf, highOf}
 use Rattle.terms.specs.declared.Scheme.the-variants.{Strict}
 use Rattle.picking.specs.declared.Asked.the-variants.{Set}
 use Rattle.picking.specs.Picked.{pick}
 use Rattle.marks.specs.Flags.{Takes, Via}
 use Rattle.threads.specs.Threads.{Together, EnteredBy}
-use Rattle.soles.specs.Soles.{SoleOf}
-use Rattle.runs.specs.Runs.{Leads, only, having}
+use Rattle.threads.specs.SoleTops.{Is, SoleOf}
+use Rattle.runs.specs.Runs.{Run, only, having}
 use Rattle.oneset.proofs.Soles.{sole-entering, sole-within}
 use Rattle.lines.specs.Lines.{universalLine, Stored}
+use Rattle.listing.specs.Listing.{lineBytes}
 use Rattle.listing.proofs.Printed.{picked-small, sole-picked}
 use Rattle.listing.proofs.Flagged.{line-flagged}
 use borrow.Author.Needs.{needs}
 use Rattle.listing.proofs.line_of.Statement.{statement}
 use Rattle.listing.proofs.line_of.Tie as tie
 
+-- Where a top was found, the function's start, that top, and the variables that have it.
+abbrev start : tie.After-top → tie.Start
+start s = s .before .before .before .before .before .before .before .before .before
+
+abbrev top : tie.After-top → ℕ
+top s = s .top .given .0 .0 .0
+
+abbrev members : tie.After-top → List ℕ
+members s = having (start s .args .n) (start s .args .tops .now) (top s)
+
+-- It is the sole one that both signs of x have ...
+abbrev Both : tie.After-top → ℕ → Type 0
+Both s =
+    let a = start s .args in
+    λ e. Takes Strict (λ (sign : Bool). Via (a .n) (a .tops .now) (Together (a .clauses .now) sign (a .x .0)) e)
+
+sole : (s : tie.After-top) → (e : ℕ) → Is (top s) e ↔ Both s e
+sole s = subst (λ r. SoleOf r (Both s)) (s .top .given .1) (s .before .before .sole-point .ensures)
+
+-- ... and one of the variables ...
+low : (s : tie.After-top) → top s ≤ start s .args .n
+low s =
+    let a = start s .args in
+    sole-within Strict (a .n) (a .tops .now) (λ (sign : Bool). Together (a .clauses .now) sign (a .x .0)) (top s) (sole s) (start s .pre .1 .0)
+
+-- ... whose row, unpacked, leads to all that have it.
+run : (s : tie.After-unpack) → Run (start (s .before .before .before) .args .after .now) (s .unpack .result .low) (members (s .before .before .before))
+    × (s .unpack .result .high ≡ length (members (s .before .before .before)))
+run s =
+    let t = s .before .before .before in
+    let (starts, counts) = start t .pre .1 .1 (top t) (low t) in
+    let row = s .before .row-at .ensures in
+    let (head, size) = s .unpack .ensures in
+    (subst (λ (v : ℕ). Run (start t .args .after .now) v (members t)) (sym (head ∙ ap lowOf row)) starts, size ∙ ap highOf row ∙ counts)
+
 run-line-requires : tie.Need-run-line-requires
 run-line-requires c κs =
-    let at-top = c .before .before .before in
-    let at-sole-point = at-top .before .before in
-    let at-start = at-sole-point .before .before .before .before .before .before .before in
-    let a = at-start .args in
-    let (few, x, level, _, _) = at-start .pre .0 in
-    let (within, led, _) = at-start .pre .1 in
-    let top = at-top .top .given .0 .0 .0 in
-    let sole = subst (λ s. SoleOf s (λ e. Takes Strict (λ (sign : Bool). Via (a .n) (a .tops .now) (Together (a .clauses .now) sign (a .x .0)) e))) (at-top .top .given .1) (at-sole-point .sole-point .ensures) in
-    let low = sole-within Strict (a .n) (a .tops .now) (λ (sign : Bool). Together (a .clauses .now) sign (a .x .0)) top sole within in
-    let most : top ≤ 4096 = omega arith in
-    ((having (a .n) (a .tops .now) top, subst (λ row. Leads (a .after .now) row (having (a .n) (a .tops .now) top)) (sym (c .before .row-at .ensures)) (led top low), picked-small (pick Set (a .n) (only top) (a .tops .now)) (a .n) few), most, omega arith, level)
+    let at-unpack = c .before in
+    let at-top = at-unpack .before .before .before in
+    let a = start at-top .args in
+    let (few, x, level, _, _) = start at-top .pre .0 in
+    let small = picked-small (pick Set (a .n) (only (top at-top)) (a .tops .now)) (a .n) few in
+    let within = low at-top in
+    let most : top at-top ≤ 4096 = omega arith in
+    let (leads, size) = run at-unpack in
+    ((members at-top, leads, size, small), most, omega arith, level)
 
 returns : tie.Need-returns
-returns c es classes parents tops =
+returns c es rows tops =
     let at-flagged-line = c .before .before in
     let at-start = at-flagged-line .before .before .before .before .before .before .before .before .before .before .before in
     let (few, _, _, closed, _) = at-start .pre .0 in
     let (flags, entered, stored) = at-flagged-line .flagged-line .ensures in
-    line-flagged es classes parents few closed tops entered (at-start .pre .1 .2) stored
+    line-flagged es rows few closed tops entered (at-start .pre .1 .2) stored
 
 returns-2 : tie.Need-returns-2
-returns-2 c es classes parents tops =
+returns-2 c es rows tops =
     let at-run-line = c .before .before in
-    let at-row-at = at-run-line .before .before in
-    let at-top = at-row-at .before .before in
-    let at-sole-point = at-top .before .before in
-    let at-start = at-sole-point .before .before .before .before .before .before .before in
-    let a = at-start .args in
-    let (few, _, _, closed, _) = at-start .pre .0 in
-    let (within, led, room) = at-start .pre .1 in
-    let top = at-top .top .given .0 .0 .0 in
-    let members = having (a .n) (a .tops .now) top in
-    let sole = subst (λ s. SoleOf s (λ e. Takes Strict (λ (sign : Bool). Via (a .n) (a .tops .now) (Together (a .clauses .now) sign (a .x .0)) e))) (at-top .top .given .1) (at-sole-point .sole-point .ensures) in
-    let entered : EnteredBy Strict (a .n) (a .tops .now) (a .clauses .now) (a .x .0) (only top) = sole-entering top sole in
-    let low = sole-within Strict (a .n) (a .tops .now) (λ (sign : Bool). Together (a .clauses .now) sign (a .x .0)) top sole within in
-    let leads = subst (λ row. Leads (a .after .now) row members) (sym (at-row-at .row-at .ensures)) (led top low) in
-    line-flagged es classes parents few closed tops entered room
-    (subst (λ (entries : List ℕ). Stored 65536 (universalLine (a .x .0) (a .level .0) entries members) (a .line .now) (at-run-line .run-line .last .1 .1 .1 .1 .1 .0) 0 (at-run-line .run-line .result)) (sole-picked (a .n) (a .tops .now) top few low) (at-run-line .run-line .ensures members leads))
+    let at-unpack = at-run-line .before .before in
+    let at-top = at-unpack .before .before .before in
+    let a = start at-top .args in
+    let (few, _, _, closed, _) = start at-top .pre .0 in
+    let call = at-run-line .run-line in
+    let entered : EnteredBy Strict (a .n) (a .tops .now) (a .clauses .now) (a .x .0) (only (top at-top)) = sole-entering (top at-top) (sole at-top) in
+    let listed = sole-picked (a .n) (a .tops .now) (top at-top) few (low at-top) in
+    line-flagged es rows few closed tops entered (start at-top .pre .1 .2)
+    (subst
+    (λ (e : List ℕ). Stored lineBytes (universalLine (a .x .0) (a .level .0) e (members at-top)) (a .line .now) (call .last .1 .1 .1 .1 .1 .0) 0 (call .result))
+    listed (call .ensures (members at-top) (run at-unpack .0)))
 
 pub line-of-spec : {M : Type 1} → statement M
 line-of-spec =
     tie.close (tie.spec (λ c κs. search needs) (λ c. search needs) (λ c κs. search needs) (λ c. search needs) (λ c κs. search needs)
-    run-line-requires (λ c. search needs) returns (λ c. search needs) returns-2)
+    (λ c κs. search needs) run-line-requires (λ c. search needs) returns (λ c. search needs) returns-2)

@@ -1,4 +1,4 @@
--- `listing::list_forest` meets its contract.
+-- The levels are those of the prefix, by fill_levels; all else is passed on.
 use borrow.Author.Needs.{needs}
 use Rattle.listing.proofs.list_forest.Statement.{statement}
 use Rattle.listing.proofs.list_forest.Tie as tie

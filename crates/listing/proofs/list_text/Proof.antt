@@ -1,48 +1,56 @@
--- `listing::list_text` meets its contract.
+-- What read refuses has a line, for its number and its place are short; what it reads stands in front of the two tables, which have room for it.
+use Prim.Native.Nat.{_≤_}
 use mathlib.Core.Path.{sym, subst}
 use native.Mathlib.Omega.{arith}
 use lib.IntN.{pos}
-use lib.ListN.{replicate}
+use lib.ListN.{length, replicate}
 use lib.Seq.{length-take-le}
+use Rattle.terms.specs.declared.Reading.{Reading}
 use Rattle.qdimacs.specs.Reading.{ReadIs}
 use Rattle.listing.proofs.Refusals.{read-digits}
 use borrow.Author.Needs.{needs}
 use Rattle.listing.proofs.list_text.Statement.{statement}
 use Rattle.listing.proofs.list_text.Tie as tie
 
+-- what read promises of an answer, of the two new tables that are lent to it
+abbrev Told : tie.After-read → Reading → Type 0
+Told s =
+    ReadIs (s .before .before .before .before .args .text .now) (replicate 8192 0) (s .read .last .1 .0) (replicate 16384 (pos 0)) (s .read .last .1 .1 .0)
+
+-- There is room for what is read.
+room : (s : tie.After-n) → (s .n .given .0 .1 .0 ≤ length (s .before .before .before .before .read .last .1 .0))
+    × (s .n .given .0 .1 .1 .0 ≤ length (s .before .before .before .before .read .last .1 .1 .0))
+room s =
+    let at-read = s .before .before .before .before in
+    let r = subst (Told at-read) (s .n .given .1) (at-read .read .ensures) .1 in
+    let prefix-room = r .prefix-room in
+    let prefix-length = r .prefix-length in
+    let clauses-room = r .clauses-room in
+    let clauses-length = r .clauses-length in
+    (omega arith, omega arith)
+
 print-refusal-requires : tie.Need-print-refusal-requires
 print-refusal-requires c κs =
     let at-read = c .before .before .before .before .before in
-    let at-start = at-read .before .before .before .before in
-    let text = at-start .args .text .now in
-    read-digits text (replicate 8192 0) (replicate 16384 (pos 0)) (c .before .number .given .0 .0) (c .before .number .given .0 .1 .0) (subst (ReadIs text (replicate 8192 0) (at-read .read .last .1 .0) (replicate 16384 (pos 0)) (at-read .read .last .1 .1 .0)) (c .before .number .given .1) (at-read .read .ensures) .0)
+    let text = at-read .before .before .before .before .args .text .now in
+    let (variant, is) = c .before .number .given in
+    read-digits text (replicate 8192 0) (replicate 16384 (pos 0)) (variant .0) (variant .1 .0) (subst (Told at-read) is (at-read .read .ensures) .0)
 
 array-share-prefix-prefix : tie.Need-array-share-prefix-prefix
-array-share-prefix-prefix c =
-    let at-read = c .before .before .before .before .before in
-    let at-start = at-read .before .before .before .before in
-    let r = (subst (ReadIs (at-start .args .text .now) (replicate 8192 0) (at-read .read .last .1 .0) (replicate 16384 (pos 0)) (at-read .read .last .1 .1 .0)) (c .before .n .given .1) (at-read .read .ensures) .1) in let room = r .prefix-room in let size = r .prefix-length in omega arith
+array-share-prefix-prefix c = room (c .before) .0
 
 slice-aggregate-list-formula : tie.Need-slice-aggregate-list-formula
 slice-aggregate-list-formula c =
     let at-n = c .before .before in
-    let at-read = at-n .before .before .before .before in
-    let at-start = at-read .before .before .before .before in
-    let r = (subst (ReadIs (at-start .args .text .now) (replicate 8192 0) (at-read .read .last .1 .0) (replicate 16384 (pos 0)) (at-read .read .last .1 .1 .0)) (at-n .n .given .1) (at-read .read .ensures) .1) in let room = r .prefix-room in let size = r .prefix-length in sym (length-take-le (at-n .n .given .0 .1 .0) (at-read .read .last .1 .0) (omega arith))
+    sym (length-take-le (at-n .n .given .0 .1 .0) (at-n .before .before .before .before .read .last .1 .0) (room at-n .0))
 
 array-share-prefix-clauses : tie.Need-array-share-prefix-clauses
-array-share-prefix-clauses c =
-    let at-n = c .before .before in
-    let at-read = at-n .before .before .before .before in
-    let at-start = at-read .before .before .before .before in
-    let r = (subst (ReadIs (at-start .args .text .now) (replicate 8192 0) (at-read .read .last .1 .0) (replicate 16384 (pos 0)) (at-read .read .last .1 .1 .0)) (at-n .n .given .1) (at-read .read .ensures) .1) in let room = r .clauses-room in let size = r .clauses-length in omega arith
+array-share-prefix-clauses c = room (c .before .before) .1
 
 slice-aggregate-list-formula-2 : tie.Need-slice-aggregate-list-formula-2
 slice-aggregate-list-formula-2 c =
     let at-n = c .before .before .before in
-    let at-read = at-n .before .before .before .before in
-    let at-start = at-read .before .before .before .before in
-    let r = (subst (ReadIs (at-start .args .text .now) (replicate 8192 0) (at-read .read .last .1 .0) (replicate 16384 (pos 0)) (at-read .read .last .1 .1 .0)) (at-n .n .given .1) (at-read .read .ensures) .1) in let room = r .clauses-room in let size = r .clauses-length in sym (length-take-le (at-n .n .given .0 .1 .1 .0) (at-read .read .last .1 .1 .0) (omega arith))
+    sym (length-take-le (at-n .n .given .0 .1 .1 .0) (at-n .before .before .before .before .read .last .1 .1 .0) (room at-n .1))
 
 pub list-text-spec : {M : Type 1} → statement M
 list-text-spec =

@@ -1,23 +1,30 @@
--- `listing::list_tied` meets its contract.
+-- The invariant says that the tops and their runs are those over the floor, and that the buffer is whole. A universal has them laid anew over its
+-- own level, which is what its line is made of; at first they are over a level that nothing is deeper than, and so none.
 use Prim.Native.Nat.{ℕ, _≤_, _-_}
 use mathlib.Core.Path.{_≡_, sym, _∙_}
 use mathlib.Core.Bool.{true, false}
+use mathlib.Core.List.{[]}
 use native.Mathlib.Omega.{arith}
 use lib.ListN.{length, getD, length-replicate}
 use lib.Seq.{length-take-le}
-use Rattle.tables.specs.Formula.{variables, universalIn}
+use Rattle.tables.specs.Formula.{variables}
+use Rattle.tables.specs.Lent.{rows}
+use Rattle.tables.specs.Tabled.{universalIn}
 use Rattle.tables.proofs.Agreeing.{lawful, level-agrees}
 use Rattle.tables.proofs.Readings.{flag-within}
 use Rattle.formula.proofs.Ordered.{marks-within, level-most}
+use Rattle.threads.specs.Threads.{Tied}
 use Rattle.runs.specs.Runs.{Floored}
 use Rattle.runs.proofs.Linked.{floored-none}
+use Rattle.listing.specs.Listing.{lineBytes}
+use Rattle.listing.specs.Inner.{TopsOf}
 use borrow.Author.Needs.{needs}
 use Rattle.listing.proofs.list_tied.Statement.{statement}
 use Rattle.listing.proofs.list_tied.Tie as tie
 
 abbrev Inv-loop : tie.InvT-loop
 Inv-loop n prefix levels universals clauses classes parents first next tops₀ lead₀ after₀ line₀ floor₀ passed₀ tops lead after line floor passed =
-    (passed ≤ n) × Floored n prefix classes parents (floor .level .0) (floor .place) (floor .from) tops lead after × (length line ≡ 65536)
+    (passed ≤ n) × Floored n prefix classes parents (floor .level .0) (floor .place) (floor .from) tops lead after × (length line ≡ lineBytes)
 
 abbrev μ-loop : tie.MeasureT-loop
 μ-loop n prefix levels universals clauses classes parents first next tops₀ lead₀ after₀ line₀ floor₀ passed₀ tops lead after line floor passed = n - passed
@@ -28,8 +35,13 @@ loop-holds c =
     let at-start = at-shared-slice-known2 .before .before in
     let a = at-start .args in
     let ready = at-start .pre in
-    let low : (v : ℕ) → variables (a .n) (a .prefix .now) .ex v ≡ true → variables (a .n) (a .prefix .now) .lev v ≤ c .new .result .0 = λ v ex. let is = c .new .ensures in let own = level-agrees (ready .sound) (ready .table) v (lawful (a .n) (a .prefix .now) .within v ex .1) in omega (arith, at-shared-slice-known2 .shared-slice-known2 .given v) in
-    (omega arith, floored-none (a .n) (a .prefix .now) (a .classes .now) (a .parents .now) (c .new .result .0) (omega (arith, c .new .ensures)) low, length-replicate {A = ℕ} 65536 0)
+    let is = c .new .ensures in
+    let low : (v : ℕ) → variables (a .n) (a .prefix .now) .ex v ≡ true → variables (a .n) (a .prefix .now) .lev v ≤ c .new .result .0 =
+    λ v ex.
+    let own = level-agrees (ready .sound) (ready .table) v (lawful (a .n) (a .prefix .now) .within v ex .1) in
+    omega (arith, at-shared-slice-known2 .shared-slice-known2 .given v) in
+    let none = floored-none (a .n) (a .prefix .now) (a .classes .now) (a .parents .now) (c .new .result .0) (omega arith) low in
+    (omega arith, none, length-replicate {A = ℕ} lineBytes 0)
 
 refloor-requires : tie.Need-refloor-requires Inv-loop μ-loop
 refloor-requires c κs =
@@ -64,7 +76,11 @@ line-of-requires c κs =
     let (floored, low) = at-refloor .refloor .ensures in
     let level = low .0 in
     let long = at-loop .loop .inv .2 in
-    ((few, most, omega (arith, level-most (ready .sound) x (omega arith), marks-within (a .prefix .now) (length (a .prefix .now))), ready .closed, record { heads = omega arith; links = ready .links; universals = a .universals .now; threaded = ready .threaded; universal = flag }), (floored .within, floored .led, omega arith))
+    let shallow = level-most (ready .sound) x (omega arith) in
+    let blocks = marks-within (a .prefix .now) (length (a .prefix .now)) in
+    let tied : Tied (a .clauses .now) (a .first .now) (a .next .now) x =
+    record { heads = omega arith; links = ready .links; universals = a .universals .now; threaded = ready .threaded; universal = flag } in
+    ((few, most, omega arith, ready .closed, tied), (floored .within, floored .led, omega arith))
 
 array-share-prefix-line : tie.Need-array-share-prefix-line Inv-loop μ-loop
 array-share-prefix-line c =
@@ -73,7 +89,9 @@ array-share-prefix-line c =
     let at-start = at-loop .before .before .before .before .before .before .before .before .before in
     let a = at-start .args in
     let (floored, low) = at-refloor .refloor .ensures in
-    let line = c .before .line-of .ensures (a .prefix .now) (a .classes .now) (a .parents .now) (record { formed = at-start .pre .formed; low = low .0; rows = floored .over .rows }) in
+    let tops : TopsOf (a .n) (a .prefix .now) (rows (a .classes .now) (a .parents .now) []) _ _ _ =
+    record { formed = at-start .pre .formed; low = low .0; rows = floored .over .rows } in
+    let line = c .before .line-of .ensures (a .prefix .now) (rows (a .classes .now) (a .parents .now) []) tops in
     let near = line .stored .near in
     let long = c .before .line-of .kept .1 .1 .1 .1 .1 .1 .1 .1 .1 .0 ∙ at-loop .loop .inv .2 in
     omega arith
@@ -81,12 +99,15 @@ array-share-prefix-line c =
 slice-aggregate-write-all : tie.Need-slice-aggregate-write-all Inv-loop μ-loop
 slice-aggregate-write-all c =
     let at-line-of = c .before .before in
-    sym (length-take-le (at-line-of .line-of .result) (at-line-of .line-of .last .1 .1 .1 .1 .1 .1 .1 .1 .1 .0) (array-share-prefix-line (c .before)))
+    let call = at-line-of .line-of in
+    sym (length-take-le (call .result) (call .last .1 .1 .1 .1 .1 .1 .1 .1 .1 .0) (array-share-prefix-line (c .before)))
 
 loop-less : tie.Need-loop-less Inv-loop μ-loop
 loop-less c =
-    let at-loop-test = c .before .before .before .before .before .before .before .before .before .before .before .before .before .before .before .before .before .before in
-    let less = at-loop-test .loop-test .taken in omega arith
+    let at-refloor = c .before .before .before .before .before .before .before .before .before .before .before in
+    let at-loop-test = at-refloor .before .before .before .before .before .before .before in
+    let less = at-loop-test .loop-test .taken in
+    omega arith
 
 loop-again : tie.Need-loop-again Inv-loop μ-loop
 loop-again c =

@@ -1,4 +1,4 @@
--- `listing::print_refusal` meets its contract.
+-- The line of a refusal fits the buffer, of which its bytes are the front.
 use mathlib.Core.Path.{sym}
 use lib.Seq.{length-take-le}
 use borrow.Author.Needs.{needs}
@@ -11,7 +11,8 @@ array-share-prefix-line c = search needs
 slice-aggregate-write-all : tie.Need-slice-aggregate-write-all
 slice-aggregate-write-all c =
     let at-refused-line = c .before .before in
-    sym (length-take-le (at-refused-line .refused-line .result) (at-refused-line .refused-line .last .0) (array-share-prefix-line (c .before)))
+    let call = at-refused-line .refused-line in
+    sym (length-take-le (call .result) (call .last .0) (array-share-prefix-line (c .before)))
 
 pub print-refusal-spec : {M : Type 1} → statement M
 print-refusal-spec =

@@ -1,44 +1,65 @@
--- `loading::load` meets its contract.
+-- The verdict on the file comes first in the order, and 14 behind it; the rows that are stored were judged to be right.
 use mathlib.Core.Path.{refl, subst}
-use mathlib.Core.List.{[], _∷_}
-use Rattle.terms.specs.Refusals.{At0}
-use Rattle.terms.proofs.Verdicts.{refused-first}
-use Rattle.records.specs.Causes.{NoRoom, lentTables}
-use Rattle.verifying.specs.Verified.{verifyOrder, Verifies}
-use Rattle.verifying.proofs.Judging.{verified-laid}
-use Rattle.loading.proofs.Judging.{loads-right}
+use mathlib.Core.List.{List, [], _∷_, _++_}
 use borrow.Author.Needs.{needs}
+use Rattle.terms.specs.Refusals.{Causes, At0}
+use Rattle.terms.specs.declared.Verdict.the-variants.{Accepted}
+use Rattle.terms.proofs.Orders.{behind-none}
+use Rattle.terms.proofs.Verdicts.{refused-first}
+use Rattle.joining.specs.Rules.{readBy}
+use Rattle.tables.specs.Lent.{rows}
+use Rattle.records.specs.Places.{formulaHeld}
+use Rattle.records.specs.Causes.{Lent, NoRoom, lentTables}
+use Rattle.records.proofs.Orders.{carry-loading}
+use Rattle.verifying.specs.Verified.{verifyOrder, Verifies}
+use Rattle.verifying.proofs.Disagree.{own-rows}
+use Rattle.verifying.proofs.Judging.{verified-laid}
 use Rattle.loading.proofs.load.Statement.{statement}
 use Rattle.loading.proofs.load.Tie as tie
 
+abbrev start : tie.After-file-verdict → tie.Start
+start at-verdict = at-verdict .before .before .before .before .before .before
+
+abbrev lent : tie.Start → Lent
+lent at-start = let a = at-start .args in lentTables (a .prefix .now) (a .clauses .now) (rows (a .classes .now) (a .parents .now) (a .counts .now))
+
+-- what is left to refuse
+abbrev last : tie.Start → List Causes
+last at-start = At0 14 (NoRoom (formulaHeld (at-start .args .file .now)) (lent at-start)) ∷ []
+
+-- the file was verified
+verified : (c : tie.After-enum-told) → (let a = start (c .before .before) .args in Verifies (a .rule) (a .file .now) Accepted)
+verified c =
+    let at-verdict = c .before .before in
+    let a = start at-verdict .args in
+    subst (Verifies (a .rule) (a .file .now)) (c .enum-told .given .1) (at-verdict .file-verdict .ensures)
+
 load-right-requires : tie.Need-load-right-requires
 load-right-requires c κs =
-    let at-enum-told = c .before .before .before .before .before in
-    let at-file-verdict = at-enum-told .before .before in
-    let at-start = at-file-verdict .before .before .before .before .before .before in
-    let a = at-start .args in
-    let file = a .file .now in
-    verified-laid (a .rule) file (subst (Verifies (a .rule) file) (at-enum-told .enum-told .given .1) (at-file-verdict .file-verdict .ensures) .0)
+    let at-told = c .before .before .before .before .before in
+    let a = start (at-told .before .before) .args in
+    verified-laid (a .rule) (a .file .now) (verified at-told .0)
 
 returns : tie.Need-returns
 returns c =
-    let at-file-verdict = c .before .before .before in
-    let at-start = at-file-verdict .before .before .before .before .before .before in
+    let at-verdict = c .before .before .before in
+    let at-start = start at-verdict in
     let a = at-start .args in
-    let file = a .file .now in
-    (refused-first (verifyOrder (a .rule) file) (At0 14 (NoRoom file (lentTables (a .prefix .now) (a .clauses .now) (a .classes .now) (a .parents .now) (a .counts .now))) ∷ []) (c .before .number .given .1) (at-file-verdict .file-verdict .ensures .0), refl)
+    (refused-first (verifyOrder (a .rule) (a .file .now)) (last at-start) (c .before .number .given .1) (at-verdict .file-verdict .ensures .0), refl)
 
 returns-2 : tie.Need-returns-2
 returns-2 c =
-    let at-load-right = c .before .before .before .before .before .before .before .before .before in
-    let at-enum-told = at-load-right .before .before .before .before .before .before in
-    let at-file-verdict = at-enum-told .before .before in
-    let at-start = at-file-verdict .before .before .before .before .before .before in
+    let at-load = c .before .before .before .before .before .before .before .before .before in
+    let at-told = at-load .before .before .before .before .before .before in
+    let at-start = start (at-told .before .before) in
     let a = at-start .args in
     let file = a .file .now in
-    let f = at-load-right .load-right in
-    let judged = subst (Verifies (a .rule) file) (at-enum-told .enum-told .given .1) (at-file-verdict .file-verdict .ensures) in
-    loads-right (a .rule) file (lentTables (a .prefix .now) (a .clauses .now) (a .classes .now) (a .parents .now) (a .counts .now)) (lentTables (f .last .1 .0) (f .last .1 .1 .0) (f .last .1 .1 .1 .0) (f .last .1 .1 .1 .1 .0) (f .last .1 .1 .1 .1 .1 .0)) (f .result) (judged .0) (judged .1) (f .ensures)
+    let o = at-load .load-right in
+    let left = lentTables (o .last .1 .0) (o .last .1 .1 .0) (rows (o .last .1 .1 .1 .0) (o .last .1 .1 .1 .1 .0) (o .last .1 .1 .1 .1 .1 .0)) in
+    let read = readBy (a .rule) (formulaHeld file) in
+    let (none, (r, right)) = verified at-told in
+    carry-loading read file (lent at-start) left (o .result) (last at-start) (verifyOrder (a .rule) file ++ last at-start)
+    (behind-none (verifyOrder (a .rule) file) (last at-start) none) (o .ensures read (own-rows read file refl right))
 
 pub load-spec : {M : Type 1} → statement M
 load-spec =

@@ -1,42 +1,49 @@
--- `loading::load_right` meets its contract.
+-- Either a table is too short, or all are filled with what the file has.
 use mathlib.Core.Path.{refl}
 use mathlib.Core.Logic.{inl}
+use borrow.Author.Needs.{needs}
 use borrow.Author.Tests.{not-true, not-false}
 use Rattle.terms.proofs.Verdicts.{at0-first}
+use Rattle.tables.specs.Lent.{rows}
 use Rattle.tables.proofs.Readings.{told, told-not}
-use Rattle.records.specs.Causes.{lentTables}
-use Rattle.loading.specs.Inner.{Room}
+use Rattle.records.specs.Places.{formulaHeld}
+use Rattle.records.specs.Causes.{Lent, lentTables, Roomy}
 use Rattle.loading.proofs.Judging.{no-room, loads-filled}
-use borrow.Author.Needs.{needs}
 use Rattle.loading.proofs.load_right.Statement.{statement}
 use Rattle.loading.proofs.load_right.Tie as tie
 
+abbrev start : tie.After-has-room → tie.Start
+start at-room = at-room .before .before .before .before .before .before .before .before .before .before .before
+
+abbrev lent : tie.Start → Lent
+lent at-start = let a = at-start .args in lentTables (a .prefix .now) (a .clauses .now) (rows (a .classes .now) (a .parents .now) (a .counts .now))
+
+abbrev HasRoom : tie.Start → Type 0
+HasRoom at-start = Roomy (formulaHeld (at-start .args .file .now)) (lent at-start)
+
+roomy : (c : tie.Else1) → HasRoom (start (c .before))
+roomy c = let room = c .before .has-room in told {P = HasRoom (start (c .before))} (room .result) (not-false (room .result) (c .if1 .left)) (room .ensures)
+
 returns : tie.Need-returns
 returns c =
-    let at-start = c .before .before .before .before .before .before .before .before .before .before .before .before in
-    let a = at-start .args in
+    let at-start = start (c .before) in
     let room = c .before .has-room in
-    (inl (at0-first 14 (no-room (a .file .now) (lentTables (a .prefix .now) (a .clauses .now) (a .classes .now) (a .parents .now) (a .counts .now)) (told-not {P = Room (a .file .now) (lentTables (a .prefix .now) (a .clauses .now) (a .classes .now) (a .parents .now) (a .counts .now))} (room .result) (not-true (room .result) (c .if1 .taken)) (room .ensures)))), refl)
+    let none = told-not {P = HasRoom at-start} (room .result) (not-true (room .result) (c .if1 .taken)) (room .ensures) in
+    λ read right. (inl (at0-first 14 (no-room (formulaHeld (at-start .args .file .now)) (lent at-start) none)), refl)
 
 fill-lent-requires : tie.Need-fill-lent-requires
 fill-lent-requires c κs =
     let at-if1 = c .before .before .before .before .before in
-    let at-has-room = at-if1 .before in
-    let at-start = at-has-room .before .before .before .before .before .before .before .before .before .before .before in
-    let a = at-start .args in
-    let room = at-has-room .has-room in
-    (at-start .pre, told (room .result) (not-false (room .result) (at-if1 .if1 .left)) (room .ensures))
+    (start (at-if1 .before) .pre, roomy at-if1)
 
 returns-2 : tie.Need-returns-2
 returns-2 c =
-    let at-fill-lent = c .before .before .before .before .before .before .before .before .before in
-    let at-if1 = at-fill-lent .before .before .before .before .before .before in
-    let at-has-room = at-if1 .before in
-    let at-start = at-has-room .before .before .before .before .before .before .before .before .before .before .before in
-    let a = at-start .args in
-    let room = at-has-room .has-room in
-    let f = at-fill-lent .fill-lent in
-    loads-filled (a .file .now) (lentTables (a .prefix .now) (a .clauses .now) (a .classes .now) (a .parents .now) (a .counts .now)) (lentTables (f .last .1 .0) (f .last .1 .1 .0) (f .last .1 .1 .1 .0) (f .last .1 .1 .1 .1 .0) (f .last .1 .1 .1 .1 .1 .0)) (f .result) (told {P = Room (a .file .now) (lentTables (a .prefix .now) (a .clauses .now) (a .classes .now) (a .parents .now) (a .counts .now))} (room .result) (not-false (room .result) (at-if1 .if1 .left)) (room .ensures)) (f .ensures .0) (f .ensures .1)
+    let at-fill = c .before .before .before .before .before .before .before .before .before in
+    let at-if1 = at-fill .before .before .before .before .before .before in
+    let at-start = start (at-if1 .before) in
+    let o = at-fill .fill-lent in
+    let left = lentTables (o .last .1 .0) (o .last .1 .1 .0) (rows (o .last .1 .1 .1 .0) (o .last .1 .1 .1 .1 .0) (o .last .1 .1 .1 .1 .1 .0)) in
+    loads-filled (at-start .args .file .now) (lent at-start) left (o .result) (roomy at-if1) (o .ensures .0) (o .ensures .1)
 
 pub load-right-spec : {M : Type 1} → statement M
 load-right-spec =

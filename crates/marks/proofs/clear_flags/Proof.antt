@@ -1,4 +1,4 @@
--- `marks::clear_flags` meets its contract.
+-- The invariant: no flag before i is set. A store at i makes that one more, and past the end of the table none is.
 use Prim.Native.Nat.{ℕ, _-_, _<_}
 use mathlib.Core.Path.{_≡_, refl, _∙_}
 use mathlib.Core.Bool.{false}
@@ -28,16 +28,18 @@ loop-again : tie.Need-loop-again Inv-loop μ-loop
 loop-again c =
     let inv = c .before .loop .inv in
     let flags = c .before .loop .flags in
-    let i = c .before .loop .i in
-    (length-set flags i false ∙ inv .0, below-more _ i (λ v l. getD-set-other flags i v false false (λ q. omega arith) ∙ inv .1 v l) (getD-set-same flags i false false (c .loop-test .taken)))
+    let i = c .before .loop .i in (
+      length-set flags i false ∙ inv .0,
+      below-more _ i (λ v l. getD-set-other flags i v false false (λ q. omega arith) ∙ inv .1 v l) (getD-set-same flags i false false (c .loop-test .taken)),
+    )
 
 same-length : tie.Need-same-length Inv-loop μ-loop
 same-length c = c .before .loop .inv .0
 
 returns : tie.Need-returns Inv-loop μ-loop
 returns c =
-    let flags = c .before .loop .flags in
-    λ v. by-cases (decLt v (c .before .loop .i)) (c .before .loop .inv .1 v) (λ l. List·getD-eq-default flags false {n = v} (omega (arith, c .loop-test .left)))
+    let loop = c .before .loop in
+    λ v. by-cases (decLt v (loop .i)) (loop .inv .1 v) (λ l. List·getD-eq-default (loop .flags) false {n = v} (omega (arith, c .loop-test .left)))
 
 pub clear-flags-spec : {M : Type 1} → statement M
 clear-flags-spec =

@@ -1,18 +1,9 @@
--- `marks::flag` meets its contract.
+-- A flag within the table is set, and past its end there is none to set.
 use native.Mathlib.Omega.{arith}
 use borrow.Author.Needs.{needs}
 use Rattle.marks.proofs.Flags.{flag-set, flag-nothing}
 use Rattle.marks.proofs.flag.Statement.{statement}
 use Rattle.marks.proofs.flag.Tie as tie
-
-cast-at : tie.Need-cast-at
-cast-at c = search needs
-
-slice-write-flags : tie.Need-slice-write-flags
-slice-write-flags c = search needs
-
-same-length : tie.Need-same-length
-same-length c = search needs
 
 returns : tie.Need-returns
 returns c =
@@ -25,4 +16,4 @@ returns-2 c =
     flag-nothing (at-start .args .flags .now) (λ w l q. let out = c .if1 .left in omega arith)
 
 pub flag-spec : {M : Type 1} → statement M
-flag-spec = tie.close (tie.spec cast-at slice-write-flags same-length returns returns-2)
+flag-spec = tie.close (tie.spec (λ c. search needs) (λ c. search needs) (λ c. search needs) returns returns-2)

@@ -1,4 +1,4 @@
--- `marks::flag_both` meets its contract.
+-- The tops by the one sign are all that keep_flagged leaves in the rows, so that those flagged by the other sign both have (entering-both).
 use mathlib.Core.Path.{_∙_}
 use mathlib.Core.Bool.{Bool}
 use Rattle.tables.specs.Formula.{SharesBy}
@@ -18,7 +18,10 @@ returns c =
     let blank = at-start .pre .1 in
     let first = at-flag-signs .flag-signs in
     let kept = at-keep-flagged .keep-flagged in
-    entering-both (a .tops .now) (kept .last .1 .1 .0) (λ (sign : Bool). SharesBy (a .clauses .now) sign (a .x .0)) blank (first .ensures) (kept .ensures) (record { size = at-clear-flags .clear-flags .kept .0 ∙ first .kept .1 .1 .1 .1 .1 .0 ∙ blank .size; blank = at-clear-flags .clear-flags .ensures }) (at-flag-signs2 .flag-signs2 .ensures)
+    let cleared = at-clear-flags .clear-flags in
+    entering-both (a .tops .now) (kept .last .1 .1 .0) (λ (sign : Bool). SharesBy (a .clauses .now) sign (a .x .0)) blank (first .ensures)
+    (kept .ensures) (record { size = cleared .kept .0 ∙ first .kept .1 .1 .1 .1 .1 .0 ∙ blank .size; blank = cleared .ensures })
+    (at-flag-signs2 .flag-signs2 .ensures)
 
 pub flag-both-spec : {M : Type 1} → statement M
 flag-both-spec =

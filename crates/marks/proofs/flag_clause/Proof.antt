@@ -1,4 +1,4 @@
--- `marks::flag_clause` meets its contract.
+-- A clause that is always true connects nothing; any other connects what it has, whose tops flag_after flags.
 use mathlib.Core.Path.{sym, _∙_, subst}
 use native.Mathlib.Omega.{arith}
 use Rattle.formula.proofs.Lookups.{part-rows}
@@ -13,16 +13,20 @@ always-true-requires : tie.Need-always-true-requires
 always-true-requires c κs =
     let at-start = c .before .before .before .before .before in
     let a = at-start .args in
-    let pre = at-start .pre in
-    (part-rows (a .clauses .now) (a .start) (a .end) (omega (arith, pre .2)) (pre .0 .rows), stamps-more (pre .3) (omega (arith, pre .1 .from)))
+    let (sound, next, less, stamps) = at-start .pre in
+    (part-rows (a .clauses .now) (a .start) (a .end) (omega (arith, less)) (sound .rows), stamps-more stamps (omega (arith, next .from)))
 
 returns : tie.Need-returns
 returns c =
     let at-always-true = c .before .before .before in
     let at-start = at-always-true .before .before .before .before .before .before in
     let a = at-start .args in
-    let pre = at-start .pre in
-    (flag-unconnected (a .n) (a .tops .now) (a .clauses .now) (a .start) (a .end) (pre .1 .from) (omega (arith, pre .2)) (a .flags .now) (sym (at-always-true .always-true .ensures .0) ∙ c .if1 .taken), at-always-true .always-true .ensures .1)
+    let (sound, next, less, _) = at-start .pre in
+    let (told, stamped) = at-always-true .always-true .ensures in (
+      flag-unconnected (a .n) (a .tops .now) (a .clauses .now) (a .start) (a .end) (next .from) (omega (arith, less)) (a .flags .now)
+          (sym told ∙ c .if1 .taken),
+      stamped,
+    )
 
 returns-2 : tie.Need-returns-2
 returns-2 c =
@@ -31,11 +35,15 @@ returns-2 c =
     let at-always-true = at-if1 .before .before .before in
     let at-start = at-always-true .before .before .before .before .before .before in
     let a = at-start .args in
-    let pre = at-start .pre in
+    let (sound, ends, less, _) = at-start .pre in
+    let (told, stamped) = at-always-true .always-true .ensures in
     let after = at-flag-after .flag-after in
     let (z, next, flagged) = after .ensures in
-    let whole = subst (λ z. Flagged (Via (a .n) (a .tops .now) (Has (a .clauses .now) (a .start) z)) (a .flags .now) (after .last .1 .1 .1 .1 .0)) (next-one next (pre .1)) flagged in
-    (flag-connected (a .n) (a .tops .now) (a .clauses .now) (a .start) (a .end) (pre .1 .from) (omega (arith, pre .2)) (sym (at-always-true .always-true .ensures .0) ∙ at-if1 .if1 .left) whole, at-always-true .always-true .ensures .1)
+    let whole = subst (λ z. Flagged (Via (a .n) (a .tops .now) (Has (a .clauses .now) (a .start) z)) (a .flags .now) (after .last .1 .1 .1 .1 .0))
+    (next-one next ends) flagged in (
+      flag-connected (a .n) (a .tops .now) (a .clauses .now) (a .start) (a .end) (ends .from) (omega (arith, less)) (sym told ∙ at-if1 .if1 .left) whole,
+      stamped,
+    )
 
 pub flag-clause-spec : {M : Type 1} → statement M
 flag-clause-spec =

@@ -1,4 +1,5 @@
--- `marks::flag_signs` meets its contract.
+-- The invariant (Sharing): what is flagged, and what the clauses from `start` on still have to flag, are the tops of all that shares a clause with x by
+-- the signs. Each clause is flagged or passed over whole, and no stamp is as great as that of the next.
 use Prim.Native.Nat.{_+_, _-_}
 use mathlib.Core.Path.{sym, ap, _∙_}
 use mathlib.Core.Bool.{Bool}
@@ -18,7 +19,8 @@ use Rattle.marks.proofs.flag_signs.Statement.{statement}
 use Rattle.marks.proofs.flag_signs.Tie as tie
 
 abbrev Inv-loop : tie.InvT-loop
-Inv-loop signs n clauses x tops flags₀ seen₀ start₀ flags seen start = Sharing n tops clauses signs (x .0) flags₀ flags start × Stamps seen (start + 1)
+Inv-loop signs n clauses x tops flags₀ seen₀ start₀ flags seen start =
+    Sharing n tops clauses signs (x .0) flags₀ flags start × Stamps seen (start + 1)
 
 abbrev μ-loop : tie.MeasureT-loop
 μ-loop signs n clauses x tops flags₀ seen₀ start₀ flags seen start = length clauses - start
@@ -38,7 +40,8 @@ returns c =
     let at-loop = c .before .before .before in
     let at-start = at-loop .before .before .before in
     let loop = at-loop .loop in
-    share-all (loop .inv .0) (clauses-unclosed (at-start .args .clauses .now) (loop .start) (c .before .scan-clause .result .end) (c .before .scan-clause .ensures .0) (c .if1 .taken))
+    let scan = c .before .scan-clause in
+    share-all (loop .inv .0) (clauses-unclosed (at-start .args .clauses .now) (loop .start) (scan .result .end) (scan .ensures .0) (c .if1 .taken))
 
 flag-clause-requires : tie.Need-flag-clause-requires Inv-loop μ-loop
 flag-clause-requires c κs =
@@ -66,9 +69,10 @@ loop-again c =
     let a = at-start .args in
     let scan = at-scan-clause .scan-clause in
     let loop = at-loop .loop in
-    let here = side-has (a .signs) (scan .result .side) (λ (sign : Bool). HasLiteral (a .clauses .now) (loop .start) (scan .result .end) (signed sign (a .x .0))) (sym (at-has-sign .has-sign .ensures) ∙ at-if2 .if2 .taken) (scan .ensures .1) in
-    let flagged = at-flag-clause .flag-clause .ensures in
-    (share-has (loop .inv .0) (scan .result .end) (scan .ensures .0) (at-if1 .if1 .left) here (flagged .0), flagged .1)
+    let has : Bool → Type 0 = λ sign. HasLiteral (a .clauses .now) (loop .start) (scan .result .end) (signed sign (a .x .0)) in
+    let here = side-has (a .signs) (scan .result .side) has (sym (at-has-sign .has-sign .ensures) ∙ at-if2 .if2 .taken) (scan .ensures .1) in
+    let (flagged, stamped) = at-flag-clause .flag-clause .ensures in
+    (share-has (loop .inv .0) (scan .result .end) (scan .ensures .0) (at-if1 .if1 .left) here flagged, stamped)
 
 loop-less-2 : tie.Need-loop-less-2 Inv-loop μ-loop
 loop-less-2 c =
@@ -86,8 +90,12 @@ loop-again-2 c =
     let scan = at-scan-clause .scan-clause in
     let loop = at-loop .loop in
     let less = at-if1 .if1 .left in
-    let none = side-not (a .signs) (scan .result .side) (λ (sign : Bool). HasLiteral (a .clauses .now) (loop .start) (scan .result .end) (signed sign (a .x .0))) (sym (c .before .has-sign .ensures) ∙ c .if2 .left) (scan .ensures .1) in
-    (share-not (loop .inv .0) (scan .result .end) (scan .ensures .0) less (λ v h k. none (λ p q. sides-apart (a .clauses .now) (a .x .0) (loop .start) (scan .result .end) (scan .ensures .0) (omega arith) v p q k) h), stamps-more (loop .inv .1) (omega (arith, scan .ensures .0 .from)))
+    let (next, sided) = scan .ensures in
+    let end = scan .result .end in
+    let has : Bool → Type 0 = λ sign. HasLiteral (a .clauses .now) (loop .start) end (signed sign (a .x .0)) in
+    let none = side-not (a .signs) (scan .result .side) has (sym (c .before .has-sign .ensures) ∙ c .if2 .left) sided in
+    let apart = sides-apart (a .clauses .now) (a .x .0) (loop .start) end next (omega arith) in
+    (share-not (loop .inv .0) end next less (λ v h k. none (λ p q. apart v p q k) h), stamps-more (loop .inv .1) (omega (arith, next .from)))
 
 same-length-2 : tie.Need-same-length-2 Inv-loop μ-loop
 same-length-2 c = c .before .loop .inv .0 .size

@@ -1,4 +1,4 @@
--- `marks::keep_flagged` meets its contract.
+-- The invariant (Keeping): up to `passed` only rows with a flagged top are left, and from there on all are.
 use Prim.Native.Nat.{_-_}
 use native.Mathlib.Omega.{arith}
 use Rattle.marks.proofs.Taken.{Keeping, keeping-none, keeping-same, keeping-out, keeping-all}
@@ -23,8 +23,8 @@ loop-again c =
     let at-new = at-row-of .before .before in
     let at-loop-test = at-new .before in
     let at-loop = at-loop-test .before in
-    let top = at-row-of .row-of in
-    keeping-same (at-loop .loop .inv) (at-loop-test .loop-test .taken) (at-new .new .result .0) (top .result .0) (at-new .new .ensures) (top .ensures) (c .before .flag-at .ensures) (c .if1 .taken)
+    let more = at-loop-test .loop-test .taken in
+    keeping-same (at-loop .loop .inv) more (at-new .new .ensures) (at-row-of .row-of .ensures) (c .before .flag-at .ensures) (c .if1 .taken)
 
 slice-write-tops : tie.Need-slice-write-tops Inv-loop μ-loop
 slice-write-tops c =
@@ -39,9 +39,9 @@ loop-again-2 c =
     let at-new = at-row-of .before .before in
     let at-loop-test = at-new .before in
     let at-loop = at-loop-test .before in
-    let at-start = at-loop .before .before .before in
-    let top = at-row-of .row-of in
-    keeping-out (at-loop .loop .inv) (at-start .pre) (at-loop-test .loop-test .taken) (at-new .new .result .0) (top .result .0) (at-new .new .ensures) (top .ensures) (c .before .flag-at .ensures) (c .if1 .left)
+    let long = at-loop .before .before .before .pre in
+    let more = at-loop-test .loop-test .taken in
+    keeping-out (at-loop .loop .inv) long more (at-new .new .ensures) (at-row-of .row-of .ensures) (c .before .flag-at .ensures) (c .if1 .left)
 
 same-length : tie.Need-same-length Inv-loop μ-loop
 same-length c = c .before .loop .inv .size

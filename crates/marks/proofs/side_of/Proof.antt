@@ -1,4 +1,4 @@
--- `marks::side_of` meets its contract.
+-- The literal is read back from its bits; a negative one is the negation of its variable, any other its variable.
 use mir.Syntax.{w32}
 use mir.Facts.{toZ-ofZ}
 use Rattle.marks.proofs.Sides.{negative-sign, positive-sign}

@@ -1,5 +1,5 @@
--- `oneset::copy_entries` meets its contract.
-use Prim.Native.Nat.{ℕ, _-_, _≤_}
+-- The invariant: the first i entries of the list that stands there are stored. What is copied stands in front of what is stored, and so is as it was.
+use Prim.Native.Nat.{ℕ, _+_, _-_, _≤_, _<_}
 use mathlib.Core.Path.{_≡_, refl, ap, _∙_}
 use mathlib.Core.List.{List}
 use native.Mathlib.Omega.{arith}
@@ -11,7 +11,9 @@ use Rattle.oneset.proofs.copy_entries.Statement.{statement}
 use Rattle.oneset.proofs.copy_entries.Tie as tie
 
 abbrev Inv-loop : tie.InvT-loop
-Inv-loop from count to out₀ i₀ out i = (i ≤ count) × (length out ≡ length out₀) × ((list : List ℕ) → length list ≡ count → Standing out₀ from list to → out ≡ sets out₀ to (take i list))
+Inv-loop from count to out₀ i₀ out i =
+    (i ≤ count) × (length out ≡ length out₀)
+    × ((list : List ℕ) → length list ≡ count → Standing out₀ from list to → out ≡ sets out₀ to (take i list))
 
 abbrev μ-loop : tie.MeasureT-loop
 μ-loop from count to out₀ i₀ out i = count - i
@@ -19,51 +21,15 @@ abbrev μ-loop : tie.MeasureT-loop
 loop-holds : tie.Need-loop-holds Inv-loop μ-loop
 loop-holds c = (omega arith, refl, λ list _ _. refl)
 
-add-out : tie.Need-add-out Inv-loop μ-loop
-add-out c =
-    let at-start = c .before .before in
-    let less = c .loop-test .taken in let size = c .before .loop .inv .1 in let behind = at-start .pre .0 in let room = at-start .pre .1 in omega arith
-
-mul-out : tie.Need-mul-out Inv-loop μ-loop
-mul-out c =
-    let at-start = c .before .before in
-    let less = c .loop-test .taken in let size = c .before .loop .inv .1 in let behind = at-start .pre .0 in let room = at-start .pre .1 in omega arith
-
-slice-read-out : tie.Need-slice-read-out Inv-loop μ-loop
-slice-read-out c =
-    let at-loop = c .before .before in
-    let at-start = at-loop .before in
-    let less = c .before .loop-test .taken in let size = at-loop .loop .inv .1 in let behind = at-start .pre .0 in let room = at-start .pre .1 in omega arith
-
-add-out-2 : tie.Need-add-out-2 Inv-loop μ-loop
-add-out-2 c =
-    let at-loop = c .before .before in
-    let at-start = at-loop .before in
-    let less = c .before .loop-test .taken in let size = at-loop .loop .inv .1 in let behind = at-start .pre .0 in let room = at-start .pre .1 in omega arith
-
-mul-out-2 : tie.Need-mul-out-2 Inv-loop μ-loop
-mul-out-2 c =
-    let at-loop = c .before .before in
-    let at-start = at-loop .before in
-    let less = c .before .loop-test .taken in let size = at-loop .loop .inv .1 in let behind = at-start .pre .0 in let room = at-start .pre .1 in omega arith
-
-slice-write-out : tie.Need-slice-write-out Inv-loop μ-loop
-slice-write-out c =
-    let at-loop = c .before .before in
-    let at-start = at-loop .before in
-    let less = c .before .loop-test .taken in let size = at-loop .loop .inv .1 in let behind = at-start .pre .0 in let room = at-start .pre .1 in omega arith
-
-add-i : tie.Need-add-i Inv-loop μ-loop
-add-i c =
-    let at-loop = c .before .before in
-    let at-start = at-loop .before in
-    let less = c .before .loop-test .taken in let size = at-loop .loop .inv .1 in let behind = at-start .pre .0 in let room = at-start .pre .1 in omega arith
-
-loop-less : tie.Need-loop-less Inv-loop μ-loop
-loop-less c =
-    let at-loop = c .before .before in
-    let at-start = at-loop .before in
-    let less = c .before .loop-test .taken in let size = at-loop .loop .inv .1 in let behind = at-start .pre .0 in let room = at-start .pre .1 in omega arith
+-- both entries, the one that is read and the one that is stored, are within the table
+within : (c : tie.In-loop Inv-loop μ-loop)
+    → (c .before .before .args .from + c .before .loop .i < length (c .before .loop .out))
+    × (c .before .before .args .to + c .before .loop .i < length (c .before .loop .out))
+within c =
+    let less = c .loop-test .taken in
+    let size = c .before .loop .inv .1 in
+    let (behind, room) = c .before .before .pre in
+    (omega arith, omega arith)
 
 loop-again : tie.Need-loop-again Inv-loop μ-loop
 loop-again c =
@@ -72,16 +38,15 @@ loop-again c =
     let less = c .before .loop-test .taken in
     (omega arith, length-set (loop .out) _ _ ∙ loop .inv .1, λ list size stands. copy-more stands (omega arith) (loop .inv .2 list size stands))
 
-same-length : tie.Need-same-length Inv-loop μ-loop
-same-length c = c .before .loop .inv .1
-
 returns : tie.Need-returns Inv-loop μ-loop
 returns c =
-    let at-start = c .before .before in
+    let a = c .before .before .args in
     let done = c .loop-test .left in
-    λ list size stands. c .before .loop .inv .2 list size stands ∙ ap (sets (at-start .args .out .now) (at-start .args .to)) (take-all (c .before .loop .i) list (omega arith))
+    λ list size stands. c .before .loop .inv .2 list size stands ∙ ap (sets (a .out .now) (a .to)) (take-all (c .before .loop .i) list (omega arith))
 
 pub copy-entries-spec : {M : Type 1} → statement M
 copy-entries-spec =
-    tie.close (tie.spec Inv-loop μ-loop loop-holds add-out mul-out slice-read-out add-out-2 mul-out-2 slice-write-out add-i loop-less
-    loop-again same-length returns)
+    tie.close (tie.spec Inv-loop μ-loop loop-holds (λ c. omega (arith, within c .0)) (λ c. omega (arith, within c .0))
+    (λ c. omega (arith, within (c .before) .0)) (λ c. omega (arith, within (c .before) .1)) (λ c. omega (arith, within (c .before) .1))
+    (λ c. omega (arith, within (c .before) .1)) (λ c. omega (arith, within (c .before) .1)) (λ c. omega (arith, c .before .loop-test .taken))
+    loop-again (λ c. c .before .loop .inv .1) returns)

@@ -1,24 +1,9 @@
--- `oneset::note_place` meets its contract.
+-- Past the end of the table a store changes nothing.
 use mathlib.Core.Path.{sym}
 use lib.Seq.{set-out}
 use borrow.Author.Needs.{needs}
 use Rattle.oneset.proofs.note_place.Statement.{statement}
 use Rattle.oneset.proofs.note_place.Tie as tie
-
-cast-at : tie.Need-cast-at
-cast-at c = search needs
-
-mul-places : tie.Need-mul-places
-mul-places c = search needs
-
-slice-write-places : tie.Need-slice-write-places
-slice-write-places c = search needs
-
-same-length : tie.Need-same-length
-same-length c = search needs
-
-returns : tie.Need-returns
-returns c = search needs
 
 returns-2 : tie.Need-returns-2
 returns-2 c =
@@ -27,4 +12,4 @@ returns-2 c =
 
 pub note-place-spec : {M : Type 1} → statement M
 note-place-spec =
-    tie.close (tie.spec cast-at mul-places slice-write-places same-length returns returns-2)
+    tie.close (tie.spec (λ c. search needs) (λ c. search needs) (λ c. search needs) (λ c. search needs) (λ c. search needs) returns-2)

@@ -1,73 +1,98 @@
--- `oneset::put_set` meets its contract.
-use Prim.Native.Nat.{ℕ, _%_}
+-- Of several entry points the flags tell the set. A sole one is entered alone, so that its set is what its run has (sole-entering), and either way
+-- what stands in `out` already stays.
+use Prim.Native.Nat.{ℕ, _≤_}
 use mathlib.Core.Path.{sym, subst}
 use mathlib.Core.Bool.{Bool}
 use mathlib.Core.List.{List}
+use mathlib.Core.Logic.{_↔_}
 use native.Mathlib.Omega.{arith}
-use Rattle.picking.specs.declared.Asked.the-variants.{Set}
+use borrow.Author.Needs.{needs}
+use Rattle.terms.specs.Pairs.{lowOf}
 use Rattle.marks.specs.Flags.{Takes, Via}
+use Rattle.picking.specs.declared.Asked.the-variants.{Set}
 use Rattle.picking.specs.Picked.{pick, picked}
 use Rattle.threads.specs.Threads.{Together, EnteredBy}
-use Rattle.soles.specs.Soles.{SoleOf}
+use Rattle.threads.specs.SoleTops.{Is, SoleOf}
 use Rattle.runs.specs.Runs.{Leads, only, having}
-use Rattle.oneset.specs.Put.{PutList}
 use Rattle.runs.proofs.Linked.{run-one}
+use Rattle.oneset.specs.Put.{PutList}
 use Rattle.oneset.proofs.Soles.{sole-entering, sole-within}
 use Rattle.oneset.proofs.Places.{placed-on, placed-top}
-use borrow.Author.Needs.{needs}
 use Rattle.oneset.proofs.put_set.Statement.{statement}
 use Rattle.oneset.proofs.put_set.Tie as tie
 
 put-flagged-requires : tie.Need-put-flagged-requires
 put-flagged-requires c κs =
-    let at-start = c .before .before .before .before .before .before .before .before .before .before .before in
-    let pre = at-start .pre in
-    let small = pre .0 .1 in
-    ((pre .0 .0, omega arith, pre .0 .2), ((pre .1 .0 .0, pre .1 .0 .1), pre .1 .1))
-
-put-run-requires : tie.Need-put-run-requires
-put-run-requires c κs =
-    let at-row-at = c .before .before in
-    let at-top = at-row-at .before .before in
-    let at-sole-point = at-top .before .before in
-    let at-start = at-sole-point .before .before .before .before .before .before .before .before in
-    let a = at-start .args in
-    let pre = at-start .pre in
-    let top = at-top .top .given .0 .0 .0 in
-    let members = having (a .n) (a .tops .now) top in
-    let sole = subst (λ s. SoleOf s (λ e. Takes (a .scheme) (λ (sign : Bool). Via (a .n) (a .tops .now) (Together (a .clauses .now) sign (a .x .0)) e))) (at-top .top .given .1) (at-sole-point .sole-point .ensures) in
-    let entered : EnteredBy (a .scheme) (a .n) (a .tops .now) (a .clauses .now) (a .x .0) (only top) = sole-entering top sole in
-    let low = sole-within (a .scheme) (a .n) (a .tops .now) (λ (sign : Bool). Together (a .clauses .now) sign (a .x .0)) top sole (pre .1 .0 .2) in
-    let leads = subst (λ row. Leads (a .after .now) row members) (sym (at-row-at .row-at .ensures)) (pre .1 .0 .3 top low) in
-    (pre .0 .1, (members, leads, pre .1 .0 .4 top low, λ on. pre .1 .1 on (only top) entered))
+    let at-start = c .before .before .before .before .before .before .before .before .before .before .before .before in
+    let ((few, small, tied), ((from, topless, _, _, _), room)) = at-start .pre in
+    ((few, omega arith, tied), ((from, topless), room))
 
 returns : tie.Need-returns
 returns c =
     let at-put-flagged = c .before .before in
-    let at-start = at-put-flagged .before .before .before .before .before .before .before .before .before .before .before .before in
+    let at-start = at-put-flagged .before .before .before .before .before .before .before .before .before .before .before .before .before in
     let a = at-start .args in
+    let d = a .draft in
     let set = at-put-flagged .put-flagged .ensures in
-    (set, placed-on (a .n) (a .tops .now) (a .places .now) (a .out .now) (a .at) (a .x .0) (at-start .pre .1 .0 .4) (a .writing) (picked (pick Set (a .n) (set .flags) (a .tops .now)) (a .n)) (set .put))
+    let members = picked (pick Set (d .n) (set .flags) (a .tops .now)) (d .n) in
+    (set, placed-on (d .n) (a .tops .now) (a .places .now) (a .out .now) (d .at) (d .x .0) (at-start .pre .1 .0 .4) (d .writing) members (set .put))
+
+-- a sole top, what it is the sole one of, and the variables that have it
+abbrev start : tie.After-row-at → tie.Start
+start c = c .before .before .before .before .before .before .before .before .before .before .before .before .before
+
+abbrev top : tie.After-row-at → ℕ
+top c = c .before .before .top .given .0 .0 .0
+
+abbrev Entry : tie.After-row-at → ℕ → Type 0
+Entry c e =
+    let a = start c .args in
+    Takes (a .draft .scheme) (λ (sign : Bool). Via (a .draft .n) (a .tops .now) (Together (a .clauses .now) sign (a .draft .x .0)) e)
+
+abbrev members : tie.After-row-at → List ℕ
+members c = having (start c .args .draft .n) (start c .args .tops .now) (top c)
+
+sole : (c : tie.After-row-at) (e : ℕ) → Is (top c) e ↔ Entry c e
+sole c = subst (λ s. SoleOf s (Entry c)) (c .before .before .top .given .1) (c .before .before .before .before .sole-point .ensures)
+
+-- its flag alone tells the set
+entered : (c : tie.After-row-at)
+    → EnteredBy (start c .args .draft .scheme) (start c .args .draft .n) (start c .args .tops .now) (start c .args .clauses .now)
+    (start c .args .draft .x .0) (only (top c))
+entered c = sole-entering (top c) (sole c)
+
+-- it is a variable, and its row leads to those that have it
+low : (c : tie.After-row-at) → top c ≤ start c .args .draft .n
+low c =
+    let a = start c .args in
+    let within = start c .pre .1 .0 .2 in
+    sole-within (a .draft .scheme) (a .draft .n) (a .tops .now) (λ (sign : Bool). Together (a .clauses .now) sign (a .draft .x .0)) (top c) (sole c) within
+
+leads : (c : tie.After-row-at) → Leads (start c .args .after .now) (c .row-at .result) (members c)
+leads c =
+    subst (λ row. Leads (start c .args .after .now) row (members c)) (sym (c .row-at .ensures)) (start c .pre .1 .0 .3 (top c) (low c))
+
+put-run-requires : tie.Need-put-run-requires
+put-run-requires c κs =
+    let at-row-at = c .before .before in
+    let ((few, small, tied), ((_, _, _, _, placed), room)) = start at-row-at .pre in
+    (small, (members at-row-at, leads at-row-at, placed (top at-row-at) (low at-row-at), λ on. room on (only (top at-row-at)) (entered at-row-at)))
 
 returns-2 : tie.Need-returns-2
 returns-2 c =
     let at-put-run = c .before .before .before .before in
     let at-row-at = at-put-run .before .before .before in
-    let at-top = at-row-at .before .before in
-    let at-sole-point = at-top .before .before in
-    let at-start = at-sole-point .before .before .before .before .before .before .before .before in
-    let a = at-start .args in
-    let pre = at-start .pre in
-    let top = at-top .top .given .0 .0 .0 in
-    let members = having (a .n) (a .tops .now) top in
-    let sole = subst (λ s. SoleOf s (λ e. Takes (a .scheme) (λ (sign : Bool). Via (a .n) (a .tops .now) (Together (a .clauses .now) sign (a .x .0)) e))) (at-top .top .given .1) (at-sole-point .sole-point .ensures) in
-    let entered : EnteredBy (a .scheme) (a .n) (a .tops .now) (a .clauses .now) (a .x .0) (only top) = sole-entering top sole in
-    let low = sole-within (a .scheme) (a .n) (a .tops .now) (λ (sign : Bool). Together (a .clauses .now) sign (a .x .0)) top sole (pre .1 .0 .2) in
-    let leads = subst (λ row. Leads (a .after .now) row members) (sym (at-row-at .row-at .ensures)) (pre .1 .0 .3 top low) in
-    let (list, found, other) = at-put-run .put-run .ensures .0 in
-    let same = run-one (a .after .now) (at-row-at .row-at .result % 65536) list members (found .0) (leads .0) in
-    let put : PutList members (a .x .0) (a .at) (a .writing) (a .out .now) (at-put-run .put-run .last .1 .1 .1 .1 .1 .1 .1 .0) (at-put-run .put-run .result) = subst (λ (l : List ℕ). PutList l (a .x .0) (a .at) (a .writing) (a .out .now) (at-put-run .put-run .last .1 .1 .1 .1 .1 .1 .1 .0) (at-put-run .put-run .result)) same other in
-    (record { flags = only top; flagged = entered; put = put }, placed-top (a .n) (a .tops .now) (a .places .now) (a .out .now) (a .at) (a .x .0) (pre .1 .0 .4) top (a .writing) put (λ on. pre .1 .1 on (only top) entered) (at-put-run .put-run .ensures .1 .0) (at-put-run .put-run .ensures .1 .1))
+    let a = start at-row-at .args in
+    let d = a .draft in
+    let (_, ((_, _, _, _, placed), room)) = start at-row-at .pre in
+    let run = at-put-run .put-run in
+    let ((list, found, other), (same, noted)) = run .ensures in
+    let one = run-one (a .after .now) (lowOf (at-row-at .row-at .result)) list (members at-row-at) (found .0) (leads at-row-at .0) in
+    let put = subst (λ (l : List ℕ). PutList l (d .x .0) (d .at) (d .writing) (a .out .now) (run .last .1 .1 .1 .1 .1 .0) (run .result)) one other in (
+      record { flags = only (top at-row-at); flagged = entered at-row-at; put = put },
+      placed-top (d .n) (a .tops .now) (a .places .now) (a .out .now) (d .at) (d .x .0) placed (top at-row-at) (d .writing) put
+          (λ on. room on (only (top at-row-at)) (entered at-row-at)) same noted,
+    )
 
 pub put-set-spec : {M : Type 1} → statement M
 put-set-spec =

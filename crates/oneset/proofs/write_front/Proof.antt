@@ -1,4 +1,4 @@
--- `oneset::write_front` meets its contract.
+-- Two stores, of which the second finds the table as long as the first did.
 use native.Mathlib.Omega.{arith}
 use lib.ListN.{length-set}
 use borrow.Author.Needs.{needs}

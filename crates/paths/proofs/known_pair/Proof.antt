@@ -1,4 +1,4 @@
--- `paths::known_pair` meets its contract.
+-- A clause number over the count is 13; else every entry names a clause, and the walk says where the path fails.
 use mathlib.Core.Path.{refl, sym, subst}
 use mathlib.Core.List.{[], _∷_}
 use mathlib.Core.Logic.{inl}
@@ -8,7 +8,7 @@ use Rattle.terms.specs.Refusals.{At0}
 use Rattle.terms.specs.declared.Verdict.the-variants.{Accepted}
 use Rattle.terms.proofs.Verdicts.{at0-first, at0-none, accepted-then}
 use Rattle.formula.specs.Meaning.{clauses}
-use Rattle.tables.specs.Formula.{tabled}
+use Rattle.tables.specs.Tabled.{tabled}
 use Rattle.tables.proofs.Readings.{told, told-not}
 use Rattle.paths.specs.Causes.{NumberOver, PathCause}
 use Rattle.paths.specs.Walk.{Rows}
@@ -30,8 +30,14 @@ follow-requires c κs =
     let at-start = at-fill-begins .before .before .before .before .before in
     let a = at-start .args in
     let filled = at-fill-begins .fill-begins in
-    let none = told-not (at-some-over .some-over .result) (c .before .if1 .left) (at-some-over .some-over .ensures) in
-    (at-start .pre, record { all = subst (Rows (a .clauses .now) (filled .last .1 .0)) (filled .ensures .0) (filled .ensures .1); below = not-over (a .path .now) (λ over. none (subst (λ k. NumberOver k (a .path .now)) (sym (filled .ensures .0)) over)) })
+    let none = told-not (at-some-over .some-over .result) (c .before .if1 .left) (at-some-over .some-over .ensures) in (
+      at-start .pre,
+      record {
+        all = subst (Rows (a .clauses .now) (filled .last .1 .0)) (filled .ensures .0) (filled .ensures .1);
+        below = not-over
+            (a .path .now) (λ over. none (subst (λ k. NumberOver k (a .path .now)) (sym (filled .ensures .0)) over));
+      },
+    )
 
 returns-2 : tie.Need-returns-2
 returns-2 c =

@@ -1,4 +1,4 @@
--- `paths::path_by_levels` meets its contract.
+-- The level table says whether x is universal, and y existential and deeper; what is left is what a known pair is refused for.
 use mathlib.Core.Path.{sym, _∙_}
 use mathlib.Core.List.{[]}
 use mathlib.Core.Logic.{inl, inr}
@@ -28,7 +28,8 @@ returns-2 c es sound table =
     let a = at-start .args in
     let own = own-level sound table [] [] (a .x .0) (sym (at-universal-at .universal-at .ensures) ∙ not-false (at-universal-at .universal-at .result) (at-if1 .if1 .left)) in
     inl (at0-first 13 (inr (inl (not-deep (a .n) es (a .x .0) (a .y .0)
-    (λ d. told-not (c .before .is-deep .result) (not-true (c .before .is-deep .result) (c .if2 .taken)) (c .before .is-deep .ensures) (deep-same (same-back (tables-agree sound table)) (sym own) d))))))
+    (λ d. told-not (c .before .is-deep .result) (not-true (c .before .is-deep .result) (c .if2 .taken)) (c .before .is-deep .ensures)
+    (deep-same (same-back (tables-agree sound table)) (sym own) d))))))
 
 returns-3 : tie.Need-returns-3
 returns-3 c es sound table =
@@ -41,7 +42,8 @@ returns-3 c es sound table =
     let own = own-level sound table [] [] (a .x .0) (sym (at-universal-at .universal-at .ensures) ∙ universal) in
     let deep = told (at-is-deep .is-deep .result) (not-false (at-is-deep .is-deep .result) (c .before .if2 .left)) (at-is-deep .is-deep .ensures) in
     judged-pair (a .clauses .now) (a .y .0) (a .path .now) (NumberOver (length (clauses (a .clauses .now))) (a .path .now)) (tables-agree sound table) own
-    (sound-universal sound table [] [] (a .x .0) (at-universal-at .universal-at .ensures) universal) (deep-not (a .n) es (a .x .0) (a .y .0) (deep-same (tables-agree sound table) own deep)) (c .known-pair .result) (c .known-pair .ensures)
+    (sound-universal sound table [] [] (a .x .0) (at-universal-at .universal-at .ensures) universal)
+    (deep-not (a .n) es (a .x .0) (a .y .0) (deep-same (tables-agree sound table) own deep)) (c .known-pair .result) (c .known-pair .ensures)
 
 pub path-by-levels-spec : {M : Type 1} → statement M
 path-by-levels-spec =

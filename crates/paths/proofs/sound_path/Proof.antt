@@ -1,4 +1,4 @@
--- `paths::sound_path` meets its contract.
+-- The level table is that of the prefix, which is sound: so what is judged by the table is judged by the prefix.
 use borrow.Author.Needs.{needs}
 use Rattle.paths.proofs.sound_path.Statement.{statement}
 use Rattle.paths.proofs.sound_path.Tie as tie

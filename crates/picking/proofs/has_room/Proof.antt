@@ -1,4 +1,4 @@
--- `picking::has_room` meets its contract.
+-- No more are picked than there are numbers; where there is room for less they are counted.
 use native.Mathlib.Omega.{arith}
 use Rattle.picking.specs.Picked.{pick}
 use Rattle.picking.proofs.Picked.{picked-most}

@@ -1,37 +1,45 @@
--- `picking::list_picked` meets its contract.
-use Prim.Native.Nat.{_≤_, _<_}
+-- Refused exactly where has_room says that the picked numbers do not fit; else they are written from entry 0 on.
+use Prim.Native.Nat.{ℕ, _≤_, _<_}
 use mathlib.Core.Path.{refl}
+use mathlib.Core.List.{List}
 use native.Mathlib.Omega.{arith}
+use borrow.Author.Needs.{needs}
 use borrow.Author.Tests.{not-true, not-false}
 use lib.ListN.{length}
 use Rattle.picking.specs.Picked.{pick, picked}
 use Rattle.tables.proofs.Readings.{told, told-not}
 use Rattle.picking.proofs.Picked.{picked-most}
-use borrow.Author.Needs.{needs}
 use Rattle.picking.proofs.list_picked.Statement.{statement}
 use Rattle.picking.proofs.list_picked.Tie as tie
+
+-- the numbers that are picked
+abbrev list : tie.Start → List ℕ
+list s = picked (pick (s .args .asked) (s .args .n) (s .args .flags .now) (s .args .tops .now)) (s .args .n)
 
 returns : tie.Need-returns
 returns c =
     let at-start = c .before .before .before .before .before in
-    let a = at-start .args in
-    let long = told-not {P = length (picked (pick (a .asked) (a .n) (a .flags .now) (a .tops .now)) (a .n)) ≤ length (a .out .now)} (c .before .has-room .result) (not-true (c .before .has-room .result) (c .if1 .taken)) (c .before .has-room .ensures) in
-    let short : length (a .out .now) < length (picked (pick (a .asked) (a .n) (a .flags .now) (a .tops .now)) (a .n)) = omega arith in
+    let fits = c .before .has-room .result in
+    let is = c .before .has-room .ensures in
+    let long = told-not {P = length (list at-start) ≤ length (at-start .args .out .now)} fits (not-true fits (c .if1 .taken)) is in
+    let short : length (at-start .args .out .now) < length (list at-start) = omega arith in
     (refl, refl, short, refl)
 
+-- past the test there is room for all of them
+room : (c : tie.Else1) → length (list (c .before .before .before .before .before)) ≤ length (c .before .before .before .before .before .args .out .now)
+room c =
+    let at-start = c .before .before .before .before .before in
+    let fits = c .before .has-room .result in
+    let is = c .before .has-room .ensures in
+    told {P = length (list at-start) ≤ length (at-start .args .out .now)} fits (not-false fits (c .if1 .left)) is
+
 write-picked-requires : tie.Need-write-picked-requires
-write-picked-requires c κs =
-    let at-has-room = c .before .before in
-    let at-start = at-has-room .before .before .before .before in
-    let a = at-start .args in
-    let room = told {P = length (picked (pick (a .asked) (a .n) (a .flags .now) (a .tops .now)) (a .n)) ≤ length (a .out .now)} (at-has-room .has-room .result) (not-false (at-has-room .has-room .result) (c .before .if1 .left)) (at-has-room .has-room .ensures) in
-    ((omega arith, λ v low high. absurd (omega arith)), omega arith)
+write-picked-requires c κs = let fits = room (c .before) in ((omega arith, λ v low high. absurd (omega arith)), omega arith)
 
 cast-t12 : tie.Need-cast-t12
 cast-t12 c =
     let at-write-picked = c .before .before in
-    let at-start = at-write-picked .before .before .before .before .before .before .before in
-    let a = at-start .args in
+    let a = at-write-picked .before .before .before .before .before .before .before .args in
     let most = picked-most (pick (a .asked) (a .n) (a .flags .now) (a .tops .now)) (a .n) in
     let count = at-write-picked .write-picked .ensures .0 in
     omega arith
@@ -39,13 +47,8 @@ cast-t12 c =
 returns-2 : tie.Need-returns-2
 returns-2 c =
     let at-write-picked = c .before .before in
-    let at-if1 = at-write-picked .before .before in
-    let at-has-room = at-if1 .before in
-    let at-start = at-has-room .before .before .before .before in
-    let a = at-start .args in
-    let room = told {P = length (picked (pick (a .asked) (a .n) (a .flags .now) (a .tops .now)) (a .n)) ≤ length (a .out .now)} (at-has-room .has-room .result) (not-false (at-has-room .has-room .result) (at-if1 .if1 .left)) (at-has-room .has-room .ensures) in
-    let count = at-write-picked .write-picked .ensures .0 in
-    (omega arith, room, at-write-picked .write-picked .ensures .1)
+    let (count, written) = at-write-picked .write-picked .ensures in
+    (omega arith, room (at-write-picked .before .before), written)
 
 pub list-picked-spec : {M : Type 1} → statement M
 list-picked-spec =

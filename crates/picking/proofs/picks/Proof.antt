@@ -1,4 +1,4 @@
--- `picking::picks` meets its contract.
+-- Each arm reads the flag that `pick` names for what is asked.
 use mathlib.Core.Path.{sym, ap, _∙_}
 use mathlib.Core.Bool.{false}
 use borrow.Author.Needs.{needs}
@@ -20,7 +20,8 @@ returns-2 c =
     let at-enum-told2 = c .before .before in
     let at-start = at-enum-told2 .before .before .before .before in
     let a = at-start .args in
-    c .flag-at2 .ensures ∙ ap (λ e. getD (a .flags .now) e false) (c .before .row-of .ensures) ∙ sym (ap (λ q. pick q (a .n) (a .flags .now) (a .tops .now) (a .v .0)) (at-enum-told2 .enum-told2 .given .1))
+    c .flag-at2 .ensures ∙ ap (λ e. getD (a .flags .now) e false) (c .before .row-of .ensures)
+    ∙ sym (ap (λ q. pick q (a .n) (a .flags .now) (a .tops .now) (a .v .0)) (at-enum-told2 .enum-told2 .given .1))
 
 pub picks-spec : {M : Type 1} → statement M
 picks-spec =

@@ -1,6 +1,8 @@
--- `picking::write_picked` meets its contract.
-use Prim.Native.Nat.{_-_, _<_}
+-- The invariant: `end` counts the numbers picked up to `passed` (Counted), and these are stored from `at` on. All that are picked fit, so that there is
+-- a row for each.
+use Prim.Native.Nat.{ℕ, _-_, _<_}
 use mathlib.Core.Path.{_≡_, sym, ap, _∙_}
+use mathlib.Core.Bool.{Bool}
 use native.Mathlib.Omega.{arith}
 use borrow.Author.Needs.{needs}
 use lib.ListN.{length}
@@ -11,17 +13,24 @@ use Rattle.picking.proofs.write_picked.Statement.{statement}
 use Rattle.picking.proofs.write_picked.Tie as tie
 
 abbrev Inv-loop : tie.InvT-loop
-Inv-loop n asked flags tops from at out₀ end₀ passed₀ out end passed = Counted n (pick asked n flags tops) at end passed × (out ≡ sets out₀ at (picked (pick asked n flags tops) passed))
+Inv-loop n asked flags tops from at out₀ end₀ passed₀ out end passed =
+    Counted n (pick asked n flags tops) at end passed × (out ≡ sets out₀ at (picked (pick asked n flags tops) passed))
 
 abbrev μ-loop : tie.MeasureT-loop
 μ-loop n asked flags tops from at out₀ end₀ passed₀ out end passed = n - passed
+
+-- whether a number is picked
+abbrev f : tie.Start Inv-loop μ-loop → ℕ → Bool
+f s = pick (s .args .asked) (s .args .n) (s .args .flags .now) (s .args .tops .now)
 
 loop-holds : tie.Need-loop-holds Inv-loop μ-loop
 loop-holds c =
     let at-start = c .before .before .before in
     let a = at-start .args in
-    let f = pick (a .asked) (a .n) (a .flags .now) (a .tops .now) in
-    (count-none (a .n) f (a .at) (a .from) (at-start .pre .0 .0) (at-start .pre .0 .1), sym (ap (sets (a .out .now) (a .at)) (picked-none f (a .from) (at-start .pre .0 .1))))
+    let (low, none) = at-start .pre .0 in (
+      count-none (a .n) (f at-start) (a .at) (a .from) low none,
+      sym (ap (sets (a .out .now) (a .at)) (picked-none (f at-start) (a .from) none)),
+    )
 
 -- where a number is picked there is a row for it, since all that are picked fit
 room : (c : tie.Then1 Inv-loop μ-loop)
@@ -31,19 +40,20 @@ room c =
     let at-loop-test = at-new .before in
     let at-loop = at-loop-test .before in
     let at-start = at-loop .before .before .before .before in
-    count-room (at-loop .loop .inv .0) (at-loop-test .loop-test .taken) (at-new .new .result .0) (c .before .picks .result)
-    (at-new .new .ensures) (c .before .picks .ensures) (length (at-start .args .out .now)) (c .if1 .taken) (at-start .pre .1)
+    count-room (at-loop .loop .inv .0) (at-loop-test .loop-test .taken) (at-new .new .ensures) (c .before .picks .ensures)
+    (length (at-start .args .out .now)) (c .if1 .taken) (at-start .pre .1)
+
+-- the table keeps its length
+size : (c : tie.At-loop Inv-loop μ-loop) → length (c .loop .out) ≡ length (c .before .before .before .before .args .out .now)
+size c =
+    let at-start = c .before .before .before .before in
+    ap length (c .loop .inv .1) ∙ length-sets (at-start .args .out .now) (at-start .args .at) (picked (f at-start) (c .loop .passed))
 
 mul-out : tie.Need-mul-out Inv-loop μ-loop
 mul-out c = omega (arith, room c)
 
 slice-write-out : tie.Need-slice-write-out Inv-loop μ-loop
-slice-write-out c =
-    let at-loop = c .before .before .before .before in
-    let a = at-loop .before .before .before .before .args in
-    let f = pick (a .asked) (a .n) (a .flags .now) (a .tops .now) in
-    let size = ap length (at-loop .loop .inv .1) ∙ length-sets (a .out .now) (a .at) (picked f (at-loop .loop .passed)) in
-    omega (arith, room c, size)
+slice-write-out c = omega (arith, room c, size (c .before .before .before .before))
 
 add-end : tie.Need-add-end Inv-loop μ-loop
 add-end c = omega (arith, room c)
@@ -53,33 +63,35 @@ loop-again c =
     let at-new = c .before .before in
     let at-loop-test = at-new .before in
     let at-loop = at-loop-test .before in
-    let at-start = at-loop .before .before .before .before in (
-      count-more (at-loop .loop .inv .0) (at-loop-test .loop-test .taken) (at-new .new .result .0) (c .before .picks .result) (at-new .new .ensures) (c .before .picks .ensures) (c .if1 .taken),
-      write-more (at-loop .loop .inv .0) (at-loop-test .loop-test .taken) (at-new .new .result .0) (c .before .picks .result) (at-new .new .ensures) (c .before .picks .ensures) (at-start .args .out .now) (at-loop .loop .inv .1) (c .if1 .taken),
-    )
+    let out = at-loop .before .before .before .before .args .out .now in
+    let (counted, written) = at-loop .loop .inv in
+    let more = at-loop-test .loop-test .taken in
+    let is = at-new .new .ensures in
+    let told = c .before .picks .ensures in
+    (count-more counted more is told (c .if1 .taken), write-more counted more is told out written (c .if1 .taken))
 
 loop-again-2 : tie.Need-loop-again-2 Inv-loop μ-loop
 loop-again-2 c =
     let at-new = c .before .before in
     let at-loop-test = at-new .before in
     let at-loop = at-loop-test .before in
-    let at-start = at-loop .before .before .before .before in (
-      count-same (at-loop .loop .inv .0) (at-loop-test .loop-test .taken) (at-new .new .result .0) (c .before .picks .result) (at-new .new .ensures) (c .before .picks .ensures) (c .if1 .left),
-      write-same (at-loop .loop .inv .0) (at-loop-test .loop-test .taken) (at-new .new .result .0) (c .before .picks .result) (at-new .new .ensures) (c .before .picks .ensures) (at-start .args .out .now) (at-loop .loop .inv .1) (c .if1 .left),
-    )
+    let out = at-loop .before .before .before .before .args .out .now in
+    let (counted, written) = at-loop .loop .inv in
+    let more = at-loop-test .loop-test .taken in
+    let is = at-new .new .ensures in
+    let told = c .before .picks .ensures in
+    (count-same counted more is told (c .if1 .left), write-same counted more is told out written (c .if1 .left))
 
 same-length : tie.Need-same-length Inv-loop μ-loop
-same-length c =
-    let at-start = c .before .before .before .before .before in
-    let a = at-start .args in
-    ap length (c .before .loop .inv .1) ∙ length-sets (a .out .now) (a .at) (picked (pick (a .asked) (a .n) (a .flags .now) (a .tops .now)) (c .before .loop .passed))
+same-length c = size (c .before)
 
 returns : tie.Need-returns Inv-loop μ-loop
 returns c =
     let at-start = c .before .before .before .before .before in
     let a = at-start .args in
-    let q : c .before .loop .passed ≡ a .n = let most = c .before .loop .inv .0 .most in omega arith in
-    (count-all (c .before .loop .inv .0) (c .loop-test .left), c .before .loop .inv .1 ∙ ap (λ m. sets (a .out .now) (a .at) (picked (pick (a .asked) (a .n) (a .flags .now) (a .tops .now)) m)) q)
+    let (counted, written) = c .before .loop .inv in
+    let all : c .before .loop .passed ≡ a .n = let most = counted .most in omega arith in
+    (count-all counted (c .loop-test .left), written ∙ ap (λ m. sets (a .out .now) (a .at) (picked (f at-start) m)) all)
 
 pub write-picked-spec : {M : Type 1} → statement M
 write-picked-spec =

@@ -1,4 +1,4 @@
--- `qdimacs::read` meets its contract: a text that is not too long is read by way of tables that no one sees.
+-- A text that is too long is refused for it; any other is read by way of tables that no one sees, whatever their length.
 use mathlib.Core.Path.{refl}
 use mathlib.Core.Logic.{inl}
 use Rattle.qdimacs.proofs.Readings.{first-overlong}

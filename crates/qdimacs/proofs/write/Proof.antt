@@ -1,43 +1,56 @@
--- `qdimacs::write` meets its contract.
+-- What check refuses is refused so, before 15 and 14; what it accepts has small numbers and short tables, and the writer's answer is that of the call.
 use mathlib.Core.Path.{refl, subst}
 use native.Mathlib.Omega.{arith}
 use borrow.Author.Needs.{needs}
-use Rattle.terms.specs.Refusals.{Judged}
+use Rattle.terms.specs.Refusals.{NoneOf, Judged}
 use Rattle.terms.proofs.Verdicts.{refused-first}
-use Rattle.formula.specs.Causes.{checkOrder}
+use Rattle.formula.specs.Lent.{Formula, formulaOf}
+use Rattle.joining.specs.Rules.{checkOrder}
+use Rattle.joining.proofs.Orders.{limits}
 use Rattle.spelling.specs.Stored.{writeOrder}
-use Rattle.spelling.specs.Writing.{textOf}
-use Rattle.qdimacs.proofs.Accepted.{within-limits, small-entries, small-literals}
 use Rattle.spelling.proofs.Outputs.{writes-accepted}
+use Rattle.qdimacs.specs.Stored.{formulaText}
+use Rattle.qdimacs.proofs.Accepted.{small}
 use Rattle.qdimacs.proofs.write.Statement.{statement}
 use Rattle.qdimacs.proofs.write.Tie as tie
 
+-- the formula that is lent
+abbrev lent : tie.Start → Formula
+lent at-start = let a = at-start .args in formulaOf (a .n) (a .prefix .now) (a .clauses .now)
+
+-- check has nothing against it
+abbrev start : tie.After-enum-told → tie.Start
+start c = c .before .before .before .before .before
+
+accepted : (c : tie.After-enum-told) → NoneOf (checkOrder (start c .args .rule) (lent (start c)))
+accepted c = subst (Judged (checkOrder (start c .args .rule) (lent (start c)))) (c .enum-told .given .1) (c .before .before .check .ensures)
+
 write-accepted-requires : tie.Need-write-accepted-requires
 write-accepted-requires c κs =
-    let at-check = c .before .before .before in
-    let at-start = at-check .before .before .before in
-    let a = at-start .args in
-    let none = subst (Judged (checkOrder (a .n) (a .prefix .now) (a .clauses .now))) (c .before .enum-told .given .1) (at-check .check .ensures) in
-    let (few, short, small) = within-limits (a .n) (a .prefix .now) (a .clauses .now) none in
-    (omega arith, short, small, small-entries few (none .1 .1 .0), small-literals few (none .1 .1 .1 .0))
+    let at-told = c .before in
+    let at-start = start at-told in
+    let (few, short, room) = limits (at-start .args .rule) (lent at-start) (accepted at-told) in
+    let (entries, literals) = small (at-start .args .rule) (lent at-start) (accepted at-told) in
+    (omega arith, short, room, entries, literals)
 
 returns : tie.Need-returns
 returns c =
     let at-check = c .before .before .before in
     let at-start = at-check .before .before .before in
-    let a = at-start .args in
-    (refused-first (checkOrder (a .n) (a .prefix .now) (a .clauses .now)) (writeOrder (textOf (a .n) (a .prefix .now) (a .clauses .now)) (a .out .now)) (c .before .number .given .1) (at-check .check .ensures), refl)
+    let a = at-start .args in (
+      refused-first (checkOrder (a .rule) (lent at-start)) (writeOrder (formulaText (lent at-start)) (a .out .now)) (c .before .number .given .1)
+          (at-check .check .ensures),
+      refl,
+    )
 
 returns-2 : tie.Need-returns-2
 returns-2 c =
-    let at-write-accepted = c .before .before in
-    let at-enum-told = at-write-accepted .before .before in
-    let at-check = at-enum-told .before .before in
-    let at-start = at-check .before .before .before in
+    let at-write = c .before .before in
+    let at-told = at-write .before .before in
+    let at-start = start at-told in
     let a = at-start .args in
-    let w = at-write-accepted .write-accepted in
-    let none = subst (Judged (checkOrder (a .n) (a .prefix .now) (a .clauses .now))) (at-enum-told .enum-told .given .1) (at-check .check .ensures) in
-    writes-accepted (checkOrder (a .n) (a .prefix .now) (a .clauses .now)) (textOf (a .n) (a .prefix .now) (a .clauses .now)) (a .out .now) (w .last .1 .1 .1 .0) (w .result) none (w .ensures)
+    let w = at-write .write-accepted in
+    writes-accepted (checkOrder (a .rule) (lent at-start)) (formulaText (lent at-start)) (a .out .now) (w .last .1 .1 .1 .0) (w .result) (accepted at-told) (w .ensures)
 
 pub write-spec : {M : Type 1} → statement M
 write-spec =

@@ -1,4 +1,4 @@
--- `resolution::sound_set` meets its contract.
+-- The level table is that of the prefix, which is sound: so what is listed by the table is listed by the prefix.
 use borrow.Author.Needs.{needs}
 use Rattle.resolution.proofs.sound_set.Statement.{statement}
 use Rattle.resolution.proofs.sound_set.Tie as tie

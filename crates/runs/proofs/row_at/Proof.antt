@@ -1,21 +1,9 @@
--- `runs::row_at` meets its contract.
+-- Within the table the row is read, and past its end the list has 0.
 use mathlib.Core.Path.{sym}
 use lib.ListN.{List·getD-eq-default}
 use borrow.Author.Needs.{needs}
 use Rattle.runs.proofs.row_at.Statement.{statement}
 use Rattle.runs.proofs.row_at.Tie as tie
-
-cast-at : tie.Need-cast-at
-cast-at c = search needs
-
-mul-result : tie.Need-mul-result
-mul-result c = search needs
-
-shared-slice-read-result : tie.Need-shared-slice-read-result
-shared-slice-read-result c = search needs
-
-returns : tie.Need-returns
-returns c = search needs
 
 returns-2 : tie.Need-returns-2
 returns-2 c =
@@ -23,4 +11,4 @@ returns-2 c =
     sym (List·getD-eq-default (at-start .args .rows .now) 0 (c .if1 .left))
 
 pub row-at-spec : {M : Type 1} → statement M
-row-at-spec = tie.close (tie.spec cast-at mul-result shared-slice-read-result returns returns-2)
+row-at-spec = tie.close (tie.spec (λ c. search needs) (λ c. search needs) (λ c. search needs) (λ c. search needs) returns-2)

@@ -1,4 +1,4 @@
--- `searching::clear_rows` meets its contract.
+-- The invariant: every row before i is 0. A store at row i makes that one more.
 use Prim.Native.Nat.{ℕ, _-_, _<_}
 use mathlib.Core.Path.{_≡_, refl, _∙_}
 use native.Mathlib.Omega.{arith}
@@ -27,7 +27,12 @@ loop-again c =
     let inv = c .before .loop .inv in
     let rows = c .before .loop .rows in
     let i = c .before .loop .i in
-    (length-set rows i 0 ∙ inv .0, below-more _ i (λ v l. getD-set-other rows i v 0 0 (λ q. omega arith) ∙ inv .1 v l) (getD-set-same rows i 0 0 (let long = at-start .pre in let size = inv .0 in let less = c .loop-test .taken in omega arith)))
+    let long = at-start .pre in
+    let size = inv .0 in
+    let less = c .loop-test .taken in (
+      length-set rows i 0 ∙ size,
+      below-more _ i (λ v l. getD-set-other rows i v 0 0 (λ q. omega arith) ∙ inv .1 v l) (getD-set-same rows i 0 0 (omega arith)),
+    )
 
 same-length : tie.Need-same-length Inv-loop μ-loop
 same-length c = c .before .loop .inv .0

@@ -1,12 +1,9 @@
--- `searching::deeper_place` meets its contract.
+-- The place is sought from the known one, by the difference of the levels, or from the beginning, where no block is passed.
 use mathlib.Core.Path.{refl}
 use native.Mathlib.Omega.{arith}
 use borrow.Author.Needs.{needs}
 use Rattle.searching.proofs.deeper_place.Statement.{statement}
 use Rattle.searching.proofs.deeper_place.Tie as tie
-
-sub-place-behind : tie.Need-sub-place-behind
-sub-place-behind c = search needs
 
 place-behind-requires : tie.Need-place-behind-requires
 place-behind-requires c κs =
@@ -33,10 +30,6 @@ place-behind-requires-2 c κs =
     let (sound, (x, small, low), known) = at-start .pre in
     (sound, refl, (x, small, omega arith))
 
-returns-2 : tie.Need-returns-2
-returns-2 c = search needs
-
 pub deeper-place-spec : {M : Type 1} → statement M
 deeper-place-spec =
-    tie.close
-    (tie.spec sub-place-behind place-behind-requires returns place-behind-requires-2 returns-2)
+    tie.close (tie.spec (λ c. search needs) place-behind-requires returns place-behind-requires-2 (λ c. search needs))

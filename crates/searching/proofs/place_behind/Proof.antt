@@ -1,4 +1,5 @@
--- `searching::place_behind` meets its contract.
+-- The invariant (Seeking): the blocks passed and those left make the level, one more while a block is open. A 0 closes a block, and where none is
+-- left, or the prefix ends, the place is found.
 use Prim.Native.Nat.{_+_, _-_}
 use native.Mathlib.Omega.{arith}
 use lib.ListN.{length}

@@ -1,4 +1,5 @@
--- `searching::top_blocks` meets its contract.
+-- The invariant (Passing): what the prefix names before entry i has its top, every other row is 0, and only blocks deeper than the floor are passed.
+-- A variable's parent stands in a lesser block and has its top already, so that top_of gives the variable its own.
 use Prim.Native.Nat.{_-_}
 use mathlib.Core.Path.{_≡_, refl, ap, subst, _∙_}
 use native.Mathlib.Omega.{arith}
@@ -13,7 +14,8 @@ use Rattle.searching.proofs.top_blocks.Statement.{statement}
 use Rattle.searching.proofs.top_blocks.Tie as tie
 
 abbrev Inv-loop : tie.InvT-loop
-Inv-loop n prefix place classes parents tops₀ opens₀ i₀ tops opens i = (length tops ≡ length tops₀) × Passing n prefix classes parents (marksBefore prefix place) tops opens i
+Inv-loop n prefix place classes parents tops₀ opens₀ i₀ tops opens i =
+    (length tops ≡ length tops₀) × Passing n prefix classes parents (marksBefore prefix place) tops opens i
 
 abbrev μ-loop : tie.MeasureT-loop
 μ-loop n prefix place classes parents tops₀ opens₀ i₀ tops opens i = length prefix - i
@@ -22,9 +24,12 @@ loop-holds : tie.Need-loop-holds Inv-loop μ-loop
 loop-holds c =
     let at-start = c .before .before .before .before in
     let a = at-start .args in
-    let pre = at-start .pre in
-    let (x, small, behind) = pre .3 in
-    (refl, passing-from (a .n) (a .prefix .now) (a .classes .now) (a .parents .now) (marksBefore (a .prefix .now) (a .place)) (pre .0) (a .tops .now) (a .place) (behind .0, refl) (pre .4))
+    let es = a .prefix .now in
+    let (sound, formed, long, (x, small, behind), zeros) = at-start .pre in (
+      refl,
+      passing-from (a .n) es (a .classes .now) (a .parents .now) (marksBefore es (a .place)) sound (a .tops .now) (a .place)
+          (behind .0, refl) zeros,
+    )
 
 loop-again : tie.Need-loop-again Inv-loop μ-loop
 loop-again c =
@@ -32,8 +37,10 @@ loop-again c =
     let at-loop = at-loop-test .before in
     let at-start = at-loop .before .before .before .before .before in
     let a = at-start .args in
-    let inv = at-loop .loop .inv in
-    (inv .0, passing-mark (a .n) (a .prefix .now) (a .classes .now) (a .parents .now) (marksBefore (a .prefix .now) (a .place)) (at-start .pre .0) (inv .1) (at-loop-test .loop-test .taken) (c .if1 .taken))
+    let es = a .prefix .now in
+    let (size, passing) = at-loop .loop .inv in
+    let more = at-loop-test .loop-test .taken in
+    (size, passing-mark (a .n) es (a .classes .now) (a .parents .now) (marksBefore es (a .place)) (at-start .pre .0) passing more (c .if1 .taken))
 
 loop-again-2 : tie.Need-loop-again-2 Inv-loop μ-loop
 loop-again-2 c =
@@ -41,8 +48,13 @@ loop-again-2 c =
     let at-loop = at-loop-test .before in
     let at-start = at-loop .before .before .before .before .before in
     let a = at-start .args in
-    let inv = at-loop .loop .inv in
-    (inv .0, passing-close (a .n) (a .prefix .now) (a .classes .now) (a .parents .now) (marksBefore (a .prefix .now) (a .place)) (at-start .pre .0) (inv .1) (at-loop-test .loop-test .taken) (c .before .if1 .left) (c .if2 .taken))
+    let es = a .prefix .now in
+    let (size, passing) = at-loop .loop .inv in
+    let more = at-loop-test .loop-test .taken in (
+      size,
+      passing-close (a .n) es (a .classes .now) (a .parents .now) (marksBefore es (a .place)) (at-start .pre .0) passing more
+          (c .before .if1 .left) (c .if2 .taken),
+    )
 
 sub-tops : tie.Need-sub-tops Inv-loop μ-loop
 sub-tops c =
@@ -57,9 +69,11 @@ slice-write-tops c =
     let at-loop = at-loop-test .before in
     let at-start = at-loop .before .before .before .before .before in
     let a = at-start .args in
+    let es = a .prefix .now in
     let (size, passing) = at-loop .loop .inv in
     let long = at-start .pre .2 in
-    let within = named-within (a .n) (a .prefix .now) (a .classes .now) (a .parents .now) (marksBefore (a .prefix .now) (a .place)) (at-start .pre .0) passing (at-loop-test .loop-test .taken) (at-if1 .if1 .left) (at-if2 .if2 .left) in
+    let within = named-within (a .n) es (a .classes .now) (a .parents .now) (marksBefore es (a .place)) (at-start .pre .0) passing
+    (at-loop-test .loop-test .taken) (at-if1 .if1 .left) (at-if2 .if2 .left) in
     omega (arith, at-if2 .if2 .left)
 
 loop-again-3 : tie.Need-loop-again-3 Inv-loop μ-loop
@@ -70,12 +84,18 @@ loop-again-3 c =
     let at-loop = at-loop-test .before in
     let at-start = at-loop .before .before .before .before .before in
     let a = at-start .args in
-    let pre = at-start .pre in
-    let (x, small, behind) = pre .3 in
+    let es = a .prefix .now in
+    let (sound, formed, long, (x, small, behind), zeros) = at-start .pre in
     let l = at-loop .loop in
     let (size, passing) = l .inv in
-    let long = pre .2 in
-    (length-set (l .tops) (at (a .prefix .now) (l .i) - 1) (c .top-of .result .0) ∙ size, passing-top (a .n) (a .prefix .now) (a .classes .now) (a .parents .now) (marksBefore (a .prefix .now) (a .place)) (pre .0) passing (at-loop-test .loop-test .taken) (at-if1 .if1 .left) (at-if2 .if2 .left) (pre .1) x small (behind .1) (c .top-of .result .0) (omega arith) (c .top-of .ensures ∙ ap (λ v. topBy (row (a .n) (a .classes .now) v) (row (a .n) (l .tops) (row (a .n) (a .parents .now) (row (a .n) (a .classes .now) v)))) (c .before .new .ensures)))
+    let top = c .top-of .result .0 in
+    let class = a .classes .now in
+    let parent = a .parents .now in (
+      length-set (l .tops) (at es (l .i) - 1) top ∙ size,
+      passing-top (a .n) es (a .classes .now) (a .parents .now) (marksBefore es (a .place)) sound passing (at-loop-test .loop-test .taken)
+          (at-if1 .if1 .left) (at-if2 .if2 .left) formed x small (behind .1) top (omega arith)
+          (c .top-of .ensures ∙ ap (λ v. topBy (row (a .n) class v) (row (a .n) (l .tops) (row (a .n) parent (row (a .n) class v)))) (c .before .new .ensures)),
+    )
 
 same-length : tie.Need-same-length Inv-loop μ-loop
 same-length c = c .before .loop .inv .0
@@ -84,9 +104,12 @@ returns : tie.Need-returns Inv-loop μ-loop
 returns c floor (_, is) =
     let at-start = c .before .before .before .before .before .before in
     let a = at-start .args in
-    let (x, small, behind) = at-start .pre .3 in
-    subst (λ k. TopRows (variables (a .n) (a .prefix .now)) (lent (variables (a .n) (a .prefix .now)) (a .classes .now) (a .parents .now)) k (c .before .loop .tops)) is
-    (topping-all (a .n) (a .prefix .now) (a .classes .now) (a .parents .now) (marksBefore (a .prefix .now) (a .place)) (at-start .pre .0) (c .loop-test .left) (c .before .loop .inv .1 .topping) x small (behind .1))
+    let es = a .prefix .now in
+    let (sound, formed, long, (x, small, behind), zeros) = at-start .pre in
+    let X = variables (a .n) es in
+    subst (λ k. TopRows X (lent X (a .classes .now) (a .parents .now)) k (c .before .loop .tops)) is
+    (topping-all (a .n) es (a .classes .now) (a .parents .now) (marksBefore es (a .place)) sound (c .loop-test .left)
+    (c .before .loop .inv .1 .topping) x small (behind .1))
 
 pub top-blocks-spec : {M : Type 1} → statement M
 top-blocks-spec =

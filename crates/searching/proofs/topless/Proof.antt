@@ -1,4 +1,4 @@
--- `searching::topless` meets its contract.
+-- The invariant: no variable up to `passed` has a top. It is kept while the next row is 0, and the answer is where it stops.
 use Prim.Native.Nat.{_≤_, _-_}
 use mathlib.Core.Path.{sym, ap, _∙_}
 use mathlib.Core.Logic.{by-cases}
@@ -32,7 +32,11 @@ loop-again c =
     let at-start = at-loop .before .before in
     let a = at-start .args in
     let is = at-new .new .ensures in
-    (omega arith, λ v low high. by-cases (ℕ-discrete v (at-new .new .result .0)) (λ q. ap (row (a .n) (a .tops .now)) q ∙ sym (at-row-of .row-of .ensures) ∙ c .if1 .left) (λ other. at-loop .loop .inv .1 v low (omega arith)))
+    let none = sym (at-row-of .row-of .ensures) ∙ c .if1 .left in (
+      omega arith,
+      λ v low high. by-cases (ℕ-discrete v (at-new .new .result .0)) (λ q. ap (row (a .n) (a .tops .now)) q ∙ none)
+          (λ other. at-loop .loop .inv .1 v low (omega arith)),
+    )
 
 returns-2 : tie.Need-returns-2 Inv-loop μ-loop
 returns-2 c = c .before .loop .inv

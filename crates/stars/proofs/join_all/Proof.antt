@@ -1,10 +1,12 @@
--- `stars::join_all` meets its contract.
-use Prim.Native.Nat.{_-_}
+-- The invariant: the existentials of the entries passed are tied to the deepest, and the rows reach no more than with the clause added (Joining). An entry
+-- is tied already, or `merge` ties it; when all are, the rows have the clause.
+use Prim.Native.Nat.{_-_, _≤_}
 use mathlib.Core.Path.{sym, _∙_}
 use native.Mathlib.Omega.{arith}
 use borrow.Author.Needs.{needs}
 use lib.ListN.{length}
-use Rattle.stars.proofs.Stars.{Joining, join-none, join-pending, join-skip, join-own, join-one, joined-all}
+use Rattle.terms.specs.Limits.{mostVariables}
+use Rattle.stars.proofs.Stars.{Joining, AtEntry, join-none, join-pending, join-skip, join-own, join-one, joined-all}
 use Rattle.stars.proofs.join_all.Statement.{statement}
 use Rattle.stars.proofs.join_all.Tie as tie
 
@@ -15,81 +17,64 @@ abbrev μ-loop : tie.MeasureT-loop
 μ-loop depths classes₀ parents₀ clause deep i₀ classes parents i = length clause - i
 
 loop-holds : tie.Need-loop-holds Inv-loop μ-loop
-loop-holds c =
-    let at-start = c .before .before .before in
-    join-none _ _ (at-start .pre .0)
+loop-holds c = join-none _ _ (c .before .before .before .pre .0)
+
+-- the entry that comes next, and that its variable is within the limit
+entry : (c : tie.After-variable-at Inv-loop μ-loop) → let at = c .before .before in let a = at .before .before .before .before .args in
+    AtEntry (a .depths .now) (a .classes .now) (a .parents .now) (a .clause .now) (a .deep .0)
+    (at .loop .classes) (at .loop .parents) (at .loop .i) (c .variable-at .result .0)
+entry c =
+    let at-loop = c .before .before in
+    record {
+      deepest = at-loop .before .before .before .before .pre .1 .1;
+      joining = at-loop .loop .inv;
+      more = c .before .loop-test .taken;
+      is = c .variable-at .ensures;
+    }
+
+inside : (c : tie.After-variable-at Inv-loop μ-loop) → c .variable-at .result .0 ≤ mostVariables
+inside c =
+    let at-loop = c .before .before in
+    let r = at-loop .before .before .before .before .pre .1 .0 (at-loop .loop .i) (c .before .loop-test .taken) in
+    omega (arith, c .variable-at .ensures)
 
 cast-here : tie.Need-cast-here Inv-loop μ-loop
-cast-here c =
-    let at-loop-test = c .before .before in
-    let at-loop = at-loop-test .before in
-    let at-start = at-loop .before .before .before .before in
-    let r = at-start .pre .1 (at-loop .loop .i) (at-loop-test .loop-test .taken) in omega (arith, c .before .variable-at .ensures)
+cast-here c = omega (arith, inside (c .before))
 
 mul-here : tie.Need-mul-here Inv-loop μ-loop
-mul-here c =
-    let at-loop-test = c .before .before in
-    let at-loop = at-loop-test .before in
-    let at-start = at-loop .before .before .before .before in
-    let r = at-start .pre .1 (at-loop .loop .i) (at-loop-test .loop-test .taken) in omega (arith, c .before .variable-at .ensures)
+mul-here c = omega (arith, inside (c .before))
 
 shared-slice-read-here : tie.Need-shared-slice-read-here Inv-loop μ-loop
 shared-slice-read-here c =
     let at-variable-at = c .before .before in
-    let at-loop-test = at-variable-at .before in
-    let at-loop = at-loop-test .before in
-    let at-start = at-loop .before .before .before .before in
-    let r = at-start .pre .1 (at-loop .loop .i) (at-loop-test .loop-test .taken) in omega (arith, at-variable-at .variable-at .ensures, at-start .pre .0 .sizes .0)
+    omega (arith, inside at-variable-at, at-variable-at .before .before .loop .inv .growing .sizes .0)
 
 loop-again : tie.Need-loop-again Inv-loop μ-loop
-loop-again c =
-    let at-variable-at = c .before .before .before in
-    let at-loop-test = at-variable-at .before in
-    let at-loop = at-loop-test .before in
-    let at-start = at-loop .before .before .before .before in
-    join-skip (at-start .pre .2) (at-loop .loop .inv) (at-variable-at .variable-at .result .0) (at-loop-test .loop-test .taken) (at-variable-at .variable-at .ensures) (c .if1 .taken)
+loop-again c = join-skip (entry (c .before .before .before)) (c .if1 .taken)
 
 loop-again-2 : tie.Need-loop-again-2 Inv-loop μ-loop
-loop-again-2 c =
-    let at-variable-at = c .before .before .before .before .before .before in
-    let at-loop-test = at-variable-at .before in
-    let at-loop = at-loop-test .before in
-    let at-start = at-loop .before .before .before .before in
-    join-own (at-start .pre .2) (at-loop .loop .inv) (at-variable-at .variable-at .result .0) (at-loop-test .loop-test .taken) (at-variable-at .variable-at .ensures) (c .if2 .taken)
+loop-again-2 c = join-own (entry (c .before .before .before .before .before .before)) (c .if2 .taken)
 
 merge-requires : tie.Need-merge-requires Inv-loop μ-loop
 merge-requires c κs =
     let at-if1 = c .before .before .before .before .before in
-    let at-variable-at = at-if1 .before .before .before in
-    let at-loop-test = at-variable-at .before in
-    let at-loop = at-loop-test .before in
-    let at-start = at-loop .before .before .before .before in
-    (at-loop .loop .inv .growing, join-pending (at-start .pre .2) (at-loop .loop .inv) (at-variable-at .variable-at .result .0) (at-loop-test .loop-test .taken) (at-variable-at .variable-at .ensures) (at-if1 .if1 .left))
+    let e = entry (at-if1 .before .before .before) in
+    (e .joining .growing, join-pending e (at-if1 .if1 .left))
 
 loop-again-3 : tie.Need-loop-again-3 Inv-loop μ-loop
 loop-again-3 c =
     let at-merge = c .before .before .before .before in
     let at-if1 = at-merge .before .before .before .before .before .before in
-    let at-variable-at = at-if1 .before .before .before in
-    let at-loop-test = at-variable-at .before in
-    let at-loop = at-loop-test .before in
-    let at-start = at-loop .before .before .before .before in
-    join-one (at-start .pre .2) (at-loop .loop .inv) (at-variable-at .variable-at .result .0) (at-loop-test .loop-test .taken) (at-variable-at .variable-at .ensures) (at-if1 .if1 .left) (at-merge .merge .ensures)
+    join-one (entry (at-if1 .before .before .before)) (at-if1 .if1 .left) (at-merge .merge .ensures)
 
 same-length : tie.Need-same-length Inv-loop μ-loop
-same-length c =
-    let at-start = c .before .before .before .before .before in
-    c .before .loop .inv .growing .sizes .1 ∙ sym (at-start .pre .0 .sizes .1)
+same-length c = c .before .loop .inv .growing .sizes .1 ∙ sym (c .before .before .before .before .before .pre .0 .sizes .1)
 
 same-length-2 : tie.Need-same-length-2 Inv-loop μ-loop
-same-length-2 c =
-    let at-start = c .before .before .before .before .before in
-    c .before .loop .inv .growing .sizes .2 ∙ sym (at-start .pre .0 .sizes .2)
+same-length-2 c = c .before .loop .inv .growing .sizes .2 ∙ sym (c .before .before .before .before .before .pre .0 .sizes .2)
 
 returns : tie.Need-returns Inv-loop μ-loop
-returns c =
-    let at-start = c .before .before .before .before .before in
-    joined-all (at-start .pre .2) (c .before .loop .inv) (c .loop-test .left)
+returns c = joined-all (c .before .before .before .before .before .pre .1 .1) (c .before .loop .inv) (c .loop-test .left)
 
 pub join-all-spec : {M : Type 1} → statement M
 join-all-spec =

@@ -1,41 +1,72 @@
--- `storing::store` meets its contract.
-use mathlib.Core.Path.{refl, subst}
-use mathlib.Core.List.{[], _∷_}
-use Rattle.terms.specs.Refusals.{At0, Judged}
-use Rattle.terms.proofs.Verdicts.{refused-first}
-use Rattle.joining.specs.Rules.{checkOrderUnder}
-use Rattle.sets.proofs.AllSets.{filling-then}
-use Rattle.records.specs.Layout.{FileOf}
-use Rattle.records.specs.Causes.{FileTooLarge, FileTooLong}
+-- The formula is judged by the rule; what is written by the prefix that is at hand stands behind that in the order.
+use mathlib.Core.Path.{refl}
+use mathlib.Core.List.{[]}
 use borrow.Author.Needs.{needs}
+use Rattle.terms.specs.Answers.{Filling}
+use Rattle.terms.proofs.Answers.{carry-filling}
+use Rattle.formula.specs.Lent.{Formula, formulaOf}
+use Rattle.joining.specs.Rules.{readAs, checkOrder}
+use Rattle.joining.proofs.Orders.{limits}
+use Rattle.joining.proofs.Reading.{refused-read, hand-read, none-read, sound-read, more-read, behind-read}
+use Rattle.records.specs.Layout.{FileWith}
+use Rattle.records.specs.Causes.{behindStore}
 use Rattle.storing.proofs.store.Statement.{statement}
 use Rattle.storing.proofs.store.Tie as tie
 
-store-sound-requires : tie.Need-store-sound-requires
-store-sound-requires c κs =
-    let at-check = c .before .before .before in
-    let at-start = at-check .before .before .before in
-    let a = at-start .args in
-    subst (Judged (checkOrderUnder (a .rule) (a .n) (a .prefix .now) (a .clauses .now))) (c .before .enum-told .given .1) (at-check .check .ensures)
+-- the formula that is lent
+abbrev formula : tie.Start → Formula
+formula at-start = let a = at-start .args in formulaOf (a .n) (a .prefix .now) (a .clauses .now)
+
+abbrev start : tie.After-read-formula → tie.Start
+start at-read = at-read .before .before .before .before
+
+as-read-requires : tie.Need-as-read-requires
+as-read-requires c κs =
+    let at-read = c .before .before .before .before .before in
+    let a = start at-read .args in
+    hand-read (checkOrder (a .rule) (formula (start at-read))) _ (a .rule) (a .n) (a .prefix .now) _ (c .before .before .count .given .1)
+    (at-read .read-formula .ensures)
+
+store-read-requires : tie.Need-store-read-requires
+store-read-requires c κs =
+    let at-count = c .before .before .before .before in
+    let at-read = at-count .before .before .before in
+    let a = start at-read .args in
+    let f = formula (start at-read) in
+    let order = checkOrder (a .rule) f in
+    let is = at-count .count .given .1 in
+    let reads = at-read .read-formula .ensures in (
+      sound-read order _ (a .rule) (a .n) (a .prefix .now) _ is reads (c .before .as-read .ensures),
+      more-read order _ (a .rule) (a .n) (a .prefix .now) _ is reads,
+      limits (a .rule) f (none-read order _ (a .rule) (a .n) (a .prefix .now) _ is reads) .1,
+    )
 
 returns : tie.Need-returns
 returns c =
-    let at-check = c .before .before .before in
-    let at-start = at-check .before .before .before in
-    let a = at-start .args in
-    (refused-first (checkOrderUnder (a .rule) (a .n) (a .prefix .now) (a .clauses .now)) (At0 19 (FileTooLarge (a .rule) (a .n) (a .prefix .now) (a .clauses .now)) ∷ At0 14 (FileTooLong (a .rule) (a .n) (a .prefix .now) (a .clauses .now) (a .file .now)) ∷ []) (c .before .number .given .1) (at-check .check .ensures), refl)
+    let at-read = c .before .before .before .before in
+    let a = start at-read .args in
+    let f = formula (start at-read) in (
+      refused-read (checkOrder (a .rule) f) _ (a .rule) (a .n) (a .prefix .now) _ (behindStore f (readAs (a .rule) (a .prefix .now)) (a .file .now))
+          (c .before .number .given .1) (at-read .read-formula .ensures),
+      refl,
+    )
 
 returns-2 : tie.Need-returns-2
 returns-2 c =
-    let at-store-sound = c .before .before in
-    let at-enum-told = at-store-sound .before .before in
-    let at-check = at-enum-told .before .before in
-    let at-start = at-check .before .before .before in
-    let a = at-start .args in
-    let o = at-store-sound .store-sound in
-    filling-then (checkOrderUnder (a .rule) (a .n) (a .prefix .now) (a .clauses .now)) (At0 19 (FileTooLarge (a .rule) (a .n) (a .prefix .now) (a .clauses .now)) ∷ At0 14 (FileTooLong (a .rule) (a .n) (a .prefix .now) (a .clauses .now) (a .file .now)) ∷ []) (FileOf (a .rule) (a .n) (a .prefix .now) (a .clauses .now)) (a .file .now) (o .last .1 .1 .1 .1 .0) (at-enum-told .enum-told .given .1) (at-check .check .ensures) (o .result) (o .ensures)
+    let at-store = c .before .before in
+    let at-as-read = at-store .before .before in
+    let at-count = at-as-read .before .before .before in
+    let at-read = at-count .before .before .before in
+    let a = start at-read .args in
+    let f = formula (start at-read) in
+    let after = at-store .store-read .last .1 .1 .1 .1 .0 in
+    let answer = at-store .store-read .result in
+    behind-read (checkOrder (a .rule) f) _ (a .rule) (a .n) (a .prefix .now) _ (at-count .count .given .1) (at-read .read-formula .ensures)
+    (λ order read. Filling order (FileWith f read []) (a .file .now) after answer)
+    (λ order order′ read. carry-filling (FileWith f read []) (a .file .now) after answer order order′) (λ read. behindStore f read (a .file .now))
+    (at-as-read .as-read .ensures) (at-store .store-read .ensures)
 
 pub store-spec : {M : Type 1} → statement M
 store-spec =
-    tie.close (tie.spec (λ c κs. search needs) (λ c. search needs) (λ c. search needs) store-sound-requires returns (λ c. search needs)
-    returns-2)
+    tie.close (tie.spec (λ c. search needs) (λ c κs. search needs) (λ c. search needs) (λ c. search needs) (λ c. search needs) as-read-requires
+    store-read-requires returns (λ c. search needs) returns-2)

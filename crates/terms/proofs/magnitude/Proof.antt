@@ -1,4 +1,4 @@
--- `terms::magnitude` meets its contract.
+-- A negative number is one more than its complement (`complement`), any other is its own magnitude.
 use borrow.Author.Needs.{needs}
 use Rattle.terms.proofs.Signed.{complement, whole}
 use Rattle.terms.proofs.magnitude.Statement.{statement}
@@ -16,8 +16,5 @@ cast-result-2 c = whole (c .before .args .number) (c .before .fits .number) (c .
 returns : tie.Need-returns
 returns c = complement (c .before .args .number) (c .before .fits .number) (c .if1 .taken) .is
 
-returns-2 : tie.Need-returns-2
-returns-2 c = search needs
-
 pub magnitude-spec : {M : Type 1} → statement M
-magnitude-spec = tie.close (tie.spec cast-result add-result cast-result-2 returns returns-2)
+magnitude-spec = tie.close (tie.spec cast-result add-result cast-result-2 returns (λ c. search needs))

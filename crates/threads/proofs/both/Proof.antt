@@ -1,4 +1,4 @@
--- `threads::both` meets its contract.
+-- `one && other` computes on its first flag.
 use mathlib.Core.Path.{sym, ap}
 use mathlib.Core.Bool.{_&&_}
 use Rattle.threads.proofs.both.Statement.{statement}

@@ -1,16 +1,10 @@
--- `threads::counted` meets its contract.
+-- The flag read is the mark, since none is set for 0.
 use mathlib.Core.Path.{sym, ap, _∙_}
 use mathlib.Core.Bool.{cond}
 use borrow.Author.Needs.{needs}
 use Rattle.threads.proofs.Gathering.{marked-flags}
 use Rattle.threads.proofs.counted.Statement.{statement}
 use Rattle.threads.proofs.counted.Tie as tie
-
-cast-if1 : tie.Need-cast-if1
-cast-if1 c = search needs
-
-shared-slice-read-if1 : tie.Need-shared-slice-read-if1
-shared-slice-read-if1 c = search needs
 
 returns : tie.Need-returns
 returns c =
@@ -25,4 +19,4 @@ returns-2 c =
     sym (ap (λ b. cond b 1 0) (marked-flags (a .universals .now) (at-start .pre .1) (a .variable .0) ∙ c .if1 .left))
 
 pub counted-spec : {M : Type 1} → statement M
-counted-spec = tie.close (tie.spec cast-if1 shared-slice-read-if1 returns returns-2)
+counted-spec = tie.close (tie.spec (λ c. search needs) (λ c. search needs) returns returns-2)

@@ -1,4 +1,4 @@
--- `threads::flag_both` meets its contract.
+-- Each sign has flags of its own, and those that both have are left (entered-both).
 use mathlib.Core.Path.{_∙_}
 use native.Mathlib.Omega.{arith}
 use Rattle.marks.proofs.Flags.{fresh}
@@ -6,16 +6,6 @@ use Rattle.threads.proofs.Kept.{entered-both}
 use borrow.Author.Needs.{needs}
 use Rattle.threads.proofs.flag_both.Statement.{statement}
 use Rattle.threads.proofs.flag_both.Tie as tie
-
-flag-along-requires : tie.Need-flag-along-requires
-flag-along-requires c κs =
-    let at-start = c .before .before .before .before .before in
-    at-start .pre .0
-
-flag-along-requires-2 : tie.Need-flag-along-requires-2
-flag-along-requires-2 c κs =
-    let at-start = c .before .before .before .before .before .before .before .before in
-    at-start .pre .0
 
 keep-common-requires : tie.Need-keep-common-requires
 keep-common-requires c κs =
@@ -32,9 +22,11 @@ returns c =
     let at-flag-along2 = at-keep-common .before .before .before .before .before in
     let at-flag-along = at-flag-along2 .before .before .before in
     let at-start = at-flag-along .before .before .before .before .before .before in
-    entered-both fresh (at-flag-along .flag-along .ensures) (at-start .pre .1) (at-flag-along2 .flag-along2 .ensures) (at-keep-common .keep-common .ensures)
+    entered-both fresh (at-flag-along .flag-along .ensures) (at-start .pre .1) (at-flag-along2 .flag-along2 .ensures)
+    (at-keep-common .keep-common .ensures)
 
 pub flag-both-spec : {M : Type 1} → statement M
 flag-both-spec =
-    tie.close (tie.spec (λ c. search needs) flag-along-requires flag-along-requires-2 (λ c. search needs) keep-common-requires
+    tie.close (tie.spec (λ c. search needs) (λ c κs. c .before .before .before .before .before .pre .0)
+    (λ c κs. c .before .before .before .before .before .before .before .before .pre .0) (λ c. search needs) keep-common-requires
     (λ c. search needs) returns)

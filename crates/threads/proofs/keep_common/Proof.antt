@@ -1,4 +1,4 @@
--- `threads::keep_common` meets its contract.
+-- The invariant (Keeping): up to i those flags are left that the other table has too, and from i on all.
 use Prim.Native.Nat.{_-_}
 use native.Mathlib.Omega.{arith}
 use lib.ListN.{length, length-set}
@@ -15,29 +15,17 @@ abbrev μ-loop : tie.MeasureT-loop
 
 loop-holds : tie.Need-loop-holds Inv-loop μ-loop
 loop-holds c =
-    let at-start = c .before .before in
-    let a = at-start .args in keep-none (a .other .now) (a .flags .now)
+    let a = c .before .before .args in
+    keep-none (a .other .now) (a .flags .now)
 
 shared-slice-read-both : tie.Need-shared-slice-read-both Inv-loop μ-loop
 shared-slice-read-both c =
     let at-loop = c .before .before in
     let at-start = at-loop .before .before .before in
-    let size = at-loop .loop .inv .size in let long = at-start .pre in let less = c .before .loop-test .taken in omega arith
-
-slice-read-both : tie.Need-slice-read-both Inv-loop μ-loop
-slice-read-both c =
-    let at-loop-test = c .before .before in
-    at-loop-test .loop-test .taken
-
-slice-write-flags : tie.Need-slice-write-flags Inv-loop μ-loop
-slice-write-flags c =
-    let at-loop-test = c .before .before .before in
-    at-loop-test .loop-test .taken
-
-add-i : tie.Need-add-i Inv-loop μ-loop
-add-i c =
-    let at-loop-test = c .before .before .before in
-    let less = at-loop-test .loop-test .taken in omega arith
+    let size = at-loop .loop .inv .size in
+    let long = at-start .pre in
+    let less = c .before .loop-test .taken in
+    omega arith
 
 loop-less : tie.Need-loop-less Inv-loop μ-loop
 loop-less c =
@@ -58,5 +46,6 @@ returns c = keep-all (c .before .loop .inv) (c .loop-test .left)
 
 pub keep-common-spec : {M : Type 1} → statement M
 keep-common-spec =
-    tie.close (tie.spec Inv-loop μ-loop loop-holds shared-slice-read-both slice-read-both (λ c κs. search needs) slice-write-flags add-i
-    loop-less loop-again same-length returns)
+    tie.close (tie.spec Inv-loop μ-loop loop-holds shared-slice-read-both (λ c. c .before .before .loop-test .taken) (λ c κs. search needs)
+    (λ c. c .before .before .before .loop-test .taken) (λ c. omega (arith, c .before .before .before .loop-test .taken)) loop-less loop-again
+    same-length returns)

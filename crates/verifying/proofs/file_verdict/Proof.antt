@@ -1,51 +1,49 @@
--- `verifying::file_verdict` meets its contract.
+-- 23 comes first, then the causes in the records, then those in what they hold.
 use mathlib.Core.Path.{subst}
+use borrow.Author.Needs.{needs}
 use borrow.Author.Tests.{not-true, not-false}
 use Rattle.terms.specs.Refusals.{Judged}
 use Rattle.tables.proofs.Readings.{told, told-not}
 use Rattle.records.specs.Causes.{fileOrder}
 use Rattle.layout.proofs.Laying.{file-laid}
+use Rattle.verifying.specs.Verified.{IsRule}
 use Rattle.verifying.proofs.Judging.{no-rule, records-refused, records-then}
-use borrow.Author.Needs.{needs}
 use Rattle.verifying.proofs.file_verdict.Statement.{statement}
 use Rattle.verifying.proofs.file_verdict.Tie as tie
 
+abbrev start : tie.After-is-rule → tie.Start
+start at-rule = at-rule .before .before
+
+is-rule : (c : tie.Else1) → IsRule (start (c .before) .args .rule)
+is-rule c = let r = c .before .is-rule in told (r .result) (not-false (r .result) (c .if1 .left)) (r .ensures)
+
 returns : tie.Need-returns
 returns c =
-    let at-start = c .before .before .before in
-    let a = at-start .args in
+    let a = start (c .before) .args in
     let r = c .before .is-rule in
     no-rule (a .rule) (a .file .now) (told-not (r .result) (not-true (r .result) (c .if1 .taken)) (r .ensures))
 
 contents-verdict-requires : tie.Need-contents-verdict-requires
 contents-verdict-requires c κs =
-    let at-layout-verdict = c .before .before in
-    let at-if1 = at-layout-verdict .before in
-    let at-is-rule = at-if1 .before in
-    let at-start = at-is-rule .before .before in
-    let file = at-start .args .file .now in
-    let r = at-is-rule .is-rule in
-    (file-laid file (subst (Judged (fileOrder file)) (c .enum-told .given .1) (at-layout-verdict .layout-verdict .ensures)), told (r .result) (not-false (r .result) (at-if1 .if1 .left)) (r .ensures))
+    let at-layout = c .before .before in
+    let at-if1 = at-layout .before in
+    let file = start (at-if1 .before) .args .file .now in
+    (file-laid file (subst (Judged (fileOrder file)) (c .enum-told .given .1) (at-layout .layout-verdict .ensures)), is-rule at-if1)
 
 returns-2 : tie.Need-returns-2
 returns-2 c =
-    let at-layout-verdict = c .before .before .before in
-    let at-if1 = at-layout-verdict .before in
-    let at-is-rule = at-if1 .before in
-    let at-start = at-is-rule .before .before in
-    let a = at-start .args in
-    let r = at-is-rule .is-rule in
-    records-refused (a .rule) (a .file .now) (told (r .result) (not-false (r .result) (at-if1 .if1 .left)) (r .ensures)) (at-layout-verdict .layout-verdict .ensures) (c .before .number .given .1)
+    let at-layout = c .before .before .before in
+    let at-if1 = at-layout .before in
+    let a = start (at-if1 .before) .args in
+    records-refused (a .rule) (a .file .now) (is-rule at-if1) (c .before .number .given .1) (at-layout .layout-verdict .ensures)
 
 returns-3 : tie.Need-returns-3
 returns-3 c =
-    let at-layout-verdict = c .before .before .before in
-    let at-if1 = at-layout-verdict .before in
-    let at-is-rule = at-if1 .before in
-    let at-start = at-is-rule .before .before in
-    let a = at-start .args in
-    let r = at-is-rule .is-rule in
-    records-then (a .rule) (a .file .now) (told (r .result) (not-false (r .result) (at-if1 .if1 .left)) (r .ensures)) (at-layout-verdict .layout-verdict .ensures) (c .contents-verdict .result) (c .before .enum-told .given .1) (c .contents-verdict .ensures)
+    let at-layout = c .before .before .before in
+    let at-if1 = at-layout .before in
+    let a = start (at-if1 .before) .args in
+    records-then (a .rule) (a .file .now) (is-rule at-if1) (c .contents-verdict .result) (c .before .enum-told .given .1) (at-layout .layout-verdict .ensures)
+    (c .contents-verdict .ensures)
 
 pub file-verdict-spec : {M : Type 1} → statement M
 file-verdict-spec =

@@ -1,5 +1,8 @@
--- `capi::files::snow_store` meets its contract.
+-- What storing answers is laid out as any list is: the file stands in front, with its length as the count.
+use mathlib.Core.List.{List}
 use borrow.Author.Needs.{needs}
+use Rattle.terms.specs.Refusals.{Causes}
+use Rattle.formula.specs.Lent.{Formula, formulaOf}
 use Rattle.records.specs.Layout.{FileOf}
 use Rattle.records.specs.Causes.{storeOrder}
 use Rattle.capi.proofs.Telling.{fits-filling, tell-filling}
@@ -7,8 +10,12 @@ use Rattle.capi.proofs.Filed.{small-store}
 use Rattle.capi.proofs.files.snow_store.Statement.{statement}
 use Rattle.capi.proofs.files.snow_store.Tie as tie
 
-store-requires : tie.Need-store-requires
-store-requires c κs = search needs
+-- the formula that is lent
+abbrev lent : tie.Start → Formula
+lent at-start = let a = at-start .args in formulaOf (a .n) (a .prefix .now) (a .clauses .now)
+
+abbrev order : tie.Start → List Causes
+order at-start = let a = at-start .args in storeOrder (a .rule) (lent at-start) (a .file .now)
 
 lay-requires : tie.Need-lay-requires
 lay-requires c κs =
@@ -16,10 +23,7 @@ lay-requires c κs =
     let at-start = at-store .before .before .before .before in
     let a = at-start .args in
     let b = at-store .store in
-    fits-filling (storeOrder (a .rule) (a .n) (a .prefix .now) (a .clauses .now) (a .file .now)) (FileOf (a .rule) (a .n) (a .prefix .now) (a .clauses .now)) (a .file .now) _ (b .result) (small-store (a .rule) (a .n) (a .prefix .now) (a .clauses .now) (a .file .now)) (b .ensures)
-
-same-length : tie.Need-same-length
-same-length c = search needs
+    fits-filling (order at-start) (FileOf (a .rule) (lent at-start)) (a .file .now) _ (b .result) (small-store (a .rule) (lent at-start) (a .file .now)) (b .ensures)
 
 returns : tie.Need-returns
 returns c =
@@ -27,7 +31,7 @@ returns c =
     let at-start = at-store .before .before .before .before in
     let a = at-start .args in
     let b = at-store .store in
-    tell-filling (storeOrder (a .rule) (a .n) (a .prefix .now) (a .clauses .now) (a .file .now)) (FileOf (a .rule) (a .n) (a .prefix .now) (a .clauses .now)) (a .file .now) _ (b .result) (c .lay .ensures) (b .ensures)
+    tell-filling (order at-start) (FileOf (a .rule) (lent at-start)) (a .file .now) _ (b .result) (c .lay .ensures) (b .ensures)
 
 pub snow-store-spec : {M : Type 1} → statement M
-snow-store-spec = tie.close (tie.spec store-requires lay-requires same-length returns)
+snow-store-spec = tie.close (tie.spec (λ c κs. search needs) lay-requires (λ c. search needs) returns)

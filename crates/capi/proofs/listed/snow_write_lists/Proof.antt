@@ -1,33 +1,33 @@
--- `capi::listed::snow_write_lists` meets its contract.
+-- What write answers is laid out: its places fit, since those of the check of lists do and a text has at most as many bytes as may be written.
 use borrow.Author.Needs.{needs}
+use Rattle.formula.specs.Lent.{Formula, formulaOf}
 use Rattle.lists.specs.Causes.{checkListsOrder}
-use Rattle.dqspelling.specs.Writing.{listedTextOf}
+use Rattle.dqdimacs.specs.Stored.{listedText}
 use Rattle.capi.proofs.Listing.{small-lists}
 use Rattle.capi.proofs.Writes.{fits-write, tell-write}
 use Rattle.capi.proofs.listed.snow_write_lists.Statement.{statement}
 use Rattle.capi.proofs.listed.snow_write_lists.Tie as tie
 
-write-requires : tie.Need-write-requires
-write-requires c κs = search needs
+-- the formula that is lent
+abbrev lent : tie.Start → Formula
+lent at-start = let a = at-start .args in formulaOf (a .n) (a .prefix .now) (a .clauses .now)
 
-lay-output-requires : tie.Need-lay-output-requires
-lay-output-requires c κs =
+lay-requires : tie.Need-lay-requires
+lay-requires c κs =
     let at-write = c .before .before .before .before in
     let at-start = at-write .before .before .before .before .before in
     let a = at-start .args in
-    let b = at-write .write in
-    fits-write (checkListsOrder (a .rule) (a .n) (a .prefix .now) (a .clauses .now) (a .lists .now)) (listedTextOf (a .n) (a .prefix .now) (a .clauses .now) (a .lists .now)) (a .text .now) _ (b .result) (small-lists (a .rule) (a .n) (a .prefix .now) (a .clauses .now) (a .lists .now)) (b .ensures)
-
-same-length : tie.Need-same-length
-same-length c = search needs
+    let order = checkListsOrder (a .rule) (lent at-start) (a .lists .now) in
+    fits-write order (listedText (lent at-start) (a .lists .now)) (a .text .now) _ (at-write .write .result)
+    (small-lists (a .rule) (lent at-start) (a .lists .now)) (at-write .write .ensures)
 
 returns : tie.Need-returns
 returns c =
     let at-write = c .before .before .before .before .before in
     let at-start = at-write .before .before .before .before .before in
     let a = at-start .args in
-    let b = at-write .write in
-    tell-write (checkListsOrder (a .rule) (a .n) (a .prefix .now) (a .clauses .now) (a .lists .now)) (listedTextOf (a .n) (a .prefix .now) (a .clauses .now) (a .lists .now)) (a .text .now) _ (b .result) (c .lay-output .ensures) (b .ensures)
+    let order = checkListsOrder (a .rule) (lent at-start) (a .lists .now) in
+    tell-write order (listedText (lent at-start) (a .lists .now)) (a .text .now) _ (at-write .write .result) (c .lay .ensures) (at-write .write .ensures)
 
 pub snow-write-lists-spec : {M : Type 1} → statement M
-snow-write-lists-spec = tie.close (tie.spec write-requires lay-output-requires same-length returns)
+snow-write-lists-spec = tie.close (tie.spec (λ c κs. search needs) lay-requires (λ c. search needs) returns)

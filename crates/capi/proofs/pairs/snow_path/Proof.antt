@@ -1,34 +1,26 @@
--- `capi::pairs::snow_path` meets its contract.
+-- The verdict of the path check is told as it is: its cell for the place is as wide as a length.
+use mathlib.Core.List.{List}
 use borrow.Author.Needs.{needs}
-use Rattle.paths.specs.Causes.{pathOrderUnder}
+use Rattle.terms.specs.Refusals.{Causes}
+use Rattle.formula.specs.Lent.{formulaOf}
+use Rattle.paths.specs.Causes.{pathOrder}
 use Rattle.capi.proofs.Telling.{tell-accepted, tell-refused}
 use Rattle.capi.proofs.pairs.snow_path.Statement.{statement}
 use Rattle.capi.proofs.pairs.snow_path.Tie as tie
 
-path-verdict-requires : tie.Need-path-verdict-requires
-path-verdict-requires c κs = search needs
-
-enum-known-verdict : tie.Need-enum-known-verdict
-enum-known-verdict c = search needs
+-- the order of the check
+abbrev order : tie.Start → List Causes
+order at-start = let a = at-start .args in pathOrder (a .rule) (formulaOf (a .n) (a .prefix .now) (a .clauses .now)) (a .x) (a .y) (a .path .now)
 
 returns : tie.Need-returns
 returns c =
-    let at-path-verdict = c .before .before .before in
-    let at-start = at-path-verdict .before .before .before in
-    let a = at-start .args in
-    let b = at-path-verdict .path-verdict in
-    tell-refused (pathOrderUnder (a .rule) (a .n) (a .prefix .now) (a .clauses .now) (a .x) (a .y) (a .path .now)) _ (c .before .verdict .given .1) (b .ensures) tt
-
-enum-told : tie.Need-enum-told
-enum-told c = search needs
+    let at-verdict = c .before .before .before in
+    tell-refused (order (at-verdict .before .before .before)) _ (c .before .verdict .given .1) (at-verdict .path-verdict .ensures) tt
 
 returns-2 : tie.Need-returns-2
 returns-2 c =
-    let at-path-verdict = c .before .before in
-    let at-start = at-path-verdict .before .before .before in
-    let a = at-start .args in
-    let b = at-path-verdict .path-verdict in
-    tell-accepted (pathOrderUnder (a .rule) (a .n) (a .prefix .now) (a .clauses .now) (a .x) (a .y) (a .path .now)) _ (c .enum-told .given .1) (b .ensures) tt
+    let at-verdict = c .before .before in
+    tell-accepted (order (at-verdict .before .before .before)) _ (c .enum-told .given .1) (at-verdict .path-verdict .ensures) tt
 
 pub snow-path-spec : {M : Type 1} → statement M
-snow-path-spec = tie.close (tie.spec path-verdict-requires enum-known-verdict returns enum-told returns-2)
+snow-path-spec = tie.close (tie.spec (λ c κs. search needs) (λ c. search needs) returns (λ c. search needs) returns-2)

@@ -1,17 +1,11 @@
--- `cells::formulas::lay_expanded` meets its contract.
+-- Each variant stores what it holds: the three counts have 32 bits already, and the place fits its cell by what is required.
 use mathlib.Core.Path.{refl, ap, subst}
 use borrow.Author.Needs.{needs}
-use Rattle.expansion.specs.declared.Expanded.{Expanded}
+use Rattle.terms.specs.declared.Expanded.{Expanded}
 use Rattle.cells.specs.Cells.{Fits, given, placed, Any}
 use Rattle.cells.specs.Formulas.{expandedSaid}
 use Rattle.cells.proofs.formulas.lay_expanded.Statement.{statement}
 use Rattle.cells.proofs.formulas.lay_expanded.Tie as tie
-
-enum-known-answer : tie.Need-enum-known-answer
-enum-known-answer c = search needs
-
-enum-known-answer-2 : tie.Need-enum-known-answer-2
-enum-known-answer-2 c = search needs
 
 cast-place : tie.Need-cast-place
 cast-place c =
@@ -25,4 +19,5 @@ returns-2 : tie.Need-returns-2
 returns-2 c = placed (ap expandedSaid (c .before .answer2 .given .1)) refl refl refl
 
 pub lay-expanded-spec : {M : Type 1} → statement M
-lay-expanded-spec = tie.close (tie.spec enum-known-answer enum-known-answer-2 cast-place returns returns-2)
+lay-expanded-spec =
+    tie.close (tie.spec (λ c. search needs) (λ c. search needs) cast-place returns returns-2)

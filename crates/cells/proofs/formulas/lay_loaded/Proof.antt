@@ -1,36 +1,31 @@
--- `cells::formulas::lay_loaded` meets its contract.
+-- Each variant stores what it holds: the counts and the place fit their cells by what is required, and that of the sets is what sets_told says.
 use mathlib.Core.Path.{refl, ap, subst}
 use borrow.Author.Needs.{needs}
-use Rattle.records.specs.declared.Loaded.{Loaded}
+use Rattle.terms.specs.declared.Loaded.{Loaded}
 use Rattle.cells.specs.Cells.{Fits, given, placed}
 use Rattle.cells.specs.Formulas.{loadedSaid, LoadedInCells}
 use Rattle.cells.proofs.Laying.{fourth-is}
 use Rattle.cells.proofs.formulas.lay_loaded.Statement.{statement}
 use Rattle.cells.proofs.formulas.lay_loaded.Tie as tie
 
-enum-known-answer : tie.Need-enum-known-answer
-enum-known-answer c = search needs
+-- what it holds fits its cells
+abbrev Fitting : Loaded → Type 0
+Fitting answer = Fits LoadedInCells (loadedSaid answer)
 
 cast-prefix-count : tie.Need-cast-prefix-count
 cast-prefix-count c =
     let at-start = c .before .before .before in
-    record { fits = subst (λ (a : Loaded). Fits LoadedInCells (loadedSaid a)) (c .before .answer .given .1) (at-start .pre) .0 }
+    record { fits = subst Fitting (c .before .answer .given .1) (at-start .pre) .0 }
 
 cast-clauses-count : tie.Need-cast-clauses-count
 cast-clauses-count c =
     let at-start = c .before .before .before in
-    record { fits = subst (λ (a : Loaded). Fits LoadedInCells (loadedSaid a)) (c .before .answer .given .1) (at-start .pre) .1 }
-
-sets-told-requires : tie.Need-sets-told-requires
-sets-told-requires c κs = search needs
-
-enum-known-answer-2 : tie.Need-enum-known-answer-2
-enum-known-answer-2 c = search needs
+    record { fits = subst Fitting (c .before .answer .given .1) (at-start .pre) .1 }
 
 cast-place : tie.Need-cast-place
 cast-place c =
     let at-start = c .before .before .before in
-    record { fits = subst (λ (a : Loaded). Fits LoadedInCells (loadedSaid a)) (c .before .answer2 .given .1) (at-start .pre) }
+    record { fits = subst Fitting (c .before .answer2 .given .1) (at-start .pre) }
 
 returns : tie.Need-returns
 returns c =
@@ -41,4 +36,5 @@ returns-2 : tie.Need-returns-2
 returns-2 c = placed (ap loadedSaid (c .before .answer2 .given .1)) refl refl refl
 
 pub lay-loaded-spec : {M : Type 1} → statement M
-lay-loaded-spec = tie.close (tie.spec enum-known-answer cast-prefix-count cast-clauses-count sets-told-requires enum-known-answer-2 cast-place returns returns-2)
+lay-loaded-spec =
+    tie.close (tie.spec (λ c. search needs) cast-prefix-count cast-clauses-count (λ c κs. search needs) (λ c. search needs) cast-place returns returns-2)

@@ -1,4 +1,4 @@
--- `cells::formulas::sets_told` meets its contract.
+-- The number is chosen by the very flag that the code tests.
 use mathlib.Core.Path.{sym, ap}
 use mathlib.Core.Bool.{Bool, cond}
 use Rattle.cells.specs.Codes.{tellsSets}

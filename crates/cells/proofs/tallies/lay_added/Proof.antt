@@ -1,14 +1,8 @@
--- `cells::tallies::lay_added` meets its contract.
+-- It is what lay_built leaves, with the count forgotten.
 use borrow.Author.Needs.{needs}
 use Rattle.cells.proofs.Laying.{added-laid}
 use Rattle.cells.proofs.tallies.lay_added.Statement.{statement}
 use Rattle.cells.proofs.tallies.lay_added.Tie as tie
 
-lay-built-requires : tie.Need-lay-built-requires
-lay-built-requires c κs = search needs
-
-returns : tie.Need-returns
-returns c = added-laid (c .lay-built .ensures)
-
 pub lay-added-spec : {M : Type 1} → statement M
-lay-added-spec = tie.close (tie.spec lay-built-requires returns)
+lay-added-spec = tie.close (tie.spec (λ c κs. search needs) (λ c. added-laid (c .lay-built .ensures)))

@@ -1,14 +1,8 @@
--- `cells::tallies::lay_built` meets its contract.
+-- The cells of the tally and that of the count are laid out one after the other, by the same answer, and so together.
 use borrow.Author.Needs.{needs}
 use Rattle.cells.proofs.Laying.{built-laid}
 use Rattle.cells.proofs.tallies.lay_built.Statement.{statement}
 use Rattle.cells.proofs.tallies.lay_built.Tie as tie
-
-lay-tally-requires : tie.Need-lay-tally-requires
-lay-tally-requires c κs = search needs
-
-lay-requires : tie.Need-lay-requires
-lay-requires c κs = search needs
 
 returns : tie.Need-returns
 returns c =
@@ -16,4 +10,4 @@ returns c =
     built-laid _ _ (c .lay .ensures) (at-lay-tally .lay-tally .ensures)
 
 pub lay-built-spec : {M : Type 1} → statement M
-lay-built-spec = tie.close (tie.spec lay-tally-requires lay-requires returns)
+lay-built-spec = tie.close (tie.spec (λ c κs. search needs) (λ c κs. search needs) returns)

@@ -1,4 +1,5 @@
--- `copying::literals::copy_all` meets its contract.
+-- The invariant: the copies of the clauses before `start` are stored, and with those of the others all would be (Clauses); no stamp is as
+-- great as that of the next clause. Each round passes one clause (clauses-more).
 use Prim.Native.Nat.{_+_, _-_}
 use native.Mathlib.Omega.{arith}
 use lib.ListN.{length}
@@ -13,18 +14,19 @@ use Rattle.copying.proofs.literals.copy_all.Statement.{statement}
 use Rattle.copying.proofs.literals.copy_all.Tie as tie
 
 abbrev Inv-loop : tie.InvT-loop
-Inv-loop value clauses x copies out₀ at seen₀ end₀ start₀ out seen end start = Clauses value (x .0) (tabled copies) clauses out₀ at start out end × Stamps seen (start + 1)
+Inv-loop value clauses x copies out₀ at seen₀ end₀ start₀ out seen end start =
+    Clauses value (x .0) (tabled copies) clauses out₀ at start out end × Stamps seen (start + 1)
 
 abbrev μ-loop : tie.MeasureT-loop
 μ-loop value clauses x copies out₀ at seen₀ end₀ start₀ out seen end start = length clauses - start
 
 loop-holds : tie.Need-loop-holds Inv-loop μ-loop
-loop-holds c = let a = c .before .args in (clauses-none (a .value) (a .x .0) (tabled (a .copies .now)) (a .clauses .now) (a .out .now) (a .at), stamps-none)
+loop-holds c =
+    let a = c .before .args in
+    (clauses-none (a .value) (a .x .0) (tabled (a .copies .now)) (a .clauses .now) (a .out .now) (a .at), stamps-none)
 
 same-length : tie.Need-same-length Inv-loop μ-loop
-same-length c =
-    let at-loop = c .before .before .before in
-    onward-length (at-loop .loop .inv .0 .on)
+same-length c = onward-length (c .before .before .before .loop .inv .0 .on)
 
 returns : tie.Need-returns Inv-loop μ-loop
 returns c =
@@ -32,14 +34,10 @@ returns c =
     clauses-open (at-loop .loop .inv .0) (c .before .next-zero .result) (c .before .next-zero .ensures) (c .if1 .taken)
 
 add-stamp : tie.Need-add-stamp Inv-loop μ-loop
-add-stamp c =
-    let at-start = c .before .before .before .before .before in
-    omega (arith, at-start .pre .0 .short)
+add-stamp c = omega (arith, c .before .before .before .before .before .pre .0 .short)
 
 cast-stamp : tie.Need-cast-stamp Inv-loop μ-loop
-cast-stamp c =
-    let at-start = c .before .before .before .before .before in
-    omega (arith, at-start .pre .0 .short)
+cast-stamp c = omega (arith, c .before .before .before .before .before .pre .0 .short)
 
 sub-copy-clause : tie.Need-sub-copy-clause Inv-loop μ-loop
 sub-copy-clause c = omega (arith, c .before .next-zero .ensures .from)
@@ -57,8 +55,13 @@ copy-clause-requires c κs =
     let next = at-next-zero .next-zero in
     let l = at-loop .loop in
     let pre = at-start .pre in
-    let less = at-if1 .if1 .left in
-    (part-rows (a .clauses .now) (l .start) (next .result) (omega arith) (pre .0 .rows), stamps-more (l .inv .1) (omega (arith, next .ensures .from)), pre .1, omega (arith, part-short (a .clauses .now) (l .start) (next .result), pre .0 .short), omega (arith, l .inv .0 .few, l .inv .0 .within, pre .0 .short, pre .2))
+    let less = at-if1 .if1 .left in (
+      part-rows (a .clauses .now) (l .start) (next .result) (omega arith) (pre .0 .rows),
+      stamps-more (l .inv .1) (omega (arith, next .ensures .from)),
+      pre .1,
+      omega (arith, part-short (a .clauses .now) (l .start) (next .result), pre .0 .short),
+      omega (arith, l .inv .0 .few, l .inv .0 .within, pre .0 .short, pre .2),
+    )
 
 loop-less : tie.Need-loop-less Inv-loop μ-loop
 loop-less c =
@@ -71,8 +74,10 @@ loop-again c =
     let at-if1 = at-copy-clause .before .before .before .before in
     let at-next-zero = at-if1 .before in
     let at-loop = at-next-zero .before .before in
-    let next = at-next-zero .next-zero in
-    (clauses-more (at-loop .loop .inv .0) (next .result) (next .ensures) (at-if1 .if1 .left) (at-copy-clause .copy-clause .ensures .0), at-copy-clause .copy-clause .ensures .1)
+    let next = at-next-zero .next-zero in (
+      clauses-more (at-loop .loop .inv .0) (next .result) (next .ensures) (at-if1 .if1 .left) (at-copy-clause .copy-clause .ensures .0),
+      at-copy-clause .copy-clause .ensures .1,
+    )
 
 same-length-2 : tie.Need-same-length-2 Inv-loop μ-loop
 same-length-2 c = onward-length (c .before .loop .inv .0 .on)

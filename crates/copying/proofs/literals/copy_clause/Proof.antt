@@ -1,4 +1,4 @@
--- `copying::literals::copy_clause` meets its contract.
+-- A clause that has a copy has its literals and a 0 stored; one that has none leaves the table as it is.
 use mathlib.Core.Path.{sym, _∙_}
 use borrow.Author.Needs.{needs}
 use Rattle.copying.specs.Copied.{tabled}
@@ -23,16 +23,22 @@ returns c =
     let at-has-copy = at-if1 .before .before .before in
     let at-start = at-has-copy .before .before .before .before in
     let a = at-start .args in
-    let has = at-has-copy .has-copy .ensures in
-    (stored-as (one-copied (a .value) (a .x .0) (tabled (a .copies .now)) (a .clause .now) (sym (at-if1 .if1 .taken) ∙ has .0)) (c .before .copy-one .ensures), has .1)
+    let has = at-has-copy .has-copy .ensures in (
+      stored-as (one-copied (a .value) (a .x .0) (tabled (a .copies .now)) (a .clause .now) (sym (at-if1 .if1 .taken) ∙ has .0))
+          (c .before .copy-one .ensures),
+      has .1,
+    )
 
 returns-2 : tie.Need-returns-2
 returns-2 c =
     let at-has-copy = c .before .before .before in
     let at-start = at-has-copy .before .before .before .before in
     let a = at-start .args in
-    let has = at-has-copy .has-copy .ensures in
-    (stored-as (none-copied (a .value) (a .x .0) (tabled (a .copies .now)) (a .clause .now) (sym (c .if1 .left) ∙ has .0)) (stored-none (a .out .now) (a .at)), has .1)
+    let has = at-has-copy .has-copy .ensures in (
+      stored-as (none-copied (a .value) (a .x .0) (tabled (a .copies .now)) (a .clause .now) (sym (c .if1 .left) ∙ has .0))
+          (stored-none (a .out .now) (a .at)),
+      has .1,
+    )
 
 pub copy-clause-spec : {M : Type 1} → statement M
 copy-clause-spec =

@@ -1,4 +1,4 @@
--- `copying::literals::copy_clauses` meets its contract.
+-- The copies with x false, and behind them those with x true, are the table of the definition (copied-both).
 use native.Mathlib.Omega.{arith}
 use Rattle.copying.specs.Copied.{tabled}
 use Rattle.copying.proofs.Copying.{copied-both}
@@ -17,9 +17,6 @@ copy-all-requires-2 c κs =
     let at-start = at-copy-all .before .before .before in
     let pre = at-start .pre in (pre .0, pre .1, omega (arith, at-copy-all .copy-all .ensures .1, pre .0 .short))
 
-same-length : tie.Need-same-length
-same-length c = search needs
-
 returns : tie.Need-returns
 returns c =
     let at-copy-all = c .before .before .before .before in
@@ -28,4 +25,5 @@ returns c =
     copied-both (a .x .0) (tabled (a .copies .now)) (a .clauses .now) (at-copy-all .copy-all .ensures .0) (c .before .copy-all2 .ensures .0)
 
 pub copy-clauses-spec : {M : Type 1} → statement M
-copy-clauses-spec = tie.close (tie.spec copy-all-requires copy-all-requires-2 same-length returns)
+copy-clauses-spec =
+    tie.close (tie.spec copy-all-requires copy-all-requires-2 (λ c. search needs) returns)

@@ -1,5 +1,6 @@
--- `copying::literals::copy_one` meets its contract.
-use Prim.Native.Nat.{_-_}
+-- The invariant: what x leaves of the literals before entry i is stored, and with the others and a 0 the copy would stand (Literals). A
+-- literal of x is passed over, and any other is stored by its name.
+use Prim.Native.Nat.{_-_, _≤_}
 use mathlib.Core.Path.{ap, _∙_}
 use native.Mathlib.Omega.{arith}
 use lib.IntN.{ℤ}
@@ -24,24 +25,23 @@ abbrev μ-loop : tie.MeasureT-loop
 loop-holds : tie.Need-loop-holds Inv-loop μ-loop
 loop-holds c = let a = c .before .args in literals-none (a .value) (a .x .0) (tabled (a .copies .now)) (a .clause .now) (a .out .now) (a .at)
 
+-- what is stored so far is short
+few : (c : tie.At-loop Inv-loop μ-loop) → c .loop .end ≤ 49152
+few c = omega (arith, c .loop .inv .few, c .loop .inv .within, c .before .before .pre)
+
 loop-again : tie.Need-loop-again Inv-loop μ-loop
 loop-again c =
     let at-variable = c .before .before .before in
     let at-literal-at = at-variable .before in
     let at-loop-test = at-literal-at .before in
-    let at-loop = at-loop-test .before in
-    literals-x (at-loop .loop .inv) (at-loop-test .loop-test .taken) (at-variable .variable .ensures ∙ ap variableOf (at-literal-at .literal-at .ensures)) (c .if1 .taken)
+    let read = at-variable .variable .ensures ∙ ap variableOf (at-literal-at .literal-at .ensures) in
+    literals-x (at-loop-test .before .loop .inv) (at-loop-test .loop-test .taken) read (c .if1 .taken)
 
 name-by-requires : tie.Need-name-by-requires Inv-loop μ-loop
-name-by-requires c κs =
-    let at-start = c .before .before .before .before .before .before .before .before in
-    at-start .pre .0
+name-by-requires c κs = c .before .before .before .before .before .before .before .before .pre .0
 
 add-end : tie.Need-add-end Inv-loop μ-loop
-add-end c =
-    let at-loop = c .before .before .before .before .before .before .before .before .before .before .before in
-    let at-start = at-loop .before .before in
-    omega (arith, at-loop .loop .inv .few, at-loop .loop .inv .within, at-start .pre)
+add-end c = omega (arith, few (c .before .before .before .before .before .before .before .before .before .before .before))
 
 loop-again-2 : tie.Need-loop-again-2 Inv-loop μ-loop
 loop-again-2 c =
@@ -55,14 +55,14 @@ loop-again-2 c =
     let at-start = at-loop .before .before in
     let a = at-start .args in
     let l = at-loop .loop in
-    let q = at-name-by .name-by .ensures ∙ ap (named (a .value) (tabled (a .copies .now))) (at-literal-at .literal-at .ensures) in
-    literals-more (l .inv) (at-loop-test .loop-test .taken) (at-variable .variable .ensures ∙ ap variableOf (at-literal-at .literal-at .ensures)) (at-if1 .if1 .left) (c .before .store-literal .ensures ∙ ap (λ (z : ℤ). set (l .out) (l .end) z) (toZ-ofZ {w = w32} {z = at-name-by .name-by .result .0} (record { sfits = at-struct-told .struct-told .given .0 .1 }) ∙ q))
+    let read = at-variable .variable .ensures ∙ ap variableOf (at-literal-at .literal-at .ensures) in
+    let name = at-name-by .name-by .ensures ∙ ap (named (a .value) (tabled (a .copies .now))) (at-literal-at .literal-at .ensures) in
+    let bits = toZ-ofZ {w = w32} {z = at-name-by .name-by .result .0} (record { sfits = at-struct-told .struct-told .given .0 .1 }) in
+    literals-more (l .inv) (at-loop-test .loop-test .taken) read (at-if1 .if1 .left)
+    (c .before .store-literal .ensures ∙ ap (λ (z : ℤ). set (l .out) (l .end) z) (bits ∙ name))
 
 add-result : tie.Need-add-result Inv-loop μ-loop
-add-result c =
-    let at-loop = c .before .before .before .before in
-    let at-start = at-loop .before .before in
-    omega (arith, at-loop .loop .inv .few, at-loop .loop .inv .within, at-start .pre)
+add-result c = omega (arith, few (c .before .before .before .before))
 
 same-length : tie.Need-same-length Inv-loop μ-loop
 same-length c =

@@ -1,4 +1,4 @@
--- `copying::literals::is_touched` meets its contract.
+-- The invariant: the rest of the clause has x or a member exactly if the whole has, since no literal before it is one.
 use Rattle.terms.specs.Literals.{variableOf}
 use Prim.Native.Nat.{_-_}
 use mathlib.Core.Path.{_≡_, refl, sym, ap, _∙_}
@@ -16,9 +16,6 @@ Inv-loop clause x copies i₀ i = touched (x .0) (tabled copies) (drop i clause)
 abbrev μ-loop : tie.MeasureT-loop
 μ-loop clause x copies i₀ i = length clause - i
 
-loop-holds : tie.Need-loop-holds Inv-loop μ-loop
-loop-holds c = refl
-
 returns : tie.Need-returns Inv-loop μ-loop
 returns c =
     let at-variable = c .before .before .before in
@@ -28,7 +25,8 @@ returns c =
     let at-start = at-loop .before .before in
     let a = at-start .args in
     let l = at-loop .loop in
-    touched-x (a .x .0) (tabled (a .copies .now)) (a .clause .now) (l .i) (l .inv) (at-loop-test .loop-test .taken) (at-variable .variable .ensures ∙ ap variableOf (at-literal-at .literal-at .ensures)) (c .if1 .taken)
+    let read = at-variable .variable .ensures ∙ ap variableOf (at-literal-at .literal-at .ensures) in
+    touched-x (a .x .0) (tabled (a .copies .now)) (a .clause .now) (l .i) (l .inv) (at-loop-test .loop-test .taken) read (c .if1 .taken)
 
 returns-2 : tie.Need-returns-2 Inv-loop μ-loop
 returns-2 c =
@@ -40,7 +38,9 @@ returns-2 c =
     let at-start = at-loop .before .before in
     let a = at-start .args in
     let l = at-loop .loop in
-    touched-member (a .x .0) (tabled (a .copies .now)) (a .clause .now) (l .i) (l .inv) (at-loop-test .loop-test .taken) (at-variable .variable .ensures ∙ ap variableOf (at-literal-at .literal-at .ensures)) (λ q. c .if2 .taken (at-copy-at .copy-at .ensures ∙ q))
+    let read = at-variable .variable .ensures ∙ ap variableOf (at-literal-at .literal-at .ensures) in
+    touched-member (a .x .0) (tabled (a .copies .now)) (a .clause .now) (l .i) (l .inv) (at-loop-test .loop-test .taken) read
+    (λ q. c .if2 .taken (at-copy-at .copy-at .ensures ∙ q))
 
 loop-again : tie.Need-loop-again Inv-loop μ-loop
 loop-again c =
@@ -53,14 +53,18 @@ loop-again c =
     let at-start = at-loop .before .before in
     let a = at-start .args in
     let l = at-loop .loop in
-    touched-more (a .x .0) (tabled (a .copies .now)) (a .clause .now) (l .i) (l .inv) (at-loop-test .loop-test .taken) (at-variable .variable .ensures ∙ ap variableOf (at-literal-at .literal-at .ensures)) (at-if1 .if1 .left) (sym (at-copy-at .copy-at .ensures) ∙ c .if2 .left)
+    let read = at-variable .variable .ensures ∙ ap variableOf (at-literal-at .literal-at .ensures) in
+    touched-more (a .x .0) (tabled (a .copies .now)) (a .clause .now) (l .i) (l .inv) (at-loop-test .loop-test .taken) read
+    (at-if1 .if1 .left) (sym (at-copy-at .copy-at .ensures) ∙ c .if2 .left)
 
 returns-3 : tie.Need-returns-3 Inv-loop μ-loop
 returns-3 c =
     let at-start = c .before .before .before in
-    let a = at-start .args in let l = c .before .loop in touched-none (a .x .0) (tabled (a .copies .now)) (a .clause .now) (l .i) (l .inv) (c .loop-test .left)
+    let a = at-start .args in
+    let l = c .before .loop in
+    touched-none (a .x .0) (tabled (a .copies .now)) (a .clause .now) (l .i) (l .inv) (c .loop-test .left)
 
 pub is-touched-spec : {M : Type 1} → statement M
 is-touched-spec =
-    tie.close (tie.spec Inv-loop μ-loop loop-holds (λ c κs. search needs) (λ c κs. search needs) returns (λ c κs. search needs) returns-2
+    tie.close (tie.spec Inv-loop μ-loop (λ c. refl) (λ c κs. search needs) (λ c κs. search needs) returns (λ c κs. search needs) returns-2
     (λ c. omega arith) (λ c. omega arith) loop-again returns-3)

@@ -1,27 +1,9 @@
--- `copying::stores::copy_at` meets its contract.
+-- Past the end of the table the definition has 0, and so has the answer.
 use mathlib.Core.Path.{sym, _∙_}
 use lib.ListN.{List·getD-eq-default}
 use borrow.Author.Needs.{needs}
 use Rattle.copying.proofs.stores.copy_at.Statement.{statement}
 use Rattle.copying.proofs.stores.copy_at.Tie as tie
-
-cast-at : tie.Need-cast-at
-cast-at c = search needs
-
-mul-new : tie.Need-mul-new
-mul-new c = search needs
-
-shared-slice-read-new : tie.Need-shared-slice-read-new
-shared-slice-read-new c = search needs
-
-new-requires : tie.Need-new-requires
-new-requires c κs = search needs
-
-new-requires-2 : tie.Need-new-requires-2
-new-requires-2 c κs = search needs
-
-returns : tie.Need-returns
-returns c = search needs
 
 returns-2 : tie.Need-returns-2
 returns-2 c =
@@ -30,5 +12,5 @@ returns-2 c =
 
 pub copy-at-spec : {M : Type 1} → statement M
 copy-at-spec =
-    tie.close
-    (tie.spec cast-at mul-new shared-slice-read-new new-requires new-requires-2 returns returns-2)
+    tie.close (tie.spec (λ c. search needs) (λ c. search needs) (λ c. search needs) (λ c κs. search needs) (λ c κs. search needs)
+    (λ c. search needs) returns-2)

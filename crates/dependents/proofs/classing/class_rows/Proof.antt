@@ -1,4 +1,4 @@
--- `dependents::classing::class_rows` meets its contract.
+-- The rows are loaded as depths, all clauses are put into loose rows over them, and the classes of these are settled and written out (classed).
 use Prim.Native.Nat.{ℕ}
 use mathlib.Core.Path.{refl, _∙_}
 use native.Mathlib.Omega.{arith}
@@ -12,37 +12,39 @@ use Rattle.dependents.proofs.classing.class_rows.Statement.{statement}
 use Rattle.dependents.proofs.classing.class_rows.Tie as tie
 
 load-requires : tie.Need-load-requires
-load-requires c κs =
-    let at-start = c .before .before .before in
-    ends-new (at-start .pre .1)
+load-requires c κs = ends-new (c .before .before .before .pre .1 .0 .0)
 
 singles-requires : tie.Need-singles-requires
 singles-requires c κs =
     let at-load = c .before .before .before .before in
     let at-start = at-load .before .before .before .before in
-    let a = at-start .args in
+    let rows = at-start .args .rows .now in
     let read = at-load .load in
-    let few = at-start .pre .1 in
-    (ends-read (a .rows .now) few (read .kept .1 .1 .0 ∙ length-replicate {A = ℕ} 4097 0) (read .ensures), ends-new few, ends-new few, read .ensures 0 ∙ row-none (a .n) (a .rows .now) 0 refl)
+    let few = at-start .pre .1 .0 .0 in (
+      ends-read rows few (read .kept .1 .1 .0 ∙ length-replicate {A = ℕ} 4097 0) (read .ensures),
+      ends-new few,
+      ends-new few,
+      read .ensures 0 ∙ row-none (at-start .args .n) rows 0 refl,
+    )
 
 settle-requires : tie.Need-settle-requires
 settle-requires c κs =
     let at-put-all = c .before .before .before in
     let at-load = at-put-all .before .before .before .before .before .before .before .before .before .before .before in
-    let at-before = at-load .before .before .before in
+    let at-start = at-load .before .before .before .before in
     let g = at-put-all .put-all .ensures .0 .growing in
-    let start = at-before .before in
-    (ends-classes (ends-read (start .args .rows .now) (start .pre .1) (g .sizes .0) (at-load .load .ensures)) g, class-falls g)
+    (ends-classes (ends-read (at-start .args .rows .now) (at-start .pre .1 .0 .0) (g .sizes .0) (at-load .load .ensures)) g, class-falls g)
 
 write-out-requires : tie.Need-write-out-requires
 write-out-requires c κs =
     let at-settle = c .before .before .before .before .before in
     let at-put-all = at-settle .before .before .before .before in
     let at-load = at-put-all .before .before .before .before .before .before .before .before .before .before .before in
-    let at-start = at-load .before .before .before .before in
-    let g = at-put-all .put-all .ensures .0 .growing in
-    let pre = at-start .pre in
-    ((at-settle .settle .kept .1 .0 ∙ g .sizes .1, g .sizes .2, parent-inside g), (pre .1, pre .2, omega (arith, pre .1, at-load .load .kept .1 .1 .0, length-replicate {A = ℕ} 4097 0)))
+    let (few, long) = at-load .before .before .before .before .pre .1 .0 in
+    let g = at-put-all .put-all .ensures .0 .growing in (
+      (at-settle .settle .kept .1 .0 ∙ g .sizes .1, g .sizes .2, parent-inside g),
+      (few, long, omega (arith, few, at-load .load .kept .1 .1 .0, length-replicate {A = ℕ} 4097 0)),
+    )
 
 returns : tie.Need-returns
 returns c =
@@ -51,9 +53,9 @@ returns c =
     let at-put-all = at-settle .before .before .before .before in
     let at-load = at-put-all .before .before .before .before .before .before .before .before .before .before .before in
     let at-start = at-load .before .before .before .before in
-    let pre = at-start .pre in
-    let a = at-start .args in
-    classed (a .clauses .now) (pre .1) (pre .3) (at-load .load .ensures) (at-put-all .put-all .ensures .0) (at-settle .settle .ensures) (at-write-out .write-out .ensures)
+    let (_, (room, flat)) = at-start .pre in
+    classed (at-start .args .clauses .now) (room .0) flat (at-load .load .ensures) (at-put-all .put-all .ensures .0) (at-settle .settle .ensures)
+    (at-write-out .write-out .ensures)
 
 pub class-rows-spec : {M : Type 1} → statement M
 class-rows-spec =

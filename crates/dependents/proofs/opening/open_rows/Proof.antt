@@ -1,43 +1,73 @@
--- `dependents::opening::open_rows` meets its contract.
-use native.Mathlib.Omega.{arith}
+-- The lists are judged by the level table, then x is looked up in it, and for a universal the rows are opened.
+use mathlib.Core.Path.{_≡_, sym, _∙_, subst}
+use mathlib.Core.Bool.{Bool}
+use mathlib.Core.List.{[], _∷_}
+use mathlib.Core.Logic.{inl, inr}
 use borrow.Author.Needs.{needs}
-use Rattle.tables.proofs.Agreeing.{universal-within}
-use Rattle.dependents.proofs.Opened.{rows-open}
+use Rattle.terms.specs.Refusals.{At0, None, Judged}
+use Rattle.terms.proofs.Common.{clash}
+use Rattle.terms.proofs.Verdicts.{at0-first, at0-none, refused-first}
+use Rattle.tables.specs.Formula.{universal}
+use Rattle.tables.proofs.Agreeing.{universal-agrees}
+use Rattle.forest.specs.Causes.{NotUniversal}
+use Rattle.lists.specs.Causes.{ListCause}
 use Rattle.dependents.proofs.opening.open_rows.Statement.{statement}
 use Rattle.dependents.proofs.opening.open_rows.Tie as tie
 
-level-at-requires : tie.Need-level-at-requires
-level-at-requires c κs = search needs
+abbrev start : tie.After-fill-levels → tie.Start
+start c = c .before .before .before .before .before .before
 
-open-blocks-requires : tie.Need-open-blocks-requires
-open-blocks-requires c κs =
-    let at-start = c .before .before .before .before .before .before .before in
-    let few = at-start .pre .0 .few in let size = at-start .pre .4 in omega arith
+abbrev filled : tie.After-enum-told → tie.After-fill-levels
+filled c = c .before .before .before .before .before .before
 
-open-lists-requires : tie.Need-open-lists-requires
-open-lists-requires c κs =
-    let at-open-blocks = c .before .before .before in
-    let at-start = at-open-blocks .before .before .before .before .before .before .before .before in
-    let pre = at-start .pre in
-    let (a, b, t) = universal-within (at-start .args .n) (at-start .args .prefix .now) (at-start .args .x .0) (pre .3) in
-    let few = pre .0 .few in
-    let size = pre .4 in
-    let same = at-open-blocks .open-blocks .kept .0 in
-    (pre .2, (λ z. omega arith), omega arith, few)
+check-lists-requires : tie.Need-check-lists-requires
+check-lists-requires c κs =
+    let at-fill = c .before .before .before in
+    let (sound, (short, _)) = start at-fill .pre in
+    (sound, (short, λ v. universal-agrees sound (at-fill .fill-levels .ensures) v))
 
-same-length : tie.Need-same-length
-same-length c = search needs
+-- the lists are accepted
+accepted : (c : tie.After-enum-told) → let a = start (filled c) .args in None (ListCause (a .n) (a .prefix .now) (a .lists .now))
+accepted c =
+    let a = start (filled c) .args in
+    subst (Judged (ListCause (a .n) (a .prefix .now) (a .lists .now) ∷ [])) (c .enum-told .given .1) (c .before .before .check-lists .ensures) .0
+
+-- what the table says of x is what the prefix says
+told : (c : tie.After-universal-at) {b : Bool} → c .universal-at .result ≡ b
+    → let a = start (filled (c .before .before)) .args in universal (a .n) (a .prefix .now) (a .x .0) ≡ b
+told c is =
+    let at-fill = filled (c .before .before) in
+    sym (universal-agrees (start at-fill .pre .0) (at-fill .fill-levels .ensures) (start at-fill .args .x .0)) ∙ sym (c .universal-at .ensures) ∙ is
+
+open-for-requires : tie.Need-open-for-requires
+open-for-requires c κs =
+    let at-if1 = c .before .before .before in
+    let at-told = at-if1 .before .before .before in
+    let at-fill = filled at-told in
+    let (sound, (_, size)) = start at-fill .pre in
+    ((sound, at-fill .fill-levels .ensures), (accepted at-told, (told (at-if1 .before) (at-if1 .if1 .taken), size)))
 
 returns : tie.Need-returns
 returns c =
-    let at-open-lists = c .before .before in
-    let at-open-blocks = at-open-lists .before .before .before .before in
-    let at-level-at = at-open-blocks .before .before in
-    let at-start = at-level-at .before .before .before .before .before .before in
-    let pre = at-start .pre in
-    rows-open (pre .0) (pre .1) (pre .2) (pre .3) (at-level-at .level-at .result .0) (at-open-blocks .open-blocks .last .1 .1 .1 .1 .0) (at-open-lists .open-lists .last .1 .1 .1 .1 .0) (at-level-at .level-at .ensures) (at-open-blocks .open-blocks .ensures) (at-open-lists .open-lists .ensures)
+    let at-check = c .before .before .before in
+    let a = start (at-check .before .before .before .before) .args in (
+      refused-first (ListCause (a .n) (a .prefix .now) (a .lists .now) ∷ []) (At0 13 (NotUniversal (a .n) (a .prefix .now) (a .x .0)) ∷ [])
+          (c .before .number .given .1) (at-check .check-lists .ensures),
+      tt,
+    )
+
+returns-2 : tie.Need-returns-2
+returns-2 c =
+    let at-open = c .before .before in
+    let at-if1 = at-open .before .before .before .before in
+    let at-told = at-if1 .before .before .before in
+    ((accepted at-told, (at0-none 13 (λ no′. clash (told (at-if1 .before) (at-if1 .if1 .taken)) no′), tt)), at-open .open-for .ensures)
+
+returns-3 : tie.Need-returns-3
+returns-3 c = (inr (accepted (c .before .before .before), inl (at0-first 13 (told (c .before) (c .if1 .left)))), tt)
 
 pub open-rows-spec : {M : Type 1} → statement M
 open-rows-spec =
-    tie.close
-    (tie.spec level-at-requires open-blocks-requires open-lists-requires same-length returns)
+    tie.close (tie.spec (λ c. search needs) (λ c. search needs) (λ c κs. search needs) (λ c. search needs) check-lists-requires
+    (λ c. search needs) (λ c. search needs) (λ c. search needs) (λ c κs. search needs) (λ c. search needs) (λ c. search needs)
+    open-for-requires returns (λ c. search needs) returns-2 returns-3)

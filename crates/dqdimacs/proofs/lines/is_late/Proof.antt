@@ -1,4 +1,4 @@
--- `dqdimacs::lines::is_late` meets its contract.
+-- A line that added nothing to the prefix table is not late; one that did is, if a list line has stood (late-is).
 use Rattle.dqdimacs.proofs.Faults.{late-is}
 use Rattle.dqdimacs.proofs.lines.is_late.Statement.{statement}
 use Rattle.dqdimacs.proofs.lines.is_late.Tie as tie

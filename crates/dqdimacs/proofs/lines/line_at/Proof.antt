@@ -1,13 +1,20 @@
--- `dqdimacs::lines::line_at` meets its contract.
+-- Without the letter the line is left to `plain_line`; with it, its numbers are a list, and the line is one (went-list), or it may not stand there
+-- (fault-list).
 use mathlib.Core.Path.{subst}
 use native.Mathlib.Omega.{arith}
-use Rattle.tokens.specs.declared.Spelt.{Spelt}
-use Rattle.tokens.specs.declared.Row.{Row}
-use Rattle.dqdimacs.specs.Steps.{ListMarkIs, ListIs}
+use Rattle.dqdimacs.specs.Steps.{ListMark, ListMarkIs, ListIs}
 use Rattle.dqdimacs.proofs.Faults.{fault-list, went-list}
 use borrow.Author.Needs.{needs}
 use Rattle.dqdimacs.proofs.lines.line_at.Statement.{statement}
 use Rattle.dqdimacs.proofs.lines.line_at.Tie as tie
+
+-- where the line begins with `d`, and a list line may stand
+marked : (c : tie.After-after)
+    → let a = c .before .before .before .before .before .before .args in ListMark (a .stage) (a .text .now) (a .at) (c .after .given .0 .0)
+marked c =
+    let at-list-mark = c .before .before in
+    let a = at-list-mark .before .before .before .before .args in
+    subst (ListMarkIs (a .stage) (a .text .now) (a .at)) (c .after .given .1) (at-list-mark .list-mark .ensures)
 
 plain-line-requires : tie.Need-plain-line-requires
 plain-line-requires c κs =
@@ -16,56 +23,43 @@ plain-line-requires c κs =
     let at-start = at-list-mark .before .before .before .before in
     let a = at-start .args in
     let pre = at-start .pre in
-    let w = at-enum-told .enum-told .given in
-    let mark = subst (λ (r : Spelt). ListMarkIs (a .stage) (a .text .now) (a .at) r) (w .1) (at-list-mark .list-mark .ensures) in
-    (pre .0, pre .1, pre .2, mark)
+    let unlisted = subst (ListMarkIs (a .stage) (a .text .now) (a .at)) (at-enum-told .enum-told .given .1) (at-list-mark .list-mark .ensures) in
+    (pre .0, pre .1, pre .2, unlisted)
 
 list-at-requires : tie.Need-list-at-requires
 list-at-requires c κs =
     let at-after = c .before .before in
-    let at-list-mark = at-after .before .before in
-    let at-start = at-list-mark .before .before .before .before in
-    let a = at-start .args in
-    let pre = at-start .pre in
-    let w = at-after .after .given in
-    let mark = subst (λ (r : Spelt). ListMarkIs (a .stage) (a .text .now) (a .at) r) (w .1) (at-list-mark .list-mark .ensures) in
-    omega (arith, mark .goes .on, pre .1 .2)
+    let pre = at-after .before .before .before .before .before .before .pre in
+    omega (arith, marked at-after .goes .on, pre .1 .2)
 
 returns : tie.Need-returns
 returns c =
     let at-plain-line = c .before .before .before in
-    let at-start = at-plain-line .before .before .before .before .before .before .before .before .before in
-    at-plain-line .plain-line .ensures (at-start .args .lists .now)
+    let a = at-plain-line .before .before .before .before .before .before .before .before .before .args in
+    at-plain-line .plain-line .ensures (a .lists .now)
 
 returns-2 : tie.Need-returns-2
 returns-2 c =
     let at-list-at = c .before .before .before .before in
     let at-after = at-list-at .before .before .before in
-    let at-list-mark = at-after .before .before in
-    let at-start = at-list-mark .before .before .before .before in
+    let at-start = at-after .before .before .before .before .before .before in
     let a = at-start .args in
-    let pre = at-start .pre in
-    let w = at-after .after .given in
-    let mark = subst (λ (r : Spelt). ListMarkIs (a .stage) (a .text .now) (a .at) r) (w .1) (at-list-mark .list-mark .ensures) in
     let o = at-list-at .list-at in
-    let v = c .enum-told2 .given in
-    let list = subst (λ (r : Row). ListIs (a .text .now) (w .0 .0) (a .rows) (a .lists .now) (o .last .1 .1 .0) r) (v .1) (o .ensures) in
-    fault-list (a .listed) (a .stage) (a .text .now) (a .at) (pre .0) (w .0 .0) mark list
+    let none =
+    subst (ListIs (a .text .now) (at-after .after .given .0 .0) (a .rows) (a .lists .now) (o .last .1 .1 .0)) (c .enum-told2 .given .1) (o .ensures) in
+    fault-list (at-start .pre .0) (marked at-after) none
 
 returns-3 : tie.Need-returns-3
 returns-3 c =
     let at-list-at = c .before .before .before .before .before in
     let at-after = at-list-at .before .before .before in
-    let at-list-mark = at-after .before .before in
-    let at-start = at-list-mark .before .before .before .before in
+    let at-start = at-after .before .before .before .before .before .before in
     let a = at-start .args in
-    let pre = at-start .pre in
-    let w = at-after .after .given in
-    let mark = subst (λ (r : Spelt). ListMarkIs (a .stage) (a .text .now) (a .at) r) (w .1) (at-list-mark .list-mark .ensures) in
     let o = at-list-at .list-at in
-    let v = c .before .next .given in
-    let list = subst (λ (r : Row). ListIs (a .text .now) (w .0 .0) (a .rows) (a .lists .now) (o .last .1 .1 .0) r) (v .1) (o .ensures) in
-    went-list (a .prefix .now) (a .clauses .now) (pre .1) mark list
+    let list =
+    subst (ListIs (a .text .now) (at-after .after .given .0 .0) (a .rows) (a .lists .now) (o .last .1 .1 .0)) (c .before .next .given .1) (o .ensures)
+    in
+    went-list (a .prefix .now) (a .clauses .now) (at-start .pre .1) (marked at-after) list
 
 pub line-at-spec : {M : Type 1} → statement M
 line-at-spec =

@@ -1,45 +1,34 @@
--- `dqdimacs::lines::list_at` meets its contract.
+-- The numbers are a row as in a quantifier line (row-known); by their count they are the closing 0 alone, or y stands before it.
 use mathlib.Core.Path.{subst}
-use Rattle.tokens.specs.declared.Row.{Row}
 use Rattle.grammar.specs.Grammar.{variables}
-use Rattle.tokens.specs.Places.{RowIs}
+use Rattle.tokens.specs.Places.{WholeRow, RowIs}
 use Rattle.dqdimacs.specs.Steps.{no-row}
 use Rattle.dqdimacs.proofs.Faults.{row-alone, row-list}
 use borrow.Author.Needs.{needs}
 use Rattle.dqdimacs.proofs.lines.list_at.Statement.{statement}
 use Rattle.dqdimacs.proofs.lines.list_at.Tie as tie
 
+row-known : (c : tie.After-next)
+    → let o = c .before .before .before .before in let a = o .before .before .before .before .args in let v = c .next .given .0 in
+    WholeRow variables (a .text .now) (a .at) (a .from) (a .lists .now) (o .variables-at .last .1 .1 .0) (v .0) (v .1 .0)
+row-known c =
+    let o = c .before .before .before .before in
+    let a = o .before .before .before .before .args in
+    let Is = RowIs variables (a .text .now) (a .at) (a .from) (a .lists .now) (o .variables-at .last .1 .1 .0) in
+    subst Is (c .next .given .1) (o .variables-at .ensures)
+
 returns : tie.Need-returns
-returns c =
-    let at-next = c .before .before in
-    let at-variables-at = at-next .before .before .before .before in
-    let at-start = at-variables-at .before .before .before .before in
-    let a = at-start .args in
-    let o = at-variables-at .variables-at in
-    let v = at-next .next .given in
-    let row = subst (λ (r : Row). RowIs variables (a .text .now) (a .at) (a .from) (a .lists .now) (o .last .1 .1 .0) r) (v .1) (o .ensures) in
-    row-alone row (c .if1 .taken)
+returns c = row-alone (row-known (c .before .before)) (c .if1 .taken)
 
 returns-2 : tie.Need-returns-2
 returns-2 c =
     let at-variables-at = c .before .before .before .before in
-    let at-start = at-variables-at .before .before .before .before in
-    let a = at-start .args in
+    let a = at-variables-at .before .before .before .before .args in
     let o = at-variables-at .variables-at in
-    let v = c .enum-told .given in
-    let row = subst (λ (r : Row). RowIs variables (a .text .now) (a .at) (a .from) (a .lists .now) (o .last .1 .1 .0) r) (v .1) (o .ensures) in
-    no-row row
+    no-row (subst (RowIs variables (a .text .now) (a .at) (a .from) (a .lists .now) (o .last .1 .1 .0)) (c .enum-told .given .1) (o .ensures))
 
 returns-3 : tie.Need-returns-3
-returns-3 c =
-    let at-next = c .before .before in
-    let at-variables-at = at-next .before .before .before .before in
-    let at-start = at-variables-at .before .before .before .before in
-    let a = at-start .args in
-    let o = at-variables-at .variables-at in
-    let v = at-next .next .given in
-    let row = subst (λ (r : Row). RowIs variables (a .text .now) (a .at) (a .from) (a .lists .now) (o .last .1 .1 .0) r) (v .1) (o .ensures) in
-    row-list row (c .if1 .left)
+returns-3 c = row-list (row-known (c .before .before)) (c .if1 .left)
 
 pub list-at-spec : {M : Type 1} → statement M
 list-at-spec =

@@ -1,47 +1,49 @@
--- `dqdimacs::lines::plain_line` meets its contract.
+-- What QDIMACS makes of the line (stepped) is what is said here, but for a quantifier line after a list line, which is a fault (fault-late).
 use mathlib.Core.Path.{subst}
-use Rattle.grammar.specs.declared.Step.{Step}
-use Rattle.grammar.specs.Steps.{StepIs}
+use Rattle.grammar.specs.Steps as plain
 use Rattle.dqdimacs.specs.Steps.{LateIs}
 use Rattle.dqdimacs.proofs.Faults.{fault-plain, fault-late, went-plain}
 use borrow.Author.Needs.{needs}
 use Rattle.dqdimacs.proofs.lines.plain_line.Statement.{statement}
 use Rattle.dqdimacs.proofs.lines.plain_line.Tie as tie
 
-returns : tie.Need-returns
-returns c =
-    let at-reached = c .before .before .before in
-    let at-line-at = at-reached .before .before .before .before .before in
-    let at-start = at-line-at .before .before .before .before .before in
-    let a = at-start .args in
-    let pre = at-start .pre in
+-- where the line leads to, in QDIMACS
+stepped : (c : tie.After-reached)
+    → let o = c .before .before .before .before .before in let a = o .before .before .before .before .before .args in let v = c .reached .given .0 in
+    plain.Went (a .stage) (a .text .now) (a .at) (a .entries) (a .literals) (a .prefix .now, a .clauses .now)
+    (o .line-at .last .1 .1 .1 .0, o .line-at .last .1 .1 .1 .1 .1 .0) (v .0) (v .1 .0) (v .1 .1 .0) (v .1 .1 .1 .0)
+stepped c =
+    let at-line-at = c .before .before .before .before .before in
+    let a = at-line-at .before .before .before .before .before .args in
     let o = at-line-at .line-at in
-    let v = at-reached .reached .given in
-    let s = subst (λ (r : Step). StepIs (a .stage) (a .text .now) (a .at) (a .entries) (a .literals) (a .prefix .now, a .clauses .now) (o .last .1 .1 .1 .0, o .last .1 .1 .1 .1 .1 .0) r) (v .1) (o .ensures) in
-    λ lists. fault-late s (a .listed) (pre .3) (subst (LateIs (a .listed) (a .entries) (v .0 .1 .1 .0)) (c .if1 .taken) (c .before .is-late .ensures))
+    subst (plain.StepIs (a .stage) (a .text .now) (a .at) (a .entries) (a .literals) (a .prefix .now, a .clauses .now)
+    (o .last .1 .1 .1 .0, o .last .1 .1 .1 .1 .1 .0)) (c .reached .given .1) (o .ensures)
+
+returns : tie.Need-returns
+returns c lists =
+    let at-reached = c .before .before .before in
+    let at-start = at-reached .before .before .before .before .before .before .before .before .before .before in
+    let a = at-start .args in
+    let late = subst (LateIs (a .listed) (a .entries) (at-reached .reached .given .0 .1 .1 .0)) (c .if1 .taken) (c .before .is-late .ensures) in
+    fault-late (stepped at-reached) (a .listed) (at-start .pre .3) late
 
 returns-2 : tie.Need-returns-2
-returns-2 c =
+returns-2 c lists =
     let at-line-at = c .before .before .before .before .before .before in
     let at-start = at-line-at .before .before .before .before .before in
     let a = at-start .args in
-    let pre = at-start .pre in
     let o = at-line-at .line-at in
-    let v = c .before .number .given in
-    let s = subst (λ (r : Step). StepIs (a .stage) (a .text .now) (a .at) (a .entries) (a .literals) (a .prefix .now, a .clauses .now) (o .last .1 .1 .1 .0, o .last .1 .1 .1 .1 .1 .0) r) (v .1) (o .ensures) in
-    λ lists. fault-plain (a .listed) (pre .3) s
+    fault-plain (a .listed) (at-start .pre .3)
+    (subst (plain.StepIs (a .stage) (a .text .now) (a .at) (a .entries) (a .literals) (a .prefix .now, a .clauses .now)
+    (o .last .1 .1 .1 .0, o .last .1 .1 .1 .1 .1 .0)) (c .before .number .given .1) (o .ensures))
 
 returns-3 : tie.Need-returns-3
-returns-3 c =
+returns-3 c lists =
     let at-reached = c .before .before .before in
-    let at-line-at = at-reached .before .before .before .before .before in
-    let at-start = at-line-at .before .before .before .before .before in
+    let at-start = at-reached .before .before .before .before .before .before .before .before .before .before in
     let a = at-start .args in
-    let pre = at-start .pre in
-    let o = at-line-at .line-at in
-    let v = at-reached .reached .given in
-    let s = subst (λ (r : Step). StepIs (a .stage) (a .text .now) (a .at) (a .entries) (a .literals) (a .prefix .now, a .clauses .now) (o .last .1 .1 .1 .0, o .last .1 .1 .1 .1 .1 .0) r) (v .1) (o .ensures) in
-    λ lists. went-plain s (a .listed) (subst (LateIs (a .listed) (a .entries) (v .0 .1 .1 .0)) (c .if1 .left) (c .before .is-late .ensures)) (a .rows) (pre .1 .2) lists
+    let kept = subst (LateIs (a .listed) (a .entries) (at-reached .reached .given .0 .1 .1 .0)) (c .if1 .left) (c .before .is-late .ensures) in
+    went-plain (stepped at-reached) (a .listed) kept (a .rows) (at-start .pre .1 .2) lists
 
 pub plain-line-spec : {M : Type 1} → statement M
 plain-line-spec =

@@ -1,4 +1,5 @@
--- `encoding::bytes::put_number` meets its contract: the bytes stored and those of what is left are those of the number.
+-- The invariant: the bytes stored and those of what is left make the bytes of the number (Partly). Each round moves one byte over
+-- (number-step).
 use borrow.Author.Needs.{needs}
 use Prim.Native.Nat.{_≤_}
 use native.Mathlib.Omega.{arith}
@@ -9,7 +10,8 @@ use Rattle.encoding.proofs.bytes.put_number.Statement.{statement}
 use Rattle.encoding.proofs.bytes.put_number.Tie as tie
 
 abbrev Inv-loop : tie.InvT-loop
-Inv-loop out₀ at width number next₀ left₀ rest₀ out next left rest = Partly (numberBytes width number) (numberBytes left rest) out₀ out at next × (left ≤ width)
+Inv-loop out₀ at width number next₀ left₀ rest₀ out next left rest =
+    Partly (numberBytes width number) (numberBytes left rest) out₀ out at next × (left ≤ width)
 
 abbrev μ-loop : tie.MeasureT-loop
 μ-loop out₀ at width number next₀ left₀ rest₀ out next left rest = left
@@ -20,10 +22,9 @@ loop-holds c = let a = c .before .args in (partly-none (numberBytes (a .width) (
 put-byte-requires : tie.Need-put-byte-requires Inv-loop μ-loop
 put-byte-requires c κs =
     let at-loop = c .before .before in
-    let at-before = at-loop .before in
-    let k = at-before .before in
+    let at-start = at-loop .before .before in
     let l = at-loop .loop in
-    omega (arith, partly-near (l .inv .0), number-length (k .args .width) (k .args .number), k .pre .0, k .pre .1)
+    omega (arith, partly-near (l .inv .0), number-length (at-start .args .width) (at-start .args .number), at-start .pre .0, at-start .pre .1)
 
 loop-again : tie.Need-loop-again Inv-loop μ-loop
 loop-again c =

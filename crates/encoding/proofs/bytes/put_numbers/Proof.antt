@@ -1,4 +1,5 @@
--- `encoding::bytes::put_numbers` meets its contract: the bytes stored and those of the numbers left are those of all.
+-- The invariant: the bytes stored and those of the numbers left make the bytes of all (Partly). Each round moves one number over
+-- (numbers-step).
 use borrow.Author.Needs.{needs}
 use Prim.Native.Nat.{_-_, _≤_}
 use native.Mathlib.Omega.{arith}
@@ -10,7 +11,8 @@ use Rattle.encoding.proofs.bytes.put_numbers.Statement.{statement}
 use Rattle.encoding.proofs.bytes.put_numbers.Tie as tie
 
 abbrev Inv-loop : tie.InvT-loop
-Inv-loop out₀ at width numbers next₀ i₀ out next i = Partly (bytesOf width numbers) (bytesOf width (drop i numbers)) out₀ out at next × (i ≤ length numbers)
+Inv-loop out₀ at width numbers next₀ i₀ out next i =
+    Partly (bytesOf width numbers) (bytesOf width (drop i numbers)) out₀ out at next × (i ≤ length numbers)
 
 abbrev μ-loop : tie.MeasureT-loop
 μ-loop out₀ at width numbers next₀ i₀ out next i = length numbers - i
@@ -23,11 +25,10 @@ loop-holds c =
 put-number-requires : tie.Need-put-number-requires Inv-loop μ-loop
 put-number-requires c κs =
     let at-loop = c .before .before .before in
-    let at-before = at-loop .before .before in
-    let k = at-before .before in
+    let at-start = at-loop .before .before .before in
     let near = partly-near (at-loop .loop .inv .0) in
-    let most = bytes-most (k .args .width) (k .args .numbers .now) (k .pre .1) in
-    omega (arith, near, most, k .pre .0, k .pre .2)
+    let most = bytes-most (at-start .args .width) (at-start .args .numbers .now) (at-start .pre .1) in
+    omega (arith, near, most, at-start .pre .0, at-start .pre .2)
 
 loop-again : tie.Need-loop-again Inv-loop μ-loop
 loop-again c =
@@ -46,7 +47,9 @@ same-length c = partly-length (c .before .loop .inv .0)
 returns : tie.Need-returns Inv-loop μ-loop
 returns c =
     let at-start = c .before .before .before .before in
-    let a = at-start .args in let l = c .before .loop in partly-all (l .inv .0) (numbers-over (a .width) (a .numbers .now) (l .i) (c .loop-test .left))
+    let a = at-start .args in
+    let l = c .before .loop in
+    partly-all (l .inv .0) (numbers-over (a .width) (a .numbers .now) (l .i) (c .loop-test .left))
 
 pub put-numbers-spec : {M : Type 1} → statement M
 put-numbers-spec =

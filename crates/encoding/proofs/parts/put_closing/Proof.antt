@@ -1,4 +1,5 @@
--- `encoding::parts::put_closing` meets its contract.
+-- Once the head stands, the words up to its end sum to what the definition says; the word that is missing from there to zero closes the sum
+-- (closing-is).
 use Prim.Native.Nat.{ℕ, _%_}
 use mathlib.Core.Path.{sym, ap, _∙_}
 use mathlib.Core.List.{List}
@@ -6,9 +7,9 @@ use native.Mathlib.Omega.{arith}
 use lib.ListN.{take}
 use lib.Seq.{length-take-le}
 use Rattle.records.specs.Numbers.{wordSum}
-use Rattle.records.specs.Layout.{closingRecord}
-use Rattle.encoding.proofs.Sizes.{head-length}
+use Rattle.records.specs.Layout.{closingKind, closingRecord}
 use Rattle.encoding.proofs.Composed.{wrote-as, front-stored, closing-wrote, closing-is}
+use Rattle.encoding.proofs.Sizes.{head-end}
 use borrow.Author.Needs.{needs}
 use Rattle.encoding.proofs.parts.put_closing.Statement.{statement}
 use Rattle.encoding.proofs.parts.put_closing.Tie as tie
@@ -17,37 +18,36 @@ slice-reshare-prefix-sum-words : tie.Need-slice-reshare-prefix-sum-words
 slice-reshare-prefix-sum-words c =
     let at-put-head = c .before .before in
     let at-start = at-put-head .before .before .before in
-    omega (arith, head-length 2 65535, at-put-head .put-head .ensures .end, at-put-head .put-head .kept .0, at-start .pre .1)
+    let o = at-put-head .put-head in
+    omega (arith, head-end 2 closingKind (o .ensures), o .kept .0, at-start .pre .1)
 
 slice-aggregate-sum-words : tie.Need-slice-aggregate-sum-words
 slice-aggregate-sum-words c =
     let at-put-head = c .before .before .before in
     let at-start = at-put-head .before .before .before in
     let o = at-put-head .put-head in
-    sym (length-take-le (o .result) (o .last .0) (omega (arith, head-length 2 65535, o .ensures .end, o .kept .0, at-start .pre .1)))
+    sym (length-take-le (o .result) (o .last .0) (omega (arith, head-end 2 closingKind (o .ensures), o .kept .0, at-start .pre .1)))
 
 put-number-requires : tie.Need-put-number-requires
 put-number-requires c κs =
     let at-put-head = c .before .before .before .before .before .before in
     let at-start = at-put-head .before .before .before in
-    omega (arith, head-length 2 65535, at-put-head .put-head .ensures .end, at-start .pre .0)
+    omega (arith, head-end 2 closingKind (at-put-head .put-head .ensures), at-start .pre .0)
 
 returns : tie.Need-returns
 returns c =
     let at-put-number = c .before .before in
-    let at-wrapping-sub-u16 = at-put-number .before .before in
-    let at-sum-words = at-wrapping-sub-u16 .before in
+    let at-wrapping-sub = at-put-number .before .before in
+    let at-sum-words = at-wrapping-sub .before in
     let at-put-head = at-sum-words .before .before .before .before in
-    let at-before = at-put-head .before .before in
-    let k = at-before .before in
-    let a = k .args in
+    let at-start = at-put-head .before .before .before in
+    let a = at-start .args in
     let head = at-put-head .put-head in
-    let front = take (a .at) (a .out .now) in
-    let l = head-length 2 65535 in
-    let stands = front-stored (head .ensures) (omega (arith, k .pre .1)) in
+    let word = at-wrapping-sub .wrapping-sub-u16 in
+    let stands = front-stored (head .ensures) (omega (arith, head .ensures .end, head-end 2 closingKind (head .ensures), at-start .pre .1)) in
     let sum = at-sum-words .sum-words .ensures ∙ ap (λ (xs : List ℕ). wordSum xs % 65536) stands in
-    let word = at-wrapping-sub-u16 .wrapping-sub-u16 in
-    wrote-as (ap closingRecord (closing-is front _ (word .result) sum (word .ok) (word .ensures))) (closing-wrote (word .result) (head .ensures) (at-put-number .put-number .ensures))
+    let closes = closing-is (take (a .at) (a .out .now)) _ (word .result) sum (word .ok) (word .ensures) in
+    wrote-as (ap closingRecord closes) (closing-wrote (word .result) (head .ensures) (at-put-number .put-number .ensures))
 
 pub put-closing-spec : {M : Type 1} → statement M
 put-closing-spec =

@@ -1,4 +1,4 @@
--- `expansion::blocks::begin` meets its contract.
+-- Where the mark differs from that of the open block, the 0 that closes that block and the new mark are written; else nothing is.
 use native.Mathlib.Omega.{arith}
 use Rattle.expansion.proofs.Blocking.{begun-already, begun-new, closing-most}
 use borrow.Author.Needs.{needs}

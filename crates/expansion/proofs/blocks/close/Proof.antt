@@ -1,4 +1,4 @@
--- `expansion::blocks::close` meets its contract.
+-- Where a block is open its 0 is stored, and else nothing is left to write.
 use Rattle.expansion.proofs.Blocking.{closed-none, closed-zero}
 use borrow.Author.Needs.{needs}
 use Rattle.expansion.proofs.blocks.close.Statement.{statement}

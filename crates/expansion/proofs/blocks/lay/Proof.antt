@@ -1,4 +1,5 @@
--- `expansion::blocks::lay` meets its contract.
+-- The invariant: what is written so far, and what is still to be laid of the prefix, are together the expanded prefix (Laid); each entry moves one
+-- step.
 use Prim.Native.Nat.{_-_}
 use mathlib.Core.Path.{_∙_}
 use native.Mathlib.Omega.{arith}
@@ -55,7 +56,13 @@ place-requires c κs =
     let at-loop-test = at-if1 .before .before in
     let at-loop = at-loop-test .before in
     let at-start = at-loop .before .before .before .before in
-    omega (arith, begun-few (at-loop .loop .inv) (at-loop-test .loop-test .taken) (at-if1 .if1 .left) (at-if2 .if2 .left) (at-begin .begin .ensures), at-loop .loop .inv .within, at-start .pre .1 .short)
+    omega (
+      arith,
+      begun-few (at-loop .loop .inv) (at-loop-test .loop-test .taken) (at-if1 .if1 .left) (at-if2 .if2 .left)
+          (at-begin .begin .ensures),
+      at-loop .loop .inv .within,
+      at-start .pre .1 .short,
+    )
 
 loop-again-4 : tie.Need-loop-again-4 Inv-loop μ-loop
 loop-again-4 c =
@@ -67,7 +74,8 @@ loop-again-4 c =
     let at-if1 = at-if2 .before in
     let at-loop-test = at-if1 .before .before in
     let at-loop = at-loop-test .before in
-    laid-variable-on (at-loop .loop .inv) (at-loop-test .loop-test .taken) (at-if1 .if1 .left) (at-if2 .if2 .left) (at-begin .begin .ensures) (at-new .new .ensures) (at-if3 .if3 .left) (at-place .place .ensures)
+    laid-variable-on (at-loop .loop .inv) (at-loop-test .loop-test .taken) (at-if1 .if1 .left) (at-if2 .if2 .left) (at-begin .begin .ensures)
+    (at-new .new .ensures) (at-if3 .if3 .left) (at-place .place .ensures)
 
 close-requires : tie.Need-close-requires Inv-loop μ-loop
 close-requires c κs =

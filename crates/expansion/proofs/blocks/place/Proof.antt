@@ -1,4 +1,4 @@
--- `expansion::blocks::place` meets its contract.
+-- A variable without a copy is one entry, and one with a copy is two; each is stored as far as the table has rows.
 use Rattle.copying.proofs.Storing.{stored-one}
 use Prim.Native.Nat.{_+_}
 use Rattle.expansion.proofs.Blocking.{placed-alone, placed-both}
@@ -21,7 +21,8 @@ returns-2 c =
     let at-before = at-if1 .before in
     let d = at-before .before in
     let a = d .before .before .before .before .before .before .before .args in
-    placed-both (a .copies .now) (a .v .0) (a .at) (stored-one (a .v .0) (a .at) (d .before .before .before .store-entry .ensures)) (d .copy-at .ensures) (at-if1 .if1 .left) (stored-one (d .copy-at .result .0) (a .at + 1) (at-store-entry2 .store-entry2 .ensures))
+    placed-both (a .copies .now) (a .v .0) (a .at) (stored-one (a .v .0) (a .at) (d .before .before .before .store-entry .ensures))
+    (d .copy-at .ensures) (at-if1 .if1 .left) (stored-one (d .copy-at .result .0) (a .at + 1) (at-store-entry2 .store-entry2 .ensures))
 
 pub place-spec : {M : Type 1} → statement M
 place-spec =

@@ -1,29 +1,51 @@
--- `expansion::members::find` meets its contract.
+-- The rows are those of the formula's own forest, so that the members by them are what depends on x (members-depend).
 use Prim.Native.Nat.{ℕ}
-use lib.ListN.{length-replicate}
-use Rattle.expansion.proofs.Finding.{find-refused, find-listed}
+use mathlib.Core.List.{[]}
+use native.Mathlib.Omega.{arith}
 use borrow.Author.Needs.{needs}
+use lib.ListN.{length-replicate}
+use Rattle.terms.specs.Limits.{variableRows}
+use Rattle.terms.specs.declared.Scheme.the-variants.{Standard}
+use Rattle.terms.proofs.Answers.{listed-as}
+use Rattle.formula.specs.Lent.{formulaOf}
+use Rattle.connection.proofs.Growth.{forest-is}
+use Rattle.tables.specs.Lent.{rows}
+use Rattle.tables.proofs.Agreeing.{lawful, universal-within}
+use Rattle.forest.proofs.Demands.{universal-alone, members-depend}
 use Rattle.expansion.proofs.members.find.Statement.{statement}
 use Rattle.expansion.proofs.members.find.Tie as tie
 
+grow-requires : tie.Need-grow-requires
+grow-requires c κs =
+    let at-start = c .before .before .before .before in
+    let (sound, clauses) = at-start .pre .0 in
+    let room = length-replicate {A = ℕ} variableRows 0 in
+    (sound, clauses, omega (arith, sound .few), omega (arith, sound .few))
+
+sound-members-requires : tie.Need-sound-members-requires
+sound-members-requires c κs =
+    let at-grow = c .before .before .before .before .before in
+    let at-start = at-grow .before .before .before .before .before in
+    let a = at-start .args in
+    let (sound, ((known, floor), room)) = at-start .pre in
+    let formed = forest-is (lawful (a .n) (a .prefix .now)) .0 (at-grow .grow .ensures .0 .forest) .formed in
+    let within = universal-within (a .n) (a .prefix .now) (a .x .0) known .1 in
+    (sound, (formed, ((omega (arith, sound .0 .few), floor), room)))
+
 returns : tie.Need-returns
 returns c =
-    let at-build-tallied = c .before .before .before .before .before .before in
-    let at-start = at-build-tallied .before .before .before .before .before .before in
+    let at-members = c .before .before in
+    let at-grow = at-members .before .before .before .before .before .before in
+    let at-start = at-grow .before .before .before .before .before in
     let a = at-start .args in
-    find-refused (a .n) (a .prefix .now) (a .clauses .now) (a .x .0) _ _ (length-replicate {A = ℕ} 4096 0, length-replicate {A = ℕ} 4096 0, length-replicate {A = ℕ} 4096 0) (c .before .answer .given .1) (at-build-tallied .build-tallied .ensures)
-
-returns-2 : tie.Need-returns-2
-returns-2 c =
-    let at-set-by = c .before .before in
-    let at-enum-told = at-set-by .before .before .before .before .before in
-    let at-build-tallied = at-enum-told .before .before .before .before .before in
-    let at-start = at-build-tallied .before .before .before .before .before .before in
-    let a = at-start .args in
-    find-listed (a .n) (a .prefix .now) (a .clauses .now) (a .x .0) _ _ (length-replicate {A = ℕ} 4096 0, length-replicate {A = ℕ} 4096 0, length-replicate {A = ℕ} 4096 0) (at-enum-told .enum-told .given .1) (at-build-tallied .build-tallied .ensures) (a .members .now) _ (at-start .pre) (at-set-by .set-by .result) (at-set-by .set-by .ensures)
+    let (_, ((known, _), _)) = at-start .pre in
+    let f = formulaOf (a .n) (a .prefix .now) (a .clauses .now) in
+    let r = rows (at-grow .grow .last .1 .1 .1 .0) (at-grow .grow .last .1 .1 .1 .1 .0) [] in
+    let depend = members-depend f r (a .x .0) (at-grow .grow .ensures .0 .forest) Standard (universal-alone (a .n) (a .prefix .now) (a .x .0) known) in
+    let (list, listed, is, put) = at-members .sound-members .ensures in
+    (list, listed-as depend listed, is, put)
 
 pub find-spec : {M : Type 1} → statement M
 find-spec =
-    tie.close (tie.spec (λ c. search needs) (λ c. search needs) (λ c. search needs) (λ c κs. search needs) (λ c. search needs)
-    (λ c. search needs) (λ c. search needs) (λ c. search needs) (λ c. search needs) (λ c κs. search needs) returns (λ c. search needs)
-    returns-2)
+    tie.close (tie.spec (λ c. search needs) (λ c. search needs) grow-requires (λ c. search needs) (λ c. search needs) sound-members-requires
+    (λ c. search needs) returns)

@@ -1,4 +1,4 @@
--- `formula::clauses::any_over` meets its contract.
+-- As long as the flag is down, no entry that is passed has a variable over n.
 use Prim.Native.Nat.{_-_}
 use mathlib.Core.Path.{_≡_, refl}
 use mathlib.Core.Bool.{false}

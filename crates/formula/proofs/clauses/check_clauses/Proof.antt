@@ -1,4 +1,4 @@
--- `formula::clauses::check_clauses` meets its contract.
+-- Where some variable is over n, 10 at the first one comes first; where none is, the last entry tells whether the table ends inside a clause.
 use mathlib.Core.Path.{sym, _∙_}
 use mathlib.Core.Logic.{inl, inr}
 use borrow.Author.Needs.{needs}
@@ -18,18 +18,16 @@ returns-3 : tie.Need-returns-3
 returns-3 c =
     let at-variable-at = c .before .before in
     let at-if1 = at-variable-at .before .before in
-    let at-first-over = at-if1 .before in
-    let at = at-first-over .first-over .ensures in
-    (none-over at (at-if1 .if1 .left) (inr (sym (at-variable-at .variable-at .ensures) ∙ c .if3 .taken)), tt)
+    let last = sym (at-variable-at .variable-at .ensures) ∙ c .if3 .taken in
+    (none-over (at-if1 .before .first-over .ensures) (at-if1 .if1 .left) (inr last), tt)
 
 returns-4 : tie.Need-returns-4
 returns-4 c =
     let at-variable-at = c .before .before in
     let at-if2 = at-variable-at .before in
     let at-if1 = at-if2 .before in
-    let at-first-over = at-if1 .before in
-    let at = at-first-over .first-over .ensures in
-    inl (fault-at-end at (at-if1 .if1 .left) (at-if2 .if2 .left) (λ z. c .if3 .left (at-variable-at .variable-at .ensures ∙ z)))
+    inl (fault-at-end (at-if1 .before .first-over .ensures) (at-if1 .if1 .left) (at-if2 .if2 .left)
+    (λ z. c .if3 .left (at-variable-at .variable-at .ensures ∙ z)))
 
 pub check-clauses-spec : {M : Type 1} → statement M
 check-clauses-spec =

@@ -1,4 +1,4 @@
--- `formula::clauses::find` meets its contract: the invariant is `Passed`.
+-- The clause asked for is the one with the number `left` among those from `start` on (`Passed`): each clause passed lessens the number by one.
 use Prim.Native.Nat.{_-_}
 use mathlib.Core.Path.{ap}
 use native.Mathlib.Omega.{arith}
@@ -21,30 +21,30 @@ loop-holds c = pass-none (c .args .clauses .now) (c .args .asked)
 
 returns : tie.Need-returns Inv-loop μ-loop
 returns c =
-    let at-loop = c .before .before .before in
-    let at-start = at-loop .before in
-    let p = at-loop .loop .inv in
-    stands-nowhere p (clauses-unclosed (at-start .args .clauses .now) (at-loop .loop .start) (c .before .next-zero .result) (c .before .next-zero .ensures) (c .if1 .taken))
+    let at-next-zero = c .before in
+    let at-loop = at-next-zero .before .before in
+    let ls = at-loop .before .args .clauses .now in
+    let next = at-next-zero .next-zero in
+    stands-nowhere (at-loop .loop .inv) (clauses-unclosed ls (at-loop .loop .start) (next .result) (next .ensures) (c .if1 .taken))
 
 returns-2 : tie.Need-returns-2 Inv-loop μ-loop
 returns-2 c =
     let at-next-zero = c .before .before in
-    let at-loop = at-next-zero .before .before in
-    stands-here (at-loop .loop .inv) (at-next-zero .next-zero .result) (at-next-zero .next-zero .ensures) (c .before .if1 .left) (c .if2 .taken)
+    let next = at-next-zero .next-zero in
+    stands-here (at-next-zero .before .before .loop .inv) (next .result) (next .ensures) (c .before .if1 .left) (c .if2 .taken)
 
 sub-left : tie.Need-sub-left Inv-loop μ-loop
 sub-left c = let some = c .if2 .left in omega arith
 
 loop-less : tie.Need-loop-less Inv-loop μ-loop
 loop-less c =
-    let at-next-zero = c .before .before in
-    let from = at-next-zero .next-zero .ensures .from in omega arith
+    let from = c .before .before .next-zero .ensures .from in omega arith
 
 loop-again : tie.Need-loop-again Inv-loop μ-loop
 loop-again c =
     let at-next-zero = c .before .before in
-    let at-loop = at-next-zero .before .before in
-    pass-clause (at-loop .loop .inv) (at-next-zero .next-zero .result) (at-next-zero .next-zero .ensures) (c .before .if1 .left) (c .if2 .left)
+    let next = at-next-zero .next-zero in
+    pass-clause (at-next-zero .before .before .loop .inv) (next .result) (next .ensures) (c .before .if1 .left) (c .if2 .left)
 
 returns-3 : tie.Need-returns-3 Inv-loop μ-loop
 unfolding clauses cut

@@ -1,4 +1,4 @@
--- `formula::clauses::first_over` meets its contract: no variable passed is over n.
+-- No variable that is passed is over n, so that the first one found over it is the first of all.
 use Prim.Native.Nat.{_≤_, _-_}
 use native.Mathlib.Omega.{arith}
 use borrow.Author.Count.{below-more}
@@ -16,7 +16,9 @@ abbrev μ-loop : tie.MeasureT-loop
 μ-loop n clauses i₀ i = length clauses - i
 
 returns : tie.Need-returns Inv-loop μ-loop
-returns c = record { within = omega arith; low = c .before .any-over .ensures (not-true (c .before .any-over .result) (c .if1 .taken)); over = λ l. absurd (omega arith) }
+returns c =
+    let none = c .before .any-over .ensures (not-true (c .before .any-over .result) (c .if1 .taken)) in
+    record { within = omega arith; low = none; over = λ l. absurd (omega arith) }
 
 loop-holds : tie.Need-loop-holds Inv-loop μ-loop
 loop-holds c = (omega arith, λ e l. absurd (omega arith))
@@ -26,14 +28,16 @@ returns-2 c =
     let at-variable-at = c .before .before in
     let at-loop = at-variable-at .before .before in
     let inv = at-loop .loop .inv in
-    record { within = inv .0; low = inv .1; over = λ _. let is = at-variable-at .variable-at .ensures in let high = c .if2 .taken in omega arith }
+    let is = at-variable-at .variable-at .ensures in
+    record { within = inv .0; low = inv .1; over = λ _. let high = c .if2 .taken in omega arith }
 
 loop-again : tie.Need-loop-again Inv-loop μ-loop
 loop-again c =
     let at-variable-at = c .before .before in
     let at-loop = at-variable-at .before .before in
     let inv = at-loop .loop .inv in
-    (omega arith, below-more _ _ (inv .1) (let is = at-variable-at .variable-at .ensures in let low = c .if2 .left in omega arith))
+    let is = at-variable-at .variable-at .ensures in
+    (omega arith, below-more _ _ (inv .1) (let low = c .if2 .left in omega arith))
 
 returns-3 : tie.Need-returns-3 Inv-loop μ-loop
 returns-3 c = record { within = c .before .loop .inv .0; low = c .before .loop .inv .1; over = λ l. absurd (omega arith) }

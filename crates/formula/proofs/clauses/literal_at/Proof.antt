@@ -1,4 +1,4 @@
--- `formula::clauses::literal_at` meets its contract: an entry is read back from its bits.
+-- Within the table the entry is read back from its bits; past the end `getD` gives 0, and so does the code.
 use mathlib.Core.Path.{_∙_, sym}
 use lib.ListN.{List·getD-eq-default}
 use lib.IntN.{pos}
@@ -12,7 +12,8 @@ use Rattle.formula.proofs.clauses.literal_at.Tie as tie
 returns : tie.Need-returns
 returns c =
     let at-start = c .before .before .before in
-    c .new .ensures ∙ toZ-ofZ {w = w32} {z = literalAt (at-start .args .clauses .now) (at-start .args .i)} (record { sfits = c .before .new-arg .given })
+    let z = literalAt (at-start .args .clauses .now) (at-start .args .i) in
+    c .new .ensures ∙ toZ-ofZ {w = w32} {z = z} (record { sfits = c .before .new-arg .given })
 
 returns-2 : tie.Need-returns-2
 returns-2 c =

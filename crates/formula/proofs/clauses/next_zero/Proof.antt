@@ -1,4 +1,4 @@
--- `formula::clauses::next_zero` meets its contract: every entry passed is a literal.
+-- Every entry passed from `start` on is a literal, so that the 0 where the loop stops is the next one.
 use Prim.Native.Nat.{ℕ, _≤_, _<_, _-_}
 use mathlib.Core.Path.{_∙_, sym}
 use mathlib.Core.Logic.{_≢_}
@@ -26,7 +26,8 @@ returns c =
     let at-variable-at = c .before .before in
     let at-loop = at-variable-at .before .before in
     let inv = at-loop .loop .inv in
-    record { from = inv .0; within = inv .1; literals = λ e s l. inv .2 e l s; closes = λ _. sym (at-variable-at .variable-at .ensures) ∙ c .if1 .taken }
+    let zero = sym (at-variable-at .variable-at .ensures) ∙ c .if1 .taken in
+    record { from = inv .0; within = inv .1; literals = λ e s l. inv .2 e l s; closes = λ _. zero }
 
 loop-again : tie.Need-loop-again Inv-loop μ-loop
 loop-again c =

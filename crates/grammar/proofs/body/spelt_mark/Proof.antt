@@ -1,7 +1,6 @@
--- `grammar::body::spelt_mark` meets its contract.
+-- The word `e` was looked for, and then `a`: what was found of either is what is said.
 use mathlib.Core.Path.{refl, subst}
 use mathlib.Core.List.{[], _∷_}
-use Rattle.tokens.specs.declared.Spelt.{Spelt}
 use Rattle.tokens.specs.Words.{LETTER-A, LETTER-E}
 use Rattle.tokens.specs.Expected.{SpeltIs}
 use Rattle.grammar.specs.Steps.{e-mark, a-mark}
@@ -12,25 +11,23 @@ use Rattle.grammar.proofs.body.spelt_mark.Tie as tie
 returns : tie.Need-returns
 returns c =
     let at-letter-at = c .before .before .before in
-    let at-start = at-letter-at .before .before in
-    e-mark refl (subst (λ (r : Spelt). SpeltIs (LETTER-E ∷ []) (at-start .args .text .now) (at-start .args .at) r) (c .before .next .given .1) (at-letter-at .letter-at .ensures))
+    let a = at-letter-at .before .before .args in
+    e-mark refl (subst (SpeltIs (LETTER-E ∷ []) (a .text .now) (a .at)) (c .before .next .given .1) (at-letter-at .letter-at .ensures))
 
 returns-2 : tie.Need-returns-2
 returns-2 c =
     let at-letter-at2 = c .before .before .before in
-    let at-start = at-letter-at2 .before .before .before .before .before in
-    a-mark refl (subst (λ (r : Spelt). SpeltIs (LETTER-A ∷ []) (at-start .args .text .now) (at-start .args .at) r) (c .before .next2 .given .1) (at-letter-at2 .letter-at2 .ensures))
+    let a = at-letter-at2 .before .before .before .before .before .args in
+    a-mark refl (subst (SpeltIs (LETTER-A ∷ []) (a .text .now) (a .at)) (c .before .next2 .given .1) (at-letter-at2 .letter-at2 .ensures))
 
 returns-3 : tie.Need-returns-3
 returns-3 c =
     let at-letter-at2 = c .before .before in
     let at-enum-told = at-letter-at2 .before in
     let at-letter-at = at-enum-told .before .before in
-    let at-start = at-letter-at .before .before in
-    let at = at-start .args .at in
-    let text = at-start .args .text .now in (
-      subst (λ (r : Spelt). SpeltIs (LETTER-E ∷ []) text at r) (at-enum-told .enum-told .given .1) (at-letter-at .letter-at .ensures),
-      subst (λ (r : Spelt). SpeltIs (LETTER-A ∷ []) text at r) (c .enum-told2 .given .1) (at-letter-at2 .letter-at2 .ensures),
+    let a = at-letter-at .before .before .args in (
+      subst (SpeltIs (LETTER-E ∷ []) (a .text .now) (a .at)) (at-enum-told .enum-told .given .1) (at-letter-at .letter-at .ensures),
+      subst (SpeltIs (LETTER-A ∷ []) (a .text .now) (a .at)) (c .enum-told2 .given .1) (at-letter-at2 .letter-at2 .ensures),
     )
 
 pub spelt-mark-spec : {M : Type 1} → statement M

@@ -1,8 +1,5 @@
--- `grammar::opening::problem_at` meets its contract.
+-- Word by word, what stands next in the line: where a word is missing no problem line has stood (no-p to no-end), and with all of them one has.
 use mathlib.Core.Path.{subst}
-use Rattle.tokens.specs.declared.Spelt.{Spelt}
-use Rattle.tokens.specs.declared.Counted.{Counted}
-use Rattle.tokens.specs.declared.Ended.{Ended}
 use Rattle.tokens.specs.Places.{EndedIs}
 use Rattle.tokens.specs.Expected.{Goes, SpeltIs, Counts, CountedIs}
 use Rattle.grammar.proofs.Openings.{p-word, cnf-word, no-p, no-cnf, no-number, no-count, no-end, problem-line, problem-passed}
@@ -10,105 +7,104 @@ use borrow.Author.Needs.{needs}
 use Rattle.grammar.proofs.opening.problem_at.Statement.{statement}
 use Rattle.grammar.proofs.opening.problem_at.Tie as tie
 
--- word by word, what stands next in the line
-p-known : (c : tie.After-known-told) → Goes p-word (c .before .before .before .before .before .args .text .now) (c .before .before .before .before .before .args .at) (c .before .p .given .0 .0)
+-- what the words are that were found: `p`, `cnf`, n and the number of clause lines
+p-known : (c : tie.After-known-told)
+    → let a = c .before .before .before .before .before .args in Goes p-word (a .text .now) (a .at) (c .before .p .given .0 .0)
 p-known c =
     let at-letter-at = c .before .before .before in
-    let at-start = at-letter-at .before .before in
-    subst (λ (r : Spelt). SpeltIs p-word (at-start .args .text .now) (at-start .args .at) r) (c .before .p .given .1) (at-letter-at .letter-at .ensures)
+    let a = at-letter-at .before .before .args in
+    subst (SpeltIs p-word (a .text .now) (a .at)) (c .before .p .given .1) (at-letter-at .letter-at .ensures)
 
-cnf-known : (c : tie.After-known-told2) → Goes cnf-word (c .before .before .before .before .before .before .before .before .before .args .text .now) (c .before .before .before .before .before .p .given .0 .0) (c .before .cnf .given .0 .0)
+cnf-known : (c : tie.After-known-told2)
+    → let p = c .before .before .before .before in let a = p .before .before .before .before .before .args in
+    Goes cnf-word (a .text .now) (p .before .p .given .0 .0) (c .before .cnf .given .0 .0)
 cnf-known c =
-    let at-cnf-at = c .before .before .before in
-    let at-p = at-cnf-at .before .before in
-    let at-start = at-p .before .before .before .before in
-    subst (λ (r : Spelt). SpeltIs cnf-word (at-start .args .text .now) (at-p .p .given .0 .0) r) (c .before .cnf .given .1) (at-cnf-at .cnf-at .ensures)
+    let p = c .before .before .before .before in
+    let a = p .before .before .before .before .before .args in
+    subst (SpeltIs cnf-word (a .text .now) (p .before .p .given .0 .0)) (c .before .cnf .given .1) (c .before .before .before .cnf-at .ensures)
 
-number-known : (c : tie.After-known-told3) → Counts (c .before .before .before .before .before .before .before .before .before .before .before .before .before .args .text .now) (c .before .before .before .before .before .cnf .given .0 .0) (c .before .n .given .0 .0) (c .before .n .given .0 .1 .0)
+number-known : (c : tie.After-known-told3)
+    → let cnf = c .before .before .before .before in let p = cnf .before .before .before .before in
+    let a = p .before .before .before .before .before .args in let w = c .before .n .given .0 in
+    Counts (a .text .now) (cnf .before .cnf .given .0 .0) (w .0) (w .1 .0)
 number-known c =
-    let at-number-at = c .before .before .before in
-    let at-cnf = at-number-at .before .before in
-    let at-start = at-cnf .before .before .before .before .before .before .before .before in
-    subst (λ (r : Counted). CountedIs (at-start .args .text .now) (at-cnf .cnf .given .0 .0) r) (c .before .n .given .1) (at-number-at .number-at .ensures)
+    let cnf = c .before .before .before .before in
+    let p = cnf .before .before .before .before in
+    let a = p .before .before .before .before .before .args in
+    subst (CountedIs (a .text .now) (cnf .before .cnf .given .0 .0)) (c .before .n .given .1) (c .before .before .before .number-at .ensures)
 
-count-known : (c : tie.After-known-told4) → Counts (c .before .before .before .before .before .before .before .before .before .before .before .before .before .before .before .before .before .args .text .now) (c .before .before .before .before .before .n .given .0 .1 .0) (c .before .announced .given .0 .0) (c .before .announced .given .0 .1 .0)
+count-known : (c : tie.After-known-told4)
+    → let n = c .before .before .before .before in let p = n .before .before .before .before .before .before .before .before in
+    let a = p .before .before .before .before .before .args in let w = c .before .announced .given .0 in
+    Counts (a .text .now) (n .before .n .given .0 .1 .0) (w .0) (w .1 .0)
 count-known c =
-    let at-number-at2 = c .before .before .before in
-    let at-n = at-number-at2 .before .before in
-    let at-start = at-n .before .before .before .before .before .before .before .before .before .before .before .before in
-    subst (λ (r : Counted). CountedIs (at-start .args .text .now) (at-n .n .given .0 .1 .0) r) (c .before .announced .given .1) (at-number-at2 .number-at2 .ensures)
+    let n = c .before .before .before .before in
+    let p = n .before .before .before .before .before .before .before .before in
+    let a = p .before .before .before .before .before .args in
+    subst (CountedIs (a .text .now) (n .before .n .given .0 .1 .0)) (c .before .announced .given .1) (c .before .before .before .number-at2 .ensures)
 
 returns : tie.Need-returns
 returns c =
     let at-letter-at = c .before .before in
     let at-start = at-letter-at .before .before in
     let a = at-start .args in
-    let plain = at-start .pre in
-    no-p (a .text .now) (a .at) plain (subst (λ (r : Spelt). SpeltIs p-word (a .text .now) (a .at) r) (c .enum-told .given .1) (at-letter-at .letter-at .ensures))
+    no-p (a .text .now) (a .at) (at-start .pre) (subst (SpeltIs p-word (a .text .now) (a .at)) (c .enum-told .given .1) (at-letter-at .letter-at .ensures))
 
 returns-2 : tie.Need-returns-2
 returns-2 c =
-    let at-before = c .before .before in
-    let at-start = at-before .before .before .before .before .before .before in
+    let at-cnf-at = c .before .before in
+    let p = at-cnf-at .before in
+    let at-start = p .before .before .before .before .before in
     let a = at-start .args in
-    let plain = at-start .pre in
-    let k = at-before .before in
-    let i = k .before .p .given .0 .0 in
-    no-cnf (a .text .now) (a .at) plain i (p-known k) (subst (λ (r : Spelt). SpeltIs cnf-word (a .text .now) i r) (c .enum-told2 .given .1) (at-before .cnf-at .ensures))
+    no-cnf (a .text .now) (a .at) (at-start .pre) (p-known p)
+    (subst (SpeltIs cnf-word (a .text .now) (p .before .p .given .0 .0)) (c .enum-told2 .given .1) (at-cnf-at .cnf-at .ensures))
 
 returns-3 : tie.Need-returns-3
 returns-3 c =
     let at-number-at = c .before .before in
-    let at-start = at-number-at .before .before .before .before .before .before .before .before .before .before in
+    let cnf = at-number-at .before in
+    let p = cnf .before .before .before .before in
+    let at-start = p .before .before .before .before .before in
     let a = at-start .args in
-    let plain = at-start .pre in
-    let k = at-number-at .before in
-    let k1 = k .before .before .before .before in
-    let j = k .before .cnf .given .0 .0 in
-    no-number (a .text .now) (a .at) plain (k1 .before .p .given .0 .0) (p-known k1) j (cnf-known k) (subst (λ (r : Counted). CountedIs (a .text .now) j r) (c .enum-told3 .given .1) (at-number-at .number-at .ensures))
+    no-number (a .text .now) (a .at) (at-start .pre) (p-known p) (cnf-known cnf)
+    (subst (CountedIs (a .text .now) (cnf .before .cnf .given .0 .0)) (c .enum-told3 .given .1) (at-number-at .number-at .ensures))
 
 returns-4 : tie.Need-returns-4
 returns-4 c =
-    let at-before = c .before .before in
-    let at-start = at-before .before .before .before .before .before .before .before .before .before .before .before .before .before .before in
+    let at-number-at2 = c .before .before in
+    let n = at-number-at2 .before in
+    let cnf = n .before .before .before .before in
+    let p = cnf .before .before .before .before in
+    let at-start = p .before .before .before .before .before in
     let a = at-start .args in
-    let plain = at-start .pre in
-    let k = at-before .before in
-    let k1 = k .before .before .before .before in
-    let k2 = k1 .before .before .before .before in
-    let w = k .before .n .given .0 in
-    no-count (a .text .now) (a .at) plain (k2 .before .p .given .0 .0) (p-known k2) (k1 .before .cnf .given .0 .0) (cnf-known k1) (w .0) (w .1 .0) (number-known k)
-    (subst (λ (r : Counted). CountedIs (a .text .now) (w .1 .0) r) (c .enum-told4 .given .1) (at-before .number-at2 .ensures))
+    no-count (a .text .now) (a .at) (at-start .pre) (p-known p) (cnf-known cnf) (number-known n)
+    (subst (CountedIs (a .text .now) (n .before .n .given .0 .1 .0)) (c .enum-told4 .given .1) (at-number-at2 .number-at2 .ensures))
 
 returns-5 : tie.Need-returns-5
 returns-5 c =
-    let at-before = c .before .before in
-    let at-start = at-before .before .before .before .before .before .before .before .before .before .before .before .before .before .before .before .before .before .before in
+    let at-line-ended = c .before .before in
+    let m = at-line-ended .before in
+    let n = m .before .before .before .before in
+    let cnf = n .before .before .before .before in
+    let p = cnf .before .before .before .before in
+    let at-start = p .before .before .before .before .before in
     let a = at-start .args in
-    let plain = at-start .pre in
-    let k = at-before .before in
-    let k1 = k .before .before .before .before in
-    let k2 = k1 .before .before .before .before in
-    let k3 = k2 .before .before .before .before in
-    let w = k .before .announced .given .0 in
-    let v = k1 .before .n .given .0 in
-    no-end (a .text .now) (a .at) plain (k3 .before .p .given .0 .0) (p-known k3) (k2 .before .cnf .given .0 .0) (cnf-known k2) (v .0) (v .1 .0) (number-known k1) (w .0) (w .1 .0) (count-known k)
-    (subst (λ (r : Ended). EndedIs (a .text .now) (w .1 .0) r) (c .enum-told5 .given .1) (at-before .line-ended .ensures))
+    no-end (a .text .now) (a .at) (at-start .pre) (p-known p) (cnf-known cnf) (number-known n) (count-known m)
+    (subst (EndedIs (a .text .now) (m .before .announced .given .0 .1 .0)) (c .enum-told5 .given .1) (at-line-ended .line-ended .ensures))
 
 returns-6 : tie.Need-returns-6
 returns-6 c =
-    let at-before = c .before .before .before in
-    let at-start = at-before .before .before .before .before .before .before .before .before .before .before .before .before .before .before .before .before .before .before in
+    let at-line-ended = c .before .before .before in
+    let m = at-line-ended .before in
+    let n = m .before .before .before .before in
+    let cnf = n .before .before .before .before in
+    let p = cnf .before .before .before .before in
+    let at-start = p .before .before .before .before .before in
     let a = at-start .args in
-    let plain = at-start .pre in
-    let k = at-before .before in
-    let k1 = k .before .before .before .before in
-    let k2 = k1 .before .before .before .before in
-    let k3 = k2 .before .before .before .before in
-    let w = k .before .announced .given .0 in
-    let v = k1 .before .n .given .0 in
-    let e = subst (λ (r : Ended). EndedIs (a .text .now) (w .1 .0) r) (c .before .next .given .1) (at-before .line-ended .ensures) in
-    (problem-line (a .text .now) (a .at) plain (k3 .before .p .given .0 .0) (p-known k3) (k2 .before .cnf .given .0 .0) (cnf-known k2) (v .0) (v .1 .0) (number-known k1) (w .0) (w .1 .0) (count-known k) (e .0), problem-passed (a .text .now) (a .at) plain (k3 .before .p .given .0 .0) (p-known k3) (k2 .before .cnf .given .0 .0) (cnf-known k2) (v .0) (v .1 .0) (number-known k1) (w .0) (w .1 .0) (count-known k) (c .before .next .given .0 .0) (e .1))
+    let e = subst (EndedIs (a .text .now) (m .before .announced .given .0 .1 .0)) (c .before .next .given .1) (at-line-ended .line-ended .ensures) in (
+      problem-line (a .text .now) (a .at) (at-start .pre) (p-known p) (cnf-known cnf) (number-known n) (count-known m) (e .0),
+      problem-passed (a .text .now) (a .at) (at-start .pre) (p-known p) (cnf-known cnf) (number-known n) (count-known m) (c .before .next .given .0 .0) (e .1),
+    )
 
 pub problem-at-spec : {M : Type 1} → statement M
 problem-at-spec =

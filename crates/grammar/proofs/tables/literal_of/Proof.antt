@@ -1,15 +1,9 @@
--- `grammar::tables::literal_of` meets its contract.
+-- By the sign; what either function gave is read back from its bits.
 use mathlib.Core.Path.{_∙_}
 use mir.Facts.{toZ-ofZ}
 use borrow.Author.Needs.{needs}
 use Rattle.grammar.proofs.tables.literal_of.Statement.{statement}
 use Rattle.grammar.proofs.tables.literal_of.Tie as tie
-
-negated-literal-requires : tie.Need-negated-literal-requires
-negated-literal-requires c κs = search needs
-
-plain-literal-requires : tie.Need-plain-literal-requires
-plain-literal-requires c κs = search needs
 
 returns : tie.Need-returns
 returns c = rw (c .before .if1 .taken) (toZ-ofZ (record { sfits = c .negated-literal .ok }) ∙ c .negated-literal .ensures)
@@ -18,4 +12,4 @@ returns-2 : tie.Need-returns-2
 returns-2 c = rw (c .before .if1 .left) (toZ-ofZ (record { sfits = c .plain-literal .ok }) ∙ c .plain-literal .ensures)
 
 pub literal-of-spec : {M : Type 1} → statement M
-literal-of-spec = tie.close (tie.spec negated-literal-requires plain-literal-requires returns returns-2)
+literal-of-spec = tie.close (tie.spec (λ c κs. search needs) (λ c κs. search needs) returns returns-2)

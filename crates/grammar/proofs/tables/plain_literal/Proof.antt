@@ -1,4 +1,4 @@
--- `grammar::tables::plain_literal` meets its contract.
+-- A small number is the same with a sign (toZ-pos).
 use native.Mathlib.Omega.{arith}
 use mir.Syntax.{w32}
 use mir.Facts.{toZ-pos}
@@ -6,11 +6,8 @@ use borrow.Author.Needs.{needs}
 use Rattle.grammar.proofs.tables.plain_literal.Statement.{statement}
 use Rattle.grammar.proofs.tables.plain_literal.Tie as tie
 
-cast-result : tie.Need-cast-result
-cast-result c = search needs
-
 returns : tie.Need-returns
 returns c = toZ-pos w32 (omega arith)
 
 pub plain-literal-spec : {M : Type 1} → statement M
-plain-literal-spec = tie.close (tie.spec cast-result returns)
+plain-literal-spec = tie.close (tie.spec (λ c. search needs) returns)

@@ -1,12 +1,10 @@
--- `grammar::tables::variables_at` meets its contract: the entries up to a place of the line stand in the table.
+-- The entries of the line up to i stand in the table from its row on (Partly); a number moves both on by one, the closing 0 makes the row whole.
 use mathlib.Core.Path.{refl, subst, _∙_}
 use borrow.Author.Needs.{needs}
 use Prim.Native.Nat.{_-_}
 use native.Mathlib.Omega.{arith}
 use lib.ListN.{length}
-use Rattle.tokens.specs.declared.Item.the-variants.{Plain}
-use Rattle.tokens.specs.declared.Entry.{Entry}
-use Rattle.tokens.specs.Words.{entry, prepend}
+use Rattle.tokens.specs.Words.{Plain, entry, prepend}
 use Rattle.grammar.specs.Grammar.{variables}
 use Rattle.tokens.specs.Places.{Taken, Closes, EntryIs}
 use Rattle.grammar.proofs.Rows.{Partly, partly-none, partly-length, partly-more, partly-barred, partly-whole, partly-broken}
@@ -20,63 +18,51 @@ abbrev μ-loop : tie.MeasureT-loop
 μ-loop text at prefix₀ from i₀ row₀ prefix i row = length text - i
 
 -- at the closing 0, and at a number, what stands next in the line
-close-known : (c : tie.After-slice-known2 Inv-loop μ-loop) → Closes (c .before .before .before .before .before .before .before .before .before .before .before .args .text .now) (c .before .before .before .before .before .before .before .before .loop .i) (c .before .before .before .before .before .next .given .0 .0)
+close-known : (c : tie.After-slice-known2 Inv-loop μ-loop)
+    → let at-next = c .before .before .before .before .before in let at-loop = at-next .before .before .before in
+    Closes (at-loop .before .before .before .args .text .now) (at-loop .loop .i) (at-next .next .given .0 .0)
 close-known c =
     let at-next = c .before .before .before .before .before in
     let at-entry-at = at-next .before .before in
     let at-loop = at-entry-at .before in
-    let at-start = at-loop .before .before .before in
-    subst (λ (r : Entry). EntryIs (at-start .args .text .now) (at-loop .loop .i) r) (at-next .next .given .1) (at-entry-at .entry-at .ensures)
+    subst (EntryIs (at-loop .before .before .before .args .text .now) (at-loop .loop .i)) (at-next .next .given .1) (at-entry-at .entry-at .ensures)
 
-take-known : (c : tie.After-slice-known3 Inv-loop μ-loop) → Taken (Plain (c .before .before .before .before .before .value .given .0 .0)) (c .before .before .before .before .before .before .before .before .before .before .before .args .text .now) (c .before .before .before .before .before .before .before .before .loop .i) (c .before .before .before .before .before .value .given .0 .1 .0)
+take-known : (c : tie.After-slice-known3 Inv-loop μ-loop)
+    → let at-value = c .before .before .before .before .before in let at-loop = at-value .before .before .before in let w = at-value .value .given .0 in
+    Taken (Plain (w .0)) (at-loop .before .before .before .args .text .now) (at-loop .loop .i) (w .1 .0)
 take-known c =
     let at-value = c .before .before .before .before .before in
     let at-entry-at = at-value .before .before in
     let at-loop = at-entry-at .before in
-    let at-start = at-loop .before .before .before in
-    subst (λ (r : Entry). EntryIs (at-start .args .text .now) (at-loop .loop .i) r) (at-value .value .given .1) (at-entry-at .entry-at .ensures)
+    subst (EntryIs (at-loop .before .before .before .args .text .now) (at-loop .loop .i)) (at-value .value .given .1) (at-entry-at .entry-at .ensures)
 
 loop-holds : tie.Need-loop-holds Inv-loop μ-loop
 loop-holds c =
     let at-start = c .before .before in
-    let a = at-start .args in partly-none variables (a .text .now) (a .at) (a .from) (a .prefix .now) (at-start .pre)
-
-same-length : tie.Need-same-length Inv-loop μ-loop
-same-length c =
-    let at-loop = c .before .before .before in
-    partly-length (at-loop .loop .inv)
+    let a = at-start .args in
+    partly-none variables (a .text .now) (a .at) (a .from) (a .prefix .now) (at-start .pre)
 
 returns : tie.Need-returns Inv-loop μ-loop
 returns c =
     let at-entry-at = c .before .before in
     let at-loop = at-entry-at .before in
-    let at-start = at-loop .before .before .before in
-    let a = at-start .args in
-    let l = at-loop .loop in
-    partly-broken (l .inv)
-    (subst (λ (r : Entry). EntryIs (a .text .now) (l .i) r) (c .enum-told .given .1) (at-entry-at .entry-at .ensures))
-
-same-length-2 : tie.Need-same-length-2 Inv-loop μ-loop
-same-length-2 c =
-    let at-loop = c .before .before .before in
-    partly-length (at-loop .loop .inv)
+    let text = at-loop .before .before .before .args .text .now in
+    partly-broken (at-loop .loop .inv) (subst (EntryIs text (at-loop .loop .i)) (c .enum-told .given .1) (at-entry-at .entry-at .ensures))
 
 returns-2 : tie.Need-returns-2 Inv-loop μ-loop
 unfolding entry prepend
 returns-2 c =
     let at-entry-at = c .before .before in
     let at-loop = at-entry-at .before in
-    let at-start = at-loop .before .before .before in
-    let a = at-start .args in
-    let l = at-loop .loop in
-    partly-barred (l .inv)
-    (subst (λ (r : Entry). EntryIs (a .text .now) (l .i) r) (c .enum-told2 .given .1) (at-entry-at .entry-at .ensures)) (λ more later. refl)
+    let text = at-loop .before .before .before .args .text .now in
+    partly-barred (at-loop .loop .inv) (subst (EntryIs text (at-loop .loop .i)) (c .enum-told2 .given .1) (at-entry-at .entry-at .ensures))
+    (λ more later. refl)
 
 add-t14 : tie.Need-add-t14 Inv-loop μ-loop
 add-t14 c =
     let at-loop = c .before .before .before .before .before .before .before .before in
-    let at-start = at-loop .before .before .before in
-    let t = close-known c in let l = at-loop .loop in omega (arith, t .on, t .passed .within, l .inv .few, at-start .good)
+    let t = close-known c in
+    omega (arith, t .on, t .passed .within, at-loop .loop .inv .few, at-loop .before .before .before .good)
 
 same-length-3 : tie.Need-same-length-3 Inv-loop μ-loop
 same-length-3 c =
@@ -93,8 +79,8 @@ returns-3 c =
 add-row : tie.Need-add-row Inv-loop μ-loop
 add-row c =
     let at-loop = c .before .before .before .before .before .before .before .before in
-    let at-start = at-loop .before .before .before in
-    let t = take-known c in let l = at-loop .loop in omega (arith, t .on, t .within, l .inv .few, at-start .good)
+    let t = take-known c in
+    omega (arith, t .on, t .within, at-loop .loop .inv .few, at-loop .before .before .before .good)
 
 loop-less : tie.Need-loop-less Inv-loop μ-loop
 loop-less c = let t = take-known c in omega (arith, t .on, t .within)
@@ -105,10 +91,13 @@ loop-again c =
     let at-store-entry2 = c .before .before in
     let at-value = at-store-entry2 .before .before .before in
     let at-loop = at-value .before .before .before in
-    partly-more (at-loop .loop .inv) (take-known c) (at-value .value .given .0 .0) (λ more later. refl) (at-store-entry2 .store-entry2 .last .0) (at-store-entry2 .store-entry2 .ensures)
+    let o = at-store-entry2 .store-entry2 in
+    partly-more (at-loop .loop .inv) (take-known c) (at-value .value .given .0 .0) (λ more later. refl) (o .last .0) (o .ensures)
 
 pub variables-at-spec : {M : Type 1} → statement M
 variables-at-spec =
-    tie.close (tie.spec Inv-loop μ-loop loop-holds (λ c κs. search needs) (λ c. search needs) same-length returns (λ c. search needs)
-    same-length-2 returns-2 (λ c. search needs) (λ c κs. search needs) add-t14 same-length-3 returns-3 (λ c. search needs)
+    tie.close (tie.spec Inv-loop μ-loop loop-holds (λ c κs. search needs) (λ c. search needs)
+    (λ c. partly-length (c .before .before .before .loop .inv)) returns (λ c. search needs)
+    (λ c. partly-length (c .before .before .before .loop .inv)) returns-2 (λ c. search needs) (λ c κs. search needs) add-t14 same-length-3 returns-3
+    (λ c. search needs)
     (λ c κs. search needs) add-row loop-less loop-again)

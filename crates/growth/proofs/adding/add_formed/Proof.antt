@@ -1,67 +1,81 @@
--- `growth::adding::add_formed` meets its contract.
-use mathlib.Core.Path.{_∙_}
+-- The census of the rows tells whether the tally agrees; if it does, the tally with the clause taken is that of the rows which are left.
+use mathlib.Core.Path.{_≡_, _∙_}
 use mathlib.Core.List.{[], _∷_}
 use native.Mathlib.Omega.{arith}
+use borrow.Author.Needs.{needs}
 use Rattle.formula.specs.Meaning.{connected}
+use Rattle.connection.specs.Reach.{Variables}
 use Rattle.connection.proofs.Fewer.{fewer-added}
 use Rattle.tables.specs.Formula.{variables}
+use Rattle.tables.specs.Lent.{rows}
 use Rattle.tables.proofs.Agreeing.{lawful}
 use Rattle.tables.proofs.Readings.{told, told-not}
-use Rattle.growth.specs.Grown.{standing, tableOf, TallyCause, Extended, Took}
+use Rattle.admission.specs.Admitted.{WrongTally}
+use Rattle.growth.specs.Grown.{Standing, standing, tableOf, classNames, existentials, TallyCause, Extended, Took}
 use Rattle.growth.proofs.Standings.{rowed-grown, refusal, acceptance}
 use Rattle.growth.proofs.Tallies.{agrees-clauses, agrees-classes, agrees-sum, tally-refused, tally-accepted, took}
-use borrow.Author.Needs.{needs}
 use Rattle.growth.proofs.adding.add_formed.Statement.{statement}
 use Rattle.growth.proofs.adding.add_formed.Tie as tie
+
+-- what stands, and its variables
+abbrev lent : tie.Start → Standing
+lent at-start = let a = at-start .args in standing (rows (a .classes .now) (a .parents .now) (a .counts .now)) (a .tally)
+
+abbrev X : tie.Start → Variables
+X at-start = variables (at-start .args .n) (at-start .args .prefix .now)
+
+abbrev start : tie.After-disagrees → tie.Start
+start c = c .before .before .before .before .before .before .before
+
+-- the numbers of the census are those of the rows
+census : (c : tie.After-disagrees) → (let seen = c .before .take-census .result in
+    (seen .existentials ≡ existentials (X (start c))) × (seen .names ≡ classNames (X (start c)) (lent (start c))))
+census c =
+    let a = start c .args in
+    c .before .take-census .ensures .right (a .prefix .now) (a .parents .now) (start c .pre .1 .1)
+
+-- the tally agrees with them
+agrees : (c : tie.Else1) → (let seen = c .before .before .take-census .result in WrongTally (start (c .before) .args .tally) (seen .names) (seen .existentials) → ⊥)
+agrees c = let wrong = c .before .disagrees in told-not (wrong .result) (c .if1 .left) (wrong .ensures)
 
 returns : tie.Need-returns
 returns c =
     let at-disagrees = c .before .before in
-    let at-take-census = at-disagrees .before in
-    let at-start = at-take-census .before .before .before .before .before .before in
-    let a = at-start .args in
-    let pre = at-start .pre in
-    let X = variables (a .n) (a .prefix .now) in
-    let s = standing (a .classes .now) (a .parents .now) (a .counts .now) (a .tally) in
-    let told-wrong = at-disagrees .disagrees in
-    let is = at-take-census .take-census .ensures .right (a .prefix .now) (a .parents .now) (pre .3) in
-    refusal (TallyCause X s ∷ []) X (Extended X (tableOf X s) (a .clause .now)) (Took X s) (a .classes .now) (a .parents .now) (a .counts .now) 18 0 (tally-refused X s is (told (told-wrong .result) (c .before .if1 .taken) (told-wrong .ensures))) (c .refused .ensures)
+    let at-start = start at-disagrees in
+    let s = lent at-start in
+    let wrong = at-disagrees .disagrees in
+    refusal (TallyCause (X at-start) s ∷ []) (X at-start) (Extended (X at-start) (tableOf (X at-start) s) (at-start .args .clause .now)) (Took (X at-start) s) (s .rows)
+    18 0 (tally-refused (X at-start) s (census at-disagrees) (told (wrong .result) (c .before .if1 .taken) (wrong .ensures))) (c .refused .ensures)
 
 take-requires : tie.Need-take-requires
 take-requires c κs =
     let at-extend = c .before .before .before .before .before .before in
     let at-if1 = at-extend .before .before .before .before in
-    let at-disagrees = at-if1 .before in
-    let at-take-census = at-disagrees .before in
-    let at-start = at-take-census .before .before .before .before .before .before in
+    let at-start = start (at-if1 .before) in
     let a = at-start .args in
     let pre = at-start .pre in
-    let X = variables (a .n) (a .prefix .now) in
-    let told-wrong = at-disagrees .disagrees in
-    let census = at-take-census .take-census .ensures in
-    let is = census .right (a .prefix .now) (a .parents .now) (pre .3) in
-    let agrees = told-not (told-wrong .result) (at-if1 .if1 .left) (told-wrong .ensures) in
     let extended = at-extend .extend .ensures in
-    let fewer = fewer-added (connected (a .clause .now)) (lawful (a .n) (a .prefix .now)) (pre .3) (extended .0 .forest) (a .n) in
-    (agrees-clauses (a .tally) agrees, omega (arith, fewer, agrees-classes (a .tally) agrees, is .1, extended .1 .1), omega (arith, agrees-sum (a .tally) agrees, census .few .1, pre .0 .few))
+    let fewer = fewer-added (connected (a .clause .now)) (lawful (a .n) (a .prefix .now)) (pre .1 .1) (extended .0 .forest) (a .n) in
+    let few = at-if1 .before .before .take-census .ensures .few .1 in (
+      agrees-clauses (a .tally) (agrees at-if1),
+      omega (arith, fewer, agrees-classes (a .tally) (agrees at-if1), census (at-if1 .before) .1, extended .1 .1),
+      omega (arith, agrees-sum (a .tally) (agrees at-if1), few, pre .0 .0 .few),
+    )
 
 returns-2 : tie.Need-returns-2
 returns-2 c =
     let at-extend = c .before .before .before .before .before .before .before .before in
     let at-if1 = at-extend .before .before .before .before in
-    let at-disagrees = at-if1 .before in
-    let at-take-census = at-disagrees .before in
-    let at-start = at-take-census .before .before .before .before .before .before in
+    let at-start = start (at-if1 .before) in
     let a = at-start .args in
-    let pre = at-start .pre in
-    let X = variables (a .n) (a .prefix .now) in
-    let s = standing (a .classes .now) (a .parents .now) (a .counts .now) (a .tally) in
-    let told-wrong = at-disagrees .disagrees in
-    let is = at-take-census .take-census .ensures .right (a .prefix .now) (a .parents .now) (pre .3) in
-    let agrees = told-not (told-wrong .result) (at-if1 .if1 .left) (told-wrong .ensures) in
+    let s = lent at-start in
+    let is = census (at-if1 .before) in
     let extended = at-extend .extend in
     let taken = c .before .take in
-    acceptance (TallyCause X s ∷ []) X (Extended X (tableOf X s) (a .clause .now)) (Took X s) (a .classes .now) (a .parents .now) (a .counts .now) (taken .result) (tally-accepted X s is agrees) (c .counted .ensures) (rowed-grown (a .n) (a .prefix .now) (extended .ensures .0) _ _ (extended .ensures .1 .0)) (took X s _ (extended .result) (agrees-classes (a .tally) agrees ∙ is .1) (extended .ensures .1 .1) (taken .ensures))
+    acceptance (TallyCause (X at-start) s ∷ []) (X at-start) (Extended (X at-start) (tableOf (X at-start) s) (a .clause .now)) (Took (X at-start) s) (s .rows)
+    (taken .result) (tally-accepted (X at-start) s is (agrees at-if1)) (c .counted .ensures)
+    (rowed-grown (a .n) (a .prefix .now) (extended .ensures .0) _ _ (extended .ensures .1 .0))
+    (took (X at-start) s _ (extended .result) (agrees-classes (a .tally) (agrees at-if1) ∙ is .1) (extended .ensures .1 .1) (taken .ensures))
 
 pub add-formed-spec : {M : Type 1} → statement M
 add-formed-spec =

@@ -1,4 +1,4 @@
--- `growth::adding::extend` meets its contract.
+-- The rows are those of the joins with the clause, so they are well formed, and the counts and the class names follow from them.
 use Rattle.growth.proofs.Standings.{rowed-formed}
 use borrow.Author.Needs.{needs}
 use Rattle.growth.proofs.adding.extend.Statement.{statement}
@@ -10,7 +10,7 @@ recount-requires c κs =
     let at-start = at-put-in .before .before .before .before .before .before .before in
     let a = at-start .args in
     let pre = at-start .pre in
-    (pre .0, rowed-formed (a .n) (a .prefix .now) (at-put-in .put-in .ensures), pre .2 .2)
+    (pre .0 .0, rowed-formed (a .n) (a .prefix .now) (at-put-in .put-in .ensures), pre .1 .0 .2)
 
 returns : tie.Need-returns
 returns c =

@@ -1,4 +1,4 @@
--- `growth::building::build_sound` meets its contract.
+-- The passes leave rows of the forest (rowed), the counting its counts, and the census of both is the tally of the list.
 use Rattle.growth.proofs.Standings.{rowed-formed, census-tally}
 use borrow.Author.Needs.{needs}
 use Rattle.growth.proofs.building.build_sound.Statement.{statement}

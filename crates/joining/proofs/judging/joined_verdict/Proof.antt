@@ -1,104 +1,112 @@
--- `joining::judging::joined_verdict` meets its contract: the scan's invariant is `Scanned`.
-use Prim.Native.Nat.{_-_}
-use mathlib.Core.Path.{sym, _∙_}
-use mathlib.Core.Bool.{true, false}
+-- At the begin of each block every entry before it is without fault, and the scan's variables say what stands there (`Scanned`). A block takes
+-- two steps: its mark (scan-mark, fault-at-mark), and then its variables up to where they end (block-fault, block-unclosed, block-closed).
+use Prim.Native.Nat.{_-_, _+_, _<_}
+use mathlib.Core.Path.{_≡_, refl, sym}
+use mathlib.Core.Bool.{Bool, true, false, cond}
 use mathlib.Core.Logic.{inl}
 use native.Mathlib.Omega.{arith}
 use borrow.Author.Needs.{needs}
 use lib.ListN.{length}
-use Rattle.joining.proofs.Scanned.{Scanned, scan-none, scan-mark, scan-close, scan-named, fault-at-mark, fault-at-variable, fault-at-end, none-in-prefix}
+use Rattle.formula.specs.Tables.{at}
+use Rattle.formula.proofs.Scanned.{ends-from}
+use Rattle.joining.proofs.Scanned.{Scanned, scan-none, scan-mark, fault-at-mark, block-fault, block-unclosed, block-closed, settled, none-in-prefix}
 use Rattle.joining.proofs.judging.joined_verdict.Statement.{statement}
 use Rattle.joining.proofs.judging.joined_verdict.Tie as tie
 
 abbrev Inv-loop : tie.InvT-loop
-Inv-loop n prefix named₀ opens₀ last₀ blocks₀ i₀ named opens last blocks i = Scanned n prefix i opens last blocks named
+Inv-loop n prefix named₀ last₀ blocks₀ i₀ named last blocks i = Scanned n prefix i true last blocks named
 
 abbrev μ-loop : tie.MeasureT-loop
-μ-loop n prefix named₀ opens₀ last₀ blocks₀ i₀ named opens last blocks i = length prefix - i
+μ-loop n prefix named₀ last₀ blocks₀ i₀ named last blocks i = length prefix - i
 
 loop-holds : tie.Need-loop-holds Inv-loop μ-loop
 loop-holds c = scan-none (c .before .args .n) (c .before .args .prefix .now)
 
 returns : tie.Need-returns Inv-loop μ-loop
 returns c =
-    let at-before = c .before .before in
-    let m = at-before .before in
-    let s = m .before .before .before .loop .inv in
-    inl (fault-at-mark s (m .before .before .loop-test .taken) (c .before .mark-fault .result) (sym (s .opening-is) ∙ m .if1 .taken) (at-before .begins-after .ensures) (c .before .mark-fault .ensures) (c .if2 .taken))
+    let at-begins = c .before .before in
+    let at-loop-test = at-begins .before .before in
+    let s = at-loop-test .before .loop .inv in
+    inl (fault-at-mark s (at-loop-test .loop-test .taken) (c .before .mark-fault .result) (sym (s .opening-is)) (at-begins .begins-after .ensures)
+    (c .before .mark-fault .ensures) (c .if1 .taken))
 
-add-blocks : tie.Need-add-blocks Inv-loop μ-loop
-add-blocks c =
-    let at-loop = c .before .before .before .before .before .before .before in
-    let few = at-loop .loop .inv .few in omega arith
+-- the scan once the mark is passed
+marked : (c : tie.Else1 Inv-loop μ-loop)
+    → let new = c .before .before .begins-after .result in
+    let l = c .before .before .before .before .before .loop in
+    let a = c .before .before .before .before .before .before .before .args in
+    Scanned (a .n) (a .prefix .now) (l .i + 1) false (cond new (at (a .prefix .now) (l .i)) (l .last)) (cond new (l .blocks + 1) (l .blocks)) (l .named)
+marked c =
+    let at-begins = c .before .before in
+    let at-loop-test = at-begins .before .before in
+    let s = at-loop-test .before .loop .inv in
+    scan-mark s (at-loop-test .loop-test .taken) (at-begins .begins-after .result) (sym (s .opening-is)) (at-begins .begins-after .ensures)
+    (c .before .mark-fault .ensures) (c .if1 .left)
 
-loop-again : tie.Need-loop-again Inv-loop μ-loop
-loop-again c =
-    let at-mark-fault = c .before .before in
-    let at-before = at-mark-fault .before in
-    let m = at-before .before in
-    let s = m .before .before .before .loop .inv in
-    scan-mark s (m .before .before .loop-test .taken) true (c .if3 .taken) (sym (s .opening-is) ∙ m .if1 .taken) (at-before .begins-after .ensures) (at-mark-fault .mark-fault .ensures) (c .before .if2 .left)
+slice-aggregate-name-variables : tie.Need-slice-aggregate-name-variables Inv-loop μ-loop
+slice-aggregate-name-variables c = let size = marked (c .before) .naming .size in omega arith
 
-loop-again-2 : tie.Need-loop-again-2 Inv-loop μ-loop
-loop-again-2 c =
-    let at-mark-fault = c .before .before in
-    let at-before = at-mark-fault .before in
-    let m = at-before .before in
-    let s = m .before .before .before .loop .inv in
-    scan-mark s (m .before .before .loop-test .taken) false (c .if3 .left) (sym (s .opening-is) ∙ m .if1 .taken) (at-before .begins-after .ensures) (at-mark-fault .mark-fault .ensures) (c .before .if2 .left)
-
-loop-again-3 : tie.Need-loop-again-3 Inv-loop μ-loop
-loop-again-3 c =
-    let at-loop-test = c .before .before .before in
-    let at-loop = at-loop-test .before in
-    let s = at-loop .loop .inv in
-    scan-close s (at-loop-test .loop-test .taken) (sym (s .opening-is) ∙ c .before .if1 .left) (c .if4 .taken)
-
-slice-aggregate-name-fault : tie.Need-slice-aggregate-name-fault Inv-loop μ-loop
-slice-aggregate-name-fault c =
-    let at-loop = c .before .before .before .before .before in
-    let size = at-loop .loop .inv .naming .size in omega arith
-
-name-fault-requires : tie.Need-name-fault-requires Inv-loop μ-loop
-name-fault-requires c κs =
-    let at-loop = c .before .before .before .before .before in
-    let at-start = at-loop .before .before in
-    (at-start .pre, at-loop .loop .inv .naming .size)
+name-variables-requires : tie.Need-name-variables-requires Inv-loop μ-loop
+name-variables-requires c κs =
+    let s = marked (c .before) in
+    (c .before .before .before .before .before .before .before .before .pre, (s .naming .size, s .within))
 
 returns-2 : tie.Need-returns-2 Inv-loop μ-loop
 returns-2 c =
-    let at-name-fault = c .before .before in
-    let at-if4 = at-name-fault .before .before in
-    let at-if1 = at-if4 .before in
-    let at-loop-test = at-if1 .before .before in
-    let at-loop = at-loop-test .before in
-    let s = at-loop .loop .inv in
-    inl (fault-at-variable s (at-loop-test .loop-test .taken) (at-name-fault .name-fault .result) (sym (s .opening-is) ∙ at-if1 .if1 .left) (at-if4 .if4 .left) (at-name-fault .name-fault .ensures) (c .if5 .taken))
-
-loop-again-4 : tie.Need-loop-again-4 Inv-loop μ-loop
-loop-again-4 c =
-    let at-name-fault = c .before .before in
-    let at-if4 = at-name-fault .before .before in
-    let at-if1 = at-if4 .before in
-    let at-loop-test = at-if1 .before .before in
-    let at-loop = at-loop-test .before in
-    let at-start = at-loop .before .before in
-    let s = at-loop .loop .inv in
-    scan-named s (at-loop-test .loop-test .taken) (sym (s .opening-is) ∙ at-if1 .if1 .left) (at-if4 .if4 .left) (at-start .pre) (at-name-fault .name-fault .ensures) (c .if5 .left)
+    let at-names = c .before .before .before in
+    let at-mark = at-names .before .before in
+    let few = at-mark .before .before .before .before .before .before .before .pre in
+    inl (block-fault few (marked at-mark) (at-names .name-variables .ensures) (c .if2 .taken))
 
 returns-3 : tie.Need-returns-3 Inv-loop μ-loop
 returns-3 c =
-    let at-loop = c .before .before in
-    (none-in-prefix (at-loop .loop .inv) (c .before .loop-test .left) (c .if6 .taken), tt)
+    let at-if2 = c .before .before in
+    let at-names = at-if2 .before .before .before in
+    let at-mark = at-names .before .before in
+    let few = at-mark .before .before .before .before .before .before .before .pre in
+    inl (block-unclosed few (marked at-mark) (at-names .name-variables .ensures) (at-if2 .if2 .left) (c .if3 .taken))
+
+add-blocks : tie.Need-add-blocks Inv-loop μ-loop
+add-blocks c =
+    let at-mark = c .before .before .before .before .before .before .before .before .before in
+    let few = at-mark .before .before .before .before .before .loop .inv .few in
+    omega arith
+
+-- the 0 of the block stands behind its mark
+behind : (c : tie.After-struct-known3 Inv-loop μ-loop)
+    → let at-names = c .before .before .before .before .before .before in
+    at-names .before .before .before .before .before .before .before .loop .i < at-names .name-variables .result .end
+behind c = let from = ends-from (c .before .before .before .before .before .before .name-variables .ensures) in omega arith
+
+-- the scan at the next block, by whether this one began
+next : (c : tie.After-struct-known3 Inv-loop μ-loop) (new : Bool)
+    → let at-names = c .before .before .before .before .before .before in
+    let at-mark = at-names .before .before in
+    let l = at-mark .before .before .before .before .before .loop in
+    let a = at-mark .before .before .before .before .before .before .before .args in
+    at-mark .before .before .begins-after .result ≡ new
+    → Scanned (a .n) (a .prefix .now) (at-names .name-variables .result .end + 1) true (cond new (at (a .prefix .now) (l .i)) (l .last))
+    (cond new (l .blocks + 1) (l .blocks)) (at-names .name-variables .last .1 .1 .1 .0)
+next c new told =
+    let at-if2 = c .before .before .before in
+    let at-names = at-if2 .before .before .before in
+    let at-mark = at-names .before .before in
+    let l = at-mark .before .before .before .before .before .loop in
+    let at-start = at-mark .before .before .before .before .before .before .before in
+    settled (at (at-start .args .prefix .now) (l .i)) (l .last) (l .blocks) new told
+    (block-closed (at-start .pre) (marked at-mark) (at-names .name-variables .ensures) (at-if2 .if2 .left) (c .before .if3 .left))
+
+loop-less : tie.Need-loop-less Inv-loop μ-loop
+loop-less c = let more = c .before .before .if3 .left in omega (arith, behind (c .before))
+
+loop-less-2 : tie.Need-loop-less-2 Inv-loop μ-loop
+loop-less-2 c = let more = c .before .before .if3 .left in omega (arith, behind (c .before))
 
 returns-4 : tie.Need-returns-4 Inv-loop μ-loop
-returns-4 c =
-    let at-loop = c .before .before in
-    inl (fault-at-end (at-loop .loop .inv) (c .before .loop-test .left) (c .if6 .left))
+returns-4 c = (none-in-prefix (c .before .loop .inv) (c .loop-test .left) refl, tt)
 
 pub joined-verdict-spec : {M : Type 1} → statement M
 joined-verdict-spec =
-    tie.close (tie.spec Inv-loop μ-loop loop-holds (λ c. search needs) (λ c. search needs) (λ c κs. search needs) (λ c κs. search needs)
-    returns add-blocks (λ c. omega arith) (λ c. omega arith) loop-again (λ c. omega arith) (λ c. omega arith) loop-again-2
-    (λ c. omega arith) (λ c. omega arith) loop-again-3 slice-aggregate-name-fault name-fault-requires returns-2 (λ c. omega arith)
-    (λ c. omega arith) loop-again-4 returns-3 returns-4)
+    tie.close (tie.spec Inv-loop μ-loop loop-holds (λ c. search needs) (λ c. search needs) (λ c κs. search needs) (λ c κs. search needs) returns
+    (λ c. search needs) slice-aggregate-name-variables name-variables-requires returns-2 returns-3 (λ c. omega arith) add-blocks loop-less
+    (λ c. next (c .before) true (c .if4 .taken)) loop-less-2 (λ c. next (c .before) false (c .if4 .left)) returns-4)

@@ -1,38 +1,25 @@
--- `joining::judging::mark_fault` meets its contract.
-use Prim.Native.Nat.{ℕ, _≤_, _<_}
+-- One case of `MarkFault` for each way out; the pattern `1 | 2` is a test of the range from 1 to 2 (is-mark).
 use mathlib.Core.Path.{refl}
-use mathlib.Core.Logic.{⊎-elim, inl, inr}
-use native.Mathlib.Nat.{eq-or-lt-of-le, le-of-suc-le-suc}
+use mathlib.Core.Logic.{inl, inr}
 use native.Mathlib.Omega.{arith}
 use Rattle.formula.specs.Scan.{IsMark}
+use Rattle.formula.proofs.Scanned.{is-mark}
 use Rattle.joining.specs.Writing.{fine, no-mark, too-many}
 use Rattle.joining.proofs.judging.mark_fault.Statement.{statement}
 use Rattle.joining.proofs.judging.mark_fault.Tie as tie
 
--- the two numbers from 1 to 2
-is-mark : (entry : ℕ) → 1 ≤ entry → entry < 3 → IsMark entry
-is-mark entry low high = ⊎-elim (λ q. inr q) (λ l. inl (omega arith)) (eq-or-lt-of-le (le-of-suc-le-suc high))
+good : (c : tie.Then2) → IsMark (c .before .before .args .entry)
+good c = is-mark (c .before .before .args .entry) (c .before .if1 .left) (c .if2 .taken)
 
 returns : tie.Need-returns
-returns c =
-    let b = c .before .before in
-    too-many refl (is-mark (b .before .before .args .entry) (b .before .if1 .left) (b .if2 .taken)) (c .before .if3 .taken) (c .if4 .taken)
+returns c = too-many refl (good (c .before .before)) (c .before .if3 .taken) (c .if4 .taken)
 
 returns-2 : tie.Need-returns-2
-returns-2 c =
-    let b = c .before .before in
-    fine refl (is-mark (b .before .before .args .entry) (b .before .if1 .left) (b .if2 .taken)) (inr (c .if4 .left))
+returns-2 c = fine refl (good (c .before .before)) (inr (c .if4 .left))
 
 returns-3 : tie.Need-returns-3
-returns-3 c =
-    let b = c .before in
-    fine refl (is-mark (b .before .before .args .entry) (b .before .if1 .left) (b .if2 .taken)) (inl (c .if3 .left))
-
-returns-4 : tie.Need-returns-4
-returns-4 c = no-mark refl (omega arith) (omega arith)
-
-returns-5 : tie.Need-returns-5
-returns-5 c = no-mark refl (omega arith) (omega arith)
+returns-3 c = fine refl (good (c .before)) (inl (c .if3 .left))
 
 pub mark-fault-spec : {M : Type 1} → statement M
-mark-fault-spec = tie.close (tie.spec returns returns-2 returns-3 returns-4 returns-5)
+mark-fault-spec =
+    tie.close (tie.spec returns returns-2 returns-3 (λ c. no-mark refl (omega arith) (omega arith)) (λ c. no-mark refl (omega arith) (omega arith)))

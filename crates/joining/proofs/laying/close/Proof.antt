@@ -1,4 +1,4 @@
--- `joining::laying::close` meets its contract.
+-- Where no block is open nothing is written (put-nothing), and else a 0 behind what stands (put-zero).
 use borrow.Author.Needs.{needs}
 use Rattle.joining.proofs.Written.{put-nothing, put-zero}
 use Rattle.joining.proofs.laying.close.Statement.{statement}
@@ -7,20 +7,11 @@ use Rattle.joining.proofs.laying.close.Tie as tie
 returns : tie.Need-returns
 returns c = let a = c .before .args in put-nothing (a .out .now) (a .count) (a .last) (c .if1 .taken)
 
-mul-out : tie.Need-mul-out
-mul-out c = search needs
-
 slice-write-out : tie.Need-slice-write-out
 slice-write-out c = c .before .pre .0 (c .if1 .left)
-
-add-result : tie.Need-add-result
-add-result c = search needs
-
-same-length : tie.Need-same-length
-same-length c = search needs
 
 returns-2 : tie.Need-returns-2
 returns-2 c = let a = c .before .args in put-zero (a .out .now) (a .count) (a .last) (c .if1 .left) (c .before .pre .0 (c .if1 .left))
 
 pub close-spec : {M : Type 1} → statement M
-close-spec = tie.close (tie.spec returns mul-out slice-write-out add-result same-length returns-2)
+close-spec = tie.close (tie.spec returns (λ c. search needs) slice-write-out (λ c. search needs) (λ c. search needs) returns-2)

@@ -1,5 +1,6 @@
--- `layout::decoding::fill_literals` meets its contract: with the literals that are left the table would be full.
-use Prim.Native.Nat.{_-_}
+-- The invariant: with the literals that are left stored too, the table would be the full one (Storing), and the place has gone on by four
+-- bytes for each (Going).
+use Prim.Native.Nat.{_+_, _-_, _<_}
 use mathlib.Core.Path.{ap, _∙_}
 use native.Mathlib.Omega.{arith}
 use mir.Syntax.{w32}
@@ -22,32 +23,23 @@ loop-holds c =
     let a = c .before .args in
     (going-none 4 (a .from) (a .many), storing-none literalOf 4 (a .file .now) (a .from) (a .many) (a .table .now) (c .before .pre .1))
 
+-- where there is a literal left, its four bytes are near enough
+near : (c : tie.In-loop Inv-loop μ-loop) → c .before .loop .at + 4 < 4294967294
+near c = going-small (c .before .loop .inv .0) (c .loop-test .taken) 4294967294 (c .before .before .before .pre .0)
+
 four-at-requires : tie.Need-four-at-requires Inv-loop μ-loop
-four-at-requires c κs =
-    let at-start = c .before .before .before in
-    let small = going-small (c .before .loop .inv .0) (c .loop-test .taken) 4294967294 (at-start .pre .0) in
-    omega arith
+four-at-requires c κs = omega (arith, near c)
 
 slice-set-from-table : tie.Need-slice-set-from-table Inv-loop μ-loop
 slice-set-from-table c =
     let at-loop-test = c .before .before in
-    let at-loop = at-loop-test .before in
-    let room = at-loop .loop .inv .1 .room in
-    let l = at-loop-test .loop-test .taken in
-    omega arith
+    omega (arith, at-loop-test .before .loop .inv .1 .room, at-loop-test .loop-test .taken)
 
 add-at : tie.Need-add-at Inv-loop μ-loop
-add-at c =
-    let at-loop-test = c .before .before in
-    let at-loop = at-loop-test .before in
-    let at-start = at-loop .before .before in
-    let small = going-small (at-loop .loop .inv .0) (at-loop-test .loop-test .taken) 4294967294 (at-start .pre .0) in
-    omega arith
+add-at c = omega (arith, near (c .before .before))
 
 loop-less : tie.Need-loop-less Inv-loop μ-loop
-loop-less c =
-    let at-loop-test = c .before .before in
-    let l = at-loop-test .loop-test .taken in omega arith
+loop-less c = omega (arith, c .before .before .loop-test .taken)
 
 loop-again : tie.Need-loop-again Inv-loop μ-loop
 loop-again c =
@@ -56,7 +48,13 @@ loop-again c =
     let at-start = at-loop .before .before in
     let a = at-start .args in
     let l = at-loop .loop in
-    (going-more (l .inv .0) (at-loop-test .loop-test .taken), storing-more literalOf 4 (a .file .now) (a .from) (a .many) (a .table .now) (l .inv .1) (at-loop-test .loop-test .taken) (toZ w32 (ofZ w32 (c .literal-of .result))) (toZ-ofZ {w = w32} {z = c .literal-of .result} (record { sfits = c .literal-of .ok }) ∙ c .literal-of .ensures ∙ ap literalOf (c .before .four-at .ensures)))
+    let more = at-loop-test .loop-test .taken in
+    let z = c .literal-of .result in
+    let bits = toZ-ofZ {w = w32} {z = z} (record { sfits = c .literal-of .ok }) in
+    let is = bits ∙ c .literal-of .ensures ∙ ap literalOf (c .before .four-at .ensures) in (
+      going-more (l .inv .0) more,
+      storing-more literalOf 4 (a .file .now) (a .from) (a .many) (a .table .now) (l .inv .1) more (toZ w32 (ofZ w32 z)) is,
+    )
 
 same-length : tie.Need-same-length Inv-loop μ-loop
 same-length c = c .before .loop .inv .1 .same

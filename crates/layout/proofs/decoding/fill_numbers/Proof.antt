@@ -1,5 +1,6 @@
--- `layout::decoding::fill_numbers` meets its contract: with the numbers that are left the table would be full.
-use Prim.Native.Nat.{ℕ, _-_}
+-- The invariant: with the numbers that are left stored too, the table would be the full one (Storing), and the place has gone on by the
+-- width for each (Going).
+use Prim.Native.Nat.{ℕ, _+_, _-_, _<_}
 use mathlib.Core.Path.{ap, _∙_}
 use native.Mathlib.Omega.{arith}
 use lib.Seq.{sets}
@@ -19,31 +20,29 @@ loop-holds : tie.Need-loop-holds Inv-loop μ-loop
 loop-holds c =
     let at-start = c .before .before in
     let a = at-start .args in
-    (going-none (a .width) (a .from) (a .many), storing-none (λ (x : ℕ). x) (a .width) (a .file .now) (a .from) (a .many) (a .table .now) (at-start .pre .2))
+    let none = storing-none (λ (x : ℕ). x) (a .width) (a .file .now) (a .from) (a .many) (a .table .now) (at-start .pre .2) in
+    (going-none (a .width) (a .from) (a .many), none)
+
+-- where there is a number left, its bytes are near enough
+near : (c : tie.In-loop Inv-loop μ-loop)
+    → c .before .loop .at + c .before .before .before .before .args .width < 4294967294
+near c = going-small (c .before .loop .inv .0) (c .loop-test .taken) 4294967294 (c .before .before .before .before .pre .1)
 
 number-in-requires : tie.Need-number-in-requires Inv-loop μ-loop
 number-in-requires c κs =
     let at-start = c .before .before .before .before in
-    let pre = at-start .pre in
-    let small = going-small (c .before .loop .inv .0) (c .loop-test .taken) 4294967294 (pre .1) in
-    (pre .0, omega arith)
+    (at-start .pre .0, omega (arith, near c))
 
 slice-write-table : tie.Need-slice-write-table Inv-loop μ-loop
 slice-write-table c =
     let at-loop = c .before .before in
-    let room = at-loop .loop .inv .1 .room in
-    let l = c .before .loop-test .taken in
-    omega arith
+    omega (arith, at-loop .loop .inv .1 .room, c .before .loop-test .taken)
 
 add-at : tie.Need-add-at Inv-loop μ-loop
-add-at c =
-    let at-loop = c .before .before in
-    let at-start = at-loop .before .before .before in
-    let small = going-small (at-loop .loop .inv .0) (c .before .loop-test .taken) 4294967294 (at-start .pre .1) in
-    omega arith
+add-at c = omega (arith, near (c .before))
 
 loop-less : tie.Need-loop-less Inv-loop μ-loop
-loop-less c = let l = c .before .loop-test .taken in omega arith
+loop-less c = omega (arith, c .before .loop-test .taken)
 
 loop-again : tie.Need-loop-again Inv-loop μ-loop
 loop-again c =
@@ -51,7 +50,11 @@ loop-again c =
     let at-start = at-loop .before .before .before in
     let a = at-start .args in
     let l = at-loop .loop in
-    (going-more (l .inv .0) (c .before .loop-test .taken), storing-more (λ (x : ℕ). x) (a .width) (a .file .now) (a .from) (a .many) (a .table .now) (l .inv .1) (c .before .loop-test .taken) (c .number-in .result) (c .number-in .ensures))
+    let more = c .before .loop-test .taken in (
+      going-more (l .inv .0) more,
+      storing-more (λ (x : ℕ). x) (a .width) (a .file .now) (a .from) (a .many) (a .table .now) (l .inv .1) more
+          (c .number-in .result) (c .number-in .ensures),
+    )
 
 same-length : tie.Need-same-length Inv-loop μ-loop
 same-length c = c .before .loop .inv .1 .same

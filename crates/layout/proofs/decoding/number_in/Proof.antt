@@ -1,4 +1,4 @@
--- `layout::decoding::number_in` meets its contract, by its width.
+-- By the width, which is two bytes or four.
 use Prim.Native.Nat.{ℕ}
 use mathlib.Core.Path.{sym, ap, _∙_}
 use mathlib.Core.Logic.{⊎-elim}
@@ -6,12 +6,6 @@ use Rattle.records.specs.Numbers.{numberAt}
 use borrow.Author.Needs.{needs}
 use Rattle.layout.proofs.decoding.number_in.Statement.{statement}
 use Rattle.layout.proofs.decoding.number_in.Tie as tie
-
-two-at-requires : tie.Need-two-at-requires
-two-at-requires c κs = search needs
-
-four-at-requires : tie.Need-four-at-requires
-four-at-requires c κs = search needs
 
 returns : tie.Need-returns
 returns c =
@@ -27,4 +21,5 @@ returns-2 c =
     c .four-at .ensures ∙ sym (ap (λ (w : ℕ). numberAt w (a .file .now) (a .at)) four)
 
 pub number-in-spec : {M : Type 1} → statement M
-number-in-spec = tie.close (tie.spec two-at-requires four-at-requires returns returns-2)
+number-in-spec =
+    tie.close (tie.spec (λ c κs. search needs) (λ c κs. search needs) returns returns-2)

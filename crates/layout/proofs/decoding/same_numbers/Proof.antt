@@ -1,5 +1,5 @@
--- `layout::decoding::same_numbers` meets its contract: the table has them all exactly if it has those that are left.
-use Prim.Native.Nat.{_-_}
+-- The invariant: the table has all numbers exactly if it has those that are left (Left). So one that differs decides, and so does the end.
+use Prim.Native.Nat.{_+_, _-_, _<_}
 use mathlib.Core.Path.{sym, _∙_}
 use native.Mathlib.Omega.{arith}
 use lib.ListN.{length}
@@ -20,12 +20,15 @@ loop-holds c =
     let a = at-start .args in
     (going-none (a .width) (a .from) (length (a .table .now)), left-none (a .width) (a .file .now) (a .from) (a .table .now))
 
+-- where there is a number left, its bytes are near enough
+near : (c : tie.In-loop Inv-loop μ-loop)
+    → c .before .loop .at + c .before .before .before .before .args .width < 4294967294
+near c = going-small (c .before .loop .inv .0) (c .loop-test .taken) 4294967294 (c .before .before .before .before .pre .1)
+
 number-in-requires : tie.Need-number-in-requires Inv-loop μ-loop
 number-in-requires c κs =
     let at-start = c .before .before .before .before in
-    let pre = at-start .pre in
-    let small = going-small (c .before .loop .inv .0) (c .loop-test .taken) 4294967294 (pre .1) in
-    (pre .0, omega arith)
+    (at-start .pre .0, omega (arith, near c))
 
 returns : tie.Need-returns Inv-loop μ-loop
 returns c =
@@ -34,20 +37,15 @@ returns c =
     let at-loop = at-loop-test .before in
     let at-start = at-loop .before .before .before in
     let a = at-start .args in
-    left-other (a .width) (a .file .now) (a .from) (a .table .now) (at-loop .loop .i) (at-loop .loop .at) (at-loop .loop .inv .1) (at-loop-test .loop-test .taken) (λ e. c .if1 .taken (at-number-in .number-in .ensures ∙ e))
+    let l = at-loop .loop in
+    left-other (a .width) (a .file .now) (a .from) (a .table .now) (l .i) (l .at) (l .inv .1) (at-loop-test .loop-test .taken)
+    (λ e. c .if1 .taken (at-number-in .number-in .ensures ∙ e))
 
 add-at : tie.Need-add-at Inv-loop μ-loop
-add-at c =
-    let at-loop-test = c .before .before .before in
-    let at-loop = at-loop-test .before in
-    let at-start = at-loop .before .before .before in
-    let small = going-small (at-loop .loop .inv .0) (at-loop-test .loop-test .taken) 4294967294 (at-start .pre .1) in
-    omega arith
+add-at c = omega (arith, near (c .before .before .before))
 
 loop-less : tie.Need-loop-less Inv-loop μ-loop
-loop-less c =
-    let at-loop-test = c .before .before .before in
-    let l = at-loop-test .loop-test .taken in omega arith
+loop-less c = omega (arith, c .before .before .before .loop-test .taken)
 
 loop-again : tie.Need-loop-again Inv-loop μ-loop
 loop-again c =
@@ -57,14 +55,16 @@ loop-again c =
     let at-start = at-loop .before .before .before in
     let a = at-start .args in
     let l = at-loop .loop in
-    let t = at-loop-test .loop-test .taken in
-    (going-more (l .inv .0) t, left-more (a .width) (a .file .now) (a .from) (a .table .now) (l .i) (l .at) (l .inv .1) t (sym (at-number-in .number-in .ensures) ∙ c .if1 .left))
+    let more = at-loop-test .loop-test .taken in
+    let same = sym (at-number-in .number-in .ensures) ∙ c .if1 .left in
+    (going-more (l .inv .0) more, left-more (a .width) (a .file .now) (a .from) (a .table .now) (l .i) (l .at) (l .inv .1) more same)
 
 returns-2 : tie.Need-returns-2 Inv-loop μ-loop
 returns-2 c =
     let at-start = c .before .before .before .before in
     let a = at-start .args in
-    left-all (a .width) (a .file .now) (a .from) (a .table .now) (c .before .loop .i) (c .before .loop .at) (c .before .loop .inv .1) (c .loop-test .left)
+    let l = c .before .loop in
+    left-all (a .width) (a .file .now) (a .from) (a .table .now) (l .i) (l .at) (l .inv .1) (c .loop-test .left)
 
 pub same-numbers-spec : {M : Type 1} → statement M
 same-numbers-spec =

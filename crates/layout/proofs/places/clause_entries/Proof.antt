@@ -1,33 +1,22 @@
--- `layout::places::clause_entries` meets its contract.
+-- The payload of kind 2 has four bytes for each entry (clauses-length).
 use mathlib.Core.Path.{ap, _∙_}
 use native.Mathlib.Omega.{arith}
-use Rattle.records.specs.Places.{sizeAt}
-use Rattle.layout.proofs.Heads.{size-read}
-use Rattle.layout.proofs.Spans.{clauses-length, laid-ends}
 use borrow.Author.Needs.{needs}
+use Rattle.records.specs.Places.{sizeAt}
+use Rattle.layout.proofs.Spans.{clauses-length, laid-near}
 use Rattle.layout.proofs.places.clause_entries.Statement.{statement}
 use Rattle.layout.proofs.places.clause_entries.Tie as tie
 
-second-at-requires : tie.Need-second-at-requires
-second-at-requires c κs = search needs
-
-four-at-requires : tie.Need-four-at-requires
-four-at-requires c κs =
+size-at-requires : tie.Need-size-at-requires
+size-at-requires c κs =
     let at-start = c .before .before in
-    let ends = laid-ends (at-start .args .file .now) (at-start .pre) in
-    let is = c .second-at .ensures in
-    omega (arith, ends .second, ends .third, ends .fourth)
-
-cast-size : tie.Need-cast-size
-cast-size c = search needs
+    omega (arith, c .second-at .ensures, laid-near (at-start .args .file .now) (at-start .pre) .0)
 
 returns : tie.Need-returns
 returns c =
-    let at-start = c .before .before .before in
-    let file = at-start .args .file .now in
-    let size = size-read file (c .before .second-at .result) (c .four-at .ensures) ∙ ap (sizeAt file) (c .before .second-at .ensures) in
-    let many = clauses-length file in
-    omega arith
+    let file = c .before .before .before .args .file .now in
+    let size = c .size-at .ensures ∙ ap (sizeAt file) (c .before .second-at .ensures) in
+    omega (arith, size, clauses-length file)
 
 pub clause-entries-spec : {M : Type 1} → statement M
-clause-entries-spec = tie.close (tie.spec second-at-requires four-at-requires cast-size returns)
+clause-entries-spec = tie.close (tie.spec (λ c κs. search needs) size-at-requires (λ c. search needs) returns)

@@ -1,12 +1,9 @@
--- `layout::places::second_at` meets its contract.
+-- It begins behind the first record.
 use mathlib.Core.Path.{sym, _∙_}
-use Rattle.layout.proofs.Spans.{second-is}
 use borrow.Author.Needs.{needs}
+use Rattle.layout.proofs.Spans.{second-is}
 use Rattle.layout.proofs.places.second_at.Statement.{statement}
 use Rattle.layout.proofs.places.second_at.Tie as tie
-
-next-at-requires : tie.Need-next-at-requires
-next-at-requires c κs = search needs
 
 returns : tie.Need-returns
 returns c =
@@ -14,4 +11,4 @@ returns c =
     c .next-at .ensures ∙ sym (second-is (at-start .args .file .now))
 
 pub second-at-spec : {M : Type 1} → statement M
-second-at-spec = tie.close (tie.spec next-at-requires returns)
+second-at-spec = tie.close (tie.spec (λ c κs. search needs) returns)

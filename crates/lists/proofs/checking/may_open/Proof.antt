@@ -1,4 +1,4 @@
--- `lists::checking::may_open` meets its contract.
+-- One test for each of the three things that are asked of an existential that opens a list.
 use native.Mathlib.Omega.{arith}
 use Rattle.terms.proofs.Common.{clash}
 use Rattle.lists.proofs.checking.may_open.Statement.{statement}
@@ -12,8 +12,9 @@ returns-2 c may = let low = may .1 in let over = c .if2 .taken in omega arith
 
 shared-slice-read-if3 : tie.Need-shared-slice-read-if3
 shared-slice-read-if3 c =
-    let at-start = c .before .before .before in
-    let pre = at-start .pre in let few = pre .0 in let size = pre .1 in let low = c .before .if2 .left in omega arith
+    let (few, size) = c .before .before .before .pre in
+    let low = c .before .if2 .left in
+    omega arith
 
 returns-3 : tie.Need-returns-3
 returns-3 c may = clash (c .if3 .taken) (may .2)
@@ -21,8 +22,7 @@ returns-3 c may = clash (c .if3 .taken) (may .2)
 returns-4 : tie.Need-returns-4
 returns-4 c =
     let at-if2 = c .before .before in
-    let at-if1 = at-if2 .before in
-    (at-if1 .if1 .left, at-if2 .if2 .left, c .if3 .left)
+    (at-if2 .before .if1 .left, at-if2 .if2 .left, c .if3 .left)
 
 pub may-open-spec : {M : Type 1} → statement M
 may-open-spec = tie.close (tie.spec returns returns-2 shared-slice-read-if3 returns-3 returns-4)

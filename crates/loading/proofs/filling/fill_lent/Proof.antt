@@ -1,16 +1,17 @@
--- `loading::filling::fill_lent` meets its contract.
-use Rattle.records.specs.Causes.{lentTables}
+-- Prefix and clauses are stored, then the rows; what is said speaks of the file alone.
 use borrow.Author.Needs.{needs}
+use Rattle.tables.specs.Lent.{rows}
+use Rattle.records.specs.Causes.{lentTables}
 use Rattle.loading.proofs.filling.fill_lent.Statement.{statement}
 use Rattle.loading.proofs.filling.fill_lent.Tie as tie
 
 returns : tie.Need-returns
 returns c =
-    let at-fill-rows = c .before .before .before .before .before .before .before in
-    let at-fill-formula = at-fill-rows .before .before .before .before .before .before .before in
-    let f = at-fill-formula .fill-formula .ensures in
-    let r = at-fill-rows .fill-rows .ensures in
-    (λ i. lentTables (f .0 i) (f .1 i) (r .0 i) (r .1 .0 i) (r .1 .1 i), c .said-of .ensures)
+    let at-rows = c .before .before .before .before .before .before .before in
+    let at-formula = at-rows .before .before .before .before .before .before .before in
+    let (prefix, clauses) = at-formula .fill-formula .ensures in
+    let (classes, (parents, counts)) = at-rows .fill-rows .ensures in
+    (λ i. lentTables (prefix i) (clauses i) (rows (classes i) (parents i) (counts i)), c .said-of .ensures)
 
 pub fill-lent-spec : {M : Type 1} → statement M
 fill-lent-spec =

@@ -1,17 +1,17 @@
--- `loading::filling::said_of` meets its contract.
-use Rattle.records.specs.declared.Loaded.the-variants.{Formula}
-use Rattle.layout.proofs.Spans.{count-read}
+-- Each of the four is read from the file.
 use borrow.Author.Needs.{needs}
+use Rattle.terms.specs.declared.Loaded.the-variants.{Formula}
+use Rattle.layout.proofs.Spans.{count-read}
 use Rattle.loading.proofs.filling.said_of.Statement.{statement}
 use Rattle.loading.proofs.filling.said_of.Tie as tie
 
 returns : tie.Need-returns
 returns c =
-    let at-prefix-entries = c .before .before in
-    let at-two-at = at-prefix-entries .before in
-    let at-start = at-two-at .before .before in
-    let n = count-read (at-start .args .file .now) (at-two-at .two-at .ensures .0) in
-    λ i. Formula (n i) (at-prefix-entries .prefix-entries .ensures i) (c .before .clause-entries .ensures i) (c .has-sets .ensures i)
+    let at-entries = c .before .before in
+    let at-two = at-entries .before in
+    let at-start = at-two .before .before in
+    let n = count-read (at-start .args .file .now) (at-two .two-at .ensures .0) in
+    λ i. Formula (n i) (at-entries .prefix-entries .ensures i) (c .before .clause-entries .ensures i) (c .has-sets .ensures i)
 
 pub said-of-spec : {M : Type 1} → statement M
 said-of-spec =

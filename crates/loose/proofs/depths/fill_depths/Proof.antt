@@ -1,4 +1,4 @@
--- `loose::depths::fill_depths` meets its contract.
+-- The levels and quantifiers that `fill_levels` leaves are those of the prefix, so that the depths made of them are its depths.
 use mathlib.Core.Path.{_∙_}
 use Rattle.loose.proofs.Passes.{levels-most, depths-are}
 use borrow.Author.Needs.{needs}
@@ -9,14 +9,16 @@ rank-requires : tie.Need-rank-requires
 rank-requires c κs =
     let at-fill-levels = c .before .before .before .before .before in
     let at-start = at-fill-levels .before .before .before .before .before in
-    (at-fill-levels .fill-levels .ensures .sizes .0, at-fill-levels .fill-levels .ensures .sizes .1, at-start .pre .1, levels-most (at-start .pre .0) (at-fill-levels .fill-levels .ensures))
+    let levelled = at-fill-levels .fill-levels .ensures in
+    (levelled .sizes .0, levelled .sizes .1, at-start .pre .1, levels-most (at-start .pre .0) levelled)
 
 returns : tie.Need-returns
 returns c =
     let at-rank = c .before .before in
     let at-fill-levels = at-rank .before .before .before .before .before .before in
     let at-start = at-fill-levels .before .before .before .before .before in
-    depths-are (at-start .pre .0) (at-fill-levels .fill-levels .ensures) (at-rank .rank .kept .1 .1 .1 .0 ∙ at-start .pre .1 .size) (at-rank .rank .ensures)
+    let size = at-rank .rank .kept .1 .1 .1 .0 ∙ at-start .pre .1 .size in
+    depths-are (at-start .pre .0) (at-fill-levels .fill-levels .ensures) size (at-rank .rank .ensures)
 
 pub fill-depths-spec : {M : Type 1} → statement M
 fill-depths-spec =

@@ -1,34 +1,28 @@
--- `loose::depths::rank` meets its contract.
+-- The invariant: the rows before v hold the depths of their variables (FilledTo); past n a depth is 0, and so are the rows.
 use Prim.Native.Nat.{_+_, _-_}
 use mathlib.Core.Path.{sym, _∙_}
 use mathlib.Core.Bool.{false}
 use native.Mathlib.Omega.{arith}
 use lib.ListN.{getD}
 use Rattle.loose.specs.Rows.{depthOf}
-use Rattle.loose.proofs.Passes.{Filling, fill-none, fill-one, fill-all, depth-past}
+use Rattle.loose.proofs.Passes.{FilledTo, fill-none, fill-one, fill-all, depth-past}
 use Rattle.loose.proofs.depths.rank.Statement.{statement}
 use Rattle.loose.proofs.depths.rank.Tie as tie
 
 abbrev Inv-loop : tie.InvT-loop
-Inv-loop n levels universals depths₀ v₀ depths v = Filling n (λ u. depthOf n u (getD levels u 0) (getD universals u false)) depths v
+Inv-loop n levels universals depths₀ v₀ depths v = FilledTo n (λ u. depthOf n u (getD levels u 0) (getD universals u false)) depths v
 
 abbrev μ-loop : tie.MeasureT-loop
 μ-loop n levels universals depths₀ v₀ depths v = (n + 1) - v
 
 loop-holds : tie.Need-loop-holds Inv-loop μ-loop
-loop-holds c =
-    let at-start = c .before .before .before in
-    fill-none (at-start .pre .2)
+loop-holds c = fill-none (c .before .before .before .pre .2)
 
 shared-slice-read-level : tie.Need-shared-slice-read-level Inv-loop μ-loop
-shared-slice-read-level c =
-    let at-start = c .before .before .before .before .before .before in
-    omega (arith, at-start .pre .0)
+shared-slice-read-level c = omega (arith, c .before .before .before .before .before .before .pre .0)
 
 shared-slice-read-universal : tie.Need-shared-slice-read-universal Inv-loop μ-loop
-shared-slice-read-universal c =
-    let at-start = c .before .before .before .before .before .before .before in
-    omega (arith, at-start .pre .1)
+shared-slice-read-universal c = omega (arith, c .before .before .before .before .before .before .before .pre .1)
 
 depth-requires : tie.Need-depth-requires Inv-loop μ-loop
 depth-requires c κs =
@@ -37,9 +31,7 @@ depth-requires c κs =
     at-start .pre .3 (at-loop .loop .v)
 
 slice-write-depths : tie.Need-slice-write-depths Inv-loop μ-loop
-slice-write-depths c =
-    let at-loop = c .before .before .before .before in
-    omega (arith, at-loop .loop .inv .ends .size)
+slice-write-depths c = omega (arith, c .before .before .before .before .loop .inv .ends .size)
 
 loop-again : tie.Need-loop-again Inv-loop μ-loop
 loop-again c =
@@ -48,14 +40,13 @@ loop-again c =
     fill-one (c .depth .result) (at-loop .loop .inv) (at-loop-test .loop-test .taken) (c .depth .ensures)
 
 same-length : tie.Need-same-length Inv-loop μ-loop
-same-length c =
-    let at-start = c .before .before .before .before .before in
-    c .before .loop .inv .ends .size ∙ sym (at-start .pre .2 .size)
+same-length c = c .before .loop .inv .ends .size ∙ sym (c .before .before .before .before .before .pre .2 .size)
 
 returns : tie.Need-returns Inv-loop μ-loop
 returns c =
     let at-start = c .before .before .before .before .before in
-    let a = at-start .args in λ v l. fill-all (depth-past (a .n) (a .levels .now) (a .universals .now)) (c .before .loop .inv) (c .loop-test .left) v
+    let a = at-start .args in
+    λ v l. fill-all (depth-past (a .n) (a .levels .now) (a .universals .now)) (c .before .loop .inv) (c .loop-test .left) v
 
 pub rank-spec : {M : Type 1} → statement M
 rank-spec =

@@ -1,42 +1,36 @@
--- `loose::rows::load` meets its contract.
+-- The invariant: the rows before v hold what the lent rows say of their variables (FilledTo); past n both say 0.
 use Prim.Native.Nat.{_+_, _-_}
 use mathlib.Core.Path.{sym, ap, _∙_}
 use native.Mathlib.Omega.{arith}
 use borrow.Author.Needs.{needs}
 use Rattle.connection.specs.Tables.{row}
 use Rattle.connection.proofs.Rows.{row-out}
-use Rattle.loose.proofs.Passes.{Filling, fill-none, fill-one, fill-all}
+use Rattle.loose.proofs.Passes.{FilledTo, fill-none, fill-one, fill-all}
 use Rattle.loose.proofs.rows.load.Statement.{statement}
 use Rattle.loose.proofs.rows.load.Tie as tie
 
 abbrev Inv-loop : tie.InvT-loop
-Inv-loop n rows table₀ v₀ table v = Filling n (row n rows) table v
+Inv-loop n rows table₀ v₀ table v = FilledTo n (row n rows) table v
 
 abbrev μ-loop : tie.MeasureT-loop
 μ-loop n rows table₀ v₀ table v = (n + 1) - v
 
 loop-holds : tie.Need-loop-holds Inv-loop μ-loop
-loop-holds c =
-    let at-start = c .before .before in
-    fill-none (at-start .pre)
+loop-holds c = fill-none (c .before .before .pre)
 
 slice-write-table : tie.Need-slice-write-table Inv-loop μ-loop
-slice-write-table c =
-    let at-loop = c .before .before .before in
-    omega (arith, at-loop .loop .inv .ends .size)
+slice-write-table c = omega (arith, c .before .before .before .loop .inv .ends .size)
 
 loop-again : tie.Need-loop-again Inv-loop μ-loop
 loop-again c =
     let at-loop-test = c .before .before in
     let at-loop = at-loop-test .before in
-    let at-start = at-loop .before .before .before in
-    let a = at-start .args in
-    fill-one (c .row-of .result .0) (at-loop .loop .inv) (at-loop-test .loop-test .taken) (c .row-of .ensures ∙ ap (row (a .n) (a .rows .now)) (c .before .new .ensures))
+    let a = at-loop .before .before .before .args in
+    let is = c .row-of .ensures ∙ ap (row (a .n) (a .rows .now)) (c .before .new .ensures) in
+    fill-one (c .row-of .result .0) (at-loop .loop .inv) (at-loop-test .loop-test .taken) is
 
 same-length : tie.Need-same-length Inv-loop μ-loop
-same-length c =
-    let at-start = c .before .before .before .before in
-    c .before .loop .inv .ends .size ∙ sym (at-start .pre .size)
+same-length c = c .before .loop .inv .ends .size ∙ sym (c .before .before .before .before .pre .size)
 
 returns : tie.Need-returns Inv-loop μ-loop
 returns c = fill-all (λ u h. row-out _ u _ (λ _. h)) (c .before .loop .inv) (c .loop-test .left)

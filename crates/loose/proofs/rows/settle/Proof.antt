@@ -1,13 +1,15 @@
--- `loose::rows::settle` meets its contract.
-use Prim.Native.Nat.{_+_, _-_}
+-- The invariant: the class rows before v name their classes, no row points higher than itself, and the rows stand for what they stood for (SettledTo). The
+-- row of v points to itself or to a row before it, which is exact already.
+use Prim.Native.Nat.{_+_, _-_, _≤_}
 use mathlib.Core.Path.{sym, _∙_}
 use native.Mathlib.Omega.{arith}
-use Rattle.loose.proofs.Passes.{Settling, settle-none, settle-one, settled}
+use lib.ListN.{getD}
+use Rattle.loose.proofs.Passes.{SettledTo, settle-none, settle-one, settled}
 use Rattle.loose.proofs.rows.settle.Statement.{statement}
 use Rattle.loose.proofs.rows.settle.Tie as tie
 
 abbrev Inv-loop : tie.InvT-loop
-Inv-loop n classes₀ v₀ classes v = Settling n classes₀ classes v
+Inv-loop n classes₀ v₀ classes v = SettledTo n classes₀ classes v
 
 abbrev μ-loop : tie.MeasureT-loop
 μ-loop n classes₀ v₀ classes v = (n + 1) - v
@@ -16,40 +18,31 @@ loop-holds : tie.Need-loop-holds Inv-loop μ-loop
 loop-holds c = settle-none (c .pre .0) (c .pre .1)
 
 slice-read-up : tie.Need-slice-read-up Inv-loop μ-loop
-slice-read-up c =
-    let at-loop = c .before .before in
-    omega (arith, at-loop .loop .inv .ends .size)
+slice-read-up c = omega (arith, c .before .before .loop .inv .ends .size)
+
+-- the row of v points to v or lower
+falls : (c : tie.In-loop Inv-loop μ-loop) → getD (c .before .loop .classes) (c .before .loop .v) 0 ≤ c .before .loop .v
+falls c = c .before .loop .inv .falls (c .before .loop .v)
 
 cast-classes : tie.Need-cast-classes Inv-loop μ-loop
-cast-classes c =
-    let at-loop = c .before .before in
-    omega (arith, at-loop .loop .inv .falls (at-loop .loop .v))
+cast-classes c = omega (arith, falls (c .before))
 
 mul-classes : tie.Need-mul-classes Inv-loop μ-loop
-mul-classes c =
-    let at-loop = c .before .before in
-    omega (arith, at-loop .loop .inv .falls (at-loop .loop .v))
+mul-classes c = omega (arith, falls (c .before))
 
 slice-read-classes : tie.Need-slice-read-classes Inv-loop μ-loop
 slice-read-classes c =
-    let at-loop = c .before .before .before in
-    omega (arith, at-loop .loop .inv .falls (at-loop .loop .v), at-loop .loop .inv .ends .size)
+    let in-loop = c .before .before in
+    omega (arith, falls in-loop, in-loop .before .loop .inv .ends .size)
 
 slice-write-classes : tie.Need-slice-write-classes Inv-loop μ-loop
-slice-write-classes c =
-    let at-loop = c .before .before .before in
-    omega (arith, at-loop .loop .inv .ends .size)
+slice-write-classes c = omega (arith, c .before .before .before .loop .inv .ends .size)
 
 loop-again : tie.Need-loop-again Inv-loop μ-loop
-loop-again c =
-    let at-loop-test = c .before .before in
-    let at-loop = at-loop-test .before in
-    settle-one (at-loop .loop .inv) (at-loop-test .loop-test .taken)
+loop-again c = settle-one (c .before .before .before .loop .inv) (c .before .before .loop-test .taken)
 
 same-length : tie.Need-same-length Inv-loop μ-loop
-same-length c =
-    let at-start = c .before .before in
-    c .before .loop .inv .ends .size ∙ sym (at-start .pre .0 .size)
+same-length c = c .before .loop .inv .ends .size ∙ sym (c .before .before .pre .0 .size)
 
 returns : tie.Need-returns Inv-loop μ-loop
 returns c = settled (c .before .loop .inv) (c .loop-test .left)

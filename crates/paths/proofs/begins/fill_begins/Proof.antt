@@ -1,4 +1,4 @@
--- `paths::begins::fill_begins` meets its contract: the invariant is `Filling`.
+-- The invariant (Filling): the rows of the clauses before start are filled, and the stamps are below those to come.
 use Prim.Native.Nat.{_+_, _-_}
 use mathlib.Core.Path.{sym, ap, _∙_}
 use native.Mathlib.Omega.{arith}
@@ -75,8 +75,11 @@ loop-again c =
     let at-next-zero = at-if1 .before in
     let at-loop = at-next-zero .before .before in
     let at-start = at-loop .before .before in
-    let row = c .before .row-of in
-    (fill-more (at-loop .loop .inv .0) (at-start .pre .0 .short) (at-next-zero .next-zero .result) (row .result) (at-next-zero .next-zero .ensures) (at-if1 .if1 .left) (row .ensures .0), row .ensures .1)
+    let row = c .before .row-of in (
+      fill-more (at-loop .loop .inv .0) (at-start .pre .0 .short) (at-next-zero .next-zero .result) (row .result) (at-next-zero .next-zero .ensures)
+          (at-if1 .if1 .left) (row .ensures .0),
+      row .ensures .1,
+    )
 
 same-length-2 : tie.Need-same-length-2 Inv-loop μ-loop
 same-length-2 c =

@@ -1,4 +1,4 @@
--- `paths::begins::row_of` meets its contract.
+-- Whether the clause is always true settles which row it has.
 use mathlib.Core.Path.{refl, sym, _∙_}
 use native.Mathlib.Numerals.{add-one}
 use native.Mathlib.Omega.{arith}

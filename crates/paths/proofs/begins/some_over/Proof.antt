@@ -1,4 +1,4 @@
--- `paths::begins::some_over` meets its contract.
+-- The invariant: every entry before i is below the count.
 use Prim.Native.Nat.{ℕ, _-_, _<_}
 use native.Mathlib.Omega.{arith}
 use borrow.Author.Count.{below-more}

@@ -1,4 +1,4 @@
--- `paths::walk::fails_at` meets its contract.
+-- The causes of 24 at one entry are asked one after the other: always true, not going on, and, at the last one, without y.
 use Prim.Native.Nat.{suc}
 use mathlib.Core.Path.{_≡_, refl}
 use native.Mathlib.Omega.{arith}
@@ -71,7 +71,8 @@ returns-4 c =
     let done = c .before .if3 .left in
     let within = pre .2 in
     let last : suc (a .i) ≡ length (a .path .now) = omega arith in
-    tells-not (c .has-variable .result) (λ h. no-cause (pre .2) (f .not-true) joins (λ _. from-has f (a .y .0) .1 h)) (λ no′. without-y refl last (λ h. no′ (from-has f (a .y .0) .0 h))) (c .has-variable .ensures end (f .next))
+    tells-not (c .has-variable .result) (λ h. no-cause (pre .2) (f .not-true) joins (λ _. from-has f (a .y .0) .1 h))
+    (λ no′. without-y refl last (λ h. no′ (from-has f (a .y .0) .0 h))) (c .has-variable .ensures end (f .next))
 
 pub fails-at-spec : {M : Type 1} → statement M
 fails-at-spec =

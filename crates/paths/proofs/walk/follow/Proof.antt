@@ -1,4 +1,4 @@
--- `paths::walk::follow` meets its contract.
+-- The invariant: nothing fails before entry i, and the stamps are those of the clause before it (Walked).
 use Prim.Native.Nat.{_-_}
 use mathlib.Core.Path.{refl}
 use mathlib.Core.Logic.{inl}
@@ -6,7 +6,7 @@ use native.Mathlib.Omega.{arith}
 use borrow.Author.Needs.{needs}
 use lib.ListN.{length}
 use Rattle.tables.proofs.Readings.{told, told-not}
-use Rattle.tables.specs.Formula.{tabled}
+use Rattle.tables.specs.Tabled.{tabled}
 use Rattle.paths.specs.Causes.{PathCause, empty}
 use Rattle.paths.specs.Walk.{Walked}
 use Rattle.paths.proofs.Following.{Clean, clean-more, plain-clause, fails-first, fails-never, walk-none}

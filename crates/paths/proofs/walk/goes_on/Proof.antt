@@ -1,9 +1,9 @@
--- `paths::walk::goes_on` meets its contract.
+-- The first clause is asked for x, and any other for a stamped existential deeper than x: those stamped are the variables of the clause before.
 use Prim.Native.Nat.{_-_}
 use mathlib.Core.Path.{refl}
 use native.Mathlib.Omega.{arith}
 use borrow.Author.Needs.{needs}
-use Rattle.tables.specs.Formula.{tabled}
+use Rattle.tables.specs.Tabled.{tabled}
 use Rattle.paths.proofs.Following.{joins-first, joins-next}
 use Rattle.paths.proofs.walk.goes_on.Statement.{statement}
 use Rattle.paths.proofs.walk.goes_on.Tie as tie

@@ -1,4 +1,4 @@
--- `paths::walk::has_variable` meets its contract.
+-- The invariant: no entry from start up to i is of v.
 use Prim.Native.Nat.{_-_}
 use mathlib.Core.Path.{_≡_, refl, sym, subst, _∙_}
 use native.Mathlib.Omega.{arith}
@@ -32,7 +32,8 @@ returns-2 c =
     let at-variable-at = at-if1 .before .before in
     let at-loop = at-variable-at .before .before in
     let at-start = at-loop .before in
-    λ end next. subst (Has (at-start .args .clauses .now) (at-start .args .start) end) (c .if2 .taken) (passed-one (at-loop .loop .inv) next (at-variable-at .variable-at .result .0) (at-variable-at .variable-at .ensures) (at-if1 .if1 .left))
+    λ end next. subst (Has (at-start .args .clauses .now) (at-start .args .start) end) (c .if2 .taken)
+    (passed-one (at-loop .loop .inv) next (at-variable-at .variable-at .result .0) (at-variable-at .variable-at .ensures) (at-if1 .if1 .left))
 
 loop-again : tie.Need-loop-again Inv-loop μ-loop
 loop-again c =

@@ -1,4 +1,4 @@
--- `paths::walk::is_deep` meets its contract.
+-- The rows of the level table say whether v is existential and how deep v and x are.
 use mathlib.Core.Path.{sym, _∙_}
 use native.Mathlib.Omega.{arith}
 use borrow.Author.Needs.{needs}

@@ -1,4 +1,4 @@
--- `paths::walk::is_met` meets its contract.
+-- Both halves are tested: the stamp in the table, and deepness by the level table.
 use mathlib.Core.Path.{sym, _∙_}
 use borrow.Author.Needs.{needs}
 use Rattle.tables.proofs.Readings.{told-both}

@@ -1,4 +1,4 @@
--- `paths::walk::meets` meets its contract.
+-- The invariant: no entry from start up to i is of an existential deeper than x with the stamp.
 use Prim.Native.Nat.{_-_}
 use mathlib.Core.Path.{_≡_, sym, _∙_}
 use native.Mathlib.Omega.{arith}
@@ -6,7 +6,7 @@ use borrow.Author.Needs.{needs}
 use lib.ListN.{length, getD}
 use Rattle.marks.proofs.Flags.{literal-past}
 use Rattle.tables.proofs.Readings.{told, told-not}
-use Rattle.tables.specs.Formula.{tabled}
+use Rattle.tables.specs.Tabled.{tabled}
 use Rattle.paths.specs.Paths.{Deep}
 use Rattle.paths.proofs.Entries.{Passing, pass-none, pass-more, passed-all, passed-one}
 use Rattle.paths.proofs.walk.meets.Statement.{statement}
@@ -44,7 +44,8 @@ loop-again c =
     let at-if1 = c .before .before in
     let at-variable-at = at-if1 .before .before in
     let at-loop = at-variable-at .before .before in
-    pass-more (at-loop .loop .inv) (at-variable-at .variable-at .result .0) (at-variable-at .variable-at .ensures) (at-if1 .if1 .left) (told-not (c .before .is-met .result) (c .if2 .left) (c .before .is-met .ensures))
+    pass-more (at-loop .loop .inv) (at-variable-at .variable-at .result .0) (at-variable-at .variable-at .ensures) (at-if1 .if1 .left)
+    (told-not (c .before .is-met .result) (c .if2 .left) (c .before .is-met .ensures))
 
 returns-3 : tie.Need-returns-3 Inv-loop μ-loop
 returns-3 c =

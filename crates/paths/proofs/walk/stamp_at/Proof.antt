@@ -1,4 +1,4 @@
--- `paths::walk::stamp_at` meets its contract.
+-- A row within the table is read, and past its end the default is 0.
 use mathlib.Core.Path.{sym}
 use borrow.Author.Needs.{needs}
 use lib.ListN.{List·getD-eq-default}

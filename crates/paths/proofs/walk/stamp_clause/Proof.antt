@@ -1,4 +1,4 @@
--- `paths::walk::stamp_clause` meets its contract.
+-- The clause stands where its row says, so that its variables are those stamped, and all others keep the stamp that they had.
 use mathlib.Core.Path.{refl}
 use native.Mathlib.Omega.{arith}
 use borrow.Author.Needs.{needs}

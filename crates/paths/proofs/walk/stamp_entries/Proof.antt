@@ -1,4 +1,4 @@
--- `paths::walk::stamp_entries` meets its contract.
+-- The invariant: the variables of the entries from start up to i have the stamp, and all others what they had.
 use Prim.Native.Nat.{_-_}
 use mathlib.Core.Path.{sym, subst, _∙_}
 use native.Mathlib.Omega.{arith}
@@ -31,7 +31,8 @@ returns c =
     let at-loop = at-variable-at .before .before in
     let at-start = at-loop .before .before in
     λ end next. let a = at-start .args in let loop = at-loop .loop in
-    subst (λ e. Stamped (Has (a .clauses .now) (a .start) e) (a .stamp) (a .stamps .now) (loop .stamps)) (ends-here (loop .inv .0) next (sym (at-variable-at .variable-at .ensures) ∙ c .if1 .taken)) (loop .inv .1)
+    subst (λ e. Stamped (Has (a .clauses .now) (a .start) e) (a .stamp) (a .stamps .now) (loop .stamps))
+    (ends-here (loop .inv .0) next (sym (at-variable-at .variable-at .ensures) ∙ c .if1 .taken)) (loop .inv .1)
 
 mul-stamps : tie.Need-mul-stamps Inv-loop μ-loop
 mul-stamps c =
@@ -47,7 +48,8 @@ slice-write-stamps c =
     let at-loop-test = at-variable-at .before in
     let at-loop = at-loop-test .before in
     let at-start = at-loop .before .before in
-    let row = at-start .pre .0 .rows (at-loop .loop .i) (at-loop-test .loop-test .taken) in let is = at-variable-at .variable-at .ensures in let size = at-loop .loop .inv .1 .size in let all = at-start .pre .1 in omega arith
+    let row = at-start .pre .0 .rows (at-loop .loop .i) (at-loop-test .loop-test .taken) in let is = at-variable-at .variable-at .ensures in
+    let size = at-loop .loop .inv .1 .size in let all = at-start .pre .1 in omega arith
 
 loop-again : tie.Need-loop-again Inv-loop μ-loop
 loop-again c =
@@ -70,7 +72,8 @@ returns-2 : tie.Need-returns-2 Inv-loop μ-loop
 returns-2 c =
     let at-start = c .before .before .before in
     λ end next. let a = at-start .args in let loop = c .before .loop in
-    subst (λ e. Stamped (Has (a .clauses .now) (a .start) e) (a .stamp) (a .stamps .now) (loop .stamps)) (ends-here (loop .inv .0) next (literal-past (a .clauses .now) (loop .i) (c .loop-test .left))) (loop .inv .1)
+    subst (λ e. Stamped (Has (a .clauses .now) (a .start) e) (a .stamp) (a .stamps .now) (loop .stamps))
+    (ends-here (loop .inv .0) next (literal-past (a .clauses .now) (loop .i) (c .loop-test .left))) (loop .inv .1)
 
 pub stamp-entries-spec : {M : Type 1} → statement M
 stamp-entries-spec =

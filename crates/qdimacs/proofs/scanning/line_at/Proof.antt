@@ -1,12 +1,10 @@
--- `qdimacs::scanning::line_at` meets its contract.
+-- By the stage: before the problem line what `opening_at` found is a fault or where the line leads to (Bodies), and after it `body_at` says so itself.
+use Prim.Native.Nat.{ℕ}
 use mathlib.Core.Path.{sym, subst}
-use lib.ListN.{drop}
-use Rattle.grammar.specs.declared.Opened.{Opened}
+use mathlib.Core.List.{List}
+use lib.IntN.{ℤ}
 use Rattle.grammar.specs.declared.Stage.{Stage}
-use Rattle.grammar.specs.declared.Stage.the-variants.{Opening, Body}
-use Rattle.tokens.specs.Words.{LF, pieces}
-use Rattle.grammar.specs.Grammar.{Fault}
-use Rattle.grammar.specs.Steps.{OpenedIs, Went, StepIs, Sound}
+use Rattle.grammar.specs.Steps.{OpenedIs, StepIs, Sound}
 use Rattle.grammar.proofs.Bodies.{fault-opening, went-comment, went-problem}
 use borrow.Author.Needs.{needs}
 use Rattle.qdimacs.proofs.scanning.line_at.Statement.{statement}
@@ -15,9 +13,7 @@ use Rattle.qdimacs.proofs.scanning.line_at.Tie as tie
 body-at-requires : tie.Need-body-at-requires
 body-at-requires c κs =
     let at-stage = c .before .before .before in
-    let at-start = at-stage .before .before .before .before in
-    let a = at-start .args in
-    let pre = at-start .pre in
+    let pre = at-stage .before .before .before .before .pre in
     (pre .0, pre .1, pre .2, subst Sound (at-stage .stage .given .1) (pre .3))
 
 returns : tie.Need-returns
@@ -26,9 +22,8 @@ returns c =
     let at-enum-told = at-opening-at .before in
     let at-start = at-enum-told .before .before .before .before in
     let a = at-start .args in
-    let pre = at-start .pre in
-    subst (λ (s : Stage). Fault 16 s (pieces LF (drop (a .at) (a .text .now)))) (sym (at-enum-told .enum-told .given .1))
-    (fault-opening (a .text .now) (a .at) (pre .0) (subst (λ (r : Opened). OpenedIs (a .text .now) (a .at) r) (c .enum-told2 .given .1) (at-opening-at .opening-at .ensures)))
+    let none = subst (OpenedIs (a .text .now) (a .at)) (c .enum-told2 .given .1) (at-opening-at .opening-at .ensures) in
+    fault-opening (at-enum-told .enum-told .given .1) (at-start .pre .0) none
 
 returns-2 : tie.Need-returns-2
 returns-2 c =
@@ -36,10 +31,8 @@ returns-2 c =
     let at-enum-told = at-opening-at .before in
     let at-start = at-enum-told .before .before .before .before in
     let a = at-start .args in
-    let pre = at-start .pre in
-    let v = c .before .next .given in
-    subst (λ (s : Stage). Went s (a .text .now) (a .at) (a .entries) (a .literals) (a .prefix .now, a .clauses .now) (a .prefix .now, a .clauses .now) Opening (v .0 .0) (a .entries) (a .literals)) (sym (at-enum-told .enum-told .given .1))
-    (went-comment (a .text .now) (a .at) (a .entries) (a .literals) (a .prefix .now, a .clauses .now) (pre .1) (pre .2) (v .0 .0) (subst (λ (r : Opened). OpenedIs (a .text .now) (a .at) r) (v .1) (at-opening-at .opening-at .ensures)))
+    let comment = subst (OpenedIs (a .text .now) (a .at)) (c .before .next .given .1) (at-opening-at .opening-at .ensures) in
+    went-comment (at-start .pre .1) (at-start .pre .2) (at-enum-told .enum-told .given .1) comment
 
 returns-3 : tie.Need-returns-3
 returns-3 c =
@@ -47,20 +40,18 @@ returns-3 c =
     let at-enum-told = at-opening-at .before in
     let at-start = at-enum-told .before .before .before .before in
     let a = at-start .args in
-    let pre = at-start .pre in
-    let v = c .before .n .given in
-    subst (λ (s : Stage). Went s (a .text .now) (a .at) (a .entries) (a .literals) (a .prefix .now, a .clauses .now) (a .prefix .now, a .clauses .now) (Body (v .0 .0) (v .0 .1 .0) 0) (v .0 .1 .1 .0) (a .entries) (a .literals)) (sym (at-enum-told .enum-told .given .1))
-    (went-problem (a .text .now) (a .at) (a .entries) (a .literals) (a .prefix .now, a .clauses .now) (pre .1) (pre .2) (v .0 .0) (v .0 .1 .0) (v .0 .1 .1 .0) (subst (λ (r : Opened). OpenedIs (a .text .now) (a .at) r) (v .1) (at-opening-at .opening-at .ensures)))
+    let problem = subst (OpenedIs (a .text .now) (a .at)) (c .before .n .given .1) (at-opening-at .opening-at .ensures) in
+    went-problem (at-start .pre .1) (at-start .pre .2) (at-enum-told .enum-told .given .1) problem
 
 returns-4 : tie.Need-returns-4
 returns-4 c =
     let at-body-at = c .before .before .before in
     let at-stage = at-body-at .before .before .before .before in
-    let at-start = at-stage .before .before .before .before in
-    let a = at-start .args in
-    let pre = at-start .pre in
+    let a = at-stage .before .before .before .before .args in
     let o = at-body-at .body-at in
-    subst (λ (s : Stage). StepIs s (a .text .now) (a .at) (a .entries) (a .literals) (a .prefix .now, a .clauses .now) (o .last .1 .1 .1 .1 .1 .0, o .last .1 .1 .1 .1 .1 .1 .1 .0) (o .result)) (sym (at-stage .stage .given .1)) (o .ensures)
+    let after : List ℕ × List ℤ = (o .last .1 .1 .1 .1 .1 .0, o .last .1 .1 .1 .1 .1 .1 .1 .0) in
+    let Is : Stage → Type 0 = λ s. StepIs s (a .text .now) (a .at) (a .entries) (a .literals) (a .prefix .now, a .clauses .now) after (o .result) in
+    subst Is (sym (at-stage .stage .given .1)) (o .ensures)
 
 pub line-at-spec : {M : Type 1} → statement M
 line-at-spec =

@@ -1,12 +1,14 @@
--- `qdimacs::scanning::scan` meets its contract: the lines before a place lead to the stage, and what they added stands in the tables.
+-- The lines before the place lead to the stage, and what they added stands in the tables (Reached); a line that is passed lengthens them, and ends later.
 use borrow.Author.Needs.{needs}
-use Prim.Native.Nat.{_-_}
+use Prim.Native.Nat.{ℕ, _-_}
 use mathlib.Core.Path.{_∙_, subst}
 use native.Mathlib.Omega.{arith}
+use mathlib.Core.List.{List}
+use lib.IntN.{ℤ}
 use lib.ListN.{length}
-use Rattle.grammar.specs.declared.Step.{Step}
 use Rattle.grammar.specs.Steps.{Went, StepIs}
-use Rattle.qdimacs.proofs.Scans.{Reached, reached-none, reached-sound, reached-prefix, reached-clauses, reached-more, went-less, reached-fault, reached-end}
+use Rattle.qdimacs.proofs.Scans.{Reached, reached-none, reached-sound, reached-prefix, reached-clauses, reached-more, went-less, reached-fault}
+use Rattle.qdimacs.proofs.Scans.{reached-end}
 use Rattle.qdimacs.proofs.scanning.scan.Statement.{statement}
 use Rattle.qdimacs.proofs.scanning.scan.Tie as tie
 
@@ -20,8 +22,8 @@ abbrev μ-loop : tie.MeasureT-loop
 
 loop-holds : tie.Need-loop-holds Inv-loop μ-loop
 loop-holds c =
-    let at-start = c .before .before in
-    let a = at-start .args in reached-none (a .text .now) (a .prefix .now, a .clauses .now)
+    let a = c .before .before .args in
+    reached-none (a .text .now) (a .prefix .now, a .clauses .now)
 
 line-at-requires : tie.Need-line-at-requires Inv-loop μ-loop
 line-at-requires c κs =
@@ -46,22 +48,27 @@ returns : tie.Need-returns Inv-loop μ-loop
 returns c =
     let at-line-at = c .before .before .before .before .before .before in
     let at-loop = at-line-at .before .before .before .before in
-    let at-start = at-loop .before .before .before in
-    let a = at-start .args in
+    let text = at-loop .before .before .before .args .text .now in
     let l = at-loop .loop in
     let o = at-line-at .line-at in
-    reached-fault (l .inv) (subst (λ (r : Step). StepIs (l .stage) (a .text .now) (l .at) (l .entries) (l .literals) (l .prefix, l .clauses) (o .last .1 .1 .1 .0, o .last .1 .1 .1 .1 .1 .0) r) (c .before .number .given .1) (o .ensures))
+    let after : List ℕ × List ℤ = (o .last .1 .1 .1 .0, o .last .1 .1 .1 .1 .1 .0) in
+    let Is = StepIs (l .stage) text (l .at) (l .entries) (l .literals) (l .prefix, l .clauses) after in
+    reached-fault (l .inv) (subst Is (c .before .number .given .1) (o .ensures))
 
 -- the line that was passed
-went : (c : tie.After-known-told2 Inv-loop μ-loop) → let v = c .before .reached .given .0 in let l = c .before .before .before .before .before .before .before .before .before .before .loop in let o = c .before .before .before .before .before .before .line-at in
-    Went (l .stage) (c .before .before .before .before .before .before .before .before .before .before .before .before .before .args .text .now) (l .at) (l .entries) (l .literals) (l .prefix, l .clauses) (o .last .1 .1 .1 .0, o .last .1 .1 .1 .1 .1 .0) (v .0) (v .1 .0) (v .1 .1 .0) (v .1 .1 .1 .0)
+went : (c : tie.After-known-told2 Inv-loop μ-loop)
+    → let at-line-at = c .before .before .before .before .before .before in let at-loop = at-line-at .before .before .before .before in
+    let text = at-loop .before .before .before .args .text .now in let l = at-loop .loop in let o = at-line-at .line-at in
+    let after : List ℕ × List ℤ = (o .last .1 .1 .1 .0, o .last .1 .1 .1 .1 .1 .0) in let v = c .before .reached .given .0 in
+    Went (l .stage) text (l .at) (l .entries) (l .literals) (l .prefix, l .clauses) after (v .0) (v .1 .0) (v .1 .1 .0) (v .1 .1 .1 .0)
 went c =
     let at-line-at = c .before .before .before .before .before .before in
     let at-loop = at-line-at .before .before .before .before in
-    let at-start = at-loop .before .before .before in
+    let text = at-loop .before .before .before .args .text .now in
     let l = at-loop .loop in
     let o = at-line-at .line-at in
-    subst (λ (r : Step). StepIs (l .stage) (at-start .args .text .now) (l .at) (l .entries) (l .literals) (l .prefix, l .clauses) (o .last .1 .1 .1 .0, o .last .1 .1 .1 .1 .1 .0) r) (c .before .reached .given .1) (o .ensures)
+    let after : List ℕ × List ℤ = (o .last .1 .1 .1 .0, o .last .1 .1 .1 .1 .1 .0) in
+    subst (StepIs (l .stage) text (l .at) (l .entries) (l .literals) (l .prefix, l .clauses) after) (c .before .reached .given .1) (o .ensures)
 
 loop-less : tie.Need-loop-less Inv-loop μ-loop
 loop-less c = omega (arith, went-less (went c), went c .passed .within)
@@ -71,25 +78,11 @@ loop-again c =
     let at-loop = c .before .before .before .before .before .before .before .before .before .before in
     reached-more (at-loop .loop .inv) (went c)
 
-finish-requires : tie.Need-finish-requires Inv-loop μ-loop
-finish-requires c κs = reached-sound (c .before .loop .inv)
-
-same-length-3 : tie.Need-same-length-3 Inv-loop μ-loop
-same-length-3 c =
-    let at-loop = c .before .before in
-    reached-prefix (at-loop .loop .inv)
-
-same-length-4 : tie.Need-same-length-4 Inv-loop μ-loop
-same-length-4 c =
-    let at-loop = c .before .before in
-    reached-clauses (at-loop .loop .inv)
-
 returns-2 : tie.Need-returns-2 Inv-loop μ-loop
-returns-2 c =
-    let at-loop = c .before .before in
-    reached-end (at-loop .loop .inv) (c .before .loop-test .left) (c .finish .result) (c .finish .ensures)
+returns-2 c = reached-end (c .before .before .loop .inv) (c .before .loop-test .left) (c .finish .result) (c .finish .ensures)
 
 pub scan-spec : {M : Type 1} → statement M
 scan-spec =
     tie.close (tie.spec Inv-loop μ-loop loop-holds line-at-requires (λ c. search needs) same-length same-length-2 returns
-    (λ c. search needs) loop-less loop-again finish-requires same-length-3 same-length-4 returns-2)
+    (λ c. search needs) loop-less loop-again (λ c κs. reached-sound (c .before .loop .inv))
+    (λ c. reached-prefix (c .before .before .loop .inv)) (λ c. reached-clauses (c .before .before .loop .inv)) returns-2)

@@ -1,4 +1,4 @@
--- `records::numbers::literal_number` meets its contract.
+-- By the sign: the complement of a negative literal is one less than its magnitude, and any other literal is its own number.
 use Prim.Native.Nat.{_-_}
 use mathlib.Core.Path.{sym, ap, _∙_}
 use native.Mathlib.Omega.{arith}
@@ -26,7 +26,8 @@ returns : tie.Need-returns
 returns c =
     let a = c .before in
     let k = complement (a .args .literal) (a .fits .literal) (c .if1 .taken) in
-    number-negative (a .args .literal) (natAbs (toZ w32 (4294967295 - ofZ w32 (a .args .literal)))) (sym (ap (λ (x : ℤ). ltZ x (pos 0)) (toZ-ofZ (a .fits .literal))) ∙ c .if1 .taken) (k .is)
+    number-negative (a .args .literal) (natAbs (toZ w32 (4294967295 - ofZ w32 (a .args .literal))))
+    (sym (ap (λ (x : ℤ). ltZ x (pos 0)) (toZ-ofZ (a .fits .literal))) ∙ c .if1 .taken) (k .is)
 
 returns-2 : tie.Need-returns-2
 returns-2 c =

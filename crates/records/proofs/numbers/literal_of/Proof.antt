@@ -1,4 +1,4 @@
--- `records::numbers::literal_of` meets its contract.
+-- The machine reads the bits of the number, and the literal is what it reads (literal-is); below the middle that is the number itself.
 use Prim.Native.Nat.{_-_}
 use mathlib.Core.Path.{_≡_, ap, _∙_}
 use native.Mathlib.Omega.{arith}
@@ -8,15 +8,6 @@ use Rattle.records.proofs.Bits.{literal-is}
 use borrow.Author.Needs.{needs}
 use Rattle.records.proofs.numbers.literal_of.Statement.{statement}
 use Rattle.records.proofs.numbers.literal_of.Tie as tie
-
-cast-result : tie.Need-cast-result
-cast-result c = search needs
-
-sub-below : tie.Need-sub-below
-sub-below c = search needs
-
-cast-below : tie.Need-cast-below
-cast-below c = search needs
 
 returns : tie.Need-returns
 returns c = literal-is (c .before .args .number)
@@ -29,4 +20,5 @@ returns-2 c =
     ap (toZ w32) q ∙ literal-is n
 
 pub literal-of-spec : {M : Type 1} → statement M
-literal-of-spec = tie.close (tie.spec cast-result sub-below cast-below returns returns-2)
+literal-of-spec =
+    tie.close (tie.spec (λ c. search needs) (λ c. search needs) (λ c. search needs) returns returns-2)

@@ -1,4 +1,5 @@
--- `records::sums::sum_words` meets its contract: the sum so far and that of the words left are the whole sum, when they wrap.
+-- The invariant: the sum so far and that of the words from here on make the whole sum, where both are let wrap. Each round moves one word
+-- over (sum-step).
 use borrow.Author.Needs.{needs}
 use Prim.Native.Nat.{_+_, _-_, _≤_, _<_, _%_}
 use mathlib.Core.Path.{_≡_}

@@ -1,6 +1,6 @@
--- `sets::all_sets::list_sets` meets its contract.
+-- The tables of heads and links are long enough for the clauses on either branch, and what `thread` ties is what the pass over all universals stands on.
 use Prim.Native.Nat.{ℕ}
-use mathlib.Core.Path.{_∙_}
+use mathlib.Core.Path.{refl, _∙_}
 use native.Mathlib.Omega.{arith}
 use lib.ListN.{length-replicate}
 use Rattle.tables.proofs.Readings.{new-zero}
@@ -31,7 +31,7 @@ write-fitting-requires c κs =
     let thread = at-thread .thread in
     let heads = thread .kept .1 .1 .0 ∙ length-replicate {A = ℕ} 4097 0 in
     let links = thread .kept .1 .1 .1 .0 ∙ length-replicate {A = ℕ} 2048 0 in
-    record { sound = pre .0; table = pre .1; formed = pre .4; closed = pre .3; heads = heads; links = omega arith; threaded = thread .ensures }
+    (record { sound = pre .0; table = pre .1; formed = pre .4; closed = pre .3; heads = heads; links = omega arith; threaded = thread .ensures }, refl)
 
 thread-requires-2 : tie.Need-thread-requires-2
 thread-requires-2 c κs =
@@ -53,7 +53,7 @@ write-fitting-requires-2 c κs =
     let thread = at-thread2 .thread2 in
     let heads = thread .kept .1 .1 .0 ∙ length-replicate {A = ℕ} 4097 0 in
     let links = thread .kept .1 .1 .1 .0 ∙ length-replicate {A = ℕ} 16384 0 in
-    record { sound = pre .0; table = pre .1; formed = pre .4; closed = pre .3; heads = heads; links = omega arith; threaded = thread .ensures }
+    (record { sound = pre .0; table = pre .1; formed = pre .4; closed = pre .3; heads = heads; links = omega arith; threaded = thread .ensures }, refl)
 
 pub list-sets-spec : {M : Type 1} → statement M
 list-sets-spec =

@@ -1,9 +1,10 @@
--- `settling::counts::copy_out` meets its contract.
-use Prim.Native.Nat.{_-_}
+-- The invariant: the rows of 1 to `at` are copied, the others stay (Copied). The row of `at` + 1 is in the table, since n is within the limit.
+use Prim.Native.Nat.{_-_, _<_}
 use mathlib.Core.Path.{refl}
 use native.Mathlib.Omega.{arith}
-use Rattle.settling.proofs.Recounted.{copy-none, copy-one, copied}
+use Rattle.terms.specs.Limits.{mostVariables}
 use Rattle.settling.specs.Rows.{Copied}
+use Rattle.settling.proofs.Recounted.{copy-none, copy-one, copied}
 use Rattle.settling.proofs.counts.copy_out.Statement.{statement}
 use Rattle.settling.proofs.counts.copy_out.Tie as tie
 
@@ -16,42 +17,34 @@ abbrev μ-loop : tie.MeasureT-loop
 loop-holds : tie.Need-loop-holds Inv-loop μ-loop
 loop-holds c = copy-none _ _ _
 
+-- the row of `at` + 1 is within the limit
+inside : (c : tie.In-loop Inv-loop μ-loop) → c .before .loop .at < mostVariables
+inside c = omega (arith, c .before .before .pre .0)
+
 add-rows : tie.Need-add-rows Inv-loop μ-loop
-add-rows c =
-    let at-start = c .before .before in
-    omega (arith, at-start .pre .0)
+add-rows c = omega (arith, inside c)
 
 mul-rows : tie.Need-mul-rows Inv-loop μ-loop
-mul-rows c =
-    let at-start = c .before .before in
-    omega (arith, at-start .pre .0)
+mul-rows c = omega (arith, inside c)
 
 shared-slice-read-rows : tie.Need-shared-slice-read-rows Inv-loop μ-loop
-shared-slice-read-rows c =
-    let at-start = c .before .before .before in
-    omega (arith, at-start .pre .0, at-start .pre .1)
+shared-slice-read-rows c = omega (arith, inside (c .before), c .before .before .before .pre .1)
 
 mul-rows-2 : tie.Need-mul-rows-2 Inv-loop μ-loop
-mul-rows-2 c =
-    let at-start = c .before .before .before in
-    omega (arith, at-start .pre .0)
+mul-rows-2 c = omega (arith, inside (c .before))
 
 slice-write-rows : tie.Need-slice-write-rows Inv-loop μ-loop
 slice-write-rows c =
     let at-loop = c .before .before in
-    let at-start = at-loop .before in
-    omega (arith, at-start .pre .2, at-loop .loop .inv .past .size)
+    omega (arith, at-loop .before .pre .2, at-loop .loop .inv .past .size)
 
 add-at : tie.Need-add-at Inv-loop μ-loop
-add-at c =
-    let at-start = c .before .before .before in
-    omega (arith, at-start .pre .0)
+add-at c = omega (arith, inside (c .before))
 
 loop-again : tie.Need-loop-again Inv-loop μ-loop
 loop-again c =
     let at-loop = c .before .before in
-    let at-start = at-loop .before in
-    copy-one _ (at-loop .loop .inv) (c .before .loop-test .taken) (at-start .pre .2) refl
+    copy-one _ (at-loop .loop .inv) (c .before .loop-test .taken) (at-loop .before .pre .2) refl
 
 same-length : tie.Need-same-length Inv-loop μ-loop
 same-length c = c .before .loop .inv .past .size

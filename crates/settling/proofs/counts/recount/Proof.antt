@@ -1,6 +1,7 @@
--- `settling::counts::recount` meets its contract.
+-- The counts that `fill_counts` leaves in a new table, copied out, are those of the lent rows.
 use Prim.Native.Nat.{ℕ}
 use lib.ListN.{length-replicate}
+use Rattle.terms.specs.Limits.{variableRows}
 use Rattle.tables.proofs.Readings.{new-zero}
 use Rattle.settling.proofs.Recounted.{recounted}
 use borrow.Author.Needs.{needs}
@@ -9,8 +10,8 @@ use Rattle.settling.proofs.counts.recount.Tie as tie
 
 fill-counts-requires : tie.Need-fill-counts-requires
 fill-counts-requires c κs =
-    let at-start = c .before .before .before .before .before in
-    let pre = at-start .pre in (pre .0, pre .1, length-replicate {A = ℕ} 4097 0, new-zero 4097)
+    let pre = c .before .before .before .before .before .pre in
+    (pre .0, pre .1, length-replicate {A = ℕ} variableRows 0, new-zero variableRows)
 
 returns : tie.Need-returns
 returns c =

@@ -1,4 +1,5 @@
--- `settling::counts::take_census` meets its contract.
+-- The invariant: both numbers are right for the rows of 1 to `passed` (CensusOf); the three arms are the three kinds of row, and by each what is counted
+-- grows as the number does.
 use Prim.Native.Nat.{_-_}
 use native.Mathlib.Omega.{arith}
 use Rattle.settling.specs.Rows.{CensusOf}
@@ -16,25 +17,18 @@ loop-holds : tie.Need-loop-holds Inv-loop μ-loop
 loop-holds c = census-none _ _
 
 shared-slice-read-class : tie.Need-shared-slice-read-class Inv-loop μ-loop
-shared-slice-read-class c =
-    let at-start = c .before .before .before in
-    omega (arith, at-start .pre)
+shared-slice-read-class c = omega (arith, c .before .before .before .pre)
 
 loop-again : tie.Need-loop-again Inv-loop μ-loop
-loop-again c =
-    let at-loop-test = c .before .before in
-    let at-loop = at-loop-test .before in
-    census-universal (at-loop .loop .inv) (at-loop-test .loop-test .taken) (c .if1 .taken)
+loop-again c = census-universal (c .before .before .before .loop .inv) (c .before .before .loop-test .taken) (c .if1 .taken)
 
 add-existentials : tie.Need-add-existentials Inv-loop μ-loop
-add-existentials c =
-    let at-loop = c .before .before .before in
-    omega (arith, at-loop .loop .inv .few .1)
+add-existentials c = omega (arith, c .before .before .before .loop .inv .few .1)
 
 add-names : tie.Need-add-names Inv-loop μ-loop
 add-names c =
-    let at-loop = c .before .before .before .before in
-    omega (arith, at-loop .loop .inv .few .0, at-loop .loop .inv .few .1)
+    let few = c .before .before .before .before .loop .inv .few in
+    omega (arith, few .0, few .1)
 
 loop-again-2 : tie.Need-loop-again-2 Inv-loop μ-loop
 loop-again-2 c =

@@ -1,12 +1,9 @@
--- `spelling::bytes::put_digits` meets its contract: the digits of a tenth, and one more.
+-- A number below 10 is one digit (decimal-small); any other has those of its tenth, which the call on the lesser number puts, and one more (decimal-large).
 use borrow.Author.Needs.{needs}
 use Prim.Native.Nat.{ℕ, _<_, _/_}
-use mathlib.Core.Path.{sym, subst}
-use mathlib.Core.List.{List}
 use native.Mathlib.Omega.{arith}
-use Rattle.spelling.specs.Bytes.{Wrote}
 use Rattle.spelling.proofs.Decimal.{decimal-small, decimal-large, digits-most}
-use Rattle.spelling.proofs.Stores.{wrote-more}
+use Rattle.spelling.proofs.Stores.{wrote-as, wrote-more}
 use borrow.Fn.Kinds.{In}
 use borrow.Fn.PlainCycle.{Measures, is, falls, and}
 use Rattle.spelling.proofs.bytes.put_digits.Reads as put-digits
@@ -27,38 +24,6 @@ abbrev put-digits-below : ℕ → In 1 put-digits-kinds.ps
 put-digits-below t =
     and 1 put-digits-kinds.ps (falls 1 put-digits-kinds.ps _<_ μ-put-digits t) put-digits.Pre
 
-put-digits-cast-put-byte : (t : ℕ) → put-digits-lts.Need-cast-put-byte (
-  put-byte-reads.Asked,
-  put-byte-reads.Learnt,
-  put-digits-below t,
-  put-digits.Post,
-) (put-digits-at t) put-digits.Post
-put-digits-cast-put-byte t c = search needs
-
-put-digits-add-put-byte : (t : ℕ) → put-digits-lts.Need-add-put-byte (
-  put-byte-reads.Asked,
-  put-byte-reads.Learnt,
-  put-digits-below t,
-  put-digits.Post,
-) (put-digits-at t) put-digits.Post
-put-digits-add-put-byte t c = search needs
-
-put-digits-put-byte-requires : (t : ℕ) → put-digits-lts.Need-put-byte-requires (
-  put-byte-reads.Asked,
-  put-byte-reads.Learnt,
-  put-digits-below t,
-  put-digits.Post,
-) (put-digits-at t) put-digits.Post
-put-digits-put-byte-requires t c κs = search needs
-
-put-digits-same-length : (t : ℕ) → put-digits-lts.Need-same-length (
-  put-byte-reads.Asked,
-  put-byte-reads.Learnt,
-  put-digits-below t,
-  put-digits.Post,
-) (put-digits-at t) put-digits.Post
-put-digits-same-length t c = search needs
-
 put-digits-returns : (t : ℕ) → put-digits-lts.Need-returns (
   put-byte-reads.Asked,
   put-byte-reads.Learnt,
@@ -68,34 +33,8 @@ put-digits-returns : (t : ℕ) → put-digits-lts.Need-returns (
 put-digits-returns t c =
     let at-put-byte = c .before .before in
     let at-if1 = at-put-byte .before .before in
-    let at-start = at-if1 .before .before in
-    let a = at-start .args in
-    let o = at-put-byte .put-byte in
-    subst (λ (xs : List ℕ). Wrote xs (a .out .now) (o .last .0) (a .at) (o .result)) (sym (decimal-small (a .value) (omega (arith, at-if1 .if1 .taken)))) (o .ensures)
-
-put-digits-put-digits-requires : (t : ℕ) → put-digits-lts.Need-put-digits-requires (
-  put-byte-reads.Asked,
-  put-byte-reads.Learnt,
-  put-digits-below t,
-  put-digits.Post,
-) (put-digits-at t) put-digits.Post
-put-digits-put-digits-requires t c κs = search needs
-
-put-digits-cast-put-byte-2 : (t : ℕ) → put-digits-lts.Need-cast-put-byte-2 (
-  put-byte-reads.Asked,
-  put-byte-reads.Learnt,
-  put-digits-below t,
-  put-digits.Post,
-) (put-digits-at t) put-digits.Post
-put-digits-cast-put-byte-2 t c = search needs
-
-put-digits-add-put-byte-2 : (t : ℕ) → put-digits-lts.Need-add-put-byte-2 (
-  put-byte-reads.Asked,
-  put-byte-reads.Learnt,
-  put-digits-below t,
-  put-digits.Post,
-) (put-digits-at t) put-digits.Post
-put-digits-add-put-byte-2 t c = search needs
+    let value = at-if1 .before .before .args .value in
+    wrote-as (decimal-small value (omega (arith, at-if1 .if1 .taken))) (at-put-byte .put-byte .ensures)
 
 put-digits-put-byte-requires-2 : (t : ℕ) → put-digits-lts.Need-put-byte-requires-2 (
   put-byte-reads.Asked,
@@ -111,14 +50,6 @@ put-digits-put-byte-requires-2 t c κs =
     let d = digits-most (a .value / 10) 4 (omega (arith, pre .1)) in
     omega (arith, pre .0, at-put-digits .put-digits .ensures .end, d)
 
-put-digits-same-length-2 : (t : ℕ) → put-digits-lts.Need-same-length-2 (
-  put-byte-reads.Asked,
-  put-byte-reads.Learnt,
-  put-digits-below t,
-  put-digits.Post,
-) (put-digits-at t) put-digits.Post
-put-digits-same-length-2 t c = search needs
-
 put-digits-returns-2 : (t : ℕ) → put-digits-lts.Need-returns-2 (
   put-byte-reads.Asked,
   put-byte-reads.Learnt,
@@ -129,11 +60,8 @@ put-digits-returns-2 t c =
     let at-put-byte2 = c .before .before in
     let at-put-digits = at-put-byte2 .before .before .before .before in
     let at-if1 = at-put-digits .before .before in
-    let at-start = at-if1 .before .before in
-    let a = at-start .args in
-    let o = at-put-byte2 .put-byte2 in
-    subst (λ (xs : List ℕ). Wrote xs (a .out .now) (o .last .0) (a .at) (o .result)) (sym (decimal-large (a .value) (omega (arith, at-if1 .if1 .left))))
-    (wrote-more (at-put-digits .put-digits .ensures) (o .ensures))
+    let value = at-if1 .before .before .args .value in
+    wrote-as (decimal-large value (omega (arith, at-if1 .if1 .left))) (wrote-more (at-put-digits .put-digits .ensures) (at-put-byte2 .put-byte2 .ensures))
 
 pub +put-digits-spec : {M : Type 1} → statement M
 +put-digits-spec = close μ-put-digits λ t. put-digits-lts.spec (
@@ -144,14 +72,14 @@ pub +put-digits-spec : {M : Type 1} → statement M
 )
     (put-digits-at t)
     put-digits.Post
-    (put-digits-cast-put-byte t)
-    (put-digits-add-put-byte t)
-    (put-digits-put-byte-requires t)
-    (put-digits-same-length t)
+    (λ c. search needs)
+    (λ c. search needs)
+    (λ c κs. search needs)
+    (λ c. search needs)
     (put-digits-returns t)
-    (put-digits-put-digits-requires t)
-    (put-digits-cast-put-byte-2 t)
-    (put-digits-add-put-byte-2 t)
+    (λ c κs. search needs)
+    (λ c. search needs)
+    (λ c. search needs)
     (put-digits-put-byte-requires-2 t)
-    (put-digits-same-length-2 t)
+    (λ c. search needs)
     (put-digits-returns-2 t)

@@ -1,28 +1,15 @@
--- `spelling::bytes::put_byte` meets its contract.
+-- A byte with room is one store; one without is none, and a store past the end changes nothing (set-out).
 use mathlib.Core.Path.{refl, sym}
 use lib.Seq.{set-out}
 use borrow.Author.Needs.{needs}
 use Rattle.spelling.proofs.bytes.put_byte.Statement.{statement}
 use Rattle.spelling.proofs.bytes.put_byte.Tie as tie
 
-slice-write-out : tie.Need-slice-write-out
-slice-write-out c = search needs
-
-add-result : tie.Need-add-result
-add-result c = search needs
-
-same-length : tie.Need-same-length
-same-length c = search needs
-
-returns : tie.Need-returns
-returns c = search needs
-
-add-result-2 : tie.Need-add-result-2
-add-result-2 c = search needs
-
 returns-2 : tie.Need-returns-2
-returns-2 c = record { end = refl; stored = sym (set-out (c .before .args .out .now) (c .before .args .at) (c .before .args .byte) (c .if1 .left)) }
+returns-2 c =
+    let a = c .before .args in
+    record { end = refl; stored = sym (set-out (a .out .now) (a .at) (a .byte) (c .if1 .left)) }
 
 pub put-byte-spec : {M : Type 1} → statement M
 put-byte-spec =
-    tie.close (tie.spec slice-write-out add-result same-length returns add-result-2 returns-2)
+    tie.close (tie.spec (λ c. search needs) (λ c. search needs) (λ c. search needs) (λ c. search needs) (λ c. search needs) returns-2)

@@ -1,4 +1,4 @@
--- `spelling::bytes::width` meets its contract: between two powers of 10 the number of digits is one.
+-- Between two powers of 10 the number of digits is one (digits-are), and below the first of them it is 1.
 use mathlib.Core.Path.{sym, ap}
 use native.Mathlib.Omega.{arith}
 use lib.ListN.{length}

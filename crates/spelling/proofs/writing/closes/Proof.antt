@@ -1,4 +1,4 @@
--- `spelling::writing::closes` meets its contract.
+-- The literal is read back from its bits, and its variable is its magnitude.
 use Prim.Native.Nat.{ℕ}
 use mathlib.Core.Path.{ap, _∙_}
 use lib.Dec.{eqb}
@@ -8,16 +8,9 @@ use borrow.Author.Needs.{needs}
 use Rattle.spelling.proofs.writing.closes.Statement.{statement}
 use Rattle.spelling.proofs.writing.closes.Tie as tie
 
-new-requires : tie.Need-new-requires
-new-requires c κs = search needs
-
-variable-requires : tie.Need-variable-requires
-variable-requires c κs = search needs
-
 returns : tie.Need-returns
 returns c =
-    let at-fits = c .before .before in
-    ap (λ (v : ℕ). eqb v 0) (c .variable .ensures ∙ ap natAbs (c .before .new .ensures ∙ toZ-ofZ (at-fits .fits .literal)))
+    ap (λ (v : ℕ). eqb v 0) (c .variable .ensures ∙ ap natAbs (c .before .new .ensures ∙ toZ-ofZ (c .before .before .fits .literal)))
 
 pub closes-spec : {M : Type 1} → statement M
-closes-spec = tie.close (tie.spec new-requires variable-requires returns)
+closes-spec = tie.close (tie.spec (λ c κs. search needs) (λ c κs. search needs) returns)

@@ -1,4 +1,4 @@
--- `spelling::writing::count_clauses` meets its contract.
+-- The count so far and the clauses of the rows left are the clauses of the table; one entry moves at most one of them over (count-more).
 use Prim.Native.Nat.{_+_, _-_, _≤_}
 use mathlib.Core.Path.{_≡_, ap}
 use mathlib.Core.List.{[], _∷_}

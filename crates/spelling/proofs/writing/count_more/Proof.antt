@@ -1,4 +1,4 @@
--- `spelling::writing::count_more` meets its contract.
+-- An entry counts one if it closes its clause and none if not, by what `closes` told of it.
 use mathlib.Core.Path.{sym, ap, _∙_}
 use mathlib.Core.List.{[], _∷_}
 use native.Mathlib.Omega.{arith}
@@ -11,12 +11,6 @@ use Rattle.spelling.proofs.Stores.{count-closes, count-goes-on}
 use borrow.Author.Needs.{needs}
 use Rattle.spelling.proofs.writing.count_more.Statement.{statement}
 use Rattle.spelling.proofs.writing.count_more.Tie as tie
-
-closes-requires : tie.Need-closes-requires
-closes-requires c κs = search needs
-
-add-result : tie.Need-add-result
-add-result c = search needs
 
 returns : tie.Need-returns
 returns c =
@@ -35,4 +29,4 @@ returns-2 c =
     omega arith
 
 pub count-more-spec : {M : Type 1} → statement M
-count-more-spec = tie.close (tie.spec closes-requires add-result returns returns-2)
+count-more-spec = tie.close (tie.spec (λ c κs. search needs) (λ c. search needs) returns returns-2)

@@ -1,4 +1,4 @@
--- `spelling::writing::put_cnf` meets its contract.
+-- Six bytes, each put behind those before it.
 use Rattle.spelling.proofs.Stores.{wrote-more}
 use borrow.Author.Needs.{needs}
 use Rattle.spelling.proofs.writing.put_cnf.Statement.{statement}
@@ -12,8 +12,8 @@ returns c =
     let at-put-byte3 = at-put-byte4 .before .before .before .before in
     let at-put-byte2 = at-put-byte3 .before .before .before .before in
     let at-put-byte = at-put-byte2 .before .before .before .before in
-    wrote-more (at-put-byte .put-byte .ensures) (wrote-more (at-put-byte2 .put-byte2 .ensures) (wrote-more (at-put-byte3 .put-byte3 .ensures)
-    (wrote-more (at-put-byte4 .put-byte4 .ensures) (wrote-more (at-put-byte5 .put-byte5 .ensures) (at-put-byte6 .put-byte6 .ensures)))))
+    let last = wrote-more (at-put-byte4 .put-byte4 .ensures) (wrote-more (at-put-byte5 .put-byte5 .ensures) (at-put-byte6 .put-byte6 .ensures)) in
+    wrote-more (at-put-byte .put-byte .ensures) (wrote-more (at-put-byte2 .put-byte2 .ensures) (wrote-more (at-put-byte3 .put-byte3 .ensures) last))
 
 pub put-cnf-spec : {M : Type 1} → statement M
 put-cnf-spec =

@@ -1,46 +1,45 @@
--- `spelling::writing::put_text` meets its contract.
-use Prim.Native.Nat.{ℕ}
-use mathlib.Core.Path.{subst}
+-- The three parts are put one behind another. Each may be, since the parts before it are short: 18 bytes for the problem line, eight for each row.
+use Prim.Native.Nat.{_≤_}
+use mathlib.Core.Path.{sym, ap}
 use mathlib.Core.Bool.{true}
 use native.Mathlib.Omega.{arith}
 use Rattle.spelling.specs.Writing.{problemBytes, textOf}
-use Rattle.spelling.specs.Bytes.{Wrote}
-use Rattle.spelling.proofs.Stores.{wrote-more, problem-most, prefix-most, count-most}
+use Rattle.spelling.proofs.Stores.{wrote-as, wrote-more, problem-most, prefix-most, count-most}
 use borrow.Author.Needs.{needs}
 use Rattle.spelling.proofs.writing.put_text.Statement.{statement}
 use Rattle.spelling.proofs.writing.put_text.Tie as tie
 
 put-problem-requires : tie.Need-put-problem-requires
 put-problem-requires c κs =
-    let at-before = c .before .before .before in
-    let k = at-before .before in
+    let at-start = c .before .before .before .before in
     let count = c .before .count-clauses .ensures in
-    let most = count-most (k .args .clauses .now) in
-    omega (arith, k .pre .0, k .pre .2)
+    let most = count-most (at-start .args .clauses .now) in
+    omega (arith, at-start .pre .0, at-start .pre .2)
+
+-- where the problem line ends
+problem-end : (c : tie.After-put-problem) → c .put-problem .result ≤ 18
+problem-end c =
+    let at-count-clauses = c .before .before in
+    let at-start = at-count-clauses .before .before .before in
+    let count = at-count-clauses .count-clauses .ensures in
+    let most = count-most (at-start .args .clauses .now) in
+    let long = problem-most (at-start .args .n) (at-count-clauses .count-clauses .result) (at-start .pre .0) (omega (arith, at-start .pre .2)) in
+    omega (arith, c .put-problem .ensures .end)
 
 put-prefix-requires : tie.Need-put-prefix-requires
 put-prefix-requires c κs =
     let at-put-problem = c .before .before .before in
-    let at-count-clauses = at-put-problem .before .before in
-    let at-before = at-count-clauses .before .before in
-    let k = at-before .before in
-    let count = at-count-clauses .count-clauses .ensures in
-    let most = count-most (k .args .clauses .now) in
-    let long = problem-most (k .args .n) (at-count-clauses .count-clauses .result) (k .pre .0) (omega (arith, k .pre .2)) in
-    (omega (arith, at-put-problem .put-problem .ensures .end), k .pre .1, k .pre .3)
+    let pre = at-put-problem .before .before .before .before .before .pre in
+    (omega (arith, problem-end at-put-problem), pre .1, pre .3)
 
 put-clauses-requires : tie.Need-put-clauses-requires
 put-clauses-requires c κs =
     let at-put-prefix = c .before .before .before in
     let at-put-problem = at-put-prefix .before .before .before .before in
-    let at-count-clauses = at-put-problem .before .before in
-    let at-before = at-count-clauses .before .before in
-    let k = at-before .before in
-    let count = at-count-clauses .count-clauses .ensures in
-    let most = count-most (k .args .clauses .now) in
-    let long = problem-most (k .args .n) (at-count-clauses .count-clauses .result) (k .pre .0) (omega (arith, k .pre .2)) in
-    let longer = prefix-most true (k .args .prefix .now) (k .pre .3) in
-    (omega (arith, at-put-problem .put-problem .ensures .end, at-put-prefix .put-prefix .ensures .end, k .pre .1), k .pre .2, k .pre .4)
+    let at-start = at-put-problem .before .before .before .before .before in
+    let pre = at-start .pre in
+    let long = prefix-most true (at-start .args .prefix .now) (pre .3) in
+    (omega (arith, problem-end at-put-problem, at-put-prefix .put-prefix .ensures .end, pre .1), pre .2, pre .4)
 
 returns : tie.Need-returns
 unfolding textOf
@@ -49,12 +48,10 @@ returns c =
     let at-put-prefix = at-put-clauses .before .before .before .before in
     let at-put-problem = at-put-prefix .before .before .before .before in
     let at-count-clauses = at-put-problem .before .before in
-    let at-start = at-count-clauses .before .before .before in
-    let a = at-start .args in
-    let o = at-put-clauses .put-clauses in
-    let first = at-put-problem .put-problem in
-    wrote-more (subst (λ (m : ℕ). Wrote (problemBytes (a .n) m) (a .out .now) (first .last .0) 0 (first .result)) (at-count-clauses .count-clauses .ensures) (first .ensures))
-    (wrote-more (at-put-prefix .put-prefix .ensures) (o .ensures))
+    let n = at-count-clauses .before .before .before .args .n in
+    let counted = ap (problemBytes n) (sym (at-count-clauses .count-clauses .ensures)) in
+    wrote-more (wrote-as counted (at-put-problem .put-problem .ensures))
+    (wrote-more (at-put-prefix .put-prefix .ensures) (at-put-clauses .put-clauses .ensures))
 
 pub put-text-spec : {M : Type 1} → statement M
 put-text-spec =

@@ -1,4 +1,4 @@
--- `spelling::writing::starts` meets its contract.
+-- By the flag, as the definition goes.
 use Rattle.spelling.specs.Bytes.{nextFirst}
 use Rattle.spelling.proofs.writing.starts.Statement.{statement}
 use Rattle.spelling.proofs.writing.starts.Tie as tie

@@ -1,9 +1,7 @@
--- `tables::checking::check_forest` meets its contract.
+-- Tables that are too short come first, then the first bad row, and once no row is bad the tables are well formed (formed), and the counts tell.
 use mathlib.Core.Path.{subst}
 use mathlib.Core.Logic.{inl, inr}
-use Rattle.connection.specs.Tables.{Row}
-use Rattle.tables.specs.Formula.{tabled}
-use Rattle.tables.specs.Rows.{rowsOf, FirstBad}
+use Rattle.tables.specs.Rows.{RightRow, FirstBad}
 use Rattle.tables.specs.Counting.{FormedBy}
 use Rattle.tables.proofs.Formed.{forest-short, forest-bad, forest-miscounted, forest-fine}
 use Rattle.tables.proofs.Agreeing.{bad-rows, fine-rows}
@@ -12,12 +10,15 @@ use Rattle.tables.proofs.checking.check_forest.Statement.{statement}
 use Rattle.tables.proofs.checking.check_forest.Tie as tie
 
 -- where no row is bad the tables are well formed
-formed : (c : tie.Else4) → FormedBy (c .before .before .before .before .before .before .before .before .before .before .before .args .n) (c .before .before .before .before .before .before .before .before .before .before .before .args .prefix .now) (c .before .before .before .before .before .before .before .before .before .before .before .args .classes .now) (c .before .before .before .before .before .before .before .before .before .before .before .args .parents .now)
+formed : (c : tie.Else4)
+    → let a = c .before .before .before .before .before .before .before .before .before .before .before .args in
+    FormedBy (a .n) (a .prefix .now) (a .classes .now) (a .parents .now)
 formed c =
     let at-start = c .before .before .before .before .before .before .before .before .before .before .before in
     let a = at-start .args in
     let (sound, table) = at-start .pre in
-    fine-rows sound table (a .classes .now) (a .parents .now) (subst (FirstBad (Row (tabled (a .n) (a .levels .now) (a .universals .now)) (rowsOf (a .n) (a .classes .now) (a .parents .now))) (a .n)) (c .if4 .left) (c .before .first-bad .ensures))
+    let right = RightRow (a .n) (a .levels .now) (a .universals .now) (a .classes .now) (a .parents .now) in
+    fine-rows sound table (a .classes .now) (a .parents .now) (subst (FirstBad right (a .n)) (c .if4 .left) (c .before .first-bad .ensures))
 
 returns : tie.Need-returns
 returns c = inl (forest-short (inl (c .if1 .taken)))
@@ -36,7 +37,8 @@ returns-4 c =
     let at-start = at-if1 .before .before .before .before .before .before .before in
     let a = at-start .args in
     let (sound, table) = at-start .pre in
-    inl (forest-bad (at-if1 .if1 .left) (at-if2 .if2 .left) (at-if3 .if3 .left) (c .before .first-bad .result) (c .if4 .taken) (bad-rows sound table (a .classes .now) (a .parents .now) (c .before .first-bad .ensures)))
+    inl (forest-bad (at-if1 .if1 .left) (at-if2 .if2 .left) (at-if3 .if3 .left) (c .before .first-bad .result) (c .if4 .taken)
+    (bad-rows sound table (a .classes .now) (a .parents .now) (c .before .first-bad .ensures)))
 
 first-miscounted-requires : tie.Need-first-miscounted-requires
 first-miscounted-requires c κs =
@@ -48,7 +50,8 @@ returns-5 c =
     let at-if3 = c .before .before .before .before in
     let at-if2 = at-if3 .before in
     let at-if1 = at-if2 .before in
-    inl (forest-miscounted (at-if1 .if1 .left) (at-if2 .if2 .left) (at-if3 .if3 .left) (formed (c .before .before)) (c .before .first-miscounted .result) (c .if5 .taken) (c .before .first-miscounted .ensures))
+    inl (forest-miscounted (at-if1 .if1 .left) (at-if2 .if2 .left) (at-if3 .if3 .left) (formed (c .before .before))
+    (c .before .first-miscounted .result) (c .if5 .taken) (c .before .first-miscounted .ensures))
 
 returns-6 : tie.Need-returns-6
 returns-6 c =
@@ -56,8 +59,11 @@ returns-6 c =
     let at-if2 = at-if3 .before in
     let at-if1 = at-if2 .before in
     let at-start = at-if1 .before .before .before .before .before .before .before in
-    let a = at-start .args in
-    (forest-fine (at-if1 .if1 .left) (at-if2 .if2 .left) (at-if3 .if3 .left) (formed (c .before .before)) (subst (FirstBad _ (a .n)) (c .if5 .left) (c .before .first-miscounted .ensures)), tt)
+    let a = at-start .args in (
+      forest-fine (at-if1 .if1 .left) (at-if2 .if2 .left) (at-if3 .if3 .left) (formed (c .before .before))
+          (subst (FirstBad _ (a .n)) (c .if5 .left) (c .before .first-miscounted .ensures)),
+      tt,
+    )
 
 pub check-forest-spec : {M : Type 1} → statement M
 check-forest-spec =

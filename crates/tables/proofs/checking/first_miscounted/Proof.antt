@@ -1,4 +1,4 @@
--- `tables::checking::first_miscounted` meets its contract.
+-- The counts are computed in a table of its own, and a lent count is right exactly if it is the one there (row-is).
 use Prim.Native.Nat.{ℕ}
 use native.Mathlib.Omega.{arith}
 use lib.ListN.{length-replicate}
@@ -19,7 +19,9 @@ first-other-requires : tie.Need-first-other-requires
 first-other-requires c κs =
     let at-fill-counts = c .before .before in
     let at-start = at-fill-counts .before .before .before .before .before .before in
-    let few = at-start .pre .0 .few in let size = at-fill-counts .fill-counts .ensures .size in omega arith
+    let few = at-start .pre .0 .few in
+    let size = at-fill-counts .fill-counts .ensures .size in
+    omega arith
 
 returns : tie.Need-returns
 returns c =

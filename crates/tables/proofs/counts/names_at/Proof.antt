@@ -1,4 +1,4 @@
--- `tables::counts::names_at` meets its contract.
+-- A variable is no 0 and follows an entry that is none (names-first, names-behind): each test that fails refutes one part of `VariableAt`.
 use mathlib.Core.Path.{sym, _∙_}
 use mathlib.Core.Bool.{true≢false}
 use borrow.Author.Tests.{eq-eqb, ne-eqb}
@@ -9,14 +9,13 @@ use Rattle.tables.proofs.counts.names_at.Tie as tie
 
 returns-2 : tie.Need-returns-2
 returns-2 c =
-    let at-start = c .before .before .before in
-    names-first (at-start .args .prefix .now) (at-start .args .i) (c .if2 .taken)
+    let a = c .before .before .before .args in
+    names-first (a .prefix .now) (a .i) (c .if2 .taken)
 
 returns-3 : tie.Need-returns-3
 returns-3 c =
     let at-if2 = c .before .before in
-    let at-start = at-if2 .before .before .before in
-    let a = at-start .args in
+    let a = at-if2 .before .before .before .args in
     λ there. true≢false (sym (names-behind (a .prefix .now) (a .i) (at-if2 .if2 .left) ∙ eq-eqb _ 0 (c .if3 .taken)) ∙ there .1)
 
 returns-4 : tie.Need-returns-4

@@ -1,4 +1,4 @@
--- `tables::counts::pass_up` meets its contract.
+-- Without a parent nothing is passed (passed-none), and else one sum is stored, which fits since both parts are small (passed-some).
 use Prim.Native.Nat.{ℕ}
 use mathlib.Core.Path.{sym, ap, _∙_}
 use native.Mathlib.Omega.{arith}
@@ -11,15 +11,14 @@ use Rattle.tables.proofs.counts.pass_up.Tie as tie
 returns : tie.Need-returns
 returns c =
     let at-row-of = c .before .before in
-    let at-start = at-row-of .before .before .before in
-    let a = at-start .args in
+    let a = at-row-of .before .before .before .args in
     sym (passed-none (a .counts .now) (a .w .0) (sym (at-row-of .row-of .ensures) ∙ c .if1 .taken))
 
 add-counts : tie.Need-add-counts
 add-counts c =
     let at-row-of = c .before .before .before .before .before .before in
     let at-start = at-row-of .before .before .before in
-    let small = at-start .pre .2 in
+    let small = at-start .pre .1 .1 in
     let p = small (at-row-of .row-of .result .0) in
     let w = small (at-start .args .w .0) in
     omega arith
@@ -28,10 +27,8 @@ returns-2 : tie.Need-returns-2
 returns-2 c =
     let at-if1 = c .before .before .before .before in
     let at-row-of = at-if1 .before .before in
-    let at-start = at-row-of .before .before .before in
-    let a = at-start .args in
-    let r = at-row-of .row-of in
-    sym (passed-some (a .counts .now) (a .w .0) (at-if1 .if1 .left)) ∙ ap (λ (p : ℕ). passedUp p (a .w .0) (a .counts .now)) (r .ensures)
+    let a = at-row-of .before .before .before .args in
+    sym (passed-some (a .counts .now) (a .w .0) (at-if1 .if1 .left)) ∙ ap (λ (p : ℕ). passedUp p (a .w .0) (a .counts .now)) (at-row-of .row-of .ensures)
 
 pub pass-up-spec : {M : Type 1} → statement M
 pass-up-spec =

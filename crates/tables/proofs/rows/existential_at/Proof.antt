@@ -1,9 +1,9 @@
--- `tables::rows::existential_at` meets its contract.
+-- The flag of a variable from 1 to n is its own, turned round, and any other variable has none (flag-none, flag-over, flag-in).
 use mathlib.Core.Path.{sym, _∙_, ap}
 use mathlib.Core.Bool.{false, not}
 use borrow.Author.Needs.{needs}
 use lib.ListN.{getD}
-use Rattle.tables.specs.Formula.{existentialIn}
+use Rattle.tables.specs.Tabled.{existentialIn}
 use Rattle.tables.proofs.Readings.{flag-none, flag-over, flag-in}
 use Rattle.tables.proofs.rows.existential_at.Statement.{statement}
 use Rattle.tables.proofs.rows.existential_at.Tie as tie
@@ -11,27 +11,22 @@ use Rattle.tables.proofs.rows.existential_at.Tie as tie
 returns : tie.Need-returns
 unfolding existentialIn
 returns c =
-    let at-start = c .before .before .before in
-    let a = at-start .args in
+    let a = c .before .before .before .args in
     sym (flag-none (a .n) (a .v .0) (not (getD (a .universals .now) (a .v .0) false)) (c .if1 .taken))
 
 returns-2 : tie.Need-returns-2
 unfolding existentialIn
 returns-2 c =
-    let at-start = c .before .before .before .before .before in
-    let a = at-start .args in
+    let a = c .before .before .before .before .before .args in
     sym (flag-over (a .n) (a .v .0) (not (getD (a .universals .now) (a .v .0) false)) (c .if2 .taken))
-
-flag-at-requires : tie.Need-flag-at-requires
-flag-at-requires c κs = search needs
 
 returns-3 : tie.Need-returns-3
 unfolding existentialIn
 returns-3 c =
     let at-if1 = c .before .before .before in
-    let at-start = at-if1 .before .before .before in
-    let a = at-start .args in
-    ap not (c .flag-at .ensures) ∙ sym (flag-in (a .n) (a .v .0) (not (getD (a .universals .now) (a .v .0) false)) (at-if1 .if1 .left) (c .before .if2 .left))
+    let a = at-if1 .before .before .before .args in
+    let flag = not (getD (a .universals .now) (a .v .0) false) in
+    ap not (c .flag-at .ensures) ∙ sym (flag-in (a .n) (a .v .0) flag (at-if1 .if1 .left) (c .before .if2 .left))
 
 pub existential-at-spec : {M : Type 1} → statement M
-existential-at-spec = tie.close (tie.spec returns returns-2 flag-at-requires returns-3)
+existential-at-spec = tie.close (tie.spec returns returns-2 (λ c κs. search needs) returns-3)

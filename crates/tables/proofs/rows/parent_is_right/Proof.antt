@@ -1,4 +1,4 @@
--- `tables::rows::parent_is_right` meets its contract.
+-- The two tests are what is left of a right parent row (parent-right), and each that fails refutes one part (parent-name, parent-block).
 use native.Mathlib.Omega.{arith}
 use borrow.Author.Tests.{not-true, not-false}
 use Rattle.tables.proofs.Readings.{told, told-not}
@@ -9,30 +9,39 @@ use Rattle.tables.proofs.rows.parent_is_right.Tie as tie
 
 returns : tie.Need-returns
 returns c =
+    let names = c .before .names-class in
     let at-row-of = c .before .before in
-    let at-start = at-row-of .before .before .before .before .before in
-    let a = at-start .args in
-    λ r. told-not (c .before .names-class .result) (not-true (c .before .names-class .result) (c .if1 .taken)) (c .before .names-class .ensures) (parent-name (a .n) (a .levels .now) (a .universals .now) (a .classes .now) (a .parents .now) (a .v .0) (at-row-of .row-of .result .0) (at-row-of .row-of .ensures) r)
+    let a = at-row-of .before .before .before .before .before .args in
+    let name = parent-name (a .n) (a .levels .now) (a .universals .now) (a .classes .now) (a .parents .now) (a .v .0) (at-row-of .row-of .result .0) in
+    λ r. told-not (names .result) (not-true (names .result) (c .if1 .taken)) (names .ensures) (name (at-row-of .row-of .ensures) r)
 
 returns-2 : tie.Need-returns-2
 returns-2 c =
-    let at-level-at2 = c .before .before .before in
-    let at-level-at = at-level-at2 .before in
-    let at-row-of = at-level-at .before .before .before in
-    let at-start = at-row-of .before .before .before .before .before in
-    let a = at-start .args in
-    λ r. let less = parent-block (a .n) (a .levels .now) (a .universals .now) (a .classes .now) (a .parents .now) (a .v .0) (at-row-of .row-of .result .0) (at-level-at .level-at .result .0) (at-level-at2 .level-at2 .result .0) (at-row-of .row-of .ensures) (at-level-at .level-at .ensures) (at-level-at2 .level-at2 .ensures) r in let over = c .if2 .taken in omega arith
+    let at-own = c .before .before .before in
+    let at-block = at-own .before in
+    let at-row-of = at-block .before .before .before in
+    let a = at-row-of .before .before .before .before .before .args in
+    let less = parent-block (a .n) (a .levels .now) (a .universals .now) (a .classes .now) (a .parents .now) (a .v .0) (at-row-of .row-of .result .0) in
+    let over = c .if2 .taken in
+    λ r. omega (
+      arith,
+      less (at-block .level-at .result .0) (at-own .level-at2 .result .0) (at-row-of .row-of .ensures) (at-block .level-at .ensures)
+          (at-own .level-at2 .ensures) r,
+    )
 
 returns-3 : tie.Need-returns-3
 returns-3 c =
-    let at-level-at2 = c .before .before .before in
-    let at-level-at = at-level-at2 .before in
-    let at-if1 = at-level-at .before in
-    let at-names-class = at-if1 .before in
-    let at-row-of = at-names-class .before in
+    let at-own = c .before .before .before in
+    let at-block = at-own .before in
+    let at-if1 = at-block .before in
+    let names = at-if1 .before .names-class in
+    let at-row-of = at-if1 .before .before in
     let at-start = at-row-of .before .before .before .before .before in
     let a = at-start .args in
-    parent-right (a .n) (a .levels .now) (a .universals .now) (a .classes .now) (a .parents .now) (a .v .0) (at-row-of .row-of .result .0) (at-level-at .level-at .result .0) (at-level-at2 .level-at2 .result .0) (at-row-of .row-of .ensures) (at-start .pre) (told (at-names-class .names-class .result) (not-false (at-names-class .names-class .result) (at-if1 .if1 .left)) (at-names-class .names-class .ensures)) (at-level-at .level-at .ensures) (at-level-at2 .level-at2 .ensures) (c .if2 .left)
+    parent-right (a .n) (a .levels .now) (a .universals .now) (a .classes .now) (a .parents .now) (a .v .0) (at-row-of .row-of .result .0)
+    (at-block .level-at .result .0) (at-own .level-at2 .result .0) (at-row-of .row-of .ensures) (at-start .pre)
+    (told (names .result) (not-false (names .result) (at-if1 .if1 .left)) (names .ensures)) (at-block .level-at .ensures) (at-own .level-at2 .ensures)
+    (c .if2 .left)
 
 pub parent-is-right-spec : {M : Type 1} → statement M
 parent-is-right-spec =

@@ -1,9 +1,9 @@
--- `tables::rows::universal_at` meets its contract.
+-- The flag of a variable from 1 to n is its own, and any other variable has none (flag-none, flag-over, flag-in).
 use mathlib.Core.Path.{sym, _∙_}
 use mathlib.Core.Bool.{false}
 use borrow.Author.Needs.{needs}
 use lib.ListN.{getD}
-use Rattle.tables.specs.Formula.{universalIn}
+use Rattle.tables.specs.Tabled.{universalIn}
 use Rattle.tables.proofs.Readings.{flag-none, flag-over, flag-in}
 use Rattle.tables.proofs.rows.universal_at.Statement.{statement}
 use Rattle.tables.proofs.rows.universal_at.Tie as tie
@@ -11,27 +11,21 @@ use Rattle.tables.proofs.rows.universal_at.Tie as tie
 returns : tie.Need-returns
 unfolding universalIn
 returns c =
-    let at-start = c .before .before .before in
-    let a = at-start .args in
+    let a = c .before .before .before .args in
     sym (flag-none (a .n) (a .v .0) (getD (a .universals .now) (a .v .0) false) (c .if1 .taken))
 
 returns-2 : tie.Need-returns-2
 unfolding universalIn
 returns-2 c =
-    let at-start = c .before .before .before .before .before in
-    let a = at-start .args in
+    let a = c .before .before .before .before .before .args in
     sym (flag-over (a .n) (a .v .0) (getD (a .universals .now) (a .v .0) false) (c .if2 .taken))
-
-flag-at-requires : tie.Need-flag-at-requires
-flag-at-requires c κs = search needs
 
 returns-3 : tie.Need-returns-3
 unfolding universalIn
 returns-3 c =
     let at-if1 = c .before .before .before in
-    let at-start = at-if1 .before .before .before in
-    let a = at-start .args in
+    let a = at-if1 .before .before .before .args in
     c .flag-at .ensures ∙ sym (flag-in (a .n) (a .v .0) (getD (a .universals .now) (a .v .0) false) (at-if1 .if1 .left) (c .before .if2 .left))
 
 pub universal-at-spec : {M : Type 1} → statement M
-universal-at-spec = tie.close (tie.spec returns returns-2 flag-at-requires returns-3)
+universal-at-spec = tie.close (tie.spec returns returns-2 (λ c κs. search needs) returns-3)

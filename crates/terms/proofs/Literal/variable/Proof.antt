@@ -1,4 +1,4 @@
--- `terms::Literal::variable` meets its contract: a field is read back from its bits.
+-- The magnitude of the field, which is read back from its bits.
 use mathlib.Core.Path.{_∙_, ap}
 use borrow.Author.Needs.{needs}
 use mir.Syntax.{w32}
@@ -7,13 +7,10 @@ use Rattle.terms.specs.Literals.{variableOf}
 use Rattle.terms.proofs.Literal.variable.Statement.{statement}
 use Rattle.terms.proofs.Literal.variable.Tie as tie
 
-magnitude-requires : tie.Need-magnitude-requires
-magnitude-requires c κs = search needs
-
 returns : tie.Need-returns
 returns c =
-    let at-start = c .before .before in
-    c .magnitude .ensures ∙ ap variableOf (toZ-ofZ {w = w32} {z = at-start .args .self .0} (record { sfits = c .before .struct-told .given .0 .1 }))
+    let z = c .before .before .args .self .0 in
+    c .magnitude .ensures ∙ ap variableOf (toZ-ofZ {w = w32} {z = z} (record { sfits = c .before .struct-told .given .0 .1 }))
 
 pub variable-spec : {M : Type 1} → statement M
-variable-spec = tie.close (tie.spec magnitude-requires returns)
+variable-spec = tie.close (tie.spec (λ c κs. search needs) returns)

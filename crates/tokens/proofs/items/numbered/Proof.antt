@@ -1,4 +1,4 @@
--- `tokens::items::numbered` meets its contract.
+-- The item of a number by its sign, and by whether it is 0: each way through is one case of the definition.
 use mathlib.Core.Path.{refl}
 use borrow.Author.Tests.{eq-eqb, ne-eqb}
 use Rattle.tokens.specs.Words.{plainItem, negatedItem}
@@ -12,9 +12,6 @@ unfolding signedItem negatedItem
 returns c =
     let at-start = c .before .before .before in
     rw (c .if2 .taken, eq-eqb (at-start .args .value) 0 (c .before .if1 .taken)) refl
-
-close-at-requires : tie.Need-close-at-requires
-close-at-requires c κs = search needs
 
 returns-2 : tie.Need-returns-2
 unfolding signedItem plainItem
@@ -36,4 +33,4 @@ returns-4 c =
     rw (c .if3 .left, ne-eqb (at-start .args .value) 0 (c .before .if1 .left)) refl
 
 pub numbered-spec : {M : Type 1} → statement M
-numbered-spec = tie.close (tie.spec returns close-at-requires returns-2 returns-3 returns-4)
+numbered-spec = tie.close (tie.spec returns (λ c κs. search needs) returns-2 returns-3 returns-4)

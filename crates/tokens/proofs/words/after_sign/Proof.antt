@@ -1,4 +1,4 @@
--- `tokens::words::after_sign` meets its contract.
+-- Past the text no byte stands, and so no `-`; within it the byte that was read tells.
 use mathlib.Core.Path.{refl}
 use native.Mathlib.Omega.{arith}
 use lib.ListN.{List·getD-eq-default}
@@ -13,19 +13,11 @@ returns c =
     let none = List·getD-eq-default (a .text .now) 0 {n = a .at} (c .if1 .taken) in
     unsigned (λ e. omega arith) refl
 
-shared-slice-read-if2 : tie.Need-shared-slice-read-if2
-shared-slice-read-if2 c = search needs
-
-add-result : tie.Need-add-result
-add-result c = search needs
-
 returns-2 : tie.Need-returns-2
-returns-2 c =
-    let at-if1 = c .before .before in
-    minus (at-if1 .if1 .left) (c .if2 .taken) refl
+returns-2 c = minus (c .before .before .if1 .left) (c .if2 .taken) refl
 
 returns-3 : tie.Need-returns-3
 returns-3 c = unsigned (c .if2 .left) refl
 
 pub after-sign-spec : {M : Type 1} → statement M
-after-sign-spec = tie.close (tie.spec returns shared-slice-read-if2 add-result returns-2 returns-3)
+after-sign-spec = tie.close (tie.spec returns (λ c. search needs) (λ c. search needs) returns-2 returns-3)

@@ -1,4 +1,4 @@
--- `tokens::words::digits_at` meets its contract: digits one by one, and the byte after them.
+-- The bytes passed are digits, at most five, and spell the value (Digits), so that the value stays below 10^5; the byte that ends them ends the word or not.
 use Prim.Native.Nat.{_-_}
 use native.Mathlib.Omega.{arith}
 use lib.ListN.{length}

@@ -1,3 +1,4 @@
+-- The digits left, read after the value so far, spell what all of them do; k digits are below 10^k, so that no sum wraps.
 use Prim.Native.Nat.{ℕ, suc, _+_, _-_, _^_, _≤_, _<_}
 use mathlib.Core.Path.{_≡_, refl, sym, ap, _∙_}
 use native.Mathlib.Omega.{arith}
@@ -41,7 +42,9 @@ returns-2 c =
     let a = at-start .args in
     let l = at-loop .loop in
     let b = getD (a .text .now) (l .i) 0 in
-    sym (spelt-other (l .value) (l .i) (a .end) (a .text .now) (omega arith) (omega arith) (rw (le-leb ZERO b (c .before .if1 .left), lt-leb b NINE (c .if2 .taken)))) ∙ l .inv .3
+    sym
+    (spelt-other (l .value) (l .i) (a .end) (a .text .now) (omega arith) (omega arith)
+    (rw (le-leb ZERO b (c .before .if1 .left), lt-leb b NINE (c .if2 .taken)))) ∙ l .inv .3
 
 mul-value : tie.Need-mul-value Inv-loop μ-loop
 mul-value c =

@@ -1,4 +1,4 @@
--- `tokens::words::number_in` meets its contract: the word's length first, then its digits.
+-- A number word has one to five bytes (number-short, number-long), and is then what its digits spell (number-spelt).
 use mathlib.Core.Path.{sym, _∙_}
 use native.Mathlib.Omega.{arith}
 use lib.Seq.{slice, length-slice}

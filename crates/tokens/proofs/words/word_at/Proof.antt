@@ -1,4 +1,4 @@
--- `tokens::words::word_at` meets its contract: a short number that was read with its end, or the word as any other.
+-- A short number was read while its end was found, and is the word (numeral-word); whatever else stands there is left to `any_word`.
 use mathlib.Core.Path.{subst, _∙_}
 use Rattle.tokens.specs.declared.Counted.{Counted}
 use Rattle.tokens.specs.Places.{NumeralIs}

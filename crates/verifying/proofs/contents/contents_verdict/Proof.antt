@@ -1,57 +1,51 @@
--- `verifying::contents::contents_verdict` meets its contract.
+-- 1 and 2 are told by the numbers alone; else what is read into tables within the limits decides.
+use mathlib.Core.Path.{_≡_}
 use mathlib.Core.Logic.{inl, inr}
 use native.Mathlib.Omega.{arith}
+use borrow.Author.Needs.{needs}
+use Rattle.records.specs.Places.{countIn, formulaHeld}
 use Rattle.layout.proofs.Spans.{count-read}
 use Rattle.verifying.proofs.Judging.{count-over, length-over}
-use borrow.Author.Needs.{needs}
 use Rattle.verifying.proofs.contents.contents_verdict.Statement.{statement}
 use Rattle.verifying.proofs.contents.contents_verdict.Tie as tie
 
+abbrev start : tie.After-two-at → tie.Start
+start at-two = at-two .before .before
+
+counted : (c : tie.After-two-at) → c .two-at .result ≡ countIn (start c .args .file .now)
+counted c = count-read (start c .args .file .now) (c .two-at .ensures .0)
+
 returns : tie.Need-returns
 returns c =
-    let at-two-at = c .before .before .before in
-    let at-before = at-two-at .before in
-    let k = at-before .before in
-    let file = k .args .file .now in
-    let n = count-read file (at-two-at .two-at .ensures .0) in
-    let l = c .if1 .taken in
-    count-over (k .args .rule) file (k .pre .1) (omega arith)
+    let at-two = c .before .before .before in
+    let a = start at-two .args in
+    count-over (a .rule) (formulaHeld (a .file .now)) (a .file .now) (start at-two .pre .1) (omega (arith, counted at-two, c .if1 .taken))
 
 returns-2 : tie.Need-returns-2
 returns-2 c =
-    let at-prefix-entries = c .before .before .before in
-    let at-two-at = at-prefix-entries .before in
-    let at-before = at-two-at .before in
-    let k = at-before .before in
-    let file = k .args .file .now in
-    let n = count-read file (at-two-at .two-at .ensures .0) in
-    let low = c .before .if1 .left in
-    let many = at-prefix-entries .prefix-entries .ensures in
-    let l = c .if2 .taken in
-    length-over (k .args .rule) file (k .pre .1) (omega arith) (inl (omega arith))
+    let at-entries = c .before .before .before in
+    let at-two = at-entries .before in
+    let a = start at-two .args in
+    length-over (a .rule) (formulaHeld (a .file .now)) (a .file .now) (start at-two .pre .1) (omega (arith, counted at-two, c .before .if1 .left))
+    (inl (omega (arith, at-entries .prefix-entries .ensures, c .if2 .taken)))
 
 returns-3 : tie.Need-returns-3
 returns-3 c =
     let at-if1 = c .before .before in
-    let at-clause-entries = at-if1 .before in
-    let at-two-at = at-clause-entries .before .before in
-    let at-before = at-two-at .before in
-    let k = at-before .before in
-    let file = k .args .file .now in
-    let n = count-read file (at-two-at .two-at .ensures .0) in
-    let low = at-if1 .if1 .left in
-    let many = at-clause-entries .clause-entries .ensures in
-    let l = c .if3 .taken in
-    length-over (k .args .rule) file (k .pre .1) (omega arith) (inr (omega arith))
+    let at-literals = at-if1 .before in
+    let at-two = at-literals .before .before in
+    let a = start at-two .args in
+    length-over (a .rule) (formulaHeld (a .file .now)) (a .file .now) (start at-two .pre .1) (omega (arith, counted at-two, at-if1 .if1 .left))
+    (inr (omega (arith, at-literals .clause-entries .ensures, c .if3 .taken)))
 
 read-verdict-requires : tie.Need-read-verdict-requires
 read-verdict-requires c κs =
-    let at-clause-entries = c .before .before .before in
-    let at-prefix-entries = at-clause-entries .before in
-    let at-two-at = at-prefix-entries .before in
-    let at-start = at-two-at .before .before in
-    let file = at-start .args .file .now in
-    ((at-start .pre .0, count-read file (at-two-at .two-at .ensures .0), at-prefix-entries .prefix-entries .ensures, at-clause-entries .clause-entries .ensures), (c .before .if2 .left, c .if3 .left))
+    let at-literals = c .before .before .before in
+    let at-entries = at-literals .before in
+    let at-two = at-entries .before in (
+      (start at-two .pre .0, counted at-two, at-entries .prefix-entries .ensures, at-literals .clause-entries .ensures),
+      (c .before .if2 .left, c .if3 .left),
+    )
 
 pub contents-verdict-spec : {M : Type 1} → statement M
 contents-verdict-spec =

@@ -1,70 +1,53 @@
--- `verifying::contents::forest_verdict` meets its contract.
-use mathlib.Core.Path.{sym}
+-- What is built are the rows of the formula's forest, in tables that have more rows than it needs: the first n of each are held against the file.
+use Prim.Native.Nat.{ℕ}
+use mathlib.Core.Path.{sym, _∙_}
 use native.Mathlib.Omega.{arith}
-use lib.Seq.{length-take-le}
-use Rattle.verifying.proofs.OwnForest.{built-rows}
+use lib.ListN.{length-replicate}
 use borrow.Author.Needs.{needs}
+use Rattle.formula.specs.Lent.{Formula, formulaOf}
+use Rattle.tables.specs.Lent.{Rows, rows}
+use Rattle.records.specs.Layout.{ForestRows}
+use Rattle.records.proofs.Taken.{taken, rows-taken}
 use Rattle.verifying.proofs.contents.forest_verdict.Statement.{statement}
 use Rattle.verifying.proofs.contents.forest_verdict.Tie as tie
 
-array-share-prefix-classes : tie.Need-array-share-prefix-classes
-array-share-prefix-classes c =
-    let at-build-tallied = c .before .before .before in
-    let at-start = at-build-tallied .before .before .before .before .before .before in
-    let a = at-start .args in
-    let (lc, lp, lk, few, rows) = built-rows (a .rule) (a .n) (a .prefix .now) (a .clauses .now) (at-build-tallied .build-tallied .result .answer) (at-start .pre .2) (at-build-tallied .build-tallied .ensures) in
-    omega arith
+abbrev formula : tie.Start → Formula
+formula at-start = let a = at-start .args in formulaOf (a .n) (a .prefix .now) (a .clauses .now)
+
+abbrev start : tie.After-build-sound → tie.Start
+start at-build = at-build .before .before .before .before .before .before
+
+abbrev built : tie.After-build-sound → Rows
+built at-build =
+    let left = at-build .build-sound .last in
+    rows (left .1 .1 .1 .0) (left .1 .1 .1 .1 .0) (left .1 .1 .1 .1 .1 .0)
+
+right : (c : tie.After-build-sound) → ForestRows (formula (start c)) (taken (start c .args .n) (built c))
+right c =
+    let (grown, (counted, _)) = c .build-sound .ensures in
+    let full = length-replicate {A = ℕ} 4096 0 in
+    let a = grown .past .0 .size ∙ full in
+    let b = grown .past .1 .size ∙ full in
+    let d = counted .past .size ∙ full in
+    let few = start c .pre .1 .0 .few in
+    rows-taken (formula (start c)) (built c) (omega arith) (omega arith) (omega arith) (grown .forest) (counted .counted)
 
 slice-aggregate-rows-verdict : tie.Need-slice-aggregate-rows-verdict
-slice-aggregate-rows-verdict c =
-    let at-build-tallied = c .before .before .before .before in
-    let at-start = at-build-tallied .before .before .before .before .before .before in
-    let a = at-start .args in
-    let (lc, lp, lk, few, rows) = built-rows (a .rule) (a .n) (a .prefix .now) (a .clauses .now) (at-build-tallied .build-tallied .result .answer) (at-start .pre .2) (at-build-tallied .build-tallied .ensures) in
-    sym (length-take-le (a .n) (at-build-tallied .build-tallied .last .1 .1 .1 .1 .0) (omega arith))
-
-array-share-prefix-parents : tie.Need-array-share-prefix-parents
-array-share-prefix-parents c =
-    let at-build-tallied = c .before .before .before .before in
-    let at-start = at-build-tallied .before .before .before .before .before .before in
-    let a = at-start .args in
-    let (lc, lp, lk, few, rows) = built-rows (a .rule) (a .n) (a .prefix .now) (a .clauses .now) (at-build-tallied .build-tallied .result .answer) (at-start .pre .2) (at-build-tallied .build-tallied .ensures) in
-    omega arith
+slice-aggregate-rows-verdict c = sym (right (c .before .before .before .before) .classes-many)
 
 slice-aggregate-rows-verdict-2 : tie.Need-slice-aggregate-rows-verdict-2
-slice-aggregate-rows-verdict-2 c =
-    let at-build-tallied = c .before .before .before .before .before in
-    let at-start = at-build-tallied .before .before .before .before .before .before in
-    let a = at-start .args in
-    let (lc, lp, lk, few, rows) = built-rows (a .rule) (a .n) (a .prefix .now) (a .clauses .now) (at-build-tallied .build-tallied .result .answer) (at-start .pre .2) (at-build-tallied .build-tallied .ensures) in
-    sym (length-take-le (a .n) (at-build-tallied .build-tallied .last .1 .1 .1 .1 .1 .0) (omega arith))
-
-array-share-prefix-counts : tie.Need-array-share-prefix-counts
-array-share-prefix-counts c =
-    let at-build-tallied = c .before .before .before .before .before in
-    let at-start = at-build-tallied .before .before .before .before .before .before in
-    let a = at-start .args in
-    let (lc, lp, lk, few, rows) = built-rows (a .rule) (a .n) (a .prefix .now) (a .clauses .now) (at-build-tallied .build-tallied .result .answer) (at-start .pre .2) (at-build-tallied .build-tallied .ensures) in
-    omega arith
+slice-aggregate-rows-verdict-2 c = sym (right (c .before .before .before .before .before) .parents-many)
 
 slice-aggregate-rows-verdict-3 : tie.Need-slice-aggregate-rows-verdict-3
-slice-aggregate-rows-verdict-3 c =
-    let at-build-tallied = c .before .before .before .before .before .before in
-    let at-start = at-build-tallied .before .before .before .before .before .before in
-    let a = at-start .args in
-    let (lc, lp, lk, few, rows) = built-rows (a .rule) (a .n) (a .prefix .now) (a .clauses .now) (at-build-tallied .build-tallied .result .answer) (at-start .pre .2) (at-build-tallied .build-tallied .ensures) in
-    sym (length-take-le (a .n) (at-build-tallied .build-tallied .last .1 .1 .1 .1 .1 .1 .0) (omega arith))
+slice-aggregate-rows-verdict-3 c = sym (right (c .before .before .before .before .before .before) .counts-many)
 
 rows-verdict-requires : tie.Need-rows-verdict-requires
 rows-verdict-requires c κs =
-    let at-build-tallied = c .before .before .before .before .before .before in
-    let at-start = at-build-tallied .before .before .before .before .before .before in
-    let a = at-start .args in
-    let (lc, lp, lk, few, rows) = built-rows (a .rule) (a .n) (a .prefix .now) (a .clauses .now) (at-build-tallied .build-tallied .result .answer) (at-start .pre .2) (at-build-tallied .build-tallied .ensures) in
-    (at-start .pre, rows)
+    let at-build = c .before .before .before .before .before .before in
+    (start at-build .pre, right at-build)
 
 pub forest-verdict-spec : {M : Type 1} → statement M
 forest-verdict-spec =
-    tie.close (tie.spec (λ c. search needs) (λ c. search needs) (λ c. search needs) (λ c κs. search needs) array-share-prefix-classes
-    slice-aggregate-rows-verdict array-share-prefix-parents slice-aggregate-rows-verdict-2 array-share-prefix-counts
+    tie.close (tie.spec (λ c. search needs) (λ c. search needs) (λ c. search needs) (λ c κs. search needs) (λ c. search needs)
+    slice-aggregate-rows-verdict (λ c. search needs) slice-aggregate-rows-verdict-2 (λ c. search needs)
     slice-aggregate-rows-verdict-3 rows-verdict-requires (λ c. search needs))

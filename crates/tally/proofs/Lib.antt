@@ -1,2 +1,0 @@
--- What the two calls stand on.
-pub mod Thin
