@@ -6,7 +6,7 @@
 root=$(cd "$(dirname "${BASH_SOURCE[0]}")/.." && pwd -P)
 
 # The crate of the calls for C, after which `rt staticlib` names the archive, and that of the main command. No other script names either.
-archive_crate=capi
+archive_crate=snowcoddle
 program_crate=listing
 proved_archive=$root/target/staticlib/lib$archive_crate.a
 program=$root/target/bin/$program_crate

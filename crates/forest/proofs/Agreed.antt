@@ -1,5 +1,5 @@
 -- Where both rules accept a prefix, everything agrees: what each call promises under one rule it promises under the other.
--- (Where rule 1 accepts a prefix so does rule 2: `joining/proofs/Agreement`, both-accept.)
+-- (Where rule 1 accepts a prefix so does rule 2: `formula_rules/proofs/Agreement`, both-accept.)
 use Prim.Native.Nat.{ℕ}
 use mathlib.Core.List.{List, [], _∷_, _++_}
 use mathlib.Core.Logic.{_↔_}
@@ -13,9 +13,9 @@ use Rattle.terms.specs.declared.Scheme.{Scheme}
 use Rattle.terms.proofs.Answers.{carry-answered, carry-numbered, carry-filling}
 use Rattle.formula.specs.Causes.{ClauseCause}
 use Rattle.formula.specs.Lent.{Formula, formulaOf}
-use Rattle.joining.specs.Rules.{ruledPrefix}
-use Rattle.joining.proofs.Agreement.{rules-agree}
-use Rattle.tables.specs.Lent.{Rows}
+use Rattle.formula_rules.specs.Rules.{ruledPrefix}
+use Rattle.formula_rules.proofs.Agreement.{rules-agree}
+use Rattle.forest_tables.specs.Lent.{Rows}
 use Rattle.forest.specs.Causes.{behindEntry, behindCheck}
 use Rattle.forest.specs.Answers.{Entry, SizeBy, EntryAnswered, ListedFor, Sized}
 

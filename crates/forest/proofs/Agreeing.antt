@@ -3,11 +3,11 @@ use Prim.Native.Nat.{ℕ}
 use mathlib.Core.Path.{_≡_, sym, _∙_}
 use mathlib.Core.Bool.{true}
 use native.Mathlib.Omega.{arith}
-use Rattle.connection.specs.Reach.{Variables}
-use Rattle.connection.specs.Tables.{Table, WellFormed, Above, EntryPoint}
-use Rattle.connection.proofs.Climb.{above-class}
-use Rattle.searching.specs.Search.{Deeper}
-use Rattle.tables.proofs.Agreeing.{Same}
+use Rattle.forest_theory.specs.Reach.{Variables}
+use Rattle.forest_theory.specs.Tables.{Table, WellFormed, Above, EntryPoint}
+use Rattle.forest_theory.proofs.Climb.{above-class}
+use Rattle.forest_climb.specs.Search.{Deeper}
+use Rattle.forest_tables.proofs.Agreeing.{Same}
 
 module _ {X Y : Variables} (s : Same X Y) where
   -- An entry point, where x has the same level.

@@ -17,29 +17,29 @@ use Rattle.terms.proofs.Common.{clash}
 use Rattle.terms.proofs.Answers.{listed-as, answered-settled, listing-settled, numbered-settled}
 use Rattle.formula.specs.Lent.{Formula}
 use Rattle.formula.specs.Meaning.{blocks, markOf, names, saidOf, firstMark, freeLevel, level, isUniversal, isExistential}
-use Rattle.connection.specs.Reach.{Universal}
-use Rattle.connection.specs.Tables.{row}
-use Rattle.connection.specs.Forest.{Forest, EntryClass}
+use Rattle.forest_theory.specs.Reach.{Universal}
+use Rattle.forest_theory.specs.Tables.{row}
+use Rattle.forest_theory.specs.Forest.{Forest, EntryClass}
 use Rattle.terms.specs.Listed.{Listed}
-use Rattle.connection.specs.Counts.{Counted, sum}
-use Rattle.connection.proofs.Climb.{entry-one}
-use Rattle.connection.proofs.Counts.{size-is-length}
-use Rattle.connection.proofs.Growth.{forest-is}
+use Rattle.forest_theory.specs.Counts.{Counted, sum}
+use Rattle.forest_theory.proofs.Climb.{entry-one}
+use Rattle.forest_theory.proofs.Counts.{size-is-length}
+use Rattle.forest_theory.proofs.Growth.{forest-is}
 use Rattle.terms.proofs.Listed.{listed-one}
-use Rattle.connection.proofs.Sets.{set-members, entry-class}
-use Rattle.connection.proofs.Strict.{strict-members}
+use Rattle.forest_theory.proofs.Sets.{set-members, entry-class}
+use Rattle.forest_theory.proofs.Strict.{strict-members}
 use Rattle.terms.specs.declared.EntryAnswer.{EntryAnswer}
 use Rattle.terms.specs.declared.EntryAnswer.the-variants.{At}
 use Rattle.terms.specs.declared.Scheme.{Scheme}
-use Rattle.joining.specs.Rules.{readBy}
-use Rattle.tables.specs.Formula.{variables, universal, Shares}
-use Rattle.tables.specs.Lent.{Rows, variablesOf, forestOf}
-use Rattle.tables.specs.Causes.{ForestCause}
+use Rattle.formula_rules.specs.Rules.{readBy}
+use Rattle.forest_tables.specs.Formula.{variables, universal, Shares}
+use Rattle.forest_tables.specs.Lent.{Rows, variablesOf, forestOf}
+use Rattle.forest_tables.specs.Causes.{ForestCause}
 use Rattle.forest.specs.Causes.{entryOrder, askOrder, listOrder}
 use Rattle.forest.specs.Answers.{Entry, MembersBy, SizeBy, DependsBy, EntryAnswered, ListedFor, SetListed, Sized}
-use Rattle.tables.proofs.Readings.{flag-in, flag-within}
-use Rattle.tables.proofs.Formed.{forest-fine}
-use Rattle.tables.proofs.Agreeing.{lawful, none-formed, none-counted, universal-within}
+use Rattle.forest_tables.proofs.Readings.{flag-in, flag-within}
+use Rattle.forest_tables.proofs.Formed.{forest-fine}
+use Rattle.forest_tables.proofs.Agreeing.{lawful, none-formed, none-counted, universal-within}
 use Rattle.forest.proofs.Schemes.{scheme-points}
 
 -- What the blocks say of a variable, level and quantifier at once: nothing, or what the block at m says.

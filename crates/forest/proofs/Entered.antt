@@ -11,22 +11,22 @@ use Rattle.terms.specs.Refusals.{None}
 use Rattle.terms.proofs.Common.{clash}
 use Rattle.formula.specs.Meaning.{level, isExistential}
 use Rattle.formula.specs.Levels.{SoundPrefix, Levelled}
-use Rattle.connection.specs.Reach.{Variables, Lawful}
-use Rattle.connection.specs.Tables.{Table, row, lent, WellFormed, EntryPoint, EntryPointOf, MemberBy}
-use Rattle.connection.specs.Climb.{Climbed}
-use Rattle.connection.proofs.Climb.{above-class, entry-one, entry-climb, entry-rises}
-use Rattle.connection.proofs.Sets.{member-deeper, member-climb}
-use Rattle.tables.specs.Formula.{variables}
-use Rattle.tables.specs.Tabled.{tabled, universalIn}
-use Rattle.tables.specs.Causes.{ForestCause}
-use Rattle.tables.specs.Lent.{rows}
+use Rattle.forest_theory.specs.Reach.{Variables, Lawful}
+use Rattle.forest_theory.specs.Tables.{Table, row, lent, WellFormed, EntryPoint, EntryPointOf, MemberBy}
+use Rattle.forest_theory.specs.Climb.{Climbed}
+use Rattle.forest_theory.proofs.Climb.{above-class, entry-one, entry-climb, entry-rises}
+use Rattle.forest_theory.proofs.Sets.{member-deeper, member-climb}
+use Rattle.forest_tables.specs.Formula.{variables}
+use Rattle.forest_tables.specs.Tabled.{tabled, universalIn}
+use Rattle.forest_tables.specs.Causes.{ForestCause}
+use Rattle.forest_tables.specs.Lent.{rows}
 use Rattle.formula.specs.Lent.{formulaOf}
 use Rattle.forest.specs.Causes.{NotUniversal, NotDeeper}
 use Rattle.forest.specs.Answers.{Entry}
-use Rattle.tables.specs.Rows.{rowsOf}
-use Rattle.searching.specs.Search.{Deeper, EntryRows}
-use Rattle.marks.specs.Flags.{Via}
-use Rattle.tables.proofs.Agreeing.{Same, same-back, formed-same, tables-agree, level-agrees, universal-agrees, universal-within, none-formed}
+use Rattle.forest_tables.specs.Rows.{rowsOf}
+use Rattle.forest_climb.specs.Search.{Deeper, EntryRows}
+use Rattle.forest_entries.specs.Flags.{Via}
+use Rattle.forest_tables.proofs.Agreeing.{Same, same-back, formed-same, tables-agree, level-agrees, universal-agrees, universal-within, none-formed}
 use Rattle.forest.proofs.Agreeing.{deeper-same, entry-same}
 
 module _ {X : Variables} {W : Table} (law : Lawful X) (formed : WellFormed X W) {x : ℕ} where

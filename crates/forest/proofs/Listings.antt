@@ -15,15 +15,15 @@ use Rattle.terms.specs.declared.Scheme.{Scheme}
 use Rattle.terms.proofs.Listed.{listed-one}
 use Rattle.terms.proofs.Verdicts.{at0-first, at0-none, accepted-then}
 use Rattle.formula.specs.Lent.{Formula}
-use Rattle.connection.specs.Tables.{row, lent, WellFormed}
-use Rattle.connection.specs.Counts.{sum}
-use Rattle.connection.proofs.Counts.{count-most}
-use Rattle.tables.specs.Lent.{Rows, variablesOf, forestOf}
-use Rattle.tables.proofs.Agreeing.{lawful, none-formed, none-counted}
-use Rattle.picking.specs.declared.Asked.{Asked}
-use Rattle.picking.specs.declared.Asked.the-variants.{Points, Set}
-use Rattle.picking.specs.Picked.{pick, picked, Picks}
-use Rattle.picking.proofs.Picked.{picked-listed}
+use Rattle.forest_theory.specs.Tables.{row, lent, WellFormed}
+use Rattle.forest_theory.specs.Counts.{sum}
+use Rattle.forest_theory.proofs.Counts.{count-most}
+use Rattle.forest_tables.specs.Lent.{Rows, variablesOf, forestOf}
+use Rattle.forest_tables.proofs.Agreeing.{lawful, none-formed, none-counted}
+use Rattle.forest_members.specs.declared.Asked.{Asked}
+use Rattle.forest_members.specs.declared.Asked.the-variants.{Points, Set}
+use Rattle.forest_members.specs.Picked.{pick, picked, Picks}
+use Rattle.forest_members.proofs.Picked.{picked-listed}
 use Rattle.forest.specs.Causes.{behindCheck}
 use Rattle.forest.specs.Answers.{EntriesBy, MembersBy, SizeBy}
 use Rattle.forest.specs.Wanted.{Enters, Wanted}

@@ -11,14 +11,14 @@ use lib.Signed.{nonNeg}
 use Rattle.terms.proofs.Common.{clash}
 use Rattle.formula.specs.Tables.{cut}
 use Rattle.formula.specs.Meaning.{blocks, clauses, opposite, denied, alwaysTrue, connected, freeLevel, level, isUniversal, isExistential}
-use Rattle.connection.specs.Reach.{Variables, From, Reach, here, Follows}
-use Rattle.connection.specs.Search.{has, meets, keep, put-back, find, see, spread, reached, reaches, is-from, sift, set-of}
-use Rattle.connection.proofs.Search.{reaches-true, reaches-false, from-test, set-of-depends}
+use Rattle.forest_theory.specs.Reach.{Variables, From, Reach, here, Follows}
+use Rattle.forest_theory.specs.Search.{has, meets, keep, put-back, find, see, spread, reached, reaches, is-from, sift, set-of}
+use Rattle.forest_theory.proofs.Search.{reaches-true, reaches-false, from-test, set-of-depends}
 use Rattle.terms.specs.declared.Scheme.the-variants.{Standard, Strict}
 use Rattle.formula.specs.Lent.{Formula, formulaOf}
-use Rattle.tables.specs.Formula.{variables, signed, joined, Shares, SharesBy}
+use Rattle.forest_tables.specs.Formula.{variables, signed, joined, Shares, SharesBy}
 use Rattle.forest.specs.Answers.{DependsBy}
-use Rattle.tables.proofs.Agreeing.{lawful}
+use Rattle.forest_tables.proofs.Agreeing.{lawful}
 
 abbrev es : List ℕ
 es = 2 ∷ 1 ∷ 0 ∷ 1 ∷ 2 ∷ 3 ∷ 4 ∷ 0 ∷ []

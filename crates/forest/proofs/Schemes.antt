@@ -6,21 +6,21 @@ use mathlib.Core.List.{List}
 use mathlib.Core.Logic.{⊎-elim, _↔_}
 use Rattle.terms.specs.declared.Verdict.the-variants.{Accepted}
 use Rattle.formula.specs.Meaning.{level}
-use Rattle.connection.specs.Tables.{WellFormed, EntryPointOf}
-use Rattle.connection.proofs.Strict.{strict-entry-within}
+use Rattle.forest_theory.specs.Tables.{WellFormed, EntryPointOf}
+use Rattle.forest_theory.proofs.Strict.{strict-entry-within}
 use Rattle.terms.specs.declared.Scheme.{Scheme}
 use Rattle.formula.specs.Lent.{Formula}
-use Rattle.tables.specs.Formula.{Shares, SharesBy}
-use Rattle.tables.specs.Lent.{Rows, variablesOf, forestOf}
+use Rattle.forest_tables.specs.Formula.{Shares, SharesBy}
+use Rattle.forest_tables.specs.Lent.{Rows, variablesOf, forestOf}
 use Rattle.forest.specs.Answers.{EntriesBy}
-use Rattle.searching.specs.Search.{EntryRows, TopRows}
-use Rattle.marks.specs.Flags.{Takes, Via, Entering}
+use Rattle.forest_climb.specs.Search.{EntryRows, TopRows}
+use Rattle.forest_entries.specs.Flags.{Takes, Via, Entering}
 use Rattle.forest.specs.Wanted.{Enters}
-use Rattle.searching.proofs.Climbing.{tops-entries}
-use Rattle.marks.proofs.Flags.{via-as, via-or}
-use Rattle.tables.proofs.Agreeing.{lawful}
+use Rattle.forest_climb.proofs.Climbing.{tops-entries}
+use Rattle.forest_entries.proofs.Flags.{via-as, via-or}
+use Rattle.forest_tables.proofs.Agreeing.{lawful}
 use Rattle.forest.proofs.Entered.{entries-of}
-use Rattle.marks.proofs.Sides.{shares-some, shares-signed}
+use Rattle.forest_entries.proofs.Sides.{shares-some, shares-signed}
 
 -- The entry points by a scheme are among the standard ones.
 pub scheme-points : (f : Formula) (r : Rows) (x : ℕ) (scheme : Scheme) (e : ℕ)

@@ -9,17 +9,17 @@ use lib.IntN.{ℤ}
 use lib.ListN.{length}
 use Rattle.terms.specs.declared.Filled.the-variants.{Count}
 use Rattle.formula.specs.Meaning.{clauses, alwaysTrue, connected}
-use Rattle.connection.specs.Tables.{row}
-use Rattle.connection.specs.Counts.{sum}
+use Rattle.forest_theory.specs.Tables.{row}
+use Rattle.forest_theory.specs.Counts.{sum}
 use Rattle.terms.specs.Listed.{Listed}
-use Rattle.connection.proofs.Strict.{strict-member-within, one-sign-entry}
+use Rattle.forest_theory.proofs.Strict.{strict-member-within, one-sign-entry}
 use Rattle.terms.specs.declared.Scheme.the-variants.{Standard, Strict}
-use Rattle.tables.specs.Formula.{signed, SharesBy}
+use Rattle.forest_tables.specs.Formula.{signed, SharesBy}
 use Rattle.formula.specs.Lent.{Formula}
-use Rattle.joining.specs.Rules.{readBy}
-use Rattle.tables.specs.Lent.{Rows}
+use Rattle.formula_rules.specs.Rules.{readBy}
+use Rattle.forest_tables.specs.Lent.{Rows}
 use Rattle.forest.specs.Answers.{EntriesBy, MembersBy, EntriesListed, SetListed, Sized}
-use Rattle.marks.proofs.Sides.{connected-open, shares-some, shares-x}
+use Rattle.forest_entries.proofs.Sides.{connected-open, shares-some, shares-x}
 
 -- The strict set lies within the standard one, by the lent tables, whatever they are.
 pub strict-set-within : (f : Formula) (r : Rows) (x y : ℕ) → MembersBy Strict f r x y → MembersBy Standard f r x y

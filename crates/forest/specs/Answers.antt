@@ -11,12 +11,12 @@ use Rattle.terms.specs.declared.Scheme.{Scheme}
 use Rattle.terms.specs.declared.Scheme.the-variants.{Standard, Strict}
 use Rattle.formula.specs.Lent.{Formula}
 use Rattle.formula.specs.Meaning.{level}
-use Rattle.connection.specs.Reach.{Variables, Depends, StrictlyDepends}
-use Rattle.connection.specs.Tables.{Table, row, EntryPoint, EntryPointOf, StrictEntryOf, MemberBy}
-use Rattle.connection.specs.Counts.{sum}
-use Rattle.joining.specs.Rules.{readBy}
-use Rattle.tables.specs.Formula.{Shares, SharesBy}
-use Rattle.tables.specs.Lent.{Rows, variablesOf, forestOf}
+use Rattle.forest_theory.specs.Reach.{Variables, Depends, StrictlyDepends}
+use Rattle.forest_theory.specs.Tables.{Table, row, EntryPoint, EntryPointOf, StrictEntryOf, MemberBy}
+use Rattle.forest_theory.specs.Counts.{sum}
+use Rattle.formula_rules.specs.Rules.{readBy}
+use Rattle.forest_tables.specs.Formula.{Shares, SharesBy}
+use Rattle.forest_tables.specs.Lent.{Rows, variablesOf, forestOf}
 use Rattle.forest.specs.Causes.{entryOrder, askOrder, listOrder}
 
 -- the entry point e of x for y, with its rises, by the lent rows; the rises are never more than y's block number

@@ -9,10 +9,10 @@ use Rattle.terms.specs.Answers.{TooLong}
 use Rattle.terms.specs.Refusals.{Causes, At0}
 use Rattle.formula.specs.Lent.{Formula}
 use Rattle.formula.specs.Meaning.{level, isExistential}
-use Rattle.joining.specs.Rules.{readAs, ruledPrefix, checkOrder}
-use Rattle.tables.specs.Formula.{universal}
-use Rattle.tables.specs.Lent.{Rows}
-use Rattle.tables.specs.Causes.{ForestCause}
+use Rattle.formula_rules.specs.Rules.{readAs, ruledPrefix, checkOrder}
+use Rattle.forest_tables.specs.Formula.{universal}
+use Rattle.forest_tables.specs.Lent.{Rows}
+use Rattle.forest_tables.specs.Causes.{ForestCause}
 
 -- 13: x not universal
 abbrev pub NotUniversal : ℕ → List ℕ → ℕ → Type 0

@@ -7,14 +7,14 @@ use lib.ListN.{length}
 use lib.Seq.{sets}
 use Rattle.terms.specs.Listed.{Listed}
 use Rattle.terms.specs.declared.Scheme.{Scheme}
-use Rattle.picking.specs.declared.Asked.{Asked}
-use Rattle.picking.specs.declared.Asked.the-variants.{Points, Set}
+use Rattle.forest_members.specs.declared.Asked.{Asked}
+use Rattle.forest_members.specs.declared.Asked.the-variants.{Points, Set}
 use Rattle.terms.specs.declared.Verdict.{Verdict}
 use Rattle.terms.specs.declared.Verdict.the-variants.{Accepted}
 use Rattle.formula.specs.Lent.{Formula}
-use Rattle.searching.specs.Search.{EntryRows}
-use Rattle.marks.specs.Flags.{Entering}
-use Rattle.tables.specs.Lent.{Rows, variablesOf, forestOf}
+use Rattle.forest_climb.specs.Search.{EntryRows}
+use Rattle.forest_entries.specs.Flags.{Entering}
+use Rattle.forest_tables.specs.Lent.{Rows, variablesOf, forestOf}
 use Rattle.forest.specs.Answers.{EntriesBy, MembersBy}
 
 -- the entry points of x, or its set

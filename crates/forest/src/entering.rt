@@ -1,12 +1,12 @@
 // What the calls for entry points, sets and sizes share behind check: refusals 12 and 13, and then the entry of each variable and the entry points of x.
 
-use levelling::fill_levels;
-use marks::flag_entries;
-use searching::fill_tops;
-use searching::place_behind;
-use tables::checking::check_forest;
-use tables::rows::level_at;
-use tables::rows::universal_at;
+use forest_climb::fill_tops;
+use forest_climb::place_behind;
+use forest_entries::flag_entries;
+use forest_tables::checking::check_forest;
+use forest_tables::rows::level_at;
+use forest_tables::rows::universal_at;
+use formula_levels::fill_levels;
 use terms::Level;
 use terms::Scheme;
 use terms::Variable;
@@ -22,8 +22,8 @@ ghost use Rattle.formula.specs.Meaning.{level};
 ghost use Rattle.formula.specs.Levels.{SoundPrefix};
 ghost use Rattle.formula.specs.Lookup.{SoundClauses};
 ghost use Rattle.formula.specs.Lent.{formulaIn};
-ghost use Rattle.tables.specs.Counting.{FormedBy};
-ghost use Rattle.tables.specs.Lent.{rows, rowsIn};
+ghost use Rattle.forest_tables.specs.Counting.{FormedBy};
+ghost use Rattle.forest_tables.specs.Lent.{rows, rowsIn};
 ghost use Rattle.forest.specs.Causes.{behindCheck};
 ghost use Rattle.forest.specs.Wanted.{Enters};
 

@@ -7,12 +7,12 @@ use lib.IntN.{ℤ}
 use lib.ListN.{length}
 use Rattle.terms.specs.declared.Scheme.the-variants.{Strict}
 use Rattle.formula.specs.Lent.{formulaOf}
-use Rattle.tables.specs.Lent.{Rows}
-use Rattle.picking.specs.declared.Asked.the-variants.{Points, Set}
-use Rattle.picking.specs.Picked.{pick, picked}
-use Rattle.threads.specs.Threads.{Closed, EnteredBy}
+use Rattle.forest_tables.specs.Lent.{Rows}
+use Rattle.forest_members.specs.declared.Asked.the-variants.{Points, Set}
+use Rattle.forest_members.specs.Picked.{pick, picked}
+use Rattle.sets_occurrences.specs.Threads.{Closed, EnteredBy}
 use Rattle.sets.proofs.AllSets.{set-picked, points-picked}
-use Rattle.lines.specs.Lines.{universalLine, Stored}
+use Rattle.listing_lines.specs.Lines.{universalLine, Stored}
 use Rattle.listing.specs.Listing.{lineBytes, LineOf, LineIn}
 use Rattle.listing.specs.Inner.{TopsOf, flaggedLine}
 use Rattle.listing.proofs.Printed.{line-front}

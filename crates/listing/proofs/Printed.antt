@@ -11,13 +11,13 @@ use lib.ListN.{length, getD, take, drop, replicate, length-replicate}
 use lib.Seq.{sets, sets-eq, length-sets, take-at}
 use Rattle.terms.specs.Listed.{Listed}
 use Rattle.terms.proofs.Listed.{listed-one}
-use Rattle.picking.specs.declared.Asked.the-variants.{Points}
-use Rattle.picking.specs.Picked.{pick, picked, NoneUpto}
-use Rattle.picking.proofs.Picked.{picked-most, picked-flag, picked-listed}
-use Rattle.threads.specs.SoleTops.{Is}
-use Rattle.runs.specs.Runs.{Run, only}
-use Rattle.runs.proofs.Linked.{run-one, only-set, only-own}
-use Rattle.lines.specs.Lines.{Small, Stored}
+use Rattle.forest_members.specs.declared.Asked.the-variants.{Points}
+use Rattle.forest_members.specs.Picked.{pick, picked, NoneUpto}
+use Rattle.forest_members.proofs.Picked.{picked-most, picked-flag, picked-listed}
+use Rattle.sets_occurrences.specs.SoleTops.{Is}
+use Rattle.sets_subtrees.specs.Runs.{Run, only}
+use Rattle.sets_subtrees.proofs.Linked.{run-one, only-set, only-own}
+use Rattle.listing_lines.specs.Lines.{Small, Stored}
 use Rattle.listing.specs.Listing.{lineBytes, LineIn}
 use Rattle.listing.specs.Inner.{soleList}
 

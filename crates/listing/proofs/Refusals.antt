@@ -10,10 +10,10 @@ use Rattle.terms.specs.Refusals.{At0, FirstOf}
 use Rattle.formula.specs.Causes.{PrefixCause, ClauseCause}
 use Rattle.formula.specs.Lent.{Formula}
 use Rattle.formula.proofs.Places.{prefix-place, clause-place}
-use Rattle.growth.specs.Grown.{Standing, buildOrder}
-use Rattle.grammar.specs.Grammar.{FaultIn}
-use Rattle.grammar.proofs.Places.{fault-place}
-use Rattle.qdimacs.specs.Reading.{Overlong, overlong, NoRoom, no-room-prefix, no-room-clauses, readOrder}
+use Rattle.grow.specs.Grown.{Standing, buildOrder}
+use Rattle.text_lines.specs.Grammar.{FaultIn}
+use Rattle.text_lines.proofs.Places.{fault-place}
+use Rattle.text_qdimacs.specs.Reading.{Overlong, overlong, NoRoom, no-room-prefix, no-room-clauses, readOrder}
 
 -- both have at most five digits
 abbrev pub Digits : ℕ → ℕ → Type 0

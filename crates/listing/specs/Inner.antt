@@ -4,14 +4,14 @@ use mathlib.Core.Path.{_≡_}
 use mathlib.Core.Bool.{Bool}
 use mathlib.Core.List.{List, [], _∷_}
 use Rattle.formula.specs.Meaning.{level}
-use Rattle.connection.specs.Tables.{lent}
-use Rattle.tables.specs.Formula.{variables}
-use Rattle.tables.specs.Counting.{FormedBy}
-use Rattle.tables.specs.Lent.{Rows}
-use Rattle.searching.specs.Search.{TopRows}
-use Rattle.picking.specs.declared.Asked.the-variants.{Points, Set}
-use Rattle.picking.specs.Picked.{pick, picked}
-use Rattle.lines.specs.Lines.{universalLine}
+use Rattle.forest_theory.specs.Tables.{lent}
+use Rattle.forest_tables.specs.Formula.{variables}
+use Rattle.forest_tables.specs.Counting.{FormedBy}
+use Rattle.forest_tables.specs.Lent.{Rows}
+use Rattle.forest_climb.specs.Search.{TopRows}
+use Rattle.forest_members.specs.declared.Asked.the-variants.{Points, Set}
+use Rattle.forest_members.specs.Picked.{pick, picked}
+use Rattle.listing_lines.specs.Lines.{universalLine}
 
 -- What the rows of tops stand for: rows of a forest that are well formed by a prefix, of which they are the tops over the level of x.
 pub record TopsOf (n : ℕ) (es : List ℕ) (r : Rows) (x floor : ℕ) (tops : List ℕ) : Type 0 where

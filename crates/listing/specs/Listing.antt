@@ -1,5 +1,5 @@
 -- What the lines of the listing program say (document 01, "Two sides of each rule"; document 02, request 10). How they are spelt is in the
--- definitions of `lines`.
+-- definitions of `listing_lines`.
 use Prim.Native.Nat.{ℕ}
 use mathlib.Core.Path.{_≡_}
 use mathlib.Core.List.{List}
@@ -9,9 +9,9 @@ use Rattle.terms.specs.declared.Scheme.the-variants.{Strict}
 use Rattle.terms.specs.Listed.{Listed}
 use Rattle.formula.specs.Lent.{Formula}
 use Rattle.formula.specs.Meaning.{blocks, clauses, level}
-use Rattle.tables.specs.Lent.{Rows}
+use Rattle.forest_tables.specs.Lent.{Rows}
 use Rattle.forest.specs.Answers.{EntriesBy, MembersBy}
-use Rattle.lines.specs.Lines.{headLine, universalLine, Stored}
+use Rattle.listing_lines.specs.Lines.{headLine, universalLine, Stored}
 
 -- the bytes of a buffer that has room for every line
 abbrev pub lineBytes : ℕ

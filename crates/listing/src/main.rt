@@ -1,19 +1,23 @@
 // Lists the strict dependency sets of a QDIMACS text on standard input: a line for the formula, and one for each universal.
 
+use forest_climb::Floor;
+use forest_members::Asked;
+use forest_members::write_picked;
+use forest_tables::rows::universal_at;
 use formula::clauses::variable_at;
-use levelling::fill_levels;
+use formula_levels::fill_levels;
 use libc::STDIN_FILENO;
 use libc::STDOUT_FILENO;
-use lines::head_line;
-use lines::refused_line;
-use lines::universal_line;
-use picking::Asked;
-use picking::write_picked;
-use runs::refloor;
-use runs::row_at;
-use runs::write_run;
-use searching::Floor;
-use tables::rows::universal_at;
+use listing_lines::head_line;
+use listing_lines::refused_line;
+use listing_lines::universal_line;
+use sets_occurrences::flag_points;
+use sets_occurrences::soles::Sole;
+use sets_occurrences::soles::sole_point;
+use sets_occurrences::thread;
+use sets_subtrees::refloor;
+use sets_subtrees::row_at;
+use sets_subtrees::write_run;
 use terms::Filled;
 use terms::Level;
 use terms::Literal;
@@ -23,10 +27,6 @@ use terms::Tally;
 use terms::Variable;
 use terms::pairs::Pair;
 use terms::pairs::unpack;
-use threads::flag_points;
-use threads::soles::Sole;
-use threads::soles::sole_point;
-use threads::thread;
 ghost use Prim.Native.Nat.{ℕ, _≤_, _<_};
 ghost use mathlib.Core.Path.{_≡_};
 ghost use mathlib.Core.Bool.{Bool};
@@ -37,12 +37,12 @@ ghost use Rattle.formula.specs.Lent.{formulaOf};
 ghost use Rattle.formula.specs.Levels.{SoundPrefix, Levelled};
 ghost use Rattle.formula.specs.Lookup.{SoundClauses};
 ghost use Rattle.formula.specs.Meaning.{blocks, clauses as Meaning·clauses};
-ghost use Rattle.tables.specs.Counting.{FormedBy};
-ghost use Rattle.tables.specs.Lent.{Rows};
-ghost use Rattle.threads.specs.Threads.{Closed, Tied, EnteredBy};
-ghost use Rattle.runs.specs.Runs.{Run, Within, Led};
+ghost use Rattle.forest_tables.specs.Counting.{FormedBy};
+ghost use Rattle.forest_tables.specs.Lent.{Rows};
+ghost use Rattle.sets_occurrences.specs.Threads.{Closed, Tied, EnteredBy};
+ghost use Rattle.sets_subtrees.specs.Runs.{Run, Within, Led};
 ghost use Rattle.sets.specs.Passed.{Ready};
-ghost use Rattle.lines.specs.Lines.{universalLine, Small, Stored};
+ghost use Rattle.listing_lines.specs.Lines.{universalLine, Small, Stored};
 ghost use Rattle.listing.specs.Listing.{lineBytes, HeadOf, LineOf, LineIn};
 ghost use Rattle.listing.specs.Inner.{TopsOf, flaggedLine, soleList};
 
@@ -62,7 +62,7 @@ fn main() {
 fn list_text(text: &[u8]) {
     let mut prefix = [0u32; Level::ENTRIES];
     let mut clauses = [0i32; Literal::ENTRIES];
-    match qdimacs::read(text, &mut prefix, &mut clauses) {
+    match text_qdimacs::read(text, &mut prefix, &mut clauses) {
         Reading::Refused(number, place) => print_refusal(number, place),
         Reading::Read {
             n,
@@ -91,7 +91,7 @@ fn list_formula(n: u32, prefix: &[u32], clauses: &[i32]) {
         merges: 0,
         classes: 0,
     };
-    let built = growth::build(
+    let built = grow::build(
         1,
         n,
         prefix,

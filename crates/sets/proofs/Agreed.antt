@@ -10,9 +10,9 @@ use Rattle.terms.specs.declared.Scheme.{Scheme}
 use Rattle.terms.proofs.Answers.{carry-filling}
 use Rattle.formula.specs.Causes.{ClauseCause}
 use Rattle.formula.specs.Lent.{Formula, formulaOf}
-use Rattle.joining.specs.Rules.{ruledPrefix}
-use Rattle.joining.proofs.Agreement.{rules-agree}
-use Rattle.tables.specs.Lent.{Rows}
+use Rattle.formula_rules.specs.Rules.{ruledPrefix}
+use Rattle.formula_rules.proofs.Agreement.{rules-agree}
+use Rattle.forest_tables.specs.Lent.{Rows}
 use Rattle.sets.specs.Sets.{AllSetsBy, behindSets, SetsListed}
 
 module _ (scheme : Scheme) (f : Formula) (r : Rows) where

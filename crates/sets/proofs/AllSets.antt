@@ -15,30 +15,30 @@ use Rattle.terms.specs.declared.Filled.{Filled}
 use Rattle.terms.proofs.Verdicts.{at0-first, at0-none}
 use Rattle.formula.specs.Causes.{ends-inside}
 use Rattle.formula.specs.Lent.{Formula, formulaOf}
-use Rattle.joining.specs.Rules.{checkOrder}
+use Rattle.formula_rules.specs.Rules.{checkOrder}
 use Rattle.formula.specs.Meaning.{level}
-use Rattle.connection.specs.Reach.{Variables}
-use Rattle.connection.specs.Tables.{Table, lent, WellFormed}
+use Rattle.forest_theory.specs.Reach.{Variables}
+use Rattle.forest_theory.specs.Tables.{Table, lent, WellFormed}
 use Rattle.terms.specs.Listed.{Listed}
-use Rattle.picking.specs.declared.Asked.the-variants.{Points, Set}
+use Rattle.forest_members.specs.declared.Asked.the-variants.{Points, Set}
 use Rattle.terms.specs.declared.Scheme.{Scheme}
-use Rattle.tables.specs.Formula.{variables, universal, SharesBy}
-use Rattle.tables.specs.Causes.{ForestCause}
-use Rattle.tables.specs.Lent.{Rows, rows}
+use Rattle.forest_tables.specs.Formula.{variables, universal, SharesBy}
+use Rattle.forest_tables.specs.Causes.{ForestCause}
+use Rattle.forest_tables.specs.Lent.{Rows, rows}
 use Rattle.forest.specs.Answers.{EntriesBy, MembersBy}
-use Rattle.searching.specs.Search.{TopRows}
-use Rattle.marks.specs.Flags.{Takes, Via, Entering}
-use Rattle.picking.specs.Picked.{pick, picked}
+use Rattle.forest_climb.specs.Search.{TopRows}
+use Rattle.forest_entries.specs.Flags.{Takes, Via, Entering}
+use Rattle.forest_members.specs.Picked.{pick, picked}
 use Rattle.sets.specs.Sets.{AllSetsBy, SetsTooLong, behindSets}
-use Rattle.threads.specs.Threads.{Closed, Together, EnteredBy}
-use Rattle.oneset.specs.Put.{PutSet, RoomFor}
+use Rattle.sets_occurrences.specs.Threads.{Closed, Together, EnteredBy}
+use Rattle.sets_record.specs.Put.{PutSet, RoomFor}
 use Rattle.sets.specs.Passed.{SetsUpto, RoomUpto, PutAll, Fills}
-use Rattle.marks.proofs.Flags.{via-as}
-use Rattle.picking.proofs.Picked.{picked-listed}
+use Rattle.forest_entries.proofs.Flags.{via-as}
+use Rattle.forest_members.proofs.Picked.{picked-listed}
 use Rattle.forest.proofs.Entered.{of-within}
 use Rattle.forest.proofs.Schemes.{scheme-points, over-enters}
-use Rattle.threads.proofs.Followed.{together-shares}
-use Rattle.tables.proofs.Agreeing.{lawful}
+use Rattle.sets_occurrences.proofs.Followed.{together-shares}
+use Rattle.forest_tables.proofs.Agreeing.{lawful}
 use Rattle.forest.proofs.Listings.{members-picked}
 use Rattle.sets.proofs.Records.{records-one, records-most, records-set, records-other, put-more}
 

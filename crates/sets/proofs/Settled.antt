@@ -11,11 +11,11 @@ use Rattle.terms.specs.declared.Scheme.{Scheme}
 use Rattle.terms.proofs.Answers.{filling-settled}
 use Rattle.terms.proofs.Listed.{listed-one}
 use Rattle.formula.specs.Lent.{Formula}
-use Rattle.connection.specs.Forest.{Forest}
-use Rattle.joining.specs.Rules.{readBy}
-use Rattle.tables.specs.Formula.{universal, Shares}
-use Rattle.tables.specs.Lent.{Rows, variablesOf, forestOf}
-use Rattle.tables.proofs.Agreeing.{universal-within}
+use Rattle.forest_theory.specs.Forest.{Forest}
+use Rattle.formula_rules.specs.Rules.{readBy}
+use Rattle.forest_tables.specs.Formula.{universal, Shares}
+use Rattle.forest_tables.specs.Lent.{Rows, variablesOf, forestOf}
+use Rattle.forest_tables.proofs.Agreeing.{universal-within}
 use Rattle.forest.specs.Answers.{MembersBy, DependsBy, SetListed}
 use Rattle.forest.proofs.Demands.{universal-alone, not-refused, members-depend}
 use Rattle.sets.specs.Sets.{Records, AllSetsBy, setsOrder, SetsListed}

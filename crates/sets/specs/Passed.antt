@@ -10,13 +10,13 @@ use Rattle.terms.specs.declared.Filled.{Filled}
 use Rattle.terms.specs.declared.Filled.the-variants.{Count, Refused}
 use Rattle.formula.specs.Levels.{SoundPrefix, Levelled}
 use Rattle.formula.specs.Lent.{formulaOf}
-use Rattle.tables.specs.Formula.{universal}
-use Rattle.tables.specs.Lent.{rows}
+use Rattle.forest_tables.specs.Formula.{universal}
+use Rattle.forest_tables.specs.Lent.{rows}
 use Rattle.terms.specs.declared.Scheme.{Scheme}
 use Rattle.forest.specs.Answers.{MembersBy}
-use Rattle.tables.specs.Counting.{FormedBy}
+use Rattle.forest_tables.specs.Counting.{FormedBy}
 use Rattle.sets.specs.Sets.{Records}
-use Rattle.threads.specs.Threads.{Threaded, Closed}
+use Rattle.sets_occurrences.specs.Threads.{Threaded, Closed}
 
 -- the sets of the universals 1 to m by a scheme
 abbrev pub SetsUpto : Scheme → ℕ → List ℕ → List ℤ → List ℕ → List ℕ → ℕ → List ℕ → Type 0

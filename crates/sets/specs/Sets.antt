@@ -7,11 +7,11 @@ use lib.ListN.{length}
 use Rattle.terms.specs.Refusals.{Causes, At0}
 use Rattle.terms.specs.declared.Filled.{Filled}
 use Rattle.formula.specs.Lent.{Formula}
-use Rattle.joining.specs.Rules.{readBy, checkOrder}
-use Rattle.tables.specs.Lent.{Rows}
+use Rattle.formula_rules.specs.Rules.{readBy, checkOrder}
+use Rattle.forest_tables.specs.Lent.{Rows}
 use Rattle.terms.specs.Listed.{Listed}
-use Rattle.tables.specs.Formula.{universal}
-use Rattle.tables.specs.Causes.{ForestCause}
+use Rattle.forest_tables.specs.Formula.{universal}
+use Rattle.forest_tables.specs.Causes.{ForestCause}
 use Rattle.terms.specs.declared.Scheme.{Scheme}
 use Rattle.forest.specs.Answers.{MembersBy}
 use Rattle.terms.specs.Answers.{Filling}

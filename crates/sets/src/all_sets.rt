@@ -1,17 +1,17 @@
 // The sets of all universals by a scheme, one after the other, each with its number and its count in front. The tables are judged once, and a
 // universal costs its own clauses and its own set, and one pass over the rows if it has more than one entry point.
 
-use oneset::Draft;
-use oneset::put_set;
-use searching::Floor;
-use searching::clear_rows;
-use tables::rows::universal_at;
+use forest_climb::Floor;
+use forest_climb::clear_rows;
+use forest_tables::rows::universal_at;
+use sets_occurrences::thread;
+use sets_record::Draft;
+use sets_record::put_set;
 use terms::Filled;
 use terms::Level;
 use terms::Literal;
 use terms::Scheme;
 use terms::Variable;
-use threads::thread;
 ghost use Prim.Native.Nat.{ℕ, _≤_};
 ghost use mathlib.Core.Path.{_≡_};
 ghost use mathlib.Core.Bool.{Bool, true};
@@ -20,10 +20,10 @@ ghost use lib.ListN.{length};
 ghost use Rattle.formula.specs.Meaning.{level};
 ghost use Rattle.formula.specs.Levels.{SoundPrefix, Levelled};
 ghost use Rattle.formula.specs.Lookup.{SoundClauses};
-ghost use Rattle.tables.specs.Counting.{FormedBy};
-ghost use Rattle.runs.specs.Runs.{Floored};
-ghost use Rattle.oneset.specs.Places.{Placed};
-ghost use Rattle.threads.specs.Threads.{Closed};
+ghost use Rattle.forest_tables.specs.Counting.{FormedBy};
+ghost use Rattle.sets_subtrees.specs.Runs.{Floored};
+ghost use Rattle.sets_record.specs.Places.{Placed};
+ghost use Rattle.sets_occurrences.specs.Threads.{Closed};
 ghost use Rattle.sets.specs.Passed.{SetsUpto, Ready, RoomUpto, TellsRoom, PutAll, Fills};
 
 // A pass over all universals among n variables: by which scheme, and whether it writes their sets or only counts.
@@ -292,7 +292,7 @@ fn refloor(
     let x = visit.x;
     let was = visit.was;
     let old = was.level;
-    let floor = runs::refloor(
+    let floor = sets_subtrees::refloor(
         visit.n,
         prefix,
         levels,

@@ -3,10 +3,10 @@
 mod all_sets;
 
 use all_sets::list_sets;
-use joining::as_read;
-use joining::read_formula;
-use levelling::fill_levels;
-use tables::checking::check_forest;
+use forest_tables::checking::check_forest;
+use formula_levels::fill_levels;
+use formula_rules::as_read;
+use formula_rules::read_formula;
 use terms::Filled;
 use terms::Level;
 use terms::Scheme;
@@ -17,11 +17,11 @@ ghost use Rattle.terms.specs.Answers.{Filling};
 ghost use Rattle.formula.specs.Lent.{formulaIn};
 ghost use Rattle.formula.specs.Levels.{SoundPrefix};
 ghost use Rattle.formula.specs.Lookup.{SoundClauses};
-ghost use Rattle.tables.specs.Counting.{FormedBy};
-ghost use Rattle.tables.specs.Lent.{rows, rowsIn};
+ghost use Rattle.forest_tables.specs.Counting.{FormedBy};
+ghost use Rattle.forest_tables.specs.Lent.{rows, rowsIn};
 ghost use Rattle.sets.specs.Passed.{Fills};
 ghost use Rattle.sets.specs.Sets.{AllSetsBy, behindSets, SetsListed};
-ghost use Rattle.threads.specs.Threads.{Closed};
+ghost use Rattle.sets_occurrences.specs.Threads.{Closed};
 
 // The sets of all universals by a scheme, written into `out`: for each universal ascending its number, the count of its set and its set
 // ascending; with the count of all entries.

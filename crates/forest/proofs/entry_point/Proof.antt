@@ -4,9 +4,9 @@ use borrow.Author.Needs.{needs}
 use Rattle.terms.specs.Answers.{Answered}
 use Rattle.terms.proofs.Answers.{carry-answered}
 use Rattle.formula.specs.Lent.{Formula, formulaOf}
-use Rattle.joining.specs.Rules.{ruledPrefix, readAs}
-use Rattle.joining.proofs.Reading.{refused-read, hand-read, sound-read, behind-read}
-use Rattle.tables.specs.Lent.{Rows, rows}
+use Rattle.formula_rules.specs.Rules.{ruledPrefix, readAs}
+use Rattle.formula_rules.proofs.Reading.{refused-read, hand-read, sound-read, behind-read}
+use Rattle.forest_tables.specs.Lent.{Rows, rows}
 use Rattle.forest.specs.Causes.{behindEntry}
 use Rattle.forest.specs.Answers.{Entry}
 use Rattle.forest.proofs.entry_point.Statement.{statement}

@@ -8,9 +8,9 @@ use Rattle.terms.specs.Listed.{Listed}
 use Rattle.terms.specs.Refusals.{Causes, At0}
 use Rattle.terms.proofs.Answers.{carry-filling}
 use Rattle.formula.specs.Lent.{Formula, formulaOf}
-use Rattle.joining.specs.Rules.{checkOrder, readAs}
-use Rattle.joining.proofs.Reading.{refused-read, hand-read, sound-read, more-read, behind-read}
-use Rattle.tables.specs.Lent.{Rows, rows}
+use Rattle.formula_rules.specs.Rules.{checkOrder, readAs}
+use Rattle.formula_rules.proofs.Reading.{refused-read, hand-read, sound-read, more-read, behind-read}
+use Rattle.forest_tables.specs.Lent.{Rows, rows}
 use Rattle.forest.specs.Causes.{behindCheck}
 use Rattle.forest.specs.Wanted.{Wanted}
 use Rattle.forest.proofs.list_asked.Statement.{statement}

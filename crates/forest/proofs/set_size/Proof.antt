@@ -4,9 +4,9 @@ use borrow.Author.Needs.{needs}
 use Rattle.terms.specs.Answers.{Numbered}
 use Rattle.terms.proofs.Answers.{carry-numbered}
 use Rattle.formula.specs.Lent.{Formula, formulaOf}
-use Rattle.joining.specs.Rules.{checkOrder, readAs}
-use Rattle.joining.proofs.Reading.{refused-read, hand-read, sound-read, more-read, behind-read}
-use Rattle.tables.specs.Lent.{Rows, rows}
+use Rattle.formula_rules.specs.Rules.{checkOrder, readAs}
+use Rattle.formula_rules.proofs.Reading.{refused-read, hand-read, sound-read, more-read, behind-read}
+use Rattle.forest_tables.specs.Lent.{Rows, rows}
 use Rattle.forest.specs.Causes.{behindCheck}
 use Rattle.forest.specs.Answers.{SizeBy}
 use Rattle.forest.proofs.set_size.Statement.{statement}

@@ -6,12 +6,12 @@ use mathlib.Core.Logic.{_⊎_, inl, inr, ⊎-elim}
 use borrow.Author.Needs.{needs}
 use Rattle.terms.specs.Refusals.{At0, None, Judged}
 use Rattle.terms.proofs.Verdicts.{at0-first, at0-none, refused-first}
-use Rattle.connection.specs.Tables.{WellFormed}
-use Rattle.tables.specs.Tabled.{tabled}
-use Rattle.tables.specs.Causes.{ForestCause}
-use Rattle.tables.specs.Lent.{Rows, rows}
-use Rattle.tables.specs.Rows.{rowsOf}
-use Rattle.searching.specs.Search.{Finds}
+use Rattle.forest_theory.specs.Tables.{WellFormed}
+use Rattle.forest_tables.specs.Tabled.{tabled}
+use Rattle.forest_tables.specs.Causes.{ForestCause}
+use Rattle.forest_tables.specs.Lent.{Rows, rows}
+use Rattle.forest_tables.specs.Rows.{rowsOf}
+use Rattle.forest_climb.specs.Search.{Finds}
 use Rattle.forest.specs.Causes.{NotUniversal, NotDeeper}
 use Rattle.forest.proofs.Entered.{tabled-formed, sound-universal, sound-not-universal, sound-found, sound-nowhere}
 use Rattle.forest.proofs.sound_entry.Statement.{statement}

@@ -6,8 +6,8 @@ use Rattle.terms.specs.Answers.{TooLong}
 use Rattle.terms.specs.Refusals.{At0, Judged}
 use Rattle.terms.proofs.Verdicts.{refused-first}
 use Rattle.formula.specs.Lent.{Formula, formulaOf}
-use Rattle.tables.specs.Lent.{Rows, rows}
-use Rattle.picking.specs.Picked.{pick}
+use Rattle.forest_tables.specs.Lent.{Rows, rows}
+use Rattle.forest_members.specs.Picked.{pick}
 use Rattle.forest.specs.Causes.{behindCheck}
 use Rattle.forest.specs.Wanted.{Enters, Wanted}
 use Rattle.forest.proofs.Listings.{picks-listing, asked-listed}

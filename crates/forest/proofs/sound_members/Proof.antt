@@ -3,10 +3,10 @@ use mathlib.Core.List.{[]}
 use native.Mathlib.Omega.{arith}
 use borrow.Author.Needs.{needs}
 use Rattle.formula.specs.Lent.{formulaOf}
-use Rattle.tables.specs.Lent.{rows}
-use Rattle.picking.specs.declared.Asked.the-variants.{Set}
-use Rattle.picking.specs.Picked.{pick, picked}
-use Rattle.picking.proofs.Picked.{picked-most}
+use Rattle.forest_tables.specs.Lent.{rows}
+use Rattle.forest_members.specs.declared.Asked.the-variants.{Set}
+use Rattle.forest_members.specs.Picked.{pick, picked}
+use Rattle.forest_members.proofs.Picked.{picked-most}
 use Rattle.forest.proofs.Listings.{members-picked}
 use Rattle.forest.proofs.sound_members.Statement.{statement}
 use Rattle.forest.proofs.sound_members.Tie as tie

@@ -3,7 +3,7 @@ use mathlib.Core.Path.{sym, subst}
 use borrow.Author.Needs.{needs}
 use Rattle.terms.specs.Refusals.{NoneOf, Judged}
 use Rattle.formula.specs.Lent.{Formula, formulaOf}
-use Rattle.tables.specs.Lent.{Rows, rows}
+use Rattle.forest_tables.specs.Lent.{Rows, rows}
 use Rattle.forest.specs.Causes.{behindCheck}
 use Rattle.forest.specs.Answers.{SizeBy}
 use Rattle.forest.specs.Wanted.{Enters}

@@ -1,5 +1,5 @@
 -- The flags are those that flag_points sets in a new table, and the line is picked by them.
-use Rattle.marks.proofs.Flags.{fresh}
+use Rattle.forest_entries.proofs.Flags.{fresh}
 use borrow.Author.Needs.{needs}
 use Rattle.listing.proofs.flagged_line.Statement.{statement}
 use Rattle.listing.proofs.flagged_line.Tie as tie

@@ -1,6 +1,6 @@
 -- The two counts are those of the blocks and of the clauses, so that the line of them is the first line of the formula.
 use mathlib.Core.Path.{ap₂}
-use Rattle.lines.specs.Lines.{headLine}
+use Rattle.listing_lines.specs.Lines.{headLine}
 use Rattle.listing.proofs.Printed.{line-front}
 use borrow.Author.Needs.{needs}
 use Rattle.listing.proofs.head_of.Statement.{statement}

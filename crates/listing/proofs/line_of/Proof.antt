@@ -9,14 +9,14 @@ use native.Mathlib.Omega.{arith}
 use lib.ListN.{length}
 use Rattle.terms.specs.Pairs.{lowOf, highOf}
 use Rattle.terms.specs.declared.Scheme.the-variants.{Strict}
-use Rattle.picking.specs.declared.Asked.the-variants.{Set}
-use Rattle.picking.specs.Picked.{pick}
-use Rattle.marks.specs.Flags.{Takes, Via}
-use Rattle.threads.specs.Threads.{Together, EnteredBy}
-use Rattle.threads.specs.SoleTops.{Is, SoleOf}
-use Rattle.runs.specs.Runs.{Run, only, having}
-use Rattle.oneset.proofs.Soles.{sole-entering, sole-within}
-use Rattle.lines.specs.Lines.{universalLine, Stored}
+use Rattle.forest_members.specs.declared.Asked.the-variants.{Set}
+use Rattle.forest_members.specs.Picked.{pick}
+use Rattle.forest_entries.specs.Flags.{Takes, Via}
+use Rattle.sets_occurrences.specs.Threads.{Together, EnteredBy}
+use Rattle.sets_occurrences.specs.SoleTops.{Is, SoleOf}
+use Rattle.sets_subtrees.specs.Runs.{Run, only, having}
+use Rattle.sets_record.proofs.Soles.{sole-entering, sole-within}
+use Rattle.listing_lines.specs.Lines.{universalLine, Stored}
 use Rattle.listing.specs.Listing.{lineBytes}
 use Rattle.listing.proofs.Printed.{picked-small, sole-picked}
 use Rattle.listing.proofs.Flagged.{line-flagged}

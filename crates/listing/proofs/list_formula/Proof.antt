@@ -9,15 +9,15 @@ use Rattle.formula.specs.Lent.{Formula}
 use Rattle.formula.specs.Levels.{SoundPrefix}
 use Rattle.formula.specs.Lookup.{SoundClauses}
 use Rattle.formula.proofs.Sound.{sound-check}
-use Rattle.joining.specs.Rules.{readAs, checkOrder}
-use Rattle.joining.proofs.Orders.{clauses-sound}
-use Rattle.connection.specs.Tables.{WellFormed}
-use Rattle.connection.proofs.Growth.{forest-is}
-use Rattle.tables.specs.Lent.{variablesOf}
-use Rattle.tables.proofs.Agreeing.{lawful}
-use Rattle.threads.specs.Threads.{Closed}
+use Rattle.formula_rules.specs.Rules.{readAs, checkOrder}
+use Rattle.formula_rules.proofs.Orders.{clauses-sound}
+use Rattle.forest_theory.specs.Tables.{WellFormed}
+use Rattle.forest_theory.proofs.Growth.{forest-is}
+use Rattle.forest_tables.specs.Lent.{variablesOf}
+use Rattle.forest_tables.proofs.Agreeing.{lawful}
+use Rattle.sets_occurrences.specs.Threads.{Closed}
 use Rattle.sets.proofs.AllSets.{sound-closed}
-use Rattle.growth.specs.Grown.{Standing, tableOf, Builds}
+use Rattle.grow.specs.Grown.{Standing, tableOf, Builds}
 use Rattle.listing.proofs.Refusals.{Digits, build-digits}
 use borrow.Author.Needs.{needs}
 use Rattle.listing.proofs.list_formula.Statement.{statement}

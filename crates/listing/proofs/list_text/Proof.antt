@@ -6,7 +6,7 @@ use lib.IntN.{pos}
 use lib.ListN.{length, replicate}
 use lib.Seq.{length-take-le}
 use Rattle.terms.specs.declared.Reading.{Reading}
-use Rattle.qdimacs.specs.Reading.{ReadIs}
+use Rattle.text_qdimacs.specs.Reading.{ReadIs}
 use Rattle.listing.proofs.Refusals.{read-digits}
 use borrow.Author.Needs.{needs}
 use Rattle.listing.proofs.list_text.Statement.{statement}

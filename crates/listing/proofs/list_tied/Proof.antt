@@ -7,15 +7,15 @@ use mathlib.Core.List.{[]}
 use native.Mathlib.Omega.{arith}
 use lib.ListN.{length, getD, length-replicate}
 use lib.Seq.{length-take-le}
-use Rattle.tables.specs.Formula.{variables}
-use Rattle.tables.specs.Lent.{rows}
-use Rattle.tables.specs.Tabled.{universalIn}
-use Rattle.tables.proofs.Agreeing.{lawful, level-agrees}
-use Rattle.tables.proofs.Readings.{flag-within}
+use Rattle.forest_tables.specs.Formula.{variables}
+use Rattle.forest_tables.specs.Lent.{rows}
+use Rattle.forest_tables.specs.Tabled.{universalIn}
+use Rattle.forest_tables.proofs.Agreeing.{lawful, level-agrees}
+use Rattle.forest_tables.proofs.Readings.{flag-within}
 use Rattle.formula.proofs.Ordered.{marks-within, level-most}
-use Rattle.threads.specs.Threads.{Tied}
-use Rattle.runs.specs.Runs.{Floored}
-use Rattle.runs.proofs.Linked.{floored-none}
+use Rattle.sets_occurrences.specs.Threads.{Tied}
+use Rattle.sets_subtrees.specs.Runs.{Floored}
+use Rattle.sets_subtrees.proofs.Linked.{floored-none}
 use Rattle.listing.specs.Listing.{lineBytes}
 use Rattle.listing.specs.Inner.{TopsOf}
 use borrow.Author.Needs.{needs}

@@ -3,9 +3,9 @@ use Prim.Native.Nat.{ℕ}
 use mathlib.Core.Path.{_∙_}
 use native.Mathlib.Omega.{arith}
 use lib.ListN.{length-replicate}
-use Rattle.tables.proofs.Readings.{new-zero}
+use Rattle.forest_tables.proofs.Readings.{new-zero}
 use borrow.Author.Needs.{needs}
-use Rattle.threads.proofs.Gathering.{levelled-covers}
+use Rattle.sets_occurrences.proofs.Gathering.{levelled-covers}
 use Rattle.listing.proofs.list_universals.Statement.{statement}
 use Rattle.listing.proofs.list_universals.Tie as tie
 

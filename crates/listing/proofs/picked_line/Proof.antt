@@ -5,10 +5,10 @@ use mathlib.Core.Bool.{Bool}
 use mathlib.Core.List.{List}
 use native.Mathlib.Omega.{arith}
 use lib.Seq.{length-take-le}
-use Rattle.picking.specs.declared.Asked.{Asked}
-use Rattle.picking.specs.declared.Asked.the-variants.{Points, Set}
-use Rattle.picking.specs.Picked.{pick}
-use Rattle.lines.specs.Lines.{universalLine, Small, Stored}
+use Rattle.forest_members.specs.declared.Asked.{Asked}
+use Rattle.forest_members.specs.declared.Asked.the-variants.{Points, Set}
+use Rattle.forest_members.specs.Picked.{pick}
+use Rattle.listing_lines.specs.Lines.{universalLine, Small, Stored}
 use Rattle.listing.specs.Listing.{lineBytes}
 use Rattle.listing.proofs.Printed.{picked-small, picked-room, picked-front}
 use borrow.Author.Needs.{needs}

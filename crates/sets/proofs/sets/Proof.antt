@@ -6,9 +6,9 @@ use borrow.Author.Needs.{needs}
 use Rattle.terms.specs.Answers.{Filling}
 use Rattle.terms.proofs.Answers.{carry-filling}
 use Rattle.formula.specs.Lent.{Formula, formulaOf}
-use Rattle.joining.specs.Rules.{checkOrder, readBy}
-use Rattle.joining.proofs.Reading.{refused-read, hand-read, none-read, sound-read, more-read, behind-read}
-use Rattle.tables.specs.Lent.{Rows, rows}
+use Rattle.formula_rules.specs.Rules.{checkOrder, readBy}
+use Rattle.formula_rules.proofs.Reading.{refused-read, hand-read, none-read, sound-read, more-read, behind-read}
+use Rattle.forest_tables.specs.Lent.{Rows, rows}
 use Rattle.sets.specs.Sets.{AllSetsBy, behindSets}
 use Rattle.sets.proofs.AllSets.{sound-closed}
 use Rattle.sets.proofs.sets.Statement.{statement}

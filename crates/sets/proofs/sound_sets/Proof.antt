@@ -5,9 +5,9 @@ use borrow.Author.Needs.{needs}
 use Rattle.terms.specs.Refusals.{At0, None, Judged}
 use Rattle.terms.proofs.Verdicts.{refused-first}
 use Rattle.formula.specs.Lent.{Formula, formulaOf}
-use Rattle.tables.specs.Causes.{ForestCause}
-use Rattle.tables.specs.Lent.{Rows, rows}
-use Rattle.tables.proofs.Agreeing.{none-formed}
+use Rattle.forest_tables.specs.Causes.{ForestCause}
+use Rattle.forest_tables.specs.Lent.{Rows, rows}
+use Rattle.forest_tables.proofs.Agreeing.{none-formed}
 use Rattle.sets.specs.Sets.{SetsTooLong}
 use Rattle.sets.proofs.AllSets.{fills-filling}
 use Rattle.sets.proofs.sound_sets.Statement.{statement}

@@ -7,9 +7,9 @@ use native.Mathlib.Omega.{arith}
 use borrow.Author.Needs.{needs}
 use Rattle.terms.specs.Refusals.{At0, None, Judged}
 use Rattle.terms.proofs.Verdicts.{at0-first, at0-none, refused-first}
-use Rattle.tables.specs.Causes.{ForestCause}
-use Rattle.tables.specs.Lent.{Rows, rows}
-use Rattle.tables.proofs.Agreeing.{none-formed, universal-agrees, universal-within}
+use Rattle.forest_tables.specs.Causes.{ForestCause}
+use Rattle.forest_tables.specs.Lent.{Rows, rows}
+use Rattle.forest_tables.proofs.Agreeing.{none-formed, universal-agrees, universal-within}
 use Rattle.forest.specs.Causes.{NotUniversal}
 use Rattle.forest.proofs.Entered.{own-level, sound-universal, sound-not-universal}
 use Rattle.forest.proofs.entering.enter.Statement.{statement}

@@ -4,7 +4,7 @@ use native.Mathlib.Omega.{arith}
 use mathlib.Core.List.{[]}
 use borrow.Author.Needs.{needs}
 use Rattle.formula.specs.Lent.{formulaOf}
-use Rattle.tables.specs.Lent.{rows}
+use Rattle.forest_tables.specs.Lent.{rows}
 use Rattle.forest.proofs.Schemes.{over-enters}
 use Rattle.forest.proofs.entering.enter_over.Statement.{statement}
 use Rattle.forest.proofs.entering.enter_over.Tie as tie

@@ -5,16 +5,16 @@ use mathlib.Core.Path.{_≡_, sym, ap, _∙_, subst}
 use mathlib.Core.Bool.{true, false}
 use native.Mathlib.Omega.{arith}
 use lib.ListN.{length, getD, length-replicate}
-use Rattle.connection.specs.Reach.{Variables}
-use Rattle.tables.specs.Formula.{variables, universal}
-use Rattle.tables.specs.Tabled.{universalIn}
-use Rattle.runs.specs.Runs.{Floored}
-use Rattle.oneset.specs.Places.{Placed}
+use Rattle.forest_theory.specs.Reach.{Variables}
+use Rattle.forest_tables.specs.Formula.{variables, universal}
+use Rattle.forest_tables.specs.Tabled.{universalIn}
+use Rattle.sets_subtrees.specs.Runs.{Floored}
+use Rattle.sets_record.specs.Places.{Placed}
 use Rattle.sets.specs.Passed.{SetsUpto, PutAll}
-use Rattle.tables.proofs.Readings.{flag-within, new-zero}
-use Rattle.tables.proofs.Agreeing.{lawful, level-agrees, universal-agrees}
+use Rattle.forest_tables.proofs.Readings.{flag-within, new-zero}
+use Rattle.forest_tables.proofs.Agreeing.{lawful, level-agrees, universal-agrees}
 use Rattle.sets.proofs.AllSets.{put-length, sets-small, put-room, put-next, put-other, put-none}
-use Rattle.runs.proofs.Linked.{floored-none}
+use Rattle.sets_subtrees.proofs.Linked.{floored-none}
 use borrow.Author.Needs.{needs}
 use Rattle.sets.proofs.all_sets.pass_sets.Statement.{statement}
 use Rattle.sets.proofs.all_sets.pass_sets.Tie as tie

@@ -8,8 +8,8 @@ use lib.ListN.{length}
 use Rattle.terms.proofs.Common.{clash}
 use mathlib.Core.List.{[]}
 use Rattle.formula.specs.Lent.{formulaOf}
-use Rattle.tables.specs.Formula.{universal}
-use Rattle.tables.specs.Lent.{rows}
+use Rattle.forest_tables.specs.Formula.{universal}
+use Rattle.forest_tables.specs.Lent.{rows}
 use Rattle.forest.specs.Answers.{MembersBy}
 use Rattle.sets.proofs.AllSets.{sets-within}
 use Rattle.sets.proofs.Records.{records-most, records-room}

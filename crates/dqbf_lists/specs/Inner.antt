@@ -1,0 +1,55 @@
+-- What the inner functions promise. What a reader must believe of the calls is in Lists, Causes and Answers.
+use Prim.Native.Nat.{ℕ, _+_, _≤_, _<_}
+use mathlib.Core.Path.{_≡_}
+use mathlib.Core.Bool.{Bool, true, false}
+use mathlib.Core.List.{List, [], _∷_}
+use mathlib.Core.Logic.{_≢_}
+use lib.ListN.{length, getD, set}
+use Rattle.terms.specs.Limits.{variableRows}
+use Rattle.terms.specs.Refusals.{At0, FirstOf}
+use Rattle.terms.specs.declared.Filled.{Filled}
+use Rattle.formula.specs.Causes.{VariableCount}
+use Rattle.formula.specs.Lent.{Formula}
+use Rattle.formula.specs.Lookup.{SoundClauses}
+use Rattle.formula.specs.Tables.{at}
+use Rattle.forest_tables.specs.Tabled.{universalIn}
+use Rattle.formula_rules.specs.Reading.{Reads}
+use Rattle.formula_rules.specs.Rules.{NoRule}
+use Rattle.dqbf_lists.specs.Lists.{listEntries, InBlock}
+use Rattle.dqbf_lists.specs.Causes.{listedFormula}
+
+-- What a formula is read as beside lists of so many entries: it is refused, or it is sound as the rule reads it, and the lists are not too long.
+abbrev pub ReadsListed : ℕ → Formula → ℕ → List ℕ → Filled → Type 0
+ReadsListed rule f entries =
+    Reads (listedFormula rule f entries) (SoundClauses (f .clauses) × (entries ≤ listEntries)) rule (f .n) (f .prefix)
+
+-- the first number of a call whose lists are too long: 23, 1, and else 2
+abbrev pub LongRefused : ℕ → ℕ → ℕ → Type 0
+LongRefused rule n number = FirstOf (At0 23 (NoRule rule) ∷ VariableCount n ∷ At0 2 (Unit {0}) ∷ []) number 0
+
+-- the flags tell which variables are in a block
+pub record Places (es : List ℕ) (placed : List Bool) : Type 0 where
+  pub size : length placed ≡ variableRows
+  pub each : (v : ℕ) → getD placed v false ≡ true → InBlock es v
+  pub all : (v : ℕ) → InBlock es v → getD placed v false ≡ true
+
+-- y may open a list: it is a variable of the formula that is not placed yet
+abbrev pub MayOpen : ℕ → List Bool → ℕ → Type 0
+MayOpen n placed y = (y ≢ 0) × (y ≤ n) × (getD placed y false ≡ false)
+
+-- x may follow in the list whose first universal stands at `start`: it is universal, and the place behind its last entry is not in that list
+abbrev pub MayFollow : ℕ → List Bool → List ℕ → ℕ → ℕ → Type 0
+MayFollow n universals last start x = (universalIn n universals x ≡ true) × (getD last x 0 ≤ start)
+
+-- From entry `start` up to `end` stand universals of one list, and nothing is wrong with them: the table has the place behind each afterwards.
+pub data PassedTo (n : ℕ) (universals : List Bool) (ds : List ℕ) (start : ℕ) (last : List ℕ) : ℕ → List ℕ → Type 0 where
+  none-passed : PassedTo n universals ds start last start last
+  one-passed : (e : ℕ) {seen : List ℕ} → PassedTo n universals ds start last e seen → e < length ds → MayFollow n universals seen start (at ds e)
+      → PassedTo n universals ds start last (e + 1) (set seen (at ds e) (e + 1))
+
+-- so far as `end`, where the table of lists ends, or an entry stands that may not follow
+pub record Passes (n : ℕ) (universals : List Bool) (ds : List ℕ) (start : ℕ) (last last′ : List ℕ) (end : ℕ) : Type 0 where
+  pub from : start ≤ end
+  pub within : end ≤ length ds
+  pub passed : PassedTo n universals ds start last end last′
+  pub stops : end < length ds → MayFollow n universals last′ start (at ds end) → ⊥

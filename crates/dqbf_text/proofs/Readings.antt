@@ -1,0 +1,100 @@
+-- The laws of read's answers: what a scan finds is the first cause in read's order, or that there is none.
+use Prim.Native.Nat.{ℕ, _+_, _≤_}
+use mathlib.Core.Path.{_≡_, sym, ap, _∙_, subst}
+use mathlib.Core.List.{List, _++_}
+use mathlib.Core.Logic.{inl, inr}
+use native.Mathlib.Omega.{arith}
+use native.Mathlib.Nat.{zero-add}
+use lib.ListN.{length, take, drop}
+use lib.Seq.{sets-eq, take-at, drop-at}
+use lib.IntN.{ℤ}
+use Rattle.terms.specs.Refusals.{FirstOf, None, NoneOf}
+use Rattle.text_write.specs.Texts.{TEXT-MOST}
+use Rattle.text_write.proofs.Outputs.{not-overlong}
+use Rattle.terms.specs.declared.ListedReading.{ListedReading}
+use Rattle.terms.specs.declared.ListedReading.the-variants.{Read, Refused}
+use Rattle.dqbf_text.specs.Grammar.{ListedText, ListedFaultIn}
+use Rattle.dqbf_text.specs.Steps.{Adds, ScanIs}
+use Rattle.dqbf_text.specs.Reading.{Tables, NoRoom, no-room-prefix, no-room-clauses, no-room-lists, readOrder, FrontFilled, ReadIs}
+use Rattle.dqbf_text.proofs.Scans.{adds-length}
+use Rattle.dqbf_text.proofs.Unique.{fault-same, text-fault, text-same}
+
+-- A table that has room for what was added: that stands in front.
+module _ {A : Type 0} {P before after : List A} {count : ℕ} (adds : Adds P 0 count before after) (room : length P ≤ length before) where
+  all-stored : after ≡ P ++ drop (0 + length P) before
+  all-stored = adds .stored ∙ sets-eq P before 0 (omega arith)
+
+  in-front : take count after ≡ P
+  in-front = ap (take count) all-stored ∙ take-at P (drop (0 + length P) before) count (sym (adds .counted ∙ zero-add (length P)))
+
+  filled : FrontFilled count before after
+  filled =
+      let e : count ≡ length P = adds .counted ∙ zero-add (length P) in
+      record {
+        room = omega arith;
+        same-length = adds-length adds;
+        kept = ap (drop count) all-stored ∙ drop-at P (drop (0 + length P) before) count (sym e) ∙ ap (λ (k : ℕ). drop k before) (zero-add (length P) ∙ sym e);
+      }
+
+module _ (text : List ℕ) (before : Tables) (short : length text ≤ TEXT-MOST) where
+  -- a fault
+  pub first-fault : (number place : ℕ) → ListedFaultIn text number place → FirstOf (readOrder text before) number place
+  first-fault number place f =
+      inr (
+        not-overlong text short,
+        inl (record {
+          holds = f;
+          leftmost = λ number′ place′ g. let same = fault-same f g .1 in omega arith;
+          lowest = λ number′ g. let same = fault-same f g .0 in omega arith;
+        }),
+      )
+
+  module _ {n : ℕ} {P L : List ℕ} {C : List ℤ} (text-of : ListedText n P L C text) where
+    not-fault : None (ListedFaultIn text)
+    not-fault number place f = text-fault text-of f
+
+    -- no room
+    pub first-room : NoRoom text before 14 0 → FirstOf (readOrder text before) 14 0
+    first-room room =
+        inr (
+          not-overlong text short,
+          inr (not-fault, inl (record { holds = room; leftmost = λ number place c. omega arith; lowest = λ number c. lowest c })),
+        )
+      where
+        lowest : {number place : ℕ} → NoRoom text before number place → 14 ≤ number
+        lowest (no-room-prefix t h) = omega arith
+        lowest (no-room-clauses t h) = omega arith
+        lowest (no-room-lists t h) = omega arith
+
+    -- nothing
+    pub nothing-wrong : length P ≤ length (before .0) → length C ≤ length (before .1) → length L ≤ length (before .2) → NoneOf (readOrder text before)
+    nothing-wrong p c l = (not-overlong text short, (not-fault, (room, tt)))
+      where
+        room : None (NoRoom text before)
+        room number place (no-room-prefix t h) = let same = ap length (text-same text-of t .prefix) in omega arith
+        room number place (no-room-clauses t h) = let same = ap length (text-same text-of t .clauses) in omega arith
+        room number place (no-room-lists t h) = let same = ap length (text-same text-of t .lists) in omega arith
+
+    -- the answer of the second scan, where the text is known to be within the rules and to fit
+    pub read-all : length P ≤ length (before .0) → length C ≤ length (before .1) → length L ≤ length (before .2) → (after : Tables) (r : ListedReading)
+        → ScanIs text before after r → ReadIs text before after r
+    read-all p c l after (Refused number place) f = absurd (text-fault text-of f)
+    read-all p c l after (Read n′ entries literals rows) s =
+        let same = text-same text-of (s .text-of) in
+        let lp = ap length (same .prefix) in
+        let lc = ap length (same .clauses) in
+        let ll = ap length (same .lists) in
+        let pr : length (s .P) ≤ length (before .0) = omega arith in
+        let cr : length (s .C) ≤ length (before .1) = omega arith in
+        let lr : length (s .L) ≤ length (before .2) = omega arith in (
+          nothing-wrong p c l,
+          record {
+            text-of =
+                subst (λ (x : List ℕ). ListedText n′ x (take rows (after .2)) (take literals (after .1)) text) (sym (in-front (s .prefix-adds) pr))
+                (subst (λ (y : List ℕ). ListedText n′ (s .P) y (take literals (after .1)) text) (sym (in-front (s .lists-adds) lr))
+                (subst (λ (z : List ℤ). ListedText n′ (s .P) (s .L) z text) (sym (in-front (s .clauses-adds) cr)) (s .text-of)));
+            prefix-filled = filled (s .prefix-adds) pr;
+            clauses-filled = filled (s .clauses-adds) cr;
+            lists-filled = filled (s .lists-adds) lr;
+          },
+        )

@@ -1,0 +1,72 @@
+-- What read and write promise settles everything: any two answers that they allow for the same input are the same, with every row and every byte afterwards.
+use Prim.Native.Nat.{ℕ}
+use mathlib.Core.Path.{_≡_, sym, ap, ap₂, _∙_}
+use mathlib.Core.List.{List}
+use native.Mathlib.Omega.{arith}
+use lib.ListN.{length, take, drop}
+use lib.Seq.{length-take-le}
+use lib.IntN.{ℤ}
+use Rattle.terms.proofs.Verdicts.{firstOf-same, first-or-none}
+use Rattle.terms.specs.declared.Filled.{Filled}
+use Rattle.text_qdimacs.proofs.Settled.{rows-same}
+use Rattle.text_qdimacs.proofs.Settled as writing
+use Rattle.formula.specs.Lent.{Formula}
+use Rattle.dqbf_lists.specs.Causes.{checkListsOrder}
+use Rattle.terms.specs.declared.ListedReading.{ListedReading}
+use Rattle.dqbf_text.specs.Reading.{Tables, readOrder, FrontFilled, ReadInto, ReadIs}
+use Rattle.dqbf_text.specs.Writing.{listedTextOf}
+use Rattle.dqbf_text.specs.Stored.{listedText, WritesListed}
+use Rattle.dqbf_text.proofs.Unique.{text-same}
+
+-- What two answers of read have in common.
+pub record SameAnswer (r r′ : ListedReading) (after after′ : Tables) : Type 0 where
+  pub answer : r ≡ r′
+  pub prefix-rows : after .0 ≡ after′ .0
+  pub clause-rows : after .1 ≡ after′ .1
+  pub list-rows : after .2 ≡ after′ .2
+
+-- Two tables with the same rows in front.
+module _ {A : Type 0} {before x y : List A} {k k′ : ℕ} (a : FrontFilled k before x) (b : FrontFilled k′ before y) (same : take k x ≡ take k′ y) where
+  count-same : k ≡ k′
+  count-same =
+      let al = a .same-length in
+      let bl = b .same-length in
+      let ar = a .room in
+      let br = b .room in
+      sym (length-take-le k x (omega arith)) ∙ ap length same ∙ length-take-le k′ y (omega arith)
+
+  table-same : x ≡ y
+  table-same = rows-same k k′ x y same (a .kept ∙ ap (λ (i : ℕ). drop i before) count-same ∙ sym (b .kept))
+
+module _ (text : List ℕ) (before : Tables) where
+  into-same : {n e l d n′ e′ l′ d′ : ℕ} {after after′ : Tables} → ReadInto n e l d text before after → ReadInto n′ e′ l′ d′ text before after′
+      → SameAnswer (ListedReading.Read n e l d) (ListedReading.Read n′ e′ l′ d′) after after′
+  into-same {n} {e} {l} {d} {n′} {e′} {l′} {d′} a b =
+      let same = text-same (a .text-of) (b .text-of) in
+      let number = same .number in
+      let es = count-same (a .prefix-filled) (b .prefix-filled) (same .prefix) in
+      let ls = count-same (a .clauses-filled) (b .clauses-filled) (same .clauses) in
+      let ds = count-same (a .lists-filled) (b .lists-filled) (same .lists) in
+      record {
+        answer = cc;
+        prefix-rows = table-same (a .prefix-filled) (b .prefix-filled) (same .prefix);
+        clause-rows = table-same (a .clauses-filled) (b .clauses-filled) (same .clauses);
+        list-rows = table-same (a .lists-filled) (b .lists-filled) (same .lists);
+      }
+
+  pub read-settled : (after after′ : Tables) (r r′ : ListedReading) → ReadIs text before after r → ReadIs text before after′ r′ → SameAnswer r r′ after after′
+  read-settled after after′ (ListedReading.Read n e l d) (ListedReading.Read n′ e′ l′ d′) a b = into-same (a .1) (b .1)
+  read-settled after after′ (ListedReading.Read n e l d) (ListedReading.Refused k q) a b = absurd (first-or-none (readOrder text before) k q (b .0) (a .0))
+  read-settled after after′ (ListedReading.Refused k q) (ListedReading.Read n e l d) a b = absurd (first-or-none (readOrder text before) k q (a .0) (b .0))
+  read-settled after after′ (ListedReading.Refused k q) (ListedReading.Refused k′ q′) a b =
+      let same = firstOf-same (readOrder text before) k q k′ q′ (a .0) (b .0) in
+      record {
+        answer = ap₂ ListedReading.Refused (same .0) (same .1);
+        prefix-rows = a .1 ∙ sym (b .1);
+        clause-rows = a .2 ∙ sym (b .2);
+        list-rows = a .3 ∙ sym (b .3);
+      }
+
+pub write-settled : (rule : ℕ) (f : Formula) (ds out out₁ out₂ : List ℕ) (r r′ : Filled) → WritesListed rule f ds out out₁ r
+    → WritesListed rule f ds out out₂ r′ → (r ≡ r′) × (out₁ ≡ out₂)
+write-settled rule f ds = writing.write-settled (checkListsOrder rule f ds) (listedText f ds)

@@ -1,0 +1,44 @@
+-- What reading a text promises (document 01, "Refusal numbers", and document 02, request 12): n and the tables of the text, or the first cause
+-- in the order 15, then 16 and 17 by the earliest line, 16 first at one line, then 14.
+use Prim.Native.Nat.{ℕ, _<_, _≤_}
+use mathlib.Core.Path.{_≡_}
+use mathlib.Core.List.{List, [], _∷_}
+use lib.ListN.{length, take, drop}
+use lib.IntN.{ℤ}
+use Rattle.terms.specs.Refusals.{Causes, FirstOf, NoneOf}
+use Rattle.text_write.specs.Texts.{Overlong}
+use Rattle.terms.specs.declared.ListedReading.{ListedReading}
+use Rattle.terms.specs.declared.ListedReading.the-variants.{Read, Refused}
+use Rattle.dqbf_text.specs.Grammar.{ListedText, ListedFaultIn}
+
+-- The tables that a text fills: the prefix table, the clause table and the table of lists.
+abbrev pub Tables : Type 0
+Tables = List ℕ × List ℤ × List ℕ
+
+-- 14: the text is that of tables of which one does not fit where it is to be stored.
+pub data NoRoom (text : List ℕ) (before : Tables) : ℕ → ℕ → Type 0 where
+  no-room-prefix : {n : ℕ} {P L : List ℕ} {C : List ℤ} → ListedText n P L C text → length (before .0) < length P → NoRoom text before 14 0
+  no-room-clauses : {n : ℕ} {P L : List ℕ} {C : List ℤ} → ListedText n P L C text → length (before .1) < length C → NoRoom text before 14 0
+  no-room-lists : {n : ℕ} {P L : List ℕ} {C : List ℤ} → ListedText n P L C text → length (before .2) < length L → NoRoom text before 14 0
+
+abbrev pub readOrder : List ℕ → Tables → List Causes
+readOrder text before = Overlong text ∷ ListedFaultIn text ∷ NoRoom text before ∷ []
+
+-- A table has its first rows filled: there is room for them, and the rows past them are as they were.
+pub record FrontFilled {A : Type 0} (count : ℕ) (before after : List A) : Type 0 where
+  pub room : count ≤ length before
+  pub same-length : length after ≡ length before
+  pub kept : drop count after ≡ drop count before
+
+-- The text is that of n and of what now stands in front in the three tables.
+pub record ReadInto (n entries literals rows : ℕ) (text : List ℕ) (before after : Tables) : Type 0 where
+  pub text-of : ListedText n (take entries (after .0)) (take rows (after .2)) (take literals (after .1)) text
+  pub prefix-filled : FrontFilled entries (before .0) (after .0)
+  pub clauses-filled : FrontFilled literals (before .1) (after .1)
+  pub lists-filled : FrontFilled rows (before .2) (after .2)
+
+-- Each answer: accepted, with n and the three counts, or refused, with the tables as they were.
+abbrev pub ReadIs : List ℕ → Tables → Tables → ListedReading → Type 0
+ReadIs text before after (Read n entries literals rows) = NoneOf (readOrder text before) × ReadInto n entries literals rows text before after
+ReadIs text before after (Refused number place) =
+    FirstOf (readOrder text before) number place × (after .0 ≡ before .0) × (after .1 ≡ before .1) × (after .2 ≡ before .2)

@@ -1,0 +1,93 @@
+-- What expanding one universal promises: the order in which it looks for refusals, its answer, and what it leaves in the lent tables (document 02,
+-- request 9). All but the order of check speaks of the formula as the reading rule reads it.
+use Prim.Native.Nat.{ℕ, _+_, _<_}
+use mathlib.Core.Path.{_≡_}
+use mathlib.Core.List.{List, [], _∷_, _++_}
+use mathlib.Core.Logic.{_⊎_}
+use lib.IntN.{ℤ}
+use lib.ListN.{length}
+use lib.Seq.{sets}
+use denote.Ref.{RefT, now}
+use denote.Triple.Both.{Both}
+use Rattle.terms.specs.Limits.{mostVariables, prefixEntries, clauseEntries}
+use Rattle.terms.specs.Listed.{Listed}
+use Rattle.terms.specs.Refusals.{Causes, At0, FirstOf, NoneOf}
+use Rattle.terms.specs.declared.Expanded.{Expanded}
+use Rattle.terms.specs.declared.Scheme.the-variants.{Standard}
+use Rattle.formula.specs.Lent.{Formula, formulaOf}
+use Rattle.formula_rules.specs.Rules.{readBy, checkOrder}
+use Rattle.forest.specs.Answers.{DependsBy}
+use Rattle.forest.specs.Causes.{NotUniversal}
+use Rattle.expand_clauses.specs.Expansion.{copyOf, expandedPrefix, expandedClauses}
+
+-- The tables that are lent for the result: one for its prefix, and one for its clauses.
+pub record ResultTables : Type 0 where
+  pub prefix : List ℕ
+  pub clauses : List ℤ
+
+abbrev pub resultTables : List ℕ → List ℤ → ResultTables
+resultTables prefix clauses = record { prefix = prefix; clauses = clauses }
+
+-- those of a call's parameters, as they were passed, and as the call leaves them
+abbrev pub resultIn : {P C : Type 0} → Both (RefT (List ℕ)) P → Both (RefT (List ℤ)) C → ResultTables
+resultIn prefix clauses = resultTables (now (prefix .entry)) (now (clauses .entry))
+
+abbrev pub resultOut : {P C : Type 0} → Both P (RefT (List ℕ)) → Both C (RefT (List ℤ)) → ResultTables
+resultOut prefix clauses = resultTables (now (prefix .exit)) (now (clauses .exit))
+
+-- The standard set of x, found from the clauses, as an ascending list.
+abbrev pub SetOf : Formula → ℕ → List ℕ → Type 0
+SetOf f x members = Listed (DependsBy Standard f x) members
+
+-- a formula with x expanded, of so many variables, by the copies that variables have
+abbrev pub expandedWith : ℕ → ℕ → (ℕ → ℕ) → Formula → Formula
+expandedWith count x copy f = formulaOf count (expandedPrefix x copy (f .prefix)) (expandedClauses x copy (f .clauses))
+
+-- so by the list of the set of x, of which each member has a copy
+abbrev pub expandedBy : Formula → ℕ → List ℕ → Formula
+expandedBy f x members = expandedWith (f .n + length members) x (copyOf (f .n) members) f
+
+-- something of the expanded formula
+abbrev pub OfExpanded : Formula → ℕ → (Formula → Type 0) → Type 0
+OfExpanded f x P = (members : List ℕ) × SetOf f x members × P (expandedBy f x members)
+
+-- 1: it has over 4,096 variables
+abbrev pub ManyVariables : Formula → Type 0
+ManyVariables g = mostVariables < g .n
+
+-- 2: its prefix has over 8,192 entries, or its clause table over 16,384
+abbrev pub Long : Formula → Type 0
+Long g = (prefixEntries < length (g .prefix)) ⊎ (clauseEntries < length (g .clauses))
+
+-- 14: an output table is shorter than needed
+abbrev pub Short : ResultTables → Formula → Type 0
+Short out g = (length (out .prefix) < length (g .prefix)) ⊎ (length (out .clauses) < length (g .clauses))
+
+-- what is looked for of the result: 1 and 2 if it passes a limit, then 14
+abbrev pub resultOrder : Formula → ℕ → ResultTables → List Causes
+resultOrder f x out = At0 1 (OfExpanded f x ManyVariables) ∷ At0 2 (OfExpanded f x Long) ∷ At0 14 (OfExpanded f x (Short out)) ∷ []
+
+-- what is looked for behind check, in the formula as it is read: 13, x not universal, then what is looked for of the result
+abbrev pub behindExpand : Formula → ℕ → ResultTables → List Causes
+behindExpand f x out = At0 13 (NotUniversal (f .n) (f .prefix) x) ∷ resultOrder f x out
+
+-- the order of the call: that of check, 13, 1, 2, 14
+abbrev pub expandOrder : ℕ → Formula → ℕ → ResultTables → List Causes
+expandOrder rule f x out = checkOrder rule f ++ behindExpand (readBy rule f) x out
+
+-- What is left of a formula that is written: n and the two counts of entries, and both tables in front, with nothing past them changed.
+pub record Leaves (out out′ : ResultTables) (count entries literals : ℕ) (g : Formula) : Type 0 where
+  pub count-is : count ≡ g .n
+  pub entries-is : entries ≡ length (g .prefix)
+  pub literals-is : literals ≡ length (g .clauses)
+  pub prefix-is : out′ .prefix ≡ sets (out .prefix) 0 (g .prefix)
+  pub clauses-is : out′ .clauses ≡ sets (out .clauses) 0 (g .clauses)
+
+-- What the call answers by an order of refusals, and by the formula as it is read; a refusal leaves both tables.
+abbrev pub ExpandsBy : List Causes → Formula → ℕ → ResultTables → ResultTables → Expanded → Type 0
+ExpandsBy order f x out out′ (Expanded.Formula count entries literals) = NoneOf order × OfExpanded f x (Leaves out out′ count entries literals)
+ExpandsBy order f x out out′ (Expanded.Refused number place) = FirstOf order number place × (out′ ≡ out)
+
+-- What the call promises.
+abbrev pub Expands : ℕ → Formula → ℕ → ResultTables → ResultTables → Expanded → Type 0
+Expands rule f x out = ExpandsBy (expandOrder rule f x out) (readBy rule f) x out

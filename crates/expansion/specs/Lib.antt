@@ -1,3 +1,0 @@
--- What expanding promises, of the formula that `copying` defines; then what its inner functions do, which only proofs rest on.
-pub mod Promise
-pub mod Writing

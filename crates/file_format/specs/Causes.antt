@@ -1,0 +1,121 @@
+-- The causes of refusals 19 to 22, and of 14, for reading and writing a file, line by line as document 02, request 6 has them, and the orders of the two calls,
+-- which take a rule number (request 7).
+use Prim.Native.Nat.{ℕ, _<_, _≤_, _%_}
+use mathlib.Core.Path.{_≡_}
+use mathlib.Core.Bool.{true, false}
+use mathlib.Core.List.{List, [], _∷_, _++_}
+use mathlib.Core.Logic.{_⊎_, _≢_}
+use lib.IntN.{ℤ}
+use lib.ListN.{length}
+use denote.Ref.{RefT, now}
+use denote.Triple.Both.{Both}
+use Rattle.terms.specs.Refusals.{Causes, At0}
+use Rattle.formula.specs.Lent.{Formula}
+use Rattle.formula_rules.specs.Rules.{NoRule, readAs, readBy, checkOrder}
+use Rattle.forest_tables.specs.Lent.{Rows, rowsIn, rowsOut}
+use Rattle.file_format.specs.Layout.{prefixKind, clausesKind, closingKind, ForestRows, StandardSets, FileWith, SumsToZero}
+use Rattle.file_format.specs.Places.{sizeAt, kindAt, nextAt, Reached, RecordAt, mayFollow, thirdAt, fourthAt, hasSets, formulaHeld, Holds}
+
+-- the most bytes that a file may have
+abbrev pub fileBytes : ℕ
+fileBytes = 262144
+
+-- 19, for a file too long: tested first, place 0
+abbrev pub TooLarge : List ℕ → Type 0
+TooLarge file = fileBytes < length file
+
+-- 19: the place is where the record begins
+pub data RecordCause (file : List ℕ) (number place : ℕ) : Type 0 where
+  -- length cut: the head or the payload goes past the end of the file
+  cut : number ≡ 19 → RecordAt file place → length file < nextAt file place → RecordCause file number place
+  -- length odd
+  odd : number ≡ 19 → RecordAt file place → sizeAt file place % 2 ≢ 0 → RecordCause file number place
+  -- kind 1 under two bytes
+  no-count : number ≡ 19 → RecordAt file place → kindAt file place ≡ prefixKind → sizeAt file place < 2 → RecordCause file number place
+  -- kind 2 not whole literals
+  part-literal : number ≡ 19 → RecordAt file place → kindAt file place ≡ clausesKind → sizeAt file place % 4 ≢ 0 → RecordCause file number place
+  -- kind 65,535 not two bytes
+  no-word : number ≡ 19 → RecordAt file place → kindAt file place ≡ closingKind → sizeAt file place ≢ 2 → RecordCause file number place
+
+-- 20: the place is where the record begins, or would if it is missing
+pub data OrderCause (file : List ℕ) (number place : ℕ) : Type 0 where
+  -- unknown kind or wrong order: the kind may not come behind the one before
+  wrong : (before : ℕ) → number ≡ 20 → Reached file before place → place < length file → mayFollow before (kindAt file place) ≡ false
+      → OrderCause file number place
+  -- a kind missing: the file ends, and not behind kind 65,535
+  missing : (before : ℕ) → number ≡ 20 → Reached file before place → place ≡ length file → before ≢ closingKind → OrderCause file number place
+
+-- the rows, and the sets, that kinds 3 and 4 have are those of a formula, in number and value
+abbrev pub RightRows : Formula → List ℕ → Rows → Type 0
+RightRows f file r = ForestRows f r × Holds 4 file (thirdAt file) (r .classes ++ (r .parents ++ r .counts))
+
+abbrev pub RightSets : Formula → List ℕ → Type 0
+RightSets f file = (sets : List ℕ) × StandardSets f sets × Holds 2 file (fourthAt file) sets
+
+-- 22: rows or sets disagree with the formula; the place is where the record begins
+pub data ForestFileCause (f : Formula) (file : List ℕ) (number place : ℕ) : Type 0 where
+  rows-disagree : number ≡ 22 → place ≡ thirdAt file → ((r : Rows) → RightRows f file r → ⊥) → ForestFileCause f file number place
+  sets-disagree : number ≡ 22 → place ≡ fourthAt file → hasSets file ≡ true → (RightSets f file → ⊥) → ForestFileCause f file number place
+
+-- What is lent to be filled by reading: tables for the prefix, for the clauses, and for the rows.
+pub record Lent : Type 0 where
+  pub prefix : List ℕ
+  pub clauses : List ℤ
+  pub rows : Rows
+
+abbrev pub lentTables : List ℕ → List ℤ → Rows → Lent
+lentTables prefix clauses rows = record { prefix = prefix; clauses = clauses; rows = rows }
+
+-- so of a call's parameters, as they were passed, and as the call leaves them
+abbrev pub lentIn : {P L C Q N : Type 0}
+    → Both (RefT (List ℕ)) P → Both (RefT (List ℤ)) L → Both (RefT (List ℕ)) C → Both (RefT (List ℕ)) Q → Both (RefT (List ℕ)) N → Lent
+lentIn prefix clauses classes parents counts = lentTables (now (prefix .entry)) (now (clauses .entry)) (rowsIn classes parents counts)
+
+abbrev pub lentOut : {P L C Q N : Type 0}
+    → Both P (RefT (List ℕ)) → Both L (RefT (List ℤ)) → Both C (RefT (List ℕ)) → Both Q (RefT (List ℕ)) → Both N (RefT (List ℕ)) → Lent
+lentOut prefix clauses classes parents counts = lentTables (now (prefix .exit)) (now (clauses .exit)) (rowsOut classes parents counts)
+
+-- 14, for reading: a lent table is shorter than what a formula and its rows have for it
+abbrev pub NoRoom : Formula → Lent → Type 0
+NoRoom f lent =
+    (length (lent .prefix) < length (f .prefix))
+    ⊎ ((length (lent .clauses) < length (f .clauses))
+    ⊎ ((length (lent .rows .classes) < f .n) ⊎ ((length (lent .rows .parents) < f .n) ⊎ (length (lent .rows .counts) < f .n))))
+
+-- the tables are long enough for all of it
+abbrev pub Roomy : Formula → Lent → Type 0
+Roomy f lent =
+    (length (f .prefix) ≤ length (lent .prefix)) × (length (f .clauses) ≤ length (lent .clauses))
+    × (f .n ≤ length (lent .rows .classes)) × (f .n ≤ length (lent .rows .parents)) × (f .n ≤ length (lent .rows .counts))
+
+-- the order of reading: 23, which comes before all others (request 7), 19 (too long), 19, 20, 21 (sum), table refusals, 22, 14
+abbrev pub fileOrder : List ℕ → List Causes
+fileOrder file = At0 19 (TooLarge file) ∷ RecordCause file ∷ OrderCause file ∷ At0 21 (SumsToZero file → ⊥) ∷ []
+
+-- what an order that begins with 23 has after it
+abbrev pub afterRule : List Causes → List Causes
+afterRule [] = []
+afterRule (rule ∷ later) = later
+
+abbrev pub loadOrder : ℕ → List ℕ → Lent → List Causes
+loadOrder rule file lent =
+    At0 23 (NoRule rule)
+    ∷ (fileOrder file
+    ++ (afterRule (checkOrder rule (formulaHeld file))
+    ++ (ForestFileCause (readBy rule (formulaHeld file)) file ∷ At0 14 (NoRoom (formulaHeld file) lent) ∷ [])))
+
+-- 19 and 14, for writing a formula whose prefix is read so: its file is too long, which within the limits it never is (proofs/Short); it is longer
+-- than the table that is lent for it
+abbrev pub FileTooLarge : Formula → List ℕ → Type 0
+FileTooLarge f read = (file : List ℕ) × FileWith f read [] file × TooLarge file
+
+abbrev pub FileTooLong : Formula → List ℕ → List ℕ → Type 0
+FileTooLong f read before = (file : List ℕ) × FileWith f read [] file × (length before < length file)
+
+-- what is looked for behind check: 19, 14
+abbrev pub behindStore : Formula → List ℕ → List ℕ → List Causes
+behindStore f read before = At0 19 (FileTooLarge f read) ∷ At0 14 (FileTooLong f read before) ∷ []
+
+-- the order of writing: 23 and the table refusals, 19, 14
+abbrev pub storeOrder : ℕ → Formula → List ℕ → List Causes
+storeOrder rule f before = checkOrder rule f ++ behindStore f (readAs rule (f .prefix)) before

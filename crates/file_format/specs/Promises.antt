@@ -1,0 +1,55 @@
+-- What writing and reading a file promise, each under a reading rule (document 02, requests 6, 7 and 14).
+use Prim.Native.Nat.{ℕ}
+use mathlib.Core.Path.{_≡_}
+use mathlib.Core.Bool.{Bool, true, false}
+use mathlib.Core.List.{List, _++_}
+use lib.ListN.{length}
+use lib.Seq.{sets}
+use Rattle.terms.specs.Answers.{Filling}
+use Rattle.terms.specs.Refusals.{Causes, FirstOf, NoneOf}
+use Rattle.terms.specs.declared.Filled.{Filled}
+use Rattle.terms.specs.declared.Loaded.{Loaded}
+use Rattle.formula.specs.Lent.{Formula}
+use Rattle.formula_rules.specs.Rules.{readBy}
+use Rattle.forest_tables.specs.Lent.{Rows, rows}
+use Rattle.file_format.specs.Layout.{setsKind, recordBytes, closingRecord, SumsToZero, FileOf}
+use Rattle.file_format.specs.Places.{fourthAt, formulaHeld, hasSets}
+use Rattle.file_format.specs.Causes.{Lent, lentTables, RightRows, loadOrder, storeOrder}
+
+-- What writing promises: the file of the formula stands in front in the lent table, nothing past it is changed, and the count is its length; or
+-- nothing is changed at all.
+abbrev pub Stores : ℕ → Formula → List ℕ → List ℕ → Filled → Type 0
+Stores rule f before = Filling (storeOrder rule f before) (FileOf rule f) before
+
+-- the lent tables with a formula and rows stored in front
+abbrev pub storedIn : Lent → Formula → Rows → Lent
+storedIn lent f r =
+    lentTables (sets (lent .prefix) 0 (f .prefix)) (sets (lent .clauses) 0 (f .clauses))
+    (rows (sets (lent .rows .classes) 0 (r .classes)) (sets (lent .rows .parents) 0 (r .parents)) (sets (lent .rows .counts) 0 (r .counts)))
+
+-- What reading leaves: the formula that the file holds, and the rows of the formula as it is read, stand in front in the lent tables, and nothing past
+-- them is changed.
+pub record FilledFrom (read : Formula) (file : List ℕ) (lent lent′ : Lent) : Type 0 where
+  pub rows : Rows
+  pub right : RightRows read file rows
+  pub left : lent′ ≡ storedIn lent (formulaHeld file) rows
+
+-- What a call answers that reads a file into lent tables: n, how many entries the prefix and the clause table of the file have, and whether sets were
+-- there; or nothing is changed.
+abbrev pub Loading : List Causes → Formula → List ℕ → Lent → Lent → Loaded → Type 0
+Loading order read file lent lent′ (Loaded.Formula n entries literals with-sets) =
+    NoneOf order × (n ≡ formulaHeld file .n) × (entries ≡ length (formulaHeld file .prefix)) × (literals ≡ length (formulaHeld file .clauses))
+    × (with-sets ≡ hasSets file) × FilledFrom read file lent lent′
+Loading order read file lent lent′ (Loaded.Refused number place) = FirstOf order number place × (lent′ ≡ lent)
+
+-- What reading promises.
+abbrev pub Loads : ℕ → List ℕ → Lent → Lent → Loaded → Type 0
+Loads rule file lent = Loading (loadOrder rule file lent) (readBy rule (formulaHeld file)) file lent
+
+-- A file without its kind 4 (request 14), by whether it has one: the record goes, the closing word is refitted, and nothing else changes;
+-- or it stays as it is.
+pub data WithoutSets (file : List ℕ) : Bool → List ℕ → Type 0 where
+  as-it-is : {without : List ℕ} → without ≡ file → WithoutSets file false without
+  refitted : {without : List ℕ} (head sets : List ℕ) (word word′ : ℕ) → length head ≡ fourthAt file
+      → file ≡ head ++ (recordBytes setsKind sets ++ closingRecord word) → without ≡ head ++ closingRecord word′ → SumsToZero without
+      → WithoutSets file true without

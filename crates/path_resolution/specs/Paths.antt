@@ -1,0 +1,62 @@
+-- Resolution paths, what depends on a universal by them, and what the call for the resolution-path set promises: document 02, request 13, whose words
+-- decide over document 004.
+use Prim.Native.Nat.{ℕ, _<_}
+use mathlib.Core.Path.{_≡_}
+use mathlib.Core.Bool.{Bool, true, false, not}
+use mathlib.Core.List.{List, [], _∷_, _++_, List·Memᴰ}
+use mathlib.Core.Logic.{_≢_}
+use lib.IntN.{ℤ, negℤ}
+use Rattle.terms.specs.Answers.{TooLong, Listing}
+use Rattle.terms.specs.Limits.{mostResolutionVariables}
+use Rattle.terms.specs.Literals.{variableOf}
+use Rattle.terms.specs.Refusals.{Causes, At0}
+use Rattle.terms.specs.declared.Filled.{Filled}
+use Rattle.formula.specs.Lent.{Formula}
+use Rattle.formula.specs.Meaning.{clauses, alwaysTrue}
+use Rattle.forest_theory.specs.Reach.{Variables}
+use Rattle.formula_rules.specs.Rules.{readBy, checkOrder}
+use Rattle.forest_tables.specs.Formula.{signed}
+use Rattle.forest_tables.specs.Lent.{variablesOf}
+use Rattle.forest.specs.Causes.{NotUniversal}
+
+-- v is an existential deeper than x
+pub record Deeper (X : Variables) (x v : ℕ) : Type 0 where
+  pub existential : X .ex v ≡ true
+  pub deep : X .lev x < X .lev v
+
+-- A clause, not an always-true one, is entered by one literal and left by a literal of another variable.
+pub record Crosses (ls : List ℤ) (enter leave : ℤ) : Type 0 where
+  pub clause : List ℤ
+  pub listed : List·Memᴰ clause (clauses ls)
+  pub takes-part : alwaysTrue clause ≡ false
+  pub entered : List·Memᴰ enter clause
+  pub left : List·Memᴰ leave clause
+  pub another : variableOf enter ≢ variableOf leave
+
+-- A path from a literal first enters a clause by that literal, and ends at the literal by which it leaves its last clause. From a literal it goes to
+-- the complement, and from the complement to a clause, which it enters by it. Only existentials deeper than x are passed on the way.
+pub data Path (X : Variables) (ls : List ℤ) (x : ℕ) (from : ℤ) : ℤ → Type 0 where
+  enters : {leave : ℤ} → Crosses ls from leave → Path X ls x from leave
+  goes-on : {at leave : ℤ} → Path X ls x from at → Deeper X x (variableOf at) → Crosses ls (negℤ at) leave → Path X ls x from leave
+
+-- y, an existential deeper than x, depends on x if paths run from x and from its negation to opposite literals of y.
+pub record DependsByPaths (X : Variables) (ls : List ℤ) (x y : ℕ) : Type 0 where
+  pub deeper : Deeper X x y
+  pub sign : Bool
+  pub from-x : Path X ls x (signed true x) (signed sign y)
+  pub from-negation : Path X ls x (signed false x) (signed (not sign) y)
+
+-- what the call looks for behind check, in the formula as it is read: 13: x not universal, 27: n over 512, 14
+abbrev pub behindResolution : Formula → ℕ → List ℕ → List Causes
+behindResolution f x before =
+    At0 13 (NotUniversal (f .n) (f .prefix) x) ∷ At0 27 (mostResolutionVariables < f .n)
+    ∷ At0 14 (TooLong (DependsByPaths (variablesOf f) (f .clauses) x) before) ∷ []
+
+-- the order of the call: that of check, 13, 27, 14
+abbrev pub resolutionOrder : ℕ → Formula → ℕ → List ℕ → List Causes
+resolutionOrder rule f x before = checkOrder rule f ++ behindResolution (readBy rule f) x before
+
+-- What the call promises: its refusals in their order, the ascending list of all that depends on x by the formula as it is read, and what it leaves in
+-- the lent output.
+abbrev pub ResolutionListed : ℕ → Formula → ℕ → List ℕ → List ℕ → Filled → Type 0
+ResolutionListed rule f x before = Listing (resolutionOrder rule f x before) (DependsByPaths (variablesOf (readBy rule f)) (f .clauses) x) before

@@ -1,4 +1,0 @@
--- QDIMACS text: first what read and write promise, of the format that `grammar` has, then what their inner functions do, which only proofs rest on.
-pub mod Reading
-pub mod Stored
-pub mod Scans

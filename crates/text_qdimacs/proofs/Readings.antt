@@ -1,0 +1,87 @@
+-- The laws of read's answers: what a scan finds is the first cause in read's order, or that there is none.
+use Prim.Native.Nat.{ℕ, _+_, _≤_}
+use mathlib.Core.Path.{sym, ap, _∙_, subst}
+use mathlib.Core.List.{List}
+use mathlib.Core.Logic.{inl, inr}
+use native.Mathlib.Omega.{arith}
+use native.Mathlib.Nat.{zero-add}
+use lib.ListN.{length, take, drop}
+use lib.Seq.{sets-eq, length-sets, take-at, drop-at}
+use lib.IntN.{ℤ}
+use Rattle.terms.specs.Refusals.{FirstOf, None, NoneOf}
+pub use Rattle.text_write.proofs.Outputs.{first-overlong, not-overlong}
+use Rattle.terms.specs.declared.Reading.{Reading}
+use Rattle.terms.specs.declared.Reading.the-variants.{Read, Refused}
+use Rattle.text_lines.specs.Grammar.{TextOf, FaultIn}
+use Rattle.text_qdimacs.specs.Scans.{ScanIs}
+use Rattle.text_qdimacs.specs.Reading.{TEXT-MOST, NoRoom, no-room-prefix, no-room-clauses, readOrder, ReadIs}
+use Rattle.text_qdimacs.proofs.Unique.{fault-same, text-fault, text-same}
+
+module _ (text prefix : List ℕ) (clauses : List ℤ) (short : length text ≤ TEXT-MOST) where
+  -- a fault
+  pub first-fault : (number place : ℕ) → FaultIn text number place → FirstOf (readOrder text prefix clauses) number place
+  first-fault number place f =
+      inr (
+        not-overlong text short,
+        inl (record {
+          holds = f;
+          leftmost = λ number′ place′ g. let same = fault-same f g .1 in omega arith;
+          lowest = λ number′ g. let same = fault-same f g .0 in omega arith;
+        }),
+      )
+
+  module _ {n : ℕ} {P : List ℕ} {C : List ℤ} (text-of : TextOf n P C text) where
+    not-fault : None (FaultIn text)
+    not-fault number place f = text-fault text-of f
+
+    -- no room
+    pub first-room : NoRoom text prefix clauses 14 0 → FirstOf (readOrder text prefix clauses) 14 0
+    first-room room =
+        inr (
+          not-overlong text short,
+          inr (not-fault, inl (record { holds = room; leftmost = λ number place c. omega arith; lowest = λ number c. lowest c })),
+        )
+      where
+        lowest : {number place : ℕ} → NoRoom text prefix clauses number place → 14 ≤ number
+        lowest (no-room-prefix t h) = omega arith
+        lowest (no-room-clauses t h) = omega arith
+
+    -- nothing
+    pub none : length P ≤ length prefix → length C ≤ length clauses → NoneOf (readOrder text prefix clauses)
+    none p c = (not-overlong text short, (not-fault, (room, tt)))
+      where
+        room : None (NoRoom text prefix clauses)
+        room number place (no-room-prefix t h) = let same = ap length (text-same text-of t .prefix) in omega arith
+        room number place (no-room-clauses t h) = let same = ap length (text-same text-of t .clauses) in omega arith
+
+    -- the answer of the second scan, where the text is known to be within the rules and to fit
+    pub read-all : length P ≤ length prefix → length C ≤ length clauses → (prefix′ : List ℕ) (clauses′ : List ℤ) (r : Reading)
+        → ScanIs text (prefix, clauses) (prefix′, clauses′) r → ReadIs text prefix prefix′ clauses clauses′ r
+    read-all p c prefix′ clauses′ (Refused number place) f = absurd (text-fault text-of f)
+    read-all p c prefix′ clauses′ (Read n′ entries literals) s =
+        let same = text-same text-of (s .text-of) in
+        let lp = ap length (same .prefix) in
+        let lc = ap length (same .clauses) in
+        let e = s .entries-counted in
+        let l = s .literals-counted in
+        let P-stored = s .prefix-stored ∙ sets-eq (s .P) prefix 0 (omega arith) in
+        let C-stored = s .clauses-stored ∙ sets-eq (s .C) clauses 0 (omega arith) in (
+          none p c,
+          record {
+            text-of =
+                subst (λ (x : List ℕ). TextOf n′ x (take literals clauses′) text)
+                (sym (ap (take entries) P-stored ∙ take-at (s .P) (drop (0 + length (s .P)) prefix) entries (sym e)))
+                (subst (λ (y : List ℤ). TextOf n′ (s .P) y text)
+                (sym (ap (take literals) C-stored ∙ take-at (s .C) (drop (0 + length (s .C)) clauses) literals (sym l))) (s .text-of));
+            prefix-room = omega arith;
+            clauses-room = omega arith;
+            prefix-length = ap length (s .prefix-stored) ∙ length-sets prefix 0 (s .P);
+            clauses-length = ap length (s .clauses-stored) ∙ length-sets clauses 0 (s .C);
+            prefix-kept =
+                ap (drop entries) P-stored ∙ drop-at (s .P) (drop (0 + length (s .P)) prefix) entries (sym e)
+                ∙ ap (λ (k : ℕ). drop k prefix) (zero-add (length (s .P)) ∙ sym e);
+            clauses-kept =
+                ap (drop literals) C-stored ∙ drop-at (s .C) (drop (0 + length (s .C)) clauses) literals (sym l)
+                ∙ ap (λ (k : ℕ). drop k clauses) (zero-add (length (s .C)) ∙ sym l);
+          },
+        )
