@@ -12,8 +12,8 @@
  *
  * Link the archive that tests/run proves, and names in its last line. It is
  * for x86-64 Linux, and calls nothing but memset and memcpy. A call keeps its
- * own tables on the stack, some 255 KiB at most (snow_sets), but
- * snow_resolution_set some 350 KiB, and snow_load some 920 KiB.
+ * own tables on the stack, some 263 KiB at most (snow_sets), but
+ * snow_resolution_set some 350 KiB, and snow_load under 1 MiB.
  *
  *
  * THE FORMULA
