@@ -15,7 +15,7 @@ use Rattle.file_format.specs.Causes.{FileTooLarge, behindStore}
 use Rattle.file_format.specs.Promises.{Stores}
 use Rattle.file_format.proofs.Lengths.{prefix-length, clauses-length, rows-length, closing-length}
 
--- a formula within the limits (`limits` of joining/proofs/Orders, where a rule accepts it)
+-- a formula within the limits (`limits` of formula_rules/proofs/Orders, where a rule accepts it)
 abbrev pub Within : Formula → Type 0
 Within f = (f .n ≤ mostVariables) × (length (f .prefix) ≤ prefixEntries) × (length (f .clauses) ≤ clauseEntries)
 
