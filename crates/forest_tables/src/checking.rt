@@ -57,13 +57,13 @@ fn first_miscounted(n: u32, prefix: &[u32], classes: &[u32], parents: &[u32], co
     requires formed { ⌜ FormedBy n (now prefix) (now classes) (now parents) ⌝ }
     ensures first { λ r. ⌜ FirstBad (RightCount n (now (prefix .entry)) (now (classes .entry)) (now (parents .entry)) (now (counts .entry))) n r ⌝ }
 {
-    let mut right = [0u32; Variable::ROWS];
+    let mut right = [0u16; Variable::ROWS];
     fill_counts(n, prefix, classes, parents, &mut right);
     first_other(n, &right, counts)
 }
 
 // The first variable whose row is another than that of a table with row v for the variable v, 0 where none is.
-fn first_other(n: u32, table: &[u32], rows: &[u32]) -> u32
+fn first_other(n: u32, table: &[u16], rows: &[u32]) -> u32
     requires rows { ⌜ n < length (now table) ⌝ }
     ensures first { λ r. ⌜ FirstBad (λ v. row n (now (rows .entry)) v ≡ getD (now (table .entry)) v 0) n r ⌝ }
 {
@@ -71,7 +71,7 @@ fn first_other(n: u32, table: &[u32], rows: &[u32]) -> u32
     while passed < n {
         let v = passed + 1;
         let found = row_of(n, rows, Variable::new(v));
-        if found.0 != table[v as usize] {
+        if found.0 != table[v as usize] as u32 {
             return v;
         }
         passed = v;

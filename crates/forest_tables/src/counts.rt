@@ -15,7 +15,7 @@ ghost use Rattle.forest_tables.specs.Rows.{Tells};
 ghost use Rattle.forest_tables.specs.Counting.{FormedBy, ForClasses, MembersTo, passedUp, CountsOf, PassesUp};
 
 // Fills a table, which is 0 throughout, with the counts of well-formed rows.
-pub fn fill_counts(n: u32, prefix: &[u32], classes: &[u32], parents: &[u32], counts: &mut [u32])
+pub fn fill_counts(n: u32, prefix: &[u32], classes: &[u32], parents: &[u32], counts: &mut [u16])
     requires ready { ⌜ SoundPrefix n (now prefix) × FormedBy n (now prefix) (now classes) (now parents)
         × (length (now counts) ≡ variableRows) × ((v : ℕ) → getD (now counts) v 0 ≡ 0) ⌝ }
     ensures counted { λ r. ⌜ CountsOf n (now (prefix .entry)) (now (classes .entry)) (now (parents .entry)) (now (counts .exit)) ⌝ }
@@ -25,7 +25,7 @@ pub fn fill_counts(n: u32, prefix: &[u32], classes: &[u32], parents: &[u32], cou
 }
 
 // Counts each variable in its class.
-fn count_members(n: u32, classes: &[u32], counts: &mut [u32])
+fn count_members(n: u32, classes: &[u32], counts: &mut [u16])
     requires few { ⌜ n ≤ mostVariables ⌝ }
     requires size { ⌜ length (now counts) ≡ variableRows ⌝ }
     requires zeros { ⌜ ((v : ℕ) → getD (now counts) v 0 ≡ 0) ⌝ }
@@ -47,7 +47,7 @@ fn count_members(n: u32, classes: &[u32], counts: &mut [u32])
 }
 
 // Passes the count of each class up to its parent, the deepest first.
-fn pass_all_up(n: u32, prefix: &[u32], parents: &[u32], counts: &mut [u32])
+fn pass_all_up(n: u32, prefix: &[u32], parents: &[u32], counts: &mut [u16])
     requires sound { ⌜ SoundPrefix n (now prefix) ⌝ }
     requires members { ⌜ ((classes : List ℕ) × FormedBy n (now prefix) classes (now parents)
         × MembersTo n (now prefix) classes (now parents) n (now counts)) ⌝ }
@@ -80,7 +80,7 @@ fn names_at(prefix: &[u32], i: usize) -> bool
 }
 
 // Passes the count of w up to its parent, if it has one.
-fn pass_up(n: u32, w: Variable, parents: &[u32], counts: &mut [u32])
+fn pass_up(n: u32, w: Variable, parents: &[u32], counts: &mut [u16])
     requires own { ⌜ w .0 < length (now counts) ⌝ }
     requires parent { ⌜ row n (now parents) (w .0) < length (now counts) ⌝ }
     requires small { ⌜ ((v : ℕ) → getD (now counts) v 0 ≤ mostVariables) ⌝ }

@@ -16,19 +16,19 @@ pub fn recount(n: u32, prefix: &[u32], classes: &[u32], parents: &[u32], counts:
     ensures counted { λ r. ⌜ Recounted n (now (prefix .entry)) (now (classes .entry)) (now (parents .entry))
         (now (counts .entry)) (now (counts .exit)) ⌝ }
 {
-    let mut table = [0u32; Variable::ROWS];
+    let mut table = [0u16; Variable::ROWS];
     fill_counts(n, prefix, classes, parents, &mut table);
     copy_out(n, &table, counts);
 }
 
 // Copies the rows of 1 to n out of a table with row v for the variable v.
-fn copy_out(n: u32, table: &[u32], rows: &mut [u32])
+fn copy_out(n: u32, table: &[u16], rows: &mut [u32])
     requires room { ⌜ (n ≤ mostVariables) × (length (now table) ≡ variableRows) × (n ≤ length (now rows)) ⌝ }
     ensures copied { λ r. ⌜ Copied n (now (table .entry)) (now (rows .entry)) n (now (rows .exit)) ⌝ }
 {
     let mut at = 0;
     while at < n as usize {
-        rows[at] = table[at + 1];
+        rows[at] = table[at + 1] as u32;
         at += 1;
     }
 }

@@ -26,6 +26,12 @@ read c =
     let a = c .before .before .before .before .before .before .args in
     c .row-of .ensures ∙ ap (row (a .n) (a .rows .now)) (c .before .new .ensures)
 
+-- a row of 16 bits fits 32
+cast-right : tie.Need-cast-if1-2 Inv-loop μ-loop
+cast-right c =
+    let at-loop = c .before .before .before .before in
+    record { fits = omega (arith, c .shared-slice-known3 .given (at-loop .loop .passed + 1)) }
+
 returns : tie.Need-returns Inv-loop μ-loop
 returns c =
     let at-row-of = c .before .before .before in
@@ -52,4 +58,4 @@ returns-2 c =
 pub first-other-spec : {M : Type 1} → statement M
 first-other-spec =
     tie.close (tie.spec Inv-loop μ-loop loop-holds (λ c. search needs) (λ c κs. search needs) (λ c κs. search needs) (λ c. search needs)
-    (λ c. search needs) (λ c. search needs) returns (λ c. omega arith) loop-again returns-2)
+    (λ c. search needs) (λ c. search needs) cast-right returns (λ c. omega arith) loop-again returns-2)

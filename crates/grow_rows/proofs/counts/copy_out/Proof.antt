@@ -1,5 +1,5 @@
 -- The invariant: the rows of 1 to `at` are copied, the others stay (Copied). The row of `at` + 1 is in the table, since n is within the limit.
-use Prim.Native.Nat.{_-_, _<_}
+use Prim.Native.Nat.{_+_, _-_, _<_}
 use mathlib.Core.Path.{refl}
 use native.Mathlib.Omega.{arith}
 use Rattle.terms.specs.Limits.{mostVariables}
@@ -30,6 +30,10 @@ mul-rows c = omega (arith, inside c)
 shared-slice-read-rows : tie.Need-shared-slice-read-rows Inv-loop μ-loop
 shared-slice-read-rows c = omega (arith, inside (c .before), c .before .before .before .pre .1)
 
+-- a row of 16 bits fits 32
+cast-rows : tie.Need-cast-rows Inv-loop μ-loop
+cast-rows c = record { fits = omega (arith, c .shared-slice-known .given (c .before .before .loop .at + 1)) }
+
 mul-rows-2 : tie.Need-mul-rows-2 Inv-loop μ-loop
 mul-rows-2 c = omega (arith, inside (c .before))
 
@@ -54,5 +58,5 @@ returns c = copied (c .before .loop .inv) (c .loop-test .left)
 
 pub copy-out-spec : {M : Type 1} → statement M
 copy-out-spec =
-    tie.close (tie.spec Inv-loop μ-loop loop-holds add-rows mul-rows shared-slice-read-rows mul-rows-2 slice-write-rows add-at
+    tie.close (tie.spec Inv-loop μ-loop loop-holds add-rows mul-rows shared-slice-read-rows cast-rows mul-rows-2 slice-write-rows add-at
     (λ c. omega arith) loop-again same-length returns)
