@@ -23,6 +23,8 @@ ghost use lib.ListN.{length};
 ghost use Rattle.formula.specs.Lent.{formulaOf, formulaIn};
 ghost use Rattle.formula.specs.Levels.{SoundPrefix};
 ghost use Rattle.formula.specs.Lookup.{SoundClauses};
+ghost use Rattle.formula.specs.Meaning.{level};
+ghost use Rattle.forest_tables.specs.Formula.{universal};
 ghost use Rattle.expand_clauses.specs.Expansion.{expandedPrefix, expandedClauses};
 ghost use Rattle.expand_clauses.specs.Copied.{tabled, Copies};
 ghost use Rattle.expand.specs.Promise.{resultIn, resultOut, SetOf, expandedWith, resultOrder, behindExpand, ExpandsBy, Expands};
@@ -65,15 +67,12 @@ fn sound_expand(
     ensures expanded { λ r. ⌜ ExpandsBy (behindExpand (formulaIn n prefix clauses) (x .0) (resultIn «out_prefix» «out_clauses»))
         (formulaIn n prefix clauses) (x .0) (resultIn «out_prefix» «out_clauses») (resultOut «out_prefix» «out_clauses») r ⌝ }
 {
-    let mut levels = [0u32; Variable::ROWS];
-    let mut universals = [false; Variable::ROWS];
-    fill_levels(prefix, &mut levels, &mut universals);
-    if !universal_at(n, &universals, x) {
+    let standing = look_up(n, prefix, x);
+    if !standing.universal {
         return Expanded::Refused(13, 0);
     }
-    let floor = level_at(&levels, x);
     let mut members = [0u32; Variable::ROWS];
-    let size = find(n, prefix, clauses, x, floor, &mut members);
+    let size = find(n, prefix, clauses, x, standing.level, &mut members);
     expand_set(
         n,
         prefix,
@@ -83,6 +82,27 @@ fn sound_expand(
         out_prefix,
         out_clauses,
     )
+}
+
+// Where a variable stands in the prefix: whether it is universal, and its level.
+struct Standing {
+    universal: bool,
+    level: Level,
+}
+
+// Looks a variable up, in a level table that is gone before the set is searched for: both at a time would take a fifth more of the stack.
+fn look_up(n: u32, prefix: &[u32], x: Variable) -> Standing
+    requires sound { ⌜ SoundPrefix n (now prefix) ⌝ }
+    ensures universal { λ r. ⌜ r .universal ≡ universal n (now (prefix .entry)) (x .0) ⌝ }
+    ensures level { λ r. ⌜ (x .0 ≤ n → r .level .0 ≡ level (now (prefix .entry)) (x .0)) ⌝ }
+{
+    let mut levels = [0u32; Variable::ROWS];
+    let mut universals = [false; Variable::ROWS];
+    fill_levels(prefix, &mut levels, &mut universals);
+    Standing {
+        universal: universal_at(n, &universals, x),
+        level: level_at(&levels, x),
+    }
 }
 
 // Expands x by the list of its set: each member gets a copy, if the result has no more variables than a formula may have.

@@ -1,4 +1,4 @@
--- x is looked up in the level table; where it is universal its set is found, and what is expanded by that stands behind 13 in the order.
+-- x is looked up; where it is universal its set is found, and what is expanded by that stands behind 13 in the order.
 use Prim.Native.Nat.{ℕ}
 use mathlib.Core.Path.{_≡_, refl, sym, _∙_}
 use mathlib.Core.Bool.{true}
@@ -15,7 +15,7 @@ use Rattle.terms.proofs.Orders.{behind-none}
 use Rattle.terms.proofs.Verdicts.{at0-first, at0-none}
 use Rattle.formula.specs.Lent.{Formula, formulaOf}
 use Rattle.forest_tables.specs.Formula.{universal}
-use Rattle.forest_tables.proofs.Agreeing.{universal-agrees, level-agrees, universal-within}
+use Rattle.forest_tables.proofs.Agreeing.{universal-within}
 use Rattle.forest.specs.Causes.{NotUniversal}
 use Rattle.expand.specs.Promise.{ResultTables, resultTables, resultOrder, behindExpand}
 use Rattle.expand.proofs.Outcome.{found-room, found-set, carry-expands}
@@ -29,44 +29,37 @@ formula at-start = let a = at-start .args in formulaOf (a .n) (a .prefix .now) (
 abbrev out : tie.Start → ResultTables
 out at-start = let a = at-start .args in resultTables (a .out-prefix .now) (a .out-clauses .now)
 
-abbrev start : tie.After-fill-levels → tie.Start
-start c = c .before .before .before .before .before
+abbrev start : tie.After-look-up → tie.Start
+start c = c .before .before .before
 
-abbrev levelled : tie.Else1 → tie.After-fill-levels
-levelled c = c .before .before .before .before .before
+abbrev looked-up : tie.Else1 → tie.After-look-up
+looked-up c = c .before .before
 
 -- behind the test x is universal
-is-universal : (c : tie.Else1) → (let a = start (levelled c) .args in universal (a .n) (a .prefix .now) (a .x .0) ≡ true)
+is-universal : (c : tie.Else1) → (let a = start (looked-up c) .args in universal (a .n) (a .prefix .now) (a .x .0) ≡ true)
 is-universal c =
-    let at-start = start (levelled c) in
-    let told = c .before .universal-at in
-    sym (universal-agrees (at-start .pre .0) (levelled c .fill-levels .ensures) (at-start .args .x .0)) ∙ sym (told .ensures)
-    ∙ not-false (told .result) (c .if1 .left)
+    let found = looked-up c .look-up in sym (found .ensures .0) ∙ not-false (found .result .universal) (c .if1 .left)
 
 returns : tie.Need-returns
 returns c =
-    let at-filled = c .before .before .before .before .before in
-    let at-start = start at-filled in
-    let told = c .before .universal-at in
-    let agrees = universal-agrees (at-start .pre .0) (at-filled .fill-levels .ensures) (at-start .args .x .0) in
-    (inl (at0-first 13 (sym agrees ∙ sym (told .ensures) ∙ not-true (told .result) (c .if1 .taken))), refl)
+    let found = c .before .before .look-up in
+    (inl (at0-first 13 (sym (found .ensures .0) ∙ not-true (found .result .universal) (c .if1 .taken))), refl)
 
 find-requires : tie.Need-find-requires
 find-requires c κs =
-    let at-if1 = c .before .before .before in
-    let at-filled = levelled at-if1 in
-    let at-start = start at-filled in
+    let at-if1 = c .before in
+    let at-start = start (looked-up at-if1) in
     let a = at-start .args in
     let (sound, _) = at-start .pre in
     let within = universal-within (a .n) (a .prefix .now) (a .x .0) (is-universal at-if1) .1 in
-    let own = c .before .level-at .ensures ∙ level-agrees sound (at-filled .fill-levels .ensures) (a .x .0) within in
+    let own = looked-up at-if1 .look-up .ensures .1 within in
     (at-start .pre, ((is-universal at-if1, own), omega (arith, sound .few, length-replicate {A = ℕ} variableRows 0)))
 
 -- a table for the members has a row for each variable
 part-expand-set-end : tie.Need-part-expand-set-end
 part-expand-set-end c =
     let at-find = c .before .before in
-    let at-start = start (levelled (at-find .before .before .before .before)) in
+    let at-start = start (looked-up (at-find .before .before)) in
     let (sound, _) = at-start .pre in
     omega (
       arith,
@@ -77,7 +70,7 @@ part-expand-set-end c =
 expand-set-requires : tie.Need-expand-set-requires
 expand-set-requires c κs =
     let at-find = c .before .before .before .before .before in
-    let at-start = start (levelled (at-find .before .before .before .before)) in
+    let at-start = start (looked-up (at-find .before .before)) in
     let (sound, _) = at-start .pre in (
       at-start .pre,
       found-set (formula at-start) (at-start .args .x .0) sound (omega (arith, sound .few, length-replicate {A = ℕ} variableRows 0))
@@ -87,8 +80,9 @@ expand-set-requires c κs =
 returns-2 : tie.Need-returns-2
 returns-2 c =
     let at-set = c .before .before .before in
-    let at-if1 = at-set .before .before .before .before .before .before .before .before .before .before in
-    let at-start = start (levelled at-if1) in
+    let at-find = at-set .before .before .before .before .before .before in
+    let at-if1 = at-find .before .before in
+    let at-start = start (looked-up at-if1) in
     let f = formula at-start in
     let x = at-start .args .x .0 in
     let front = At0 13 (NotUniversal (f .n) (f .prefix) x) in
@@ -100,6 +94,5 @@ returns-2 c =
 
 pub sound-expand-spec : {M : Type 1} → statement M
 sound-expand-spec =
-    tie.close (tie.spec (λ c. search needs) (λ c. search needs) (λ c κs. search needs) (λ c. search needs) (λ c κs. search needs) returns
-    (λ c. search needs) (λ c κs. search needs) (λ c. search needs) find-requires (λ c. search needs) (λ c. search needs) part-expand-set-end
-    expand-set-requires (λ c. search needs) (λ c. search needs) returns-2)
+    tie.close (tie.spec (λ c κs. search needs) returns (λ c. search needs) find-requires (λ c. search needs) (λ c. search needs)
+    part-expand-set-end expand-set-requires (λ c. search needs) (λ c. search needs) returns-2)
