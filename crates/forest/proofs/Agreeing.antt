@@ -6,15 +6,11 @@ use native.Mathlib.Omega.{arith}
 use Rattle.forest_theory.specs.Reach.{Variables}
 use Rattle.forest_theory.specs.Tables.{Table, WellFormed, Above, EntryPoint}
 use Rattle.forest_theory.proofs.Climb.{above-class}
-use Rattle.forest_climb.specs.Search.{Deeper}
 use Rattle.forest_tables.proofs.Agreeing.{Same}
 
 module _ {X Y : Variables} (s : Same X Y) where
   -- An entry point, where x has the same level.
   module _ {W : Table} (formed : WellFormed X W) {x : ℕ} (own : X .lev x ≡ Y .lev x) where
-    pub deeper-same : {y : ℕ} → Deeper X x y → Deeper Y x y
-    deeper-same {y} d = let q = s .lev y (d .0) in (sym (s .ex y) ∙ d .0, omega (arith, d .1))
-
     pub entry-same : {y e k : ℕ} → X .ex y ≡ true → EntryPoint X W x y e k → EntryPoint Y W x y e k
     entry-same {y} {e} ex p =
         let level : (q k : ℕ) → Above W q (W .cls y) k → X .lev q ≡ Y .lev q = λ q k a. s .lev q (above-class formed (formed .right y .class ex .name) a .existential) in

@@ -11,7 +11,7 @@ use Rattle.terms.specs.Refusals.{None}
 use Rattle.terms.proofs.Common.{clash}
 use Rattle.formula.specs.Meaning.{level, isExistential}
 use Rattle.formula.specs.Levels.{SoundPrefix, Levelled}
-use Rattle.forest_theory.specs.Reach.{Variables, Lawful}
+use Rattle.forest_theory.specs.Reach.{Variables, Lawful, Deeper}
 use Rattle.forest_theory.specs.Tables.{Table, row, lent, WellFormed, EntryPoint, EntryPointOf, MemberBy}
 use Rattle.forest_theory.specs.Climb.{Climbed}
 use Rattle.forest_theory.proofs.Climb.{above-class, entry-one, entry-climb, entry-rises}
@@ -24,10 +24,10 @@ use Rattle.formula.specs.Lent.{formulaOf}
 use Rattle.forest.specs.Causes.{NotUniversal, NotDeeper}
 use Rattle.forest.specs.Answers.{Entry}
 use Rattle.forest_tables.specs.Rows.{rowsOf}
-use Rattle.forest_climb.specs.Search.{Deeper, EntryRows}
+use Rattle.forest_climb.specs.Search.{EntryRows}
 use Rattle.forest_entries.specs.Flags.{Via}
-use Rattle.forest_tables.proofs.Agreeing.{Same, same-back, formed-same, tables-agree, level-agrees, universal-agrees, universal-within, none-formed}
-use Rattle.forest.proofs.Agreeing.{deeper-same, entry-same}
+use Rattle.forest_tables.proofs.Agreeing.{Same, same-back, deeper-same, formed-same, tables-agree, level-agrees, universal-agrees, universal-within, none-formed}
+use Rattle.forest.proofs.Agreeing.{entry-same}
 
 module _ {X : Variables} {W : Table} (law : Lawful X) (formed : WellFormed X W) {x : ℕ} where
   -- An entry point is a class name, and so one of the variables.
@@ -46,9 +46,9 @@ module _ {X : Variables} {W : Table} (law : Lawful X) (formed : WellFormed X W) 
         (deep, rows y .found deep)
       where
         go : (b : Bool) → X .ex y ≡ b → Dec (X .lev x < X .lev y) → Deeper X x y
-        go true e (yes l) = (e, l)
-        go true e (no l) = absurd (some (rows y .none (λ d. l (d .1))))
-        go false e d = absurd (some (rows y .none (λ d. clash (d .0) e)))
+        go true e (yes l) = record { existential = e; deep = l }
+        go true e (no l) = absurd (some (rows y .none (λ d. l (d .deep))))
+        go false e d = absurd (some (rows y .none (λ d. clash (d .existential) e)))
 
     -- The entries of those that share a clause with x are the entry points of x.
     pub entries-of : {S : ℕ → ℕ → Type 0} (e : ℕ) → Via (X .count) tops (S x) e ↔ EntryPointOf X W S x e
@@ -59,7 +59,7 @@ module _ {X : Variables} {W : Table} (law : Lawful X) (formed : WellFormed X W) 
             let v = t .for in
             let (deep, found) = row-found v (λ z. t .some (sym (t .is) ∙ z)) in
             let (k, p) = found in
-            record { for = v; shares = t .holds; existential = deep .0; deeper = deep .1; rises = k; entry = subst (λ d. EntryPoint X W x v d k) (t .is) p }
+            record { for = v; shares = t .holds; existential = deep .existential; deeper = deep .deep; rises = k; entry = subst (λ d. EntryPoint X W x v d k) (t .is) p }
 
         back : EntryPointOf X W S x e → Via (X .count) tops (S x) e
         back o =
@@ -82,7 +82,7 @@ module _ {X : Variables} {W : Table} (law : Lawful X) (formed : WellFormed X W) 
             let (deep, found) = row-found y (some t) in
             let (k, p) = found in
             let top = row (X .count) tops y in
-            record { existential = deep .0; entry = top; entered = tells top (entry-within (deep .0) p .1) .0 t; rises = k; below = p .above }
+            record { existential = deep .existential; entry = top; entered = tells top (entry-within (deep .existential) p .1) .0 t; rises = k; below = p .above }
 
         back : MemberBy X W P y → getD entered (row (X .count) tops y) false ≡ true
         back m =
@@ -117,9 +117,9 @@ module _ {n : ℕ} {es levels : List ℕ} {universals : List Bool} (sound : Soun
   sound-found {y} formed u f =
       let s = tables-agree sound table in
       let own = own-level u in
-      let deep = deeper-same s formed own (f .0) in
-      let point = entry-same s formed own (f .0 .0) (f .1) in
-      (⊎-elim (λ un. clash (deep .0) un) (λ l. let d = deep .1 in omega arith), (point, entry-rises (formed-same s formed) (deep .0) point))
+      let deep = deeper-same s own (f .0) in
+      let point = entry-same s formed own (f .0 .existential) (f .1) in
+      (⊎-elim (λ un. clash (deep .existential) un) (λ l. let d = deep .deep in omega arith), (point, entry-rises (formed-same s formed) (deep .existential) point))
 
   pub sound-nowhere : (y : ℕ) → WellFormed (tabled n levels universals) (rowsOf n classes parents) → universalIn n universals x ≡ true
       → (Deeper (tabled n levels universals) x y → ⊥) → NotDeeper n es x y
@@ -129,6 +129,6 @@ module _ {n : ℕ} {es levels : List ℕ} {universals : List Bool} (sound : Soun
       s = tables-agree sound table
 
       go : (b : Bool) → isExistential n es y ≡ b → Dec (level es x < level es y) → NotDeeper n es x y
-      go true e (yes l) = absurd (shallow (deeper-same (same-back s) (formed-same s formed) (sym (own-level u)) (e, l)))
+      go true e (yes l) = absurd (shallow (deeper-same (same-back s) (sym (own-level u)) (record { existential = e; deep = l })))
       go true e (no l) = inr (omega arith)
       go false e d = inl e

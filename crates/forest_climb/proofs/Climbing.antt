@@ -64,6 +64,6 @@ pub tops-entries : {X : Variables} {W : Table} → WellFormed X W → {x : ℕ} 
     → TopRows X W floor tops → EntryRows X W x tops
 tops-entries {X} {W} formed {x} floor tops low rows y =
     record {
-      found = λ deep. let (k, s) = rows y .found (deep .0, (let d = deep .1 in omega arith)) in (k, searched-entry formed floor (W .cls y) low refl s);
-      none = λ shallow. rows y .none (λ under. shallow (under .0, (let d = under .1 in omega arith)));
+      found = λ deep. let (k, s) = rows y .found (deep .existential, (let d = deep .deep in omega arith)) in (k, searched-entry formed floor (W .cls y) low refl s);
+      none = λ shallow. rows y .none (λ under. shallow (record { existential = under .0; deep = let d = under .1 in omega arith }));
     }

@@ -7,7 +7,7 @@ use mathlib.Core.Logic.{_≢_}
 use lib.Dec.{eqb}
 use lib.ListN.{getD}
 use Rattle.formula.specs.Tables.{opens, marksBefore}
-use Rattle.forest_theory.specs.Reach.{Variables}
+use Rattle.forest_theory.specs.Reach.{Variables, Deeper}
 use Rattle.forest_theory.specs.Tables.{Table, row, lent, Above, EntryPoint}
 use Rattle.forest_climb.specs.declared.Found.{Found}
 use Rattle.forest_climb.specs.declared.Found.the-variants.{At, Nowhere}
@@ -76,10 +76,6 @@ ToppedFrom n es place classes parents tops =
 abbrev pub Topped : ℕ → List ℕ → List ℕ → List ℕ → ℕ → ℕ → ℕ → List ℕ → Type 0
 Topped n es classes parents floor place from tops =
     TopsOver (variables n es) (lent (variables n es) classes parents) floor from tops × Known es floor place
-
--- y is existential and deeper than x
-abbrev pub Deeper : Variables → ℕ → ℕ → Type 0
-Deeper X x y = Under X (X .lev x) y
 
 -- what the search from the class of y finds: the entry point of x for y, with its rises, if y is existential and deeper than x
 abbrev pub Finds : Variables → Table → ℕ → ℕ → Found → Type 0

@@ -13,7 +13,7 @@ use Rattle.terms.specs.Refusals.{None}
 use Rattle.terms.proofs.Common.{clash}
 use Rattle.formula.specs.Meaning.{level, isUniversal, isExistential}
 use Rattle.formula.specs.Levels.{SoundPrefix, Levelled}
-use Rattle.forest_theory.specs.Reach.{Variables, Lawful}
+use Rattle.forest_theory.specs.Reach.{Variables, Lawful, Deeper}
 use Rattle.forest_theory.specs.Tables.{Table, row, lent, ClassName, Row, WellFormed}
 use Rattle.forest_theory.specs.Counts.{CountRow, Counted}
 use Rattle.forest_theory.proofs.Counts.{row-is}
@@ -33,6 +33,11 @@ pub record Same (X Y : Variables) : Type 0 where
 
 pub same-back : {X Y : Variables} → Same X Y → Same Y X
 same-back s = record { ex = λ v. sym (s .ex v); lev = λ v e. sym (s .lev v (s .ex v ∙ e)) }
+
+-- The same are deeper than x, where x has the same level.
+pub deeper-same : {X Y : Variables} {x v : ℕ} → Same X Y → X .lev x ≡ Y .lev x → Deeper X x v → Deeper Y x v
+deeper-same {v = v} s own d =
+    record { existential = sym (s .ex v) ∙ d .existential; deep = let q = s .lev v (d .existential) in omega (arith, d .deep) }
 
 module _ {X Y : Variables} (s : Same X Y) where
   class-same : {W : Table} {c : ℕ} → ClassName X W c → ClassName Y W c

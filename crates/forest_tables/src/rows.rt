@@ -5,8 +5,9 @@ use terms::Variable;
 ghost use mathlib.Core.Path.{_≡_};
 ghost use mathlib.Core.Bool.{false};
 ghost use lib.ListN.{getD};
+ghost use Rattle.forest_theory.specs.Reach.{Deeper};
 ghost use Rattle.forest_theory.specs.Tables.{row};
-ghost use Rattle.forest_tables.specs.Tabled.{existentialIn, universalIn};
+ghost use Rattle.forest_tables.specs.Tabled.{tabled, existentialIn, universalIn};
 ghost use Rattle.forest_tables.specs.Rows.{Tells, NamesClass, RightClass, RightParent, RightRow, FirstBad};
 
 // The first variable whose rows are not right, 0 where all are.
@@ -185,4 +186,17 @@ pub fn universal_at(n: u32, universals: &[bool], v: Variable) -> bool
         return false;
     }
     flag_at(universals, v)
+}
+
+// Whether v is an existential deeper than x.
+pub fn is_deeper(n: u32, levels: &[u32], universals: &[bool], x: Variable, v: Variable) -> bool
+    ensures told { λ r. ⌜ Tells r (Deeper (tabled n (now (levels .entry)) (now (universals .entry))) (x .0) (v .0)) ⌝ }
+{
+    if !existential_at(n, universals, v) {
+        return false;
+    }
+    if level_at(levels, v).0 <= level_at(levels, x).0 {
+        return false;
+    }
+    true
 }

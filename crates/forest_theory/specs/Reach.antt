@@ -1,6 +1,6 @@
 -- To be believed: steps, reach, and the standard and the strict set of a variable (document 000, definitions 4.1 and 4.4; document 01, "Connection";
 -- document 002, definition 5.2).
-use Prim.Native.Nat.{ℕ, _≤_}
+use Prim.Native.Nat.{ℕ, _<_, _≤_}
 use mathlib.Core.Path.{_≡_}
 use mathlib.Core.Bool.{Bool, true, false}
 use mathlib.Core.List.{List, List·Memᴰ}
@@ -25,6 +25,11 @@ pub record Universal (X : Variables) (x : ℕ) : Type 0 where
 pub record From (X : Variables) (i v : ℕ) : Type 0 where
   pub existential : X .ex v ≡ true
   pub deep : i ≤ X .lev v
+
+-- The existentials deeper than x.
+pub record Deeper (X : Variables) (x v : ℕ) : Type 0 where
+  pub existential : X .ex v ≡ true
+  pub deep : X .lev x < X .lev v
 
 -- One clause has both. A clause counts by its variables, in either sign; which clauses connect is the list's affair.
 pub record Joined (clauses : List (List ℕ)) (v y : ℕ) : Type 0 where

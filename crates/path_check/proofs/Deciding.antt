@@ -17,13 +17,13 @@ use Rattle.terms.specs.declared.Verdict.{Verdict}
 use Rattle.terms.specs.declared.Verdict.the-variants.{Accepted, Refused}
 use Rattle.formula.specs.Meaning.{alwaysTrue}
 use Rattle.formula.specs.Tables.{at}
-use Rattle.forest_theory.specs.Reach.{Variables}
+use Rattle.forest_theory.specs.Reach.{Variables, Deeper}
 use Rattle.forest_theory.specs.Search.{has}
 use Rattle.forest_theory.proofs.Choice.{both, either, or-right}
 use Rattle.forest_theory.proofs.Search.{has-member, member-has}
 use Rattle.forest_tables.specs.Rows.{Tells}
 use Rattle.forest_tables.proofs.Readings.{told-both}
-use Rattle.path_check.specs.Paths.{clauseAt, HasVariable, Deep, Shared}
+use Rattle.path_check.specs.Paths.{clauseAt, HasVariable, Shared}
 use Rattle.path_check.specs.Causes.{PathCause, empty, always-true, without-y}
 use Rattle.path_check.specs.Walk.{Joins}
 use Rattle.path_check.proofs.Following.{Clean, not-joined, no-cause, clean-more, fails-first, fails-never}
@@ -49,12 +49,12 @@ member-tells v list = tells-by (has v list) (has-member list) member-has
 unfoldable pub hasVariable : List ℤ → ℕ → ℕ → Bool
 hasVariable ls k v = has v (map variableOf (clauseAt ls k))
 
-unfoldable pub isDeep : Variables → ℕ → ℕ → Bool
-isDeep X x v = X .ex v && ltb (X .lev x) (X .lev v)
+unfoldable pub isDeeper : Variables → ℕ → ℕ → Bool
+isDeeper X x v = X .ex v && ltb (X .lev x) (X .lev v)
 
 unfoldable pub common : Variables → ℕ → List ℕ → List ℕ → Bool
 common X x [] others = false
-common X x (v ∷ list) others = (isDeep X x v && has v others) || common X x list others
+common X x (v ∷ list) others = (isDeeper X x v && has v others) || common X x list others
 
 unfoldable pub shares : Variables → List ℤ → ℕ → ℕ → ℕ → Bool
 shares X ls x k l = common X x (map variableOf (clauseAt ls k)) (map variableOf (clauseAt ls l))
@@ -63,31 +63,31 @@ pub has-tells : (ls : List ℤ) (k v : ℕ) → Tells (hasVariable ls k v) (HasV
 unfolding hasVariable
 has-tells ls k v = member-tells v (map variableOf (clauseAt ls k))
 
-deep-true : (X : Variables) (x v : ℕ) → isDeep X x v ≡ true → Deep X x v
-unfolding isDeep
-deep-true X x v t = let (e, l) = both (X .ex v) (ltb (X .lev x) (X .lev v)) t in record { existential = e; deeper = ltb-true (X .lev x) (X .lev v) l }
+deep-true : (X : Variables) (x v : ℕ) → isDeeper X x v ≡ true → Deeper X x v
+unfolding isDeeper
+deep-true X x v t = let (e, l) = both (X .ex v) (ltb (X .lev x) (X .lev v)) t in record { existential = e; deep = ltb-true (X .lev x) (X .lev v) l }
 
-true-deep : {X : Variables} {x v : ℕ} → Deep X x v → isDeep X x v ≡ true
-unfolding isDeep
-true-deep {X} {x} {v} d = ap (λ b. b && ltb (X .lev x) (X .lev v)) (d .existential) ∙ lt-ltb (X .lev x) (X .lev v) (d .deeper)
+true-deep : {X : Variables} {x v : ℕ} → Deeper X x v → isDeeper X x v ≡ true
+unfolding isDeeper
+true-deep {X} {x} {v} d = ap (λ b. b && ltb (X .lev x) (X .lev v)) (d .existential) ∙ lt-ltb (X .lev x) (X .lev v) (d .deep)
 
-common-true : (X : Variables) (x : ℕ) (list others : List ℕ) → common X x list others ≡ true → (v : ℕ) × Deep X x v × List·Memᴰ v list × List·Memᴰ v others
+common-true : (X : Variables) (x : ℕ) (list others : List ℕ) → common X x list others ≡ true → (v : ℕ) × Deeper X x v × List·Memᴰ v list × List·Memᴰ v others
 unfolding common
 common-true X x [] others t = absurd (clash t refl)
-common-true X x (v ∷ list) others t = go (either (isDeep X x v && has v others) (common X x list others) t) (λ h. common-true X x list others h)
+common-true X x (v ∷ list) others t = go (either (isDeeper X x v && has v others) (common X x list others) t) (λ h. common-true X x list others h)
   where
-    go : ((isDeep X x v && has v others) ≡ true) ⊎ (common X x list others ≡ true) → (common X x list others ≡ true → (w : ℕ) × Deep X x w × List·Memᴰ w list × List·Memᴰ w others)
-        → (w : ℕ) × Deep X x w × List·Memᴰ w (v ∷ list) × List·Memᴰ w others
-    go (inl h) later = let (d, m) = both (isDeep X x v) (has v others) h in (v, deep-true X x v d, List·Memᴰ·head refl, has-member others m)
+    go : ((isDeeper X x v && has v others) ≡ true) ⊎ (common X x list others ≡ true) → (common X x list others ≡ true → (w : ℕ) × Deeper X x w × List·Memᴰ w list × List·Memᴰ w others)
+        → (w : ℕ) × Deeper X x w × List·Memᴰ w (v ∷ list) × List·Memᴰ w others
+    go (inl h) later = let (d, m) = both (isDeeper X x v) (has v others) h in (v, deep-true X x v d, List·Memᴰ·head refl, has-member others m)
     go (inr h) later = let (w, d, l, m) = later h in (w, d, List·Memᴰ·tail l, m)
 
-true-common : {X : Variables} {x v : ℕ} (list others : List ℕ) → Deep X x v → List·Memᴰ v list → List·Memᴰ v others → common X x list others ≡ true
+true-common : {X : Variables} {x v : ℕ} (list others : List ℕ) → Deeper X x v → List·Memᴰ v list → List·Memᴰ v others → common X x list others ≡ true
 unfolding common
 true-common [] others d l m = absurd (List·Memᴰ·not-nil l)
-true-common {X} {x} {v} (w ∷ list) others d l m = ⊎-elim here (λ n. or-right (isDeep X x w && has w others) (common X x list others) (true-common list others d n m)) (List·Memᴰ·cases-cons l)
+true-common {X} {x} {v} (w ∷ list) others d l m = ⊎-elim here (λ n. or-right (isDeeper X x w && has w others) (common X x list others) (true-common list others d n m)) (List·Memᴰ·cases-cons l)
   where
-    here : v ≡ w → ((isDeep X x w && has w others) || common X x list others) ≡ true
-    here q = ap (λ b. b || common X x list others) (ap (λ b. b && has w others) (subst (λ u. isDeep X x u ≡ true) q (true-deep d)) ∙ subst (λ u. has u others ≡ true) q (member-has m))
+    here : v ≡ w → ((isDeeper X x w && has w others) || common X x list others) ≡ true
+    here q = ap (λ b. b || common X x list others) (ap (λ b. b && has w others) (subst (λ u. isDeeper X x u ≡ true) q (true-deep d)) ∙ subst (λ u. has u others ≡ true) q (member-has m))
 
 pub shares-tells : (X : Variables) (ls : List ℤ) (x k l : ℕ) → Tells (shares X ls x k l) (Shared X ls x k l)
 unfolding shares

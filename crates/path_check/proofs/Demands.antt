@@ -20,7 +20,7 @@ use Rattle.formula.specs.Causes.{ClauseCause}
 use Rattle.formula.specs.Lent.{Formula, formulaOf}
 use Rattle.formula.specs.Meaning.{isExistential, level}
 use Rattle.forest_theory.specs.Counts.{how-many}
-use Rattle.forest_theory.specs.Reach.{Universal, From}
+use Rattle.forest_theory.specs.Reach.{Universal, From, Deeper}
 use Rattle.formula_rules.specs.Rules.{readBy, ruledPrefix, checkOrder}
 use Rattle.formula_rules.proofs.Agreement.{one-to-two, two-to-one}
 use Rattle.forest_tables.specs.Formula.{variables, universal, Shares}
@@ -29,18 +29,18 @@ use Rattle.forest_tables.proofs.Agreeing.{lawful}
 use Rattle.forest.specs.Answers.{DependsBy}
 use Rattle.forest.specs.Causes.{NotDeeper}
 use Rattle.forest.proofs.Demands.{universal-alone}
-use Rattle.path_check.specs.Paths.{Deep, Acceptable}
+use Rattle.path_check.specs.Paths.{Acceptable}
 use Rattle.path_check.specs.Causes.{Misnamed, pairOrder, pathOrder, PathJudged}
 use Rattle.path_check.proofs.Agreeing.{deep-not}
 use Rattle.path_check.proofs.Acceptance.{acceptable-exactly}
 use Rattle.path_check.proofs.Reached.{Trail, acceptable-below, path-reaches, trail, trail-ends, trail-short, trail-path}
 
 -- A y that is not refused is an existential deeper than x.
-deep : (n : ℕ) (es : List ℕ) (x y : ℕ) → (NotDeeper n es x y → ⊥) → Deep (variables n es) x y
+deep : (n : ℕ) (es : List ℕ) (x y : ℕ) → (NotDeeper n es x y → ⊥) → Deeper (variables n es) x y
 deep n es x y fine =
     record {
       existential = flag (isExistential n es y) refl;
-      deeper = by-cases (decLt (level es x) (level es y)) (λ l. l) (λ l. absurd (fine (inr (omega arith))));
+      deep = by-cases (decLt (level es x) (level es y)) (λ l. l) (λ l. absurd (fine (inr (omega arith))));
     }
   where
     flag : (b : Bool) → isExistential n es y ≡ b → isExistential n es y ≡ true
@@ -50,7 +50,7 @@ deep n es x y fine =
 -- A pair of a standard set has an acceptable path, no longer than the number of existentials.
 abbrev ShortPath : Formula → ℕ → ℕ → Type 0
 ShortPath f x y =
-    (path : List ℕ) × (length path ≤ how-many (isExistential (f .n) (f .prefix)) (f .n)) × Deep (variablesOf f) x y
+    (path : List ℕ) × (length path ≤ how-many (isExistential (f .n) (f .prefix)) (f .n)) × Deeper (variablesOf f) x y
     × Acceptable (variablesOf f) (f .clauses) x y path
 
 short-path : (f : Formula) (x y : ℕ) → universal (f .n) (f .prefix) x ≡ true → DependsBy Standard f x y → ShortPath f x y
@@ -62,10 +62,10 @@ short-path f x y u d =
     alone = universal-alone (f .n) (f .prefix) x u
 
     -- y is stepped on last, and no existential stands in the block of x
-    under : From (variablesOf f) (level (f .prefix) x) y → Deep (variablesOf f) x y
+    under : From (variablesOf f) (level (f .prefix) x) y → Deeper (variablesOf f) x y
     under from =
         let other = alone .alone y (from .existential) in
-        record { existential = from .existential; deeper = let l = from .deep in omega arith }
+        record { existential = from .existential; deep = let l = from .deep in omega arith }
 
     found : (list : List ℕ) × Trail (Shares (f .clauses)) (From (variablesOf f) (level (f .prefix) x)) x list y → ShortPath f x y
     found (list, t) =
@@ -79,7 +79,7 @@ module _ (rule : ℕ) (f : Formula) (x y : ℕ) where
 
   module _ (path : List ℕ) where
     -- Where nothing is refused before it, a path is accepted exactly if it is acceptable.
-    pub accepted-exactly : NoneOf (checkOrder rule f) → universal (f .n) (read .prefix) x ≡ true → Deep (variablesOf read) x y
+    pub accepted-exactly : NoneOf (checkOrder rule f) → universal (f .n) (read .prefix) x ≡ true → Deeper (variablesOf read) x y
         → NoneOf (pathOrder rule f x y path) ↔ Acceptable (variablesOf read) (f .clauses) x y path
     accepted-exactly sound u d = (λ none. acceptable-exactly .0 (none .1 .1 .1 .1 .1 .1 .0), back)
       where

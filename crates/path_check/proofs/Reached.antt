@@ -13,14 +13,14 @@ use Rattle.terms.specs.Literals.{variableOf}
 use Rattle.formula.specs.Meaning.{clauses, alwaysTrue, connected}
 use Rattle.formula.specs.Tables.{at}
 use Rattle.formula.proofs.Signs.{connected-all}
-use Rattle.forest_theory.specs.Reach.{Variables, Lawful, Universal, From, Reach, here, step}
+use Rattle.forest_theory.specs.Reach.{Variables, Lawful, Universal, From, Reach, here, step, Deeper}
 use Rattle.forest_theory.specs.Counts.{Numbered, how-many}
 use Rattle.forest_theory.specs.Search.{has}
 use Rattle.forest_theory.proofs.Numbered.{numbered-one, numbered-none, numbered-more, numbered-same, how-many-numbered, how-many-less}
 use Rattle.forest_theory.proofs.Search.{has-member, member-has}
 use Rattle.forest_tables.specs.Formula.{joined, Shares}
 use Rattle.forest_entries.proofs.Sides.{mem-at, connected-open}
-use Rattle.path_check.specs.Paths.{clauseAt, HasVariable, Deep, Shared, Acceptable}
+use Rattle.path_check.specs.Paths.{clauseAt, HasVariable, Shared, Acceptable}
 use Rattle.path_check.proofs.Deciding.{tells-or, member-tells}
 
 -- A clause that has a variable is below the count ...
@@ -67,12 +67,12 @@ shares-number {ls} {u} {v} j =
       right = subst (λ c. List·Memᴰ v (map variableOf c)) (sym q) (subst (List·Memᴰ v) all hv);
     }
 
-deep-from : {X : Variables} {x v : ℕ} → Deep X x v → From X (X .lev x) v
-deep-from d = record { existential = d .existential; deep = let l = d .deeper in omega arith }
+deep-from : {X : Variables} {x v : ℕ} → Deeper X x v → From X (X .lev x) v
+deep-from d = record { existential = d .existential; deep = let l = d .deep in omega arith }
 
 module _ {X : Variables} {ls : List ℤ} {x : ℕ} where
   -- Every deep existential of a clause of an acceptable path is reached from x.
-  pub path-reaches : {y : ℕ} {path : List ℕ} → Acceptable X ls x y path → (i : ℕ) → i < length path → (v : ℕ) → Deep X x v → HasVariable ls (at path i) v
+  pub path-reaches : {y : ℕ} {path : List ℕ} → Acceptable X ls x y path → (i : ℕ) → i < length path → (v : ℕ) → Deeper X x v → HasVariable ls (at path i) v
       → Reach (Shares ls) (From X (X .lev x)) x v
   path-reaches {path = path} a zero l v d h = step here (shares-by ls (at path 0) x v (a .not-true 0 l) (a .first) h) (deep-from d)
   path-reaches {path = path} a (suc i) l v d h =
@@ -90,7 +90,7 @@ module _ {X : Variables} {ls : List ℤ} {x : ℕ} where
         not-true = λ i l. let q : i ≡ 0 = omega arith in subst (λ j. alwaysTrue (clauseAt ls (at (n .number ∷ []) j)) ≡ false) (sym q) (n .plain);
       }
 
-  path-more : {u z : ℕ} {path : List ℕ} → Acceptable X ls x u path → Deep X x u → (n : Numbers ls u z) → Acceptable X ls x z (path ++ (n .number ∷ []))
+  path-more : {u z : ℕ} {path : List ℕ} → Acceptable X ls x u path → Deeper X x u → (n : Numbers ls u z) → Acceptable X ls x z (path ++ (n .number ∷ []))
   path-more {u} {z} {path} a d n =
       let some = a .some in
       let size = length-append path (n .number ∷ []) in
@@ -176,5 +176,5 @@ trail-path {X} {ls} {x} universal (on {list = list} {u = u} t j e new) =
     let n = shares-number j in
     let f = trail-ends t in
     let other = universal .alone u (f .existential) in
-    let deep : Deep X x u = record { existential = f .existential; deeper = let l = f .deep in omega arith } in
+    let deep : Deeper X x u = record { existential = f .existential; deep = let l = f .deep in omega arith } in
     (path ++ (n .number ∷ []), path-more a deep n, length-append path (n .number ∷ []) ∙ (let r : length path + 1 ≡ suc (length list) = omega arith in r))

@@ -8,7 +8,7 @@ use lib.ListN.{length, getD}
 use Rattle.terms.specs.Literals.{variableOf}
 use Rattle.formula.specs.Tables.{at}
 use Rattle.formula.specs.Meaning.{clauses, alwaysTrue}
-use Rattle.forest_theory.specs.Reach.{Variables}
+use Rattle.forest_theory.specs.Reach.{Variables, Deeper}
 
 -- the clause with a number, which has no literals past the count
 abbrev pub clauseAt : List ℤ → ℕ → List ℤ
@@ -18,15 +18,10 @@ clauseAt ls k = getD (clauses ls) k []
 abbrev pub HasVariable : List ℤ → ℕ → ℕ → Type 0
 HasVariable ls k v = List·Memᴰ v (map variableOf (clauseAt ls k))
 
--- v is an existential deeper than x
-pub record Deep (X : Variables) (x v : ℕ) : Type 0 where
-  pub existential : X .ex v ≡ true
-  pub deeper : X .lev x < X .lev v
-
 -- the clauses with the numbers k and l share an existential deeper than x
 pub record Shared (X : Variables) (ls : List ℤ) (x k l : ℕ) : Type 0 where
   pub variable : ℕ
-  pub deep : Deep X x variable
+  pub deep : Deeper X x variable
   pub left : HasVariable ls k variable
   pub right : HasVariable ls l variable
 

@@ -11,9 +11,9 @@ use Rattle.terms.specs.Limits.{clauseEntries}
 use Rattle.formula.specs.Lookup.{NextZero}
 use Rattle.formula.specs.Meaning.{clauses, alwaysTrue}
 use Rattle.formula.specs.Tables.{at}
-use Rattle.forest_theory.specs.Reach.{Variables}
+use Rattle.forest_theory.specs.Reach.{Variables, Deeper}
 use Rattle.forest_entries.specs.Flags.{Has}
-use Rattle.path_check.specs.Paths.{clauseAt, HasVariable, Deep, Shared}
+use Rattle.path_check.specs.Paths.{clauseAt, HasVariable, Shared}
 
 -- the clause with the number k stands from `start` up to the 0 at `end`, and is not always true
 pub record StandsFrom (ls : List ℤ) (k start end : ℕ) : Type 0 where
@@ -56,7 +56,7 @@ pub data Joins (X : Variables) (ls : List ℤ) (x : ℕ) (path : List ℕ) (i : 
 pub record Meets (X : Variables) (ls : List ℤ) (start end x : ℕ) (stamps : List ℕ) (stamp : ℕ) : Type 0 where
   pub variable : ℕ
   pub here : Has ls start end variable
-  pub deep : Deep X x variable
+  pub deep : Deeper X x variable
   pub stamped : getD stamps variable 0 ≡ stamp
 
 -- the stamp is put in the rows of which P holds, and in no other

@@ -5,6 +5,7 @@ mod walk;
 
 use begins::fill_begins;
 use begins::some_over;
+use forest_tables::rows::is_deeper;
 use forest_tables::rows::universal_at;
 use formula_levels::fill_levels;
 use formula_rules::as_read;
@@ -15,7 +16,6 @@ use terms::Literal;
 use terms::Variable;
 use terms::Verdict;
 use walk::follow;
-use walk::is_deep;
 ghost use Prim.Native.Nat.{ℕ};
 ghost use mathlib.Core.List.{List, [], _∷_};
 ghost use lib.ListN.{length};
@@ -85,7 +85,7 @@ fn path_by_levels(
     if !universal_at(n, universals, x) {
         return Verdict::Refused(13, 0);
     }
-    if !is_deep(n, levels, universals, x, y) {
+    if !is_deeper(n, levels, universals, x, y) {
         return Verdict::Refused(13, 0);
     }
     known_pair(n, levels, universals, clauses, x, y, path)

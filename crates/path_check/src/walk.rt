@@ -1,7 +1,6 @@
 // A path followed clause by clause. The variables of each clause passed are stamped with its number, so that the next one is held against them.
 
-use forest_tables::rows::existential_at;
-use forest_tables::rows::level_at;
+use forest_tables::rows::is_deeper;
 use formula::clauses::variable_at;
 use terms::Variable;
 use terms::Verdict;
@@ -18,7 +17,8 @@ ghost use Rattle.formula.specs.Tables.{at};
 ghost use Rattle.forest_tables.specs.Tabled.{tabled};
 ghost use Rattle.forest_tables.specs.Rows.{Tells};
 ghost use Rattle.forest_entries.specs.Flags.{Has};
-ghost use Rattle.path_check.specs.Paths.{clauseAt, Deep};
+ghost use Rattle.forest_theory.specs.Reach.{Deeper};
+ghost use Rattle.path_check.specs.Paths.{clauseAt};
 ghost use Rattle.path_check.specs.Causes.{PathCause};
 ghost use Rattle.path_check.specs.Walk.{Joins, Known, Meets, Small, Stamped, StandsFrom, Walked};
 
@@ -174,13 +174,13 @@ fn is_met(
     stamp: u16,
     v: Variable,
 ) -> bool
-    ensures told { λ r. ⌜ Tells r (Deep (tabled n (now (levels .entry)) (now (universals .entry))) (x .0) (v .0)
+    ensures told { λ r. ⌜ Tells r (Deeper (tabled n (now (levels .entry)) (now (universals .entry))) (x .0) (v .0)
         × (getD (now (stamps .entry)) (v .0) 0 ≡ stamp)) ⌝ }
 {
     if stamp_at(stamps, v) != stamp {
         return false;
     }
-    is_deep(n, levels, universals, x, v)
+    is_deeper(n, levels, universals, x, v)
 }
 
 // The stamp of v; 0 past the end of the table.
@@ -189,21 +189,6 @@ fn stamp_at(stamps: &[u16], v: Variable) -> u16
 {
     let at = v.0 as usize;
     if at < stamps.len() { stamps[at] } else { 0 }
-}
-
-// Whether v is an existential deeper than x.
-pub fn is_deep(n: u32, levels: &[u32], universals: &[bool], x: Variable, v: Variable) -> bool
-    ensures told { λ r. ⌜ Tells r (Deep (tabled n (now (levels .entry)) (now (universals .entry))) (x .0) (v .0)) ⌝ }
-{
-    if !existential_at(n, universals, v) {
-        return false;
-    }
-    let floor = level_at(levels, x);
-    let own = level_at(levels, v);
-    if own.0 <= floor.0 {
-        return false;
-    }
-    true
 }
 
 // Stamps the variables of the clause that entry i of a path names with its number, plus one.

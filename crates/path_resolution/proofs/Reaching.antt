@@ -13,15 +13,15 @@ use Rattle.terms.specs.Literals.{variableOf}
 use Rattle.terms.specs.LiteralRows.{rowOf}
 use Rattle.terms.proofs.Common.{clash}
 use Rattle.formula.specs.Tables.{literalAt}
-use Rattle.forest_theory.specs.Reach.{Variables}
+use Rattle.forest_theory.specs.Reach.{Variables, Deeper}
 use Rattle.forest_tables.specs.Tabled.{existentialIn, tabled}
 use Rattle.forest_tables.specs.Formula.{signed}
 use Rattle.forest_tables.specs.Rows.{Tells}
 use Rattle.forest_tables.proofs.Readings.{flag-within}
-use Rattle.forest_tables.proofs.Agreeing.{Same}
+use Rattle.forest_tables.proofs.Agreeing.{Same, deeper-same}
 use Rattle.forest_entries.proofs.Sides.{signed-variable}
 use Rattle.sets_occurrences.specs.Threads.{Threaded}
-use Rattle.path_resolution.specs.Paths.{Deeper, Crosses, Path, enters, goes-on, DependsByPaths}
+use Rattle.path_resolution.specs.Paths.{Crosses, Path, enters, goes-on, DependsByPaths}
 use Rattle.path_resolution.specs.Walk.{marked, Passes, Walk, starts, steps, Walked, Chained, Rowed}
 use Rattle.path_resolution.specs.Ends.{Barred, ReadClauses, Ends, Pairs}
 use Rattle.path_resolution.proofs.Places.{inside-less}
@@ -211,12 +211,9 @@ depends-are {X} {ls} {x} ends others plain negated y low high = (there, back)
 
 -- What depends on x by the level table depends on it by the prefix.
 module _ {X Y : Variables} (s : Same X Y) {x : ℕ} (own : X .lev x ≡ Y .lev x) where
-  deeper-same : {v : ℕ} → Deeper X x v → Deeper Y x v
-  deeper-same {v} d = record { existential = sym (s .ex v) ∙ d .existential; deep = let q = s .lev v (d .existential) in let l = d .deep in omega arith }
-
   path-same : {ls : List ℤ} {from l : ℤ} → Path X ls x from l → Path Y ls x from l
   path-same (enters k) = enters k
-  path-same (goes-on p deep k) = goes-on (path-same p) (deeper-same deep) k
+  path-same (goes-on p deep k) = goes-on (path-same p) (deeper-same s own deep) k
 
   pub depends-same : {ls : List ℤ} {y : ℕ} → DependsByPaths X ls x y → DependsByPaths Y ls x y
-  depends-same d = record { deeper = deeper-same (d .deeper); sign = d .sign; from-x = path-same (d .from-x); from-negation = path-same (d .from-negation) }
+  depends-same d = record { deeper = deeper-same s own (d .deeper); sign = d .sign; from-x = path-same (d .from-x); from-negation = path-same (d .from-negation) }

@@ -13,14 +13,14 @@ use Rattle.terms.proofs.Common.{clash}
 use Rattle.formula.specs.Lent.{Formula, formulaOf}
 use Rattle.formula.specs.Tables.{cut}
 use Rattle.formula.specs.Meaning.{blocks, clauses, opposite, denied, alwaysTrue, connected, freeLevel, level, isUniversal, isExistential}
-use Rattle.forest_theory.specs.Reach.{Variables, From, Reach, here, step}
+use Rattle.forest_theory.specs.Reach.{Variables, From, Reach, here, step, Deeper}
 use Rattle.terms.specs.Listed.{Listed}
 use Rattle.forest_tables.specs.Formula.{signed, SharesBy}
 use Rattle.forest_tables.specs.Lent.{variablesOf}
 use Rattle.forest_tables.proofs.Agreeing.{lawful}
 use Rattle.terms.specs.declared.Scheme.the-variants.{Strict}
 use Rattle.forest.specs.Answers.{DependsBy}
-use Rattle.path_resolution.specs.Paths.{Deeper, Crosses, Path, enters, goes-on, DependsByPaths}
+use Rattle.path_resolution.specs.Paths.{Crosses, Path, enters, goes-on, DependsByPaths}
 use Rattle.path_resolution.proofs.Within.{paths-strict}
 
 abbrev es : List ℕ

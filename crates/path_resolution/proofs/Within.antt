@@ -9,13 +9,13 @@ use Rattle.terms.specs.Literals.{variableOf}
 use Rattle.formula.specs.Lent.{Formula}
 use Rattle.formula.specs.Meaning.{connected}
 use Rattle.formula.proofs.Signs.{connected-all}
-use Rattle.forest_theory.specs.Reach.{Variables, From, here, step, Follows}
+use Rattle.forest_theory.specs.Reach.{Variables, From, here, step, Follows, Deeper}
 use Rattle.forest_tables.specs.Formula.{signed, joined, Shares, SharesBy}
 use Rattle.forest_tables.specs.Lent.{variablesOf}
 use Rattle.terms.specs.declared.Scheme.the-variants.{Strict}
 use Rattle.forest.specs.Answers.{DependsBy}
 use Rattle.forest_entries.proofs.Sides.{signed-variable}
-use Rattle.path_resolution.specs.Paths.{Deeper, Crosses, Path, enters, goes-on, DependsByPaths}
+use Rattle.path_resolution.specs.Paths.{Crosses, Path, enters, goes-on, DependsByPaths}
 use Rattle.path_resolution.proofs.Marks.{complement-variable}
 
 -- What a path may pass the strict scheme may step on.

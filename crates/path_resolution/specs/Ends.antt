@@ -12,12 +12,12 @@ use Rattle.terms.specs.declared.Filled.{Filled}
 use Rattle.formula.specs.Lent.{Formula}
 use Rattle.formula.specs.Tables.{literalAt}
 use Rattle.formula.specs.Lookup.{SoundClauses}
-use Rattle.forest_theory.specs.Reach.{Variables}
+use Rattle.forest_theory.specs.Reach.{Variables, Deeper}
 use Rattle.forest_tables.specs.Formula.{signed}
 use Rattle.forest_tables.specs.Lent.{variablesOf}
 use Rattle.sets_occurrences.specs.Threads.{Closed}
 use Rattle.path_resolution.specs.Walk.{marked}
-use Rattle.path_resolution.specs.Paths.{Deeper, Path, DependsByPaths, behindResolution}
+use Rattle.path_resolution.specs.Paths.{Path, DependsByPaths, behindResolution}
 
 -- the literals of the variables up to n that a path may not pass are marked, and no other of them
 abbrev pub Barred : Variables → ℕ → List Bool → Type 0

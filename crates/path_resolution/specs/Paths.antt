@@ -13,16 +13,11 @@ use Rattle.terms.specs.Refusals.{Causes, At0}
 use Rattle.terms.specs.declared.Filled.{Filled}
 use Rattle.formula.specs.Lent.{Formula}
 use Rattle.formula.specs.Meaning.{clauses, alwaysTrue}
-use Rattle.forest_theory.specs.Reach.{Variables}
+use Rattle.forest_theory.specs.Reach.{Variables, Deeper}
 use Rattle.formula_rules.specs.Rules.{readBy, checkOrder}
 use Rattle.forest_tables.specs.Formula.{signed}
 use Rattle.forest_tables.specs.Lent.{variablesOf}
 use Rattle.forest.specs.Causes.{NotUniversal}
-
--- v is an existential deeper than x
-pub record Deeper (X : Variables) (x v : ℕ) : Type 0 where
-  pub existential : X .ex v ≡ true
-  pub deep : X .lev x < X .lev v
 
 -- A clause, not an always-true one, is entered by one literal and left by a literal of another variable.
 pub record Crosses (ls : List ℤ) (enter leave : ℤ) : Type 0 where

@@ -1,8 +1,7 @@
 // The ends of all resolution paths from x and from its negation, and what depends on x by them.
 
 use crate::walk::literal_step;
-use forest_tables::rows::existential_at;
-use forest_tables::rows::level_at;
+use forest_tables::rows::is_deeper;
 use sets_occurrences::thread;
 use terms::Literal;
 use terms::Variable;
@@ -16,7 +15,8 @@ ghost use Rattle.terms.specs.Literals.{variableOf};
 ghost use Rattle.forest_tables.specs.Tabled.{tabled};
 ghost use Rattle.forest_tables.specs.Rows.{Tells};
 ghost use Rattle.path_resolution.specs.Walk.{Chained};
-ghost use Rattle.path_resolution.specs.Paths.{Deeper, DependsByPaths};
+ghost use Rattle.forest_theory.specs.Reach.{Deeper};
+ghost use Rattle.path_resolution.specs.Paths.{DependsByPaths};
 ghost use Rattle.path_resolution.specs.Ends.{Barred, ReadClauses, Ends, Pairs, Flags};
 
 // Flags each variable from 1 to n that depends on x. Every variable is tied to its clauses first.
@@ -117,19 +117,6 @@ fn bar(n: u32, levels: &[u32], universals: &[bool], x: Variable, marks: &mut [bo
         marks[row] = barred;
         marks[row + 1] = barred;
     }
-}
-
-// Whether v is an existential deeper than x.
-fn is_deeper(n: u32, levels: &[u32], universals: &[bool], x: Variable, v: Variable) -> bool
-    ensures told { λ r. ⌜ Tells r (Deeper (tabled n (now (levels .entry)) (now (universals .entry))) (x .0) (v .0)) ⌝ }
-{
-    if !existential_at(n, universals, v) {
-        return false;
-    }
-    if level_at(levels, v).0 <= level_at(levels, x).0 {
-        return false;
-    }
-    true
 }
 
 // Flags each variable from 1 to n that is an existential deeper than x and has opposite literals in the two tables.

@@ -14,7 +14,7 @@ use Rattle.forest_climb.proofs.find_entry.Tie as tie
 
 returns : tie.Need-returns
 returns c =
-    λ deep. clash (deep .0) (sym (c .before .existential-at .ensures) ∙ not-true (c .before .existential-at .result) (c .if1 .taken))
+    λ deep. clash (deep .existential) (sym (c .before .existential-at .ensures) ∙ not-true (c .before .existential-at .result) (c .if1 .taken))
 
 climb-requires : tie.Need-climb-requires
 climb-requires c κs =
@@ -59,7 +59,7 @@ returns-3 c =
     let W = rowsOf (a .n) (a .classes .now) (a .parents .now) in
     let searched = searched-rows (a .n) (a .levels .now) (a .universals .now) (a .classes .now) (a .parents .now) formed found in
     let entry = searched-entry formed (at-level-at .level-at .result .0) (at-row-of .row-of .result .0) floor (at-row-of .row-of .ensures) searched in
-    ((ex, omega arith), subst (λ r. EntryPoint X W (a .x .0) (a .y .0) (c .before .climb .result .class .0) r) same entry)
+    (record { existential = ex; deep = omega arith }, subst (λ r. EntryPoint X W (a .x .0) (a .y .0) (c .before .climb .result .class .0) r) same entry)
 
 pub find-entry-spec : {M : Type 1} → statement M
 find-entry-spec =

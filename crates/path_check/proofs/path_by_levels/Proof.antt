@@ -7,11 +7,11 @@ use borrow.Author.Tests.{not-true, not-false}
 use lib.ListN.{length}
 use Rattle.terms.proofs.Verdicts.{at0-first}
 use Rattle.formula.specs.Meaning.{clauses}
-use Rattle.forest_tables.proofs.Agreeing.{same-back, tables-agree}
+use Rattle.forest_tables.proofs.Agreeing.{same-back, deeper-same, tables-agree}
 use Rattle.forest.proofs.Entered.{own-level, sound-universal, sound-not-universal}
 use Rattle.forest_tables.proofs.Readings.{told, told-not}
 use Rattle.path_check.specs.Causes.{NumberOver}
-use Rattle.path_check.proofs.Agreeing.{deep-same, not-deep, deep-not, judged-pair}
+use Rattle.path_check.proofs.Agreeing.{not-deep, deep-not, judged-pair}
 use Rattle.path_check.proofs.path_by_levels.Statement.{statement}
 use Rattle.path_check.proofs.path_by_levels.Tie as tie
 
@@ -28,22 +28,22 @@ returns-2 c es sound table =
     let a = at-start .args in
     let own = own-level sound table [] [] (a .x .0) (sym (at-universal-at .universal-at .ensures) ∙ not-false (at-universal-at .universal-at .result) (at-if1 .if1 .left)) in
     inl (at0-first 13 (inr (inl (not-deep (a .n) es (a .x .0) (a .y .0)
-    (λ d. told-not (c .before .is-deep .result) (not-true (c .before .is-deep .result) (c .if2 .taken)) (c .before .is-deep .ensures)
-    (deep-same (same-back (tables-agree sound table)) (sym own) d))))))
+    (λ d. told-not (c .before .is-deeper .result) (not-true (c .before .is-deeper .result) (c .if2 .taken)) (c .before .is-deeper .ensures)
+    (deeper-same (same-back (tables-agree sound table)) (sym own) d))))))
 
 returns-3 : tie.Need-returns-3
 returns-3 c es sound table =
     let at-is-deep = c .before .before in
-    let at-if1 = at-is-deep .before in
+    let at-if1 = at-is-deeper .before in
     let at-universal-at = at-if1 .before in
     let at-start = at-universal-at .before .before .before .before in
     let a = at-start .args in
     let universal = not-false (at-universal-at .universal-at .result) (at-if1 .if1 .left) in
     let own = own-level sound table [] [] (a .x .0) (sym (at-universal-at .universal-at .ensures) ∙ universal) in
-    let deep = told (at-is-deep .is-deep .result) (not-false (at-is-deep .is-deep .result) (c .before .if2 .left)) (at-is-deep .is-deep .ensures) in
+    let deep = told (at-is-deeper .is-deeper .result) (not-false (at-is-deeper .is-deeper .result) (c .before .if2 .left)) (at-is-deeper .is-deeper .ensures) in
     judged-pair (a .clauses .now) (a .y .0) (a .path .now) (NumberOver (length (clauses (a .clauses .now))) (a .path .now)) (tables-agree sound table) own
     (sound-universal sound table [] [] (a .x .0) (at-universal-at .universal-at .ensures) universal)
-    (deep-not (a .n) es (a .x .0) (a .y .0) (deep-same (tables-agree sound table) own deep)) (c .known-pair .result) (c .known-pair .ensures)
+    (deep-not (a .n) es (a .x .0) (a .y .0) (deeper-same (tables-agree sound table) own deep)) (c .known-pair .result) (c .known-pair .ensures)
 
 pub path-by-levels-spec : {M : Type 1} → statement M
 path-by-levels-spec =

@@ -8,7 +8,7 @@ use Rattle.path_check.proofs.walk.is_met.Tie as tie
 returns-2 : tie.Need-returns-2
 returns-2 c =
     let at-stamp-at = c .before .before in
-    told-both (c .is-deep .result) (λ d. (d, sym (at-stamp-at .stamp-at .ensures) ∙ c .before .if1 .left)) (λ p. p .0) (c .is-deep .ensures)
+    told-both (c .is-deeper .result) (λ d. (d, sym (at-stamp-at .stamp-at .ensures) ∙ c .before .if1 .left)) (λ p. p .0) (c .is-deeper .ensures)
 
 pub is-met-spec : {M : Type 1} → statement M
 is-met-spec =

@@ -7,13 +7,12 @@ use lib.ListN.{length, getD}
 use Rattle.forest_entries.proofs.Flags.{literal-past}
 use Rattle.forest_tables.proofs.Readings.{told, told-not}
 use Rattle.forest_tables.specs.Tabled.{tabled}
-use Rattle.path_check.specs.Paths.{Deep}
 use Rattle.path_check.proofs.Entries.{Passing, pass-none, pass-more, passed-all, passed-one}
 use Rattle.path_check.proofs.walk.meets.Statement.{statement}
 use Rattle.path_check.proofs.walk.meets.Tie as tie
 
 abbrev Inv-loop : tie.InvT-loop
-Inv-loop n levels universals clauses start x stamps stamp i₀ i = Passing (λ v. Deep (tabled n levels universals) (x .0) v × (getD stamps v 0 ≡ stamp)) clauses start i
+Inv-loop n levels universals clauses start x stamps stamp i₀ i = Passing (λ v. Deeper (tabled n levels universals) (x .0) v × (getD stamps v 0 ≡ stamp)) clauses start i
 
 abbrev μ-loop : tie.MeasureT-loop
 μ-loop n levels universals clauses start x stamps stamp i₀ i = length clauses - i
@@ -55,4 +54,5 @@ returns-3 c =
 pub meets-spec : {M : Type 1} → statement M
 meets-spec =
     tie.close (tie.spec Inv-loop μ-loop loop-holds (λ c κs. search needs) returns (λ c κs. search needs) returns-2 (λ c. omega arith)
-    (λ c. omega arith) loop-again returns-3)
+    (λ c. omega arith) loop-again returns-3)use Rattle.forest_theory.specs.Reach.{Deeper}
+

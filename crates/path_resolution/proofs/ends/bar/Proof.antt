@@ -7,7 +7,7 @@ use lib.ListN.{length, length-set}
 use Rattle.terms.specs.Limits.{resolutionLiteralRows}
 use Rattle.forest_tables.specs.Tabled.{tabled}
 use Rattle.forest_tables.specs.Rows.{Tells}
-use Rattle.path_resolution.specs.Paths.{Deeper}
+use Rattle.forest_theory.specs.Reach.{Deeper}
 use Rattle.path_resolution.proofs.Reaching.{BarredTo, bar-more, bar-size}
 use Rattle.path_resolution.proofs.ends.bar.Statement.{statement}
 use Rattle.path_resolution.proofs.ends.bar.Tie as tie

@@ -7,7 +7,7 @@ use lib.ListN.{length, length-set}
 use Rattle.terms.specs.Limits.{resolutionRows}
 use Rattle.forest_tables.specs.Tabled.{tabled}
 use Rattle.forest_tables.specs.Rows.{Tells}
-use Rattle.path_resolution.specs.Paths.{Deeper}
+use Rattle.forest_theory.specs.Reach.{Deeper}
 use Rattle.path_resolution.specs.Ends.{Pairs, Flags}
 use Rattle.path_resolution.proofs.Reaching.{flag-more}
 use Rattle.path_resolution.proofs.ends.pair_ends.Statement.{statement}

@@ -4,8 +4,8 @@ use native.Mathlib.Omega.{arith}
 use borrow.Author.Needs.{needs}
 use borrow.Author.Tests.{not-true, not-false}
 use Rattle.terms.proofs.Common.{clash}
-use Rattle.path_resolution.proofs.ends.is_deeper.Statement.{statement}
-use Rattle.path_resolution.proofs.ends.is_deeper.Tie as tie
+use Rattle.forest_tables.proofs.rows.is_deeper.Statement.{statement}
+use Rattle.forest_tables.proofs.rows.is_deeper.Tie as tie
 
 returns : tie.Need-returns
 returns c = λ d. clash (c .before .existential-at .ensures ∙ d .existential) (not-true _ (c .if1 .taken))
