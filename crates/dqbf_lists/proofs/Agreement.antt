@@ -12,7 +12,8 @@ use Rattle.formula.specs.Causes.{ClauseCause}
 use Rattle.formula.specs.Lent.{Formula}
 use Rattle.formula_rules.specs.Rules.{readAs, ruledPrefix}
 use Rattle.formula_rules.proofs.Agreement.{one-to-two, two-to-one}
-use Rattle.dqbf_lists.specs.Causes.{ListCause, listedPrefix, checkListsOrder}
+use Rattle.dqbf_lists.specs.Causes.{ListCause, checkListsOrder}
+use Rattle.dqbf_lists.specs.Inner.{listedPrefix}
 use Rattle.dqbf_lists.specs.Answers.{ListsChecked}
 use Rattle.dqbf_lists.proofs.Ordering.{short-lists, to-listed, from-listed}
 

@@ -17,7 +17,8 @@ use Rattle.formula.specs.Lent.{Formula}
 use Rattle.formula_rules.specs.Reading.{ReadsFormula}
 use Rattle.formula_rules.specs.Rules.{PrefixCauseBy, NoRule, ruledPrefix}
 use Rattle.dqbf_lists.specs.Lists.{listEntries}
-use Rattle.dqbf_lists.specs.Causes.{ListsLong, listedPrefix, listedFormula}
+use Rattle.dqbf_lists.specs.Causes.{ListsLong}
+use Rattle.dqbf_lists.specs.Inner.{listedPrefix, listedFormula}
 use Rattle.dqbf_lists.specs.Inner.{ReadsListed, LongRefused}
 
 module _ (rule : ℕ) (f : Formula) (entries : ℕ) where

@@ -2,7 +2,7 @@
 use Prim.Native.Nat.{ℕ, _<_}
 use mathlib.Core.Path.{_≡_}
 use mathlib.Core.Bool.{false}
-use mathlib.Core.List.{List, [], _∷_, _++_}
+use mathlib.Core.List.{List, [], _∷_}
 use mathlib.Core.Logic.{_⊎_}
 use lib.ListN.{length}
 use Rattle.terms.specs.Refusals.{Causes, At0}
@@ -10,12 +10,16 @@ use Rattle.formula.specs.Tables.{at, MarkAt, VariableAt, EndsInside}
 use Rattle.formula.specs.Causes.{VariableCount, PrefixLong, ClausesLong, ClauseCause}
 use Rattle.formula.specs.Lent.{Formula}
 use Rattle.forest_tables.specs.Formula.{universal}
-use Rattle.formula_rules.specs.Rules.{readAs, PrefixCauseBy, NoRule}
+use Rattle.formula_rules.specs.Rules.{readAs, RuleCause, PrefixCauseBy}
 use Rattle.dqbf_lists.specs.Lists.{listEntries, OneList, InBlock}
 
 -- 2: table of lists over 16,384 entries
 abbrev pub ListsLong : ℕ → Type 0
 ListsLong entries = listEntries < entries
+
+-- so of a formula, or of the lists beside it, of which there are so many entries
+abbrev pub ListedLengthCause : Formula → ℕ → Causes
+ListedLengthCause f entries = At0 2 (PrefixLong (f .prefix) ⊎ (ClausesLong (length (f .clauses)) ⊎ ListsLong entries))
 
 -- 25, 26 and 11, from the left
 pub data ListCause (n : ℕ) (es ds : List ℕ) (number e : ℕ) : Type 0 where
@@ -31,17 +35,9 @@ pub data ListCause (n : ℕ) (es ds : List ℕ) (number e : ℕ) : Type 0 where
   -- 11: table of lists ends inside a list; place its length
   ends-inside : number ≡ 11 → e ≡ length ds → EndsInside 0 ds → ListCause n es ds number e
 
--- what the calls look at first, where so many entries of lists are lent: 23 before all others, 1, 2, prefix from the left by the rule
-abbrev pub listedPrefix : ℕ → Formula → ℕ → List Causes
-listedPrefix rule f entries =
-    At0 23 (NoRule rule) ∷ VariableCount (f .n)
-    ∷ At0 2 (PrefixLong (f .prefix) ⊎ (ClausesLong (length (f .clauses)) ⊎ ListsLong entries))
-    ∷ PrefixCauseBy rule (f .n) (f .prefix) ∷ []
-
--- and all that they look at before the lists: then clause literals from the left
-abbrev pub listedFormula : ℕ → Formula → ℕ → List Causes
-listedFormula rule f entries = listedPrefix rule f entries ++ (ClauseCause (f .n) (f .clauses) ∷ [])
-
--- the order of the call that only judges: then lists from the left, by the prefix as the rule reads it
+-- the order of the call that only judges: 23, 1, 2, prefix from the left, clause literals from the left, lists from the left by the prefix as the
+-- rule reads it
 abbrev pub checkListsOrder : ℕ → Formula → List ℕ → List Causes
-checkListsOrder rule f ds = listedFormula rule f (length ds) ++ (ListCause (f .n) (readAs rule (f .prefix)) ds ∷ [])
+checkListsOrder rule f ds =
+    RuleCause rule ∷ VariableCount (f .n) ∷ ListedLengthCause f (length ds) ∷ PrefixCauseBy rule (f .n) (f .prefix)
+    ∷ ClauseCause (f .n) (f .clauses) ∷ ListCause (f .n) (readAs rule (f .prefix)) ds ∷ []

@@ -2,21 +2,29 @@
 use Prim.Native.Nat.{ℕ, _+_, _≤_, _<_}
 use mathlib.Core.Path.{_≡_}
 use mathlib.Core.Bool.{Bool, true, false}
-use mathlib.Core.List.{List, [], _∷_}
+use mathlib.Core.List.{List, [], _∷_, _++_}
 use mathlib.Core.Logic.{_≢_}
 use lib.ListN.{length, getD, set}
 use Rattle.terms.specs.Limits.{variableRows}
-use Rattle.terms.specs.Refusals.{At0, FirstOf}
+use Rattle.terms.specs.Refusals.{Causes, At0, FirstOf}
 use Rattle.terms.specs.declared.Filled.{Filled}
-use Rattle.formula.specs.Causes.{VariableCount}
+use Rattle.formula.specs.Causes.{VariableCount, ClauseCause}
 use Rattle.formula.specs.Lent.{Formula}
 use Rattle.formula.specs.Lookup.{SoundClauses}
 use Rattle.formula.specs.Tables.{at}
 use Rattle.forest_tables.specs.Tabled.{universalIn}
 use Rattle.formula_rules.specs.Reading.{Reads}
-use Rattle.formula_rules.specs.Rules.{NoRule}
+use Rattle.formula_rules.specs.Rules.{RuleCause, PrefixCauseBy}
 use Rattle.dqbf_lists.specs.Lists.{listEntries, InBlock}
-use Rattle.dqbf_lists.specs.Causes.{listedFormula}
+use Rattle.dqbf_lists.specs.Causes.{ListedLengthCause}
+
+-- what is looked for before the lists, where so many entries of them are lent: 23, 1, 2, prefix from the left; and then clause literals from the left
+abbrev pub listedPrefix : ℕ → Formula → ℕ → List Causes
+listedPrefix rule f entries =
+    RuleCause rule ∷ VariableCount (f .n) ∷ ListedLengthCause f entries ∷ PrefixCauseBy rule (f .n) (f .prefix) ∷ []
+
+abbrev pub listedFormula : ℕ → Formula → ℕ → List Causes
+listedFormula rule f entries = listedPrefix rule f entries ++ (ClauseCause (f .n) (f .clauses) ∷ [])
 
 -- What a formula is read as beside lists of so many entries: it is refused, or it is sound as the rule reads it, and the lists are not too long.
 abbrev pub ReadsListed : ℕ → Formula → ℕ → List ℕ → Filled → Type 0
@@ -25,7 +33,7 @@ ReadsListed rule f entries =
 
 -- the first number of a call whose lists are too long: 23, 1, and else 2
 abbrev pub LongRefused : ℕ → ℕ → ℕ → Type 0
-LongRefused rule n number = FirstOf (At0 23 (NoRule rule) ∷ VariableCount n ∷ At0 2 (Unit {0}) ∷ []) number 0
+LongRefused rule n number = FirstOf (RuleCause rule ∷ VariableCount n ∷ At0 2 (Unit {0}) ∷ []) number 0
 
 -- the flags tell which variables are in a block
 pub record Places (es : List ℕ) (placed : List Bool) : Type 0 where

@@ -33,7 +33,8 @@ use Rattle.forest.specs.Answers.{DependsBy}
 use Rattle.forest.specs.Causes.{NotUniversal}
 use Rattle.forest.proofs.Demands.{universal-alone}
 use Rattle.dqbf_lists.specs.Lists.{Given, ListHas}
-use Rattle.dqbf_lists.specs.Causes.{ListCause, listedPrefix, checkListsOrder}
+use Rattle.dqbf_lists.specs.Causes.{ListCause, checkListsOrder}
+use Rattle.dqbf_lists.specs.Inner.{listedPrefix}
 use Rattle.dqbf_lists.proofs.Agreement.{agreed}
 use Rattle.dqbf_lists.proofs.Ordering.{short-lists, from-listed}
 use Rattle.dqbf_sets.specs.Answers.{setOrder, SetByLists}

@@ -1,21 +1,26 @@
 -- What the call promises that lists the set of a universal by dependency lists: its refusals in their order, and the set ascending with its count, and what is
 -- left in the lent output.
 use Prim.Native.Nat.{ℕ}
-use mathlib.Core.List.{List, [], _∷_, _++_}
-use Rattle.terms.specs.Answers.{TooLong, Listing}
-use Rattle.terms.specs.Refusals.{Causes, At0}
+use mathlib.Core.List.{List, [], _∷_}
+use lib.ListN.{length}
+use Rattle.terms.specs.Answers.{Listing}
+use Rattle.terms.specs.Refusals.{Causes}
 use Rattle.terms.specs.declared.Filled.{Filled}
 use Rattle.terms.specs.declared.Scheme.{Scheme}
+use Rattle.formula.specs.Causes.{VariableCount, ClauseCause}
 use Rattle.formula.specs.Lent.{Formula}
-use Rattle.formula_rules.specs.Rules.{readAs, readBy}
-use Rattle.forest.specs.Causes.{NotUniversal}
-use Rattle.dqbf_lists.specs.Causes.{checkListsOrder}
+use Rattle.formula_rules.specs.Rules.{readAs, readBy, RuleCause, PrefixCauseBy}
+use Rattle.forest.specs.Causes.{AskedCause, OutputCause}
+use Rattle.dqbf_lists.specs.Causes.{ListedLengthCause, ListCause}
 use Rattle.dqbf_sets.specs.Depends.{DependsOnBy}
 
--- the order of a call that lists, for x, the numbers of which P holds: that of the check of lists, 13 by the prefix as the rule reads it, 14
+-- the order of a call that lists, for x, the numbers of which P holds: 23, 1, 2, prefix from the left, clause literals from the left, lists from the
+-- left, 13, 14; lists and x are judged by the prefix as the rule reads it
 abbrev pub setOrder : ℕ → Formula → List ℕ → ℕ → (ℕ → Type 0) → List ℕ → List Causes
 setOrder rule f ds x P before =
-    checkListsOrder rule f ds ++ (At0 13 (NotUniversal (f .n) (readAs rule (f .prefix)) x) ∷ At0 14 (TooLong P before) ∷ [])
+    RuleCause rule ∷ VariableCount (f .n) ∷ ListedLengthCause f (length ds) ∷ PrefixCauseBy rule (f .n) (f .prefix)
+    ∷ ClauseCause (f .n) (f .clauses) ∷ ListCause (f .n) (readAs rule (f .prefix)) ds ∷ AskedCause (f .n) (readAs rule (f .prefix)) x
+    ∷ OutputCause P before ∷ []
 
 -- the set of x by a scheme, by the formula as the rule reads it
 abbrev pub SetByLists : ℕ → Scheme → Formula → List ℕ → ℕ → List ℕ → List ℕ → Filled → Type 0

@@ -6,9 +6,9 @@ use mathlib.Core.List.{List, [], _∷_, _++_}
 use mathlib.Core.Logic.{_⊎_, _≢_}
 use lib.IntN.{ℤ}
 use lib.ListN.{getD}
-use Rattle.terms.specs.Answers.{TooLong, Listing}
+use Rattle.terms.specs.Answers.{Listing}
 use Rattle.terms.specs.Limits.{mostVariables}
-use Rattle.terms.specs.Refusals.{Causes, At0}
+use Rattle.terms.specs.Refusals.{Causes}
 use Rattle.terms.specs.declared.Filled.{Filled}
 use Rattle.terms.specs.declared.Scheme.{Scheme}
 use Rattle.terms.specs.declared.Verdict.{Verdict}
@@ -18,19 +18,19 @@ use Rattle.forest_theory.specs.Reach.{Reach}
 use Rattle.forest_theory.specs.Tables.{row}
 use Rattle.forest_tables.specs.Formula.{Shares}
 use Rattle.forest_tables.specs.Tabled.{existentialIn}
-use Rattle.forest.specs.Causes.{NotUniversal}
+use Rattle.forest.specs.Causes.{AskedCause, OutputCause}
 use Rattle.dqbf_lists.specs.Lists.{Given, ListHas}
 use Rattle.dqbf_lists.specs.Causes.{ListCause}
 use Rattle.dqbf_sets.specs.Depends.{DependsOnBy}
 
 -- what is looked for behind the formula, where its prefix is read as es: lists from the left, 13
 abbrev pub behindFormula : ℕ → List ℕ → List ℕ → ℕ → List Causes
-behindFormula n es ds x = ListCause n es ds ∷ At0 13 (NotUniversal n es x) ∷ []
+behindFormula n es ds x = ListCause n es ds ∷ AskedCause n es x ∷ []
 
 -- so the set of x by a scheme, of a formula that is accepted
 abbrev pub SetBehind : Scheme → Formula → List ℕ → ℕ → List ℕ → List ℕ → Filled → Type 0
 SetBehind scheme f ds x before =
-    Listing (behindFormula (f .n) (f .prefix) ds x ++ (At0 14 (TooLong (DependsOnBy scheme f ds x) before) ∷ [])) (DependsOnBy scheme f ds x) before
+    Listing (behindFormula (f .n) (f .prefix) ds x ++ (OutputCause (DependsOnBy scheme f ds x) before ∷ [])) (DependsOnBy scheme f ds x) before
 
 -- a row is 1 where P holds of v, and 0 where it does not
 abbrev pub Told : (ℕ → Type 0) → ℕ → ℕ → Type 0

@@ -13,7 +13,7 @@ ghost use mathlib.Core.Bool.{true};
 ghost use Prim.Native.Nat.{_<_, _≤_};
 ghost use lib.ListN.{length};
 ghost use Rattle.text_write.specs.Bytes.{Wrote, SmallEntries};
-ghost use Rattle.text_write.specs.Stored.{WriteIs};
+ghost use Rattle.text_write.specs.InnerOrders.{WriteIs};
 ghost use Rattle.dqbf_lists.specs.Lists.{listEntries};
 ghost use Rattle.dqbf_text.specs.Writing.{lettered, listText, listBytes, listedTextOf, WritableLists};
 

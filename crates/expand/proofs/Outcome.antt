@@ -21,7 +21,8 @@ use Rattle.forest_tables.proofs.Agreeing.{lawful}
 use Rattle.forest.specs.Wanted.{Lists}
 use Rattle.expand_clauses.specs.Expansion.{copyFrom, copyOf}
 use Rattle.expand_clauses.specs.Copied.{tabled, Copies}
-use Rattle.expand.specs.Promise.{ResultTables, SetOf, expandedBy, OfExpanded, ManyVariables, Long, Short, resultOrder, ExpandsBy}
+use Rattle.expand.specs.Promise.{ResultTables, SetOf, expandedBy, OfExpanded, ManyVariables, Long, Short, ExpandsBy}
+use Rattle.expand.specs.InnerOrders.{resultOrder}
 use Rattle.expand.specs.Writing.{writeOrder, Fits}
 
 -- A list in front of a table stands there.

@@ -15,7 +15,8 @@ use Rattle.formula.specs.Causes.{ClauseCause}
 use Rattle.formula.specs.Lent.{Formula, formulaOf}
 use Rattle.formula_rules.specs.Rules.{readBy, ruledPrefix}
 use Rattle.formula_rules.proofs.Agreement.{one-to-two, two-to-one}
-use Rattle.expand.specs.Promise.{ResultTables, expandedBy, behindExpand, expandOrder, ExpandsBy, Expands}
+use Rattle.expand.specs.Promise.{ResultTables, expandedBy, expandOrder, ExpandsBy, Expands}
+use Rattle.expand.specs.InnerOrders.{behindExpand}
 use Rattle.expand.proofs.Outcome.{carry-expands}
 
 module _ (order : List Causes) (f : Formula) (x : ℕ) (out a b : ResultTables) where

@@ -2,7 +2,7 @@
 -- request 9). All but the order of check speaks of the formula as the reading rule reads it.
 use Prim.Native.Nat.{ℕ, _+_, _<_}
 use mathlib.Core.Path.{_≡_}
-use mathlib.Core.List.{List, [], _∷_, _++_}
+use mathlib.Core.List.{List, [], _∷_}
 use mathlib.Core.Logic.{_⊎_}
 use lib.IntN.{ℤ}
 use lib.ListN.{length}
@@ -14,10 +14,11 @@ use Rattle.terms.specs.Listed.{Listed}
 use Rattle.terms.specs.Refusals.{Causes, At0, FirstOf, NoneOf}
 use Rattle.terms.specs.declared.Expanded.{Expanded}
 use Rattle.terms.specs.declared.Scheme.the-variants.{Standard}
+use Rattle.formula.specs.Causes.{VariableCount, LengthCause, ClauseCause}
 use Rattle.formula.specs.Lent.{Formula, formulaOf}
-use Rattle.formula_rules.specs.Rules.{readBy, checkOrder}
+use Rattle.formula_rules.specs.Rules.{readAs, readBy, RuleCause, PrefixCauseBy}
 use Rattle.forest.specs.Answers.{DependsBy}
-use Rattle.forest.specs.Causes.{NotUniversal}
+use Rattle.forest.specs.Causes.{AskedCause}
 use Rattle.expand_clauses.specs.Expansion.{copyOf, expandedPrefix, expandedClauses}
 
 -- The tables that are lent for the result: one for its prefix, and one for its clauses.
@@ -63,17 +64,22 @@ Long g = (prefixEntries < length (g .prefix)) ⊎ (clauseEntries < length (g .cl
 abbrev pub Short : ResultTables → Formula → Type 0
 Short out g = (length (out .prefix) < length (g .prefix)) ⊎ (length (out .clauses) < length (g .clauses))
 
--- what is looked for of the result: 1 and 2 if it passes a limit, then 14
-abbrev pub resultOrder : Formula → ℕ → ResultTables → List Causes
-resultOrder f x out = At0 1 (OfExpanded f x ManyVariables) ∷ At0 2 (OfExpanded f x Long) ∷ At0 14 (OfExpanded f x (Short out)) ∷ []
+-- the same as causes: 1 and 2 if the result passes a limit, and 14
+abbrev pub ResultCountCause : Formula → ℕ → Causes
+ResultCountCause f x = At0 1 (OfExpanded f x ManyVariables)
 
--- what is looked for behind check, in the formula as it is read: 13, x not universal, then what is looked for of the result
-abbrev pub behindExpand : Formula → ℕ → ResultTables → List Causes
-behindExpand f x out = At0 13 (NotUniversal (f .n) (f .prefix) x) ∷ resultOrder f x out
+abbrev pub ResultLengthCause : Formula → ℕ → Causes
+ResultLengthCause f x = At0 2 (OfExpanded f x Long)
 
--- the order of the call: that of check, 13, 1, 2, 14
+abbrev pub ResultOutputCause : Formula → ℕ → ResultTables → Causes
+ResultOutputCause f x out = At0 14 (OfExpanded f x (Short out))
+
+-- the order of the call: 23, 1, 2, prefix from the left, clause literals from the left, 13, and of the result 1, 2, 14
 abbrev pub expandOrder : ℕ → Formula → ℕ → ResultTables → List Causes
-expandOrder rule f x out = checkOrder rule f ++ behindExpand (readBy rule f) x out
+expandOrder rule f x out =
+    RuleCause rule ∷ VariableCount (f .n) ∷ LengthCause (f .prefix) (length (f .clauses)) ∷ PrefixCauseBy rule (f .n) (f .prefix)
+    ∷ ClauseCause (f .n) (f .clauses) ∷ AskedCause (f .n) (readAs rule (f .prefix)) x ∷ ResultCountCause (readBy rule f) x
+    ∷ ResultLengthCause (readBy rule f) x ∷ ResultOutputCause (readBy rule f) x out ∷ []
 
 -- What is left of a formula that is written: n and the two counts of entries, and both tables in front, with nothing past them changed.
 pub record Leaves (out out′ : ResultTables) (count entries literals : ℕ) (g : Formula) : Type 0 where

@@ -10,13 +10,14 @@ use Rattle.terms.specs.declared.Filled.{Filled}
 use Rattle.terms.specs.declared.Loaded.{Loaded}
 use Rattle.terms.proofs.Answers.{carry-filling}
 use Rattle.terms.proofs.Orders.{Carries, exchanged, one-more, behind}
-use Rattle.formula.specs.Causes.{ClauseCause}
+use Rattle.formula.specs.Causes.{VariableCount, LengthCause, ClauseCause}
 use Rattle.formula.specs.Lent.{Formula, formulaOf}
-use Rattle.formula_rules.specs.Rules.{readAs, NoRule, ruledPrefix}
+use Rattle.formula_rules.specs.Rules.{readAs, RuleCause, PrefixCauseBy, ruledPrefix}
 use Rattle.formula_rules.proofs.Agreement.{both-accept, one-to-two, two-to-one}
 use Rattle.file_format.specs.Layout.{FileWith}
 use Rattle.file_format.specs.Places.{countIn, prefixIn, clausesIn, formulaHeld}
-use Rattle.file_format.specs.Causes.{ForestFileCause, Lent, NoRoom, fileOrder, afterRule, behindStore}
+use Rattle.file_format.specs.Causes.{ForestFileCause, Lent, NoRoom}
+use Rattle.file_format.specs.InnerOrders.{fileOrder, behindStore}
 use Rattle.file_format.specs.Promises.{Stores, Loading, Loads}
 use Rattle.file_format.proofs.Orders.{carry-loading}
 
@@ -34,6 +35,10 @@ module _ (file : List ℕ) (lent lent′ : Lent) (answer : Loaded) where
   abbrev front : ℕ → List Causes
   front rule = ruledPrefix rule (countIn file) (prefixIn file) (length (clausesIn file))
 
+  -- the same without 23
+  abbrev unruled : ℕ → List Causes
+  unruled rule = VariableCount (countIn file) ∷ LengthCause (prefixIn file) (length (clausesIn file)) ∷ PrefixCauseBy rule (countIn file) (prefixIn file) ∷ []
+
   abbrev as-read : List ℕ → Formula
   as-read es = formulaOf (countIn file) es (clausesIn file)
 
@@ -41,15 +46,15 @@ module _ (file : List ℕ) (lent lent′ : Lent) (answer : Loaded) where
   later es = ClauseCause (countIn file) (clausesIn file) ∷ ForestFileCause (as-read es) file ∷ At0 14 (NoRoom (formulaHeld file) lent) ∷ []
 
   abbrev order : ℕ → List ℕ → List Causes
-  order rule es = At0 23 (NoRule rule) ∷ (fileOrder file ++ (afterRule (front rule) ++ later es))
+  order rule es = RuleCause rule ∷ (fileOrder file ++ (unruled rule ++ later es))
 
   load-too : (rule other : ℕ) → NoneOf (front rule) → NoneOf (front other) → readAs rule (prefixIn file) ≡ readAs other (prefixIn file)
       → Loads rule file lent lent′ answer → Loads other file lent lent′ answer
   load-too rule other from to same loads =
       let es = readAs other (prefixIn file) in
       carry-loading (as-read es) file lent lent′ answer (order rule es) (order other es)
-      (one-more (At0 23 (NoRule rule)) (At0 23 (NoRule other)) (λ k p c. absurd (from .0 k p c)) (λ k p c. absurd (to .0 k p c))
-      (behind (fileOrder file) (exchanged (afterRule (front rule)) (afterRule (front other)) (later es) (from .1) (to .1))))
+      (one-more (RuleCause rule) (RuleCause other) (λ k p c. absurd (from .0 k p c)) (λ k p c. absurd (to .0 k p c))
+      (behind (fileOrder file) (exchanged (unruled rule) (unruled other) (later es) (from .1) (to .1))))
       (subst (λ (read : List ℕ). Loading (order rule read) (as-read read) file lent lent′ answer) same loads)
 
   pub load-agrees : NoneOf (front 1) → Loads 1 file lent lent′ answer ↔ Loads 2 file lent lent′ answer

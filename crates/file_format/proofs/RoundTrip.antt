@@ -22,8 +22,8 @@ use Rattle.file_format.specs.Numbers.{numberBytes, bytesOf, numbersAt, l
 use Rattle.file_format.specs.Layout.{prefixKind, clausesKind, rowsKind, setsKind, closingKind, prefixRecord, clausesRecord, rowsRecord}
 use Rattle.file_format.specs.Layout.{closingRecord, recordBytes, ForestRows, StandardSets, SetsRecord, FileWith}
 use Rattle.file_format.specs.Places.{sizeAt, kindAt, secondAt, thirdAt, fourthAt, hasSets, countIn, prefixIn, clausesIn, formulaHeld, Holds}
-use Rattle.file_format.specs.Causes.{fileBytes, RightRows, RightSets, ForestFileCause, Lent, NoRoom, Roomy, fileOrder, afterRule, loadOrder}
-use Rattle.file_format.specs.Causes.{behindStore}
+use Rattle.file_format.specs.Causes.{fileBytes, RightRows, RightSets, ForestFileCause, Lent, NoRoom, Roomy, loadOrder}
+use Rattle.file_format.specs.InnerOrders.{fileOrder, tableOrder, behindStore}
 use Rattle.file_format.specs.Promises.{Stores, storedIn, Loads}
 use Rattle.file_format.proofs.Orders.{none-first}
 use Rattle.file_format.proofs.Short.{file-short, in-front}
@@ -203,7 +203,7 @@ module _ (rule : ℕ) (f : Formula) (sets-record file : List ℕ) (none : NoneOf
     pub clear : NoneOf (loadOrder rule file lent)
     clear =
         let later = ForestFileCause read file ∷ At0 14 (NoRoom (formulaHeld file) lent) ∷ [] in
-        let order = afterRule (checkOrder rule (formulaHeld file)) in (
+        let order = tableOrder rule (formulaHeld file) in (
           none .0,
           accepted-then (fileOrder file) (order ++ later) Accepted refl file-clear
               (accepted-then order later Accepted refl (subst (λ (h : Formula). NoneOf (checkOrder rule h)) (sym held) none .1)

@@ -11,7 +11,8 @@ use Rattle.terms.proofs.Orders.{none-later}
 use Rattle.formula.specs.Lent.{Formula}
 use Rattle.formula_rules.specs.Rules.{readAs, checkOrder}
 use Rattle.file_format.specs.Layout.{prefixRecord, clausesRecord, rowsRecord, closingRecord, FileWith, FileOf}
-use Rattle.file_format.specs.Causes.{FileTooLarge, behindStore}
+use Rattle.file_format.specs.Causes.{FileTooLarge}
+use Rattle.file_format.specs.InnerOrders.{behindStore}
 use Rattle.file_format.specs.Promises.{Stores}
 use Rattle.file_format.proofs.Lengths.{prefix-length, clauses-length, rows-length, closing-length}
 

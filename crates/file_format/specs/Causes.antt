@@ -10,8 +10,9 @@ use lib.ListN.{length}
 use denote.Ref.{RefT, now}
 use denote.Triple.Both.{Both}
 use Rattle.terms.specs.Refusals.{Causes, At0}
+use Rattle.formula.specs.Causes.{VariableCount, LengthCause, ClauseCause}
 use Rattle.formula.specs.Lent.{Formula}
-use Rattle.formula_rules.specs.Rules.{NoRule, readAs, readBy, checkOrder}
+use Rattle.formula_rules.specs.Rules.{readAs, readBy, RuleCause, PrefixCauseBy}
 use Rattle.forest_tables.specs.Lent.{Rows, rowsIn, rowsOut}
 use Rattle.file_format.specs.Layout.{prefixKind, clausesKind, closingKind, ForestRows, StandardSets, FileWith, SumsToZero}
 use Rattle.file_format.specs.Places.{sizeAt, kindAt, nextAt, Reached, RecordAt, mayFollow, thirdAt, fourthAt, hasSets, formulaHeld, Holds}
@@ -23,6 +24,9 @@ fileBytes = 262144
 -- 19, for a file too long: tested first, place 0
 abbrev pub TooLarge : List ℕ → Type 0
 TooLarge file = fileBytes < length file
+
+abbrev pub LargeCause : List ℕ → Causes
+LargeCause file = At0 19 (TooLarge file)
 
 -- 19: the place is where the record begins
 pub data RecordCause (file : List ℕ) (number place : ℕ) : Type 0 where
@@ -44,6 +48,10 @@ pub data OrderCause (file : List ℕ) (number place : ℕ) : Type 0 where
       → OrderCause file number place
   -- a kind missing: the file ends, and not behind kind 65,535
   missing : (before : ℕ) → number ≡ 20 → Reached file before place → place ≡ length file → before ≢ closingKind → OrderCause file number place
+
+-- 21: sum
+abbrev pub SumCause : List ℕ → Causes
+SumCause file = At0 21 (SumsToZero file → ⊥)
 
 -- the rows, and the sets, that kinds 3 and 4 have are those of a formula, in number and value
 abbrev pub RightRows : Formula → List ℕ → Rows → Type 0
@@ -88,21 +96,17 @@ Roomy f lent =
     (length (f .prefix) ≤ length (lent .prefix)) × (length (f .clauses) ≤ length (lent .clauses))
     × (f .n ≤ length (lent .rows .classes)) × (f .n ≤ length (lent .rows .parents)) × (f .n ≤ length (lent .rows .counts))
 
--- the order of reading: 23, which comes before all others (request 7), 19 (too long), 19, 20, 21 (sum), table refusals, 22, 14
-abbrev pub fileOrder : List ℕ → List Causes
-fileOrder file = At0 19 (TooLarge file) ∷ RecordCause file ∷ OrderCause file ∷ At0 21 (SumsToZero file → ⊥) ∷ []
+abbrev pub RoomCause : Formula → Lent → Causes
+RoomCause f lent = At0 14 (NoRoom f lent)
 
--- what an order that begins with 23 has after it
-abbrev pub afterRule : List Causes → List Causes
-afterRule [] = []
-afterRule (rule ∷ later) = later
-
+-- the order of reading: 23, which comes before all others (request 7), 19 (too long), 19, 20, 21, of the formula in the file 1, 2, prefix from the left
+-- and clause literals from the left, 22, 14
 abbrev pub loadOrder : ℕ → List ℕ → Lent → List Causes
 loadOrder rule file lent =
-    At0 23 (NoRule rule)
-    ∷ (fileOrder file
-    ++ (afterRule (checkOrder rule (formulaHeld file))
-    ++ (ForestFileCause (readBy rule (formulaHeld file)) file ∷ At0 14 (NoRoom (formulaHeld file) lent) ∷ [])))
+    RuleCause rule ∷ LargeCause file ∷ RecordCause file ∷ OrderCause file ∷ SumCause file ∷ VariableCount (formulaHeld file .n)
+    ∷ LengthCause (formulaHeld file .prefix) (length (formulaHeld file .clauses))
+    ∷ PrefixCauseBy rule (formulaHeld file .n) (formulaHeld file .prefix) ∷ ClauseCause (formulaHeld file .n) (formulaHeld file .clauses)
+    ∷ ForestFileCause (readBy rule (formulaHeld file)) file ∷ RoomCause (formulaHeld file) lent ∷ []
 
 -- 19 and 14, for writing a formula whose prefix is read so: its file is too long, which within the limits it never is (proofs/Short); it is longer
 -- than the table that is lent for it
@@ -112,10 +116,14 @@ FileTooLarge f read = (file : List ℕ) × FileWith f read [] file × TooLarge f
 abbrev pub FileTooLong : Formula → List ℕ → List ℕ → Type 0
 FileTooLong f read before = (file : List ℕ) × FileWith f read [] file × (length before < length file)
 
--- what is looked for behind check: 19, 14
-abbrev pub behindStore : Formula → List ℕ → List ℕ → List Causes
-behindStore f read before = At0 19 (FileTooLarge f read) ∷ At0 14 (FileTooLong f read before) ∷ []
+abbrev pub StoredLargeCause : Formula → List ℕ → Causes
+StoredLargeCause f read = At0 19 (FileTooLarge f read)
 
--- the order of writing: 23 and the table refusals, 19, 14
+abbrev pub StoredRoomCause : Formula → List ℕ → List ℕ → Causes
+StoredRoomCause f read before = At0 14 (FileTooLong f read before)
+
+-- the order of writing: 23, 1, 2, prefix from the left, clause literals from the left, 19, 14
 abbrev pub storeOrder : ℕ → Formula → List ℕ → List Causes
-storeOrder rule f before = checkOrder rule f ++ behindStore f (readAs rule (f .prefix)) before
+storeOrder rule f before =
+    RuleCause rule ∷ VariableCount (f .n) ∷ LengthCause (f .prefix) (length (f .clauses)) ∷ PrefixCauseBy rule (f .n) (f .prefix)
+    ∷ ClauseCause (f .n) (f .clauses) ∷ StoredLargeCause f (readAs rule (f .prefix)) ∷ StoredRoomCause f (readAs rule (f .prefix)) before ∷ []

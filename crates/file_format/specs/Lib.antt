@@ -4,3 +4,5 @@ pub mod Layout
 pub mod Places
 pub mod Causes
 pub mod Promises
+-- Inner, which nobody needs to believe.
+pub mod InnerOrders

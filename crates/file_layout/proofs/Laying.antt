@@ -13,7 +13,8 @@ use Rattle.terms.specs.declared.Verdict.{Verdict}
 use Rattle.terms.proofs.Verdicts.{at0-none, accepted-then}
 use Rattle.file_format.specs.Layout.{prefixKind, clausesKind, rowsKind, closingKind, SumsToZero}
 use Rattle.file_format.specs.Places.{sizeAt, kindAt, nextAt, secondAt, thirdAt, fourthAt, Reached, start, behind, mayFollow}
-use Rattle.file_format.specs.Causes.{fileBytes, TooLarge, RecordCause, cut, no-count, OrderCause, wrong, missing, fileOrder}
+use Rattle.file_format.specs.Causes.{fileBytes, TooLarge, RecordCause, cut, no-count, OrderCause, wrong, missing}
+use Rattle.file_format.specs.InnerOrders.{fileOrder}
 use Rattle.file_layout.specs.Laid.{Laid}
 use Rattle.file_layout.proofs.Heads.{after-start, after-prefix, after-clauses}
 use Rattle.file_layout.proofs.Walks.{reached-within}

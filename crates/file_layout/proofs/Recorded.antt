@@ -13,7 +13,8 @@ use Rattle.terms.specs.Refusals.{NoneOf}
 use Rattle.file_format.specs.Numbers.{numberAt, numbersAt, numberBytes, bytesOf, literalNumber}
 use Rattle.file_format.specs.Layout.{rowsKind, setsKind, closingKind, recordBytes, prefixRecord, clausesRecord, rowsRecord, closingRecord}
 use Rattle.file_format.specs.Places.{sizeAt, kindAt, nextAt, payloadAt, secondAt, thirdAt, fourthAt, hasSets, countIn, prefixIn, clausesIn, Reached, start, Holds}
-use Rattle.file_format.specs.Causes.{odd, part-literal, no-word, wrong, fileOrder}
+use Rattle.file_format.specs.Causes.{odd, part-literal, no-word, wrong}
+use Rattle.file_format.specs.InnerOrders.{fileOrder}
 use Rattle.file_format.proofs.Changed.{Bytes}
 use Rattle.file_layout.proofs.Heads.{after-rows, after-sets, after-other}
 use Rattle.file_layout.proofs.Walks.{reached-within}

@@ -20,7 +20,8 @@ use Rattle.formula_rules.proofs.Orders.{limits}
 use Rattle.forest_tables.specs.Lent.{Rows}
 use Rattle.file_format.specs.Layout.{setsKind, recordBytes, prefixRecord, clausesRecord, rowsRecord, closingRecord, SumsToZero, FileOf}
 use Rattle.file_format.specs.Places.{fourthAt, hasSets, countIn, prefixIn, clausesIn, formulaHeld}
-use Rattle.file_format.specs.Causes.{RightRows, ForestFileCause, Lent, NoRoom, fileOrder, afterRule, behindStore, storeOrder}
+use Rattle.file_format.specs.Causes.{RightRows, ForestFileCause, Lent, NoRoom, storeOrder}
+use Rattle.file_format.specs.InnerOrders.{fileOrder, tableOrder, behindStore}
 use Rattle.file_format.specs.Promises.{Stores, Loads, WithoutSets, as-it-is, refitted}
 use Rattle.file_format.proofs.Orders.{none-first}
 use Rattle.file_format.proofs.Changed.{Bytes, sums}
@@ -93,16 +94,16 @@ module _ (rule : ℕ) (file : List ℕ) (bytes : Bytes file) (lent lent′ : Len
   last = ForestFileCause (readBy rule f) file ∷ At0 14 (NoRoom f lent) ∷ []
 
   laid : NoneOf (fileOrder file)
-  laid = none-first (fileOrder file) (afterRule order ++ last) (loads .0 .1)
+  laid = none-first (fileOrder file) (tableOrder rule f ++ last) (loads .0 .1)
 
-  held : NoneOf (afterRule order ++ last)
-  held = none-later (fileOrder file) (afterRule order ++ last) (loads .0 .1)
+  held : NoneOf (tableOrder rule f ++ last)
+  held = none-later (fileOrder file) (tableOrder rule f ++ last) (loads .0 .1)
 
   accepted : NoneOf order
-  accepted = (loads .0 .0, none-first (afterRule order) last held)
+  accepted = (loads .0 .0, none-first (tableOrder rule f) last held)
 
   roomy : ¬ (NoRoom f lent)
-  roomy short = none-later (afterRule order) last held .1 .0 14 0 (refl, refl, short)
+  roomy short = none-later (tableOrder rule f) last held .1 .0 14 0 (refl, refl, short)
 
   without : (w : List ℕ) → FileOf rule f w → WithoutSets file (hasSets file) w
   without = drops rule file bytes laid (sums rule file lent (loads .0)) (loads .5 .rows) (loads .5 .right)

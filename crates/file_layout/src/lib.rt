@@ -17,7 +17,8 @@ ghost use Rattle.terms.specs.Refusals.{At0, None, Judged};
 ghost use Rattle.forest_tables.specs.Rows.{Tells};
 ghost use Rattle.file_format.specs.Layout.{SumsToZero};
 ghost use Rattle.file_format.specs.Places.{RecordAt, mayFollow};
-ghost use Rattle.file_format.specs.Causes.{fileBytes, RecordCause, OrderCause, fileOrder};
+ghost use Rattle.file_format.specs.Causes.{fileBytes, RecordCause, OrderCause};
+ghost use Rattle.file_format.specs.InnerOrders.{fileOrder};
 ghost use Rattle.file_layout.specs.Laid.{WrongSize};
 
 // The first cause of refusals 19 to 21 in a file.

@@ -12,12 +12,13 @@ use Rattle.terms.specs.declared.Verdict.the-variants.{Accepted, Refused}
 use Rattle.terms.proofs.Orders.{Carries, carry-judged, exchanged}
 use Rattle.terms.proofs.Verdicts.{at0-first, at0-none, refused-first, accepted-then}
 use Rattle.formula.specs.Lent.{Formula}
-use Rattle.formula_rules.specs.Rules.{NoRule}
+use Rattle.formula_rules.specs.Rules.{NoRule, readBy}
 use Rattle.file_format.specs.Places.{formulaHeld}
-use Rattle.file_format.specs.Causes.{fileOrder, afterRule}
+use Rattle.file_format.specs.Causes.{ForestFileCause}
+use Rattle.file_format.specs.InnerOrders.{fileOrder, tableOrder}
 use Rattle.file_layout.specs.Laid.{Laid}
 use Rattle.file_layout.proofs.Laying.{file-laid}
-use Rattle.file_verify.specs.Verified.{IsRule, Finds, Judges, contentsOrder, verifyOrder, Verifies}
+use Rattle.file_verify.specs.Verified.{IsRule, Finds, Judges, verifyOrder, Verifies}
 
 -- What is found by one order is found by another that says as much.
 pub carry-finds : (f : Formula) (file : List ℕ) (v : Verdict) (order order′ : List Causes) → Carries order order′
@@ -43,7 +44,7 @@ no-rule rule file none = (inl (at0-first 23 (λ one. none (inl one), λ two. non
 
 module _ (rule : ℕ) (file : List ℕ) (is : IsRule rule) where
   abbrev later : List Causes
-  later = afterRule (contentsOrder rule (formulaHeld file) file)
+  later = tableOrder rule (formulaHeld file) ++ (ForestFileCause (readBy rule (formulaHeld file)) file ∷ [])
 
   pub records-refused : {v : Verdict} {k p : ℕ} → v ≡ Refused k p → Judged (fileOrder file) v → Verifies rule file (Refused k p)
   records-refused q judged = (inr (rule-none is, refused-first (fileOrder file) later q judged), tt)

@@ -3,13 +3,13 @@ use Prim.Native.Nat.{ℕ, _+_, _*_}
 use mathlib.Core.Path.{_≡_}
 use mathlib.Core.List.{List, [], _∷_, _++_}
 use mathlib.Core.Logic.{_⊎_}
-use Rattle.terms.specs.Refusals.{Causes, At0, Judged}
+use Rattle.terms.specs.Refusals.{Causes, Judged}
 use Rattle.terms.specs.declared.Verdict.{Verdict}
 use Rattle.terms.specs.declared.Verdict.the-variants.{Accepted, Refused}
 use Rattle.formula.specs.Lent.{Formula}
 use Rattle.formula.specs.Levels.{SoundPrefix}
 use Rattle.formula.specs.Lookup.{SoundClauses}
-use Rattle.formula_rules.specs.Rules.{NoRule, readBy, checkOrder}
+use Rattle.formula_rules.specs.Rules.{RuleCause, readBy, checkOrder}
 use Rattle.forest_theory.specs.Tables.{lent}
 use Rattle.forest_theory.specs.Forest.{Forest}
 use Rattle.forest_tables.specs.Formula.{Shares}
@@ -17,7 +17,8 @@ use Rattle.forest_tables.specs.Lent.{Rows, rows, variablesOf}
 use Rattle.sets_occurrences.specs.Threads.{Closed}
 use Rattle.file_format.specs.Numbers.{numbersAt}
 use Rattle.file_format.specs.Places.{payloadAt, thirdAt, countIn, formulaHeld}
-use Rattle.file_format.specs.Causes.{RightRows, ForestFileCause, fileOrder, afterRule}
+use Rattle.file_format.specs.Causes.{RightRows, ForestFileCause}
+use Rattle.file_format.specs.InnerOrders.{fileOrder, tableOrder}
 
 -- the number of a reading rule
 abbrev pub IsRule : ℕ → Type 0
@@ -69,7 +70,8 @@ Judges rule f file = Finds (contentsOrder rule f file) (readBy rule f) file
 
 -- the verdict on the whole file: 23, those of its records, and those of what it holds
 abbrev pub verifyOrder : ℕ → List ℕ → List Causes
-verifyOrder rule file = At0 23 (NoRule rule) ∷ (fileOrder file ++ afterRule (contentsOrder rule (formulaHeld file) file))
+verifyOrder rule file =
+    RuleCause rule ∷ (fileOrder file ++ (tableOrder rule (formulaHeld file) ++ (ForestFileCause (readBy rule (formulaHeld file)) file ∷ [])))
 
 abbrev pub Verifies : ℕ → List ℕ → Verdict → Type 0
 Verifies rule file = Finds (verifyOrder rule file) (readBy rule (formulaHeld file)) file

@@ -10,7 +10,7 @@ use Rattle.terms.specs.declared.Filled.{Filled}
 use Rattle.formula.specs.Lent.{Formula}
 use Rattle.forest_tables.specs.Lent.{Rows}
 use Rattle.file_format.specs.Layout.{prefixRecord, clausesRecord, rowsRecord, closingRecord, FileWith}
-use Rattle.file_format.specs.Causes.{behindStore}
+use Rattle.file_format.specs.InnerOrders.{behindStore}
 use Rattle.file_bytes.specs.Parts.{closing}
 
 -- the records of the formula

@@ -16,7 +16,7 @@ use Rattle.formula.specs.Lent.{Formula, formulaOf}
 use Rattle.formula_rules.specs.Rules.{ruledPrefix}
 use Rattle.formula_rules.proofs.Agreement.{rules-agree}
 use Rattle.forest_tables.specs.Lent.{Rows}
-use Rattle.forest.specs.Causes.{behindEntry, behindCheck}
+use Rattle.forest.specs.InnerOrders.{behindEntry, behindCheck}
 use Rattle.forest.specs.Answers.{Entry, SizeBy, EntryAnswered, ListedFor, Sized}
 
 module _ (f : Formula) (r : Rows) (x : ℕ) where

@@ -24,7 +24,7 @@ use Rattle.forest_members.specs.declared.Asked.{Asked}
 use Rattle.forest_members.specs.declared.Asked.the-variants.{Points, Set}
 use Rattle.forest_members.specs.Picked.{pick, picked, Picks}
 use Rattle.forest_members.proofs.Picked.{picked-listed}
-use Rattle.forest.specs.Causes.{behindCheck}
+use Rattle.forest.specs.InnerOrders.{behindCheck}
 use Rattle.forest.specs.Answers.{EntriesBy, MembersBy, SizeBy}
 use Rattle.forest.specs.Wanted.{Enters, Wanted}
 use Rattle.forest.proofs.Entered.{of-within, members-of}

@@ -24,7 +24,7 @@ ghost use Rattle.formula.specs.Lookup.{SoundClauses};
 ghost use Rattle.formula.specs.Lent.{formulaIn};
 ghost use Rattle.forest_tables.specs.Counting.{FormedBy};
 ghost use Rattle.forest_tables.specs.Lent.{rows, rowsIn};
-ghost use Rattle.forest.specs.Causes.{behindCheck};
+ghost use Rattle.forest.specs.InnerOrders.{behindCheck};
 ghost use Rattle.forest.specs.Wanted.{Enters};
 
 // Refusals 12 and 13 of an accepted formula, and where there is none the flags of all entry points of x by the scheme, and rows `tops` that say for

@@ -36,7 +36,7 @@ ghost use Rattle.formula.specs.Levels.{SoundPrefix};
 ghost use Rattle.formula.specs.Lookup.{SoundClauses};
 ghost use Rattle.forest_tables.specs.Counting.{FormedBy};
 ghost use Rattle.forest_tables.specs.Lent.{rows, rowsIn};
-ghost use Rattle.forest.specs.Causes.{behindEntry, behindCheck};
+ghost use Rattle.forest.specs.InnerOrders.{behindEntry, behindCheck};
 ghost use Rattle.forest.specs.Answers.{Entry, MembersBy, SizeBy, EntryAnswered, ListedFor, EntriesListed, SetListed, Sized};
 ghost use Rattle.forest.specs.Wanted.{Lists, Wanted};
 

@@ -2,7 +2,7 @@
 -- and the clause call look for them.
 use Prim.Native.Nat.{ℕ, suc, _<_, _≤_}
 use mathlib.Core.Path.{_≡_}
-use mathlib.Core.List.{List, [], _∷_, _++_}
+use mathlib.Core.List.{List, [], _∷_}
 use mathlib.Core.Logic.{_⊎_, _≢_}
 use lib.ListN.{length}
 use lib.IntN.{ℤ, pos}
@@ -22,6 +22,13 @@ PrefixLong es = prefixEntries < length es
 
 abbrev pub ClausesLong : ℕ → Type 0
 ClausesLong entries = clauseEntries < entries
+
+-- so of what is lent to a call: a prefix, and beside it so many clause entries, 0 where the call takes none; or a clause table alone
+abbrev pub LengthCause : List ℕ → ℕ → Causes
+LengthCause es entries = At0 2 (PrefixLong es ⊎ ClausesLong entries)
+
+abbrev pub ClausesLengthCause : List ℤ → Causes
+ClausesLengthCause ls = At0 2 (ClausesLong (length ls))
 
 -- 3 to 9, from the left
 pub data PrefixCause (n : ℕ) (es : List ℕ) (number e : ℕ) : Type 0 where
@@ -47,15 +54,18 @@ pub data ClauseCause (n : ℕ) (ls : List ℤ) (number e : ℕ) : Type 0 where
   -- 11: clause table ends inside a clause; place its length
   ends-inside : number ≡ 11 → e ≡ length ls → EndsInside (pos 0) ls → ClauseCause n ls number e
 
--- what every call that takes a prefix looks at first: 1, 2, prefix from the left; beside it so many clause entries are lent, 0 where a call takes
--- none
+-- 13: clause number not below the count
+abbrev pub NumberCause : List ℤ → ℕ → Causes
+NumberCause ls asked = At0 13 (length (clauses ls) ≤ asked)
+
+-- the order of a prefix alone, beside which so many clause entries are lent: 1, 2, prefix from the left
 abbrev pub prefixOrder : ℕ → List ℕ → ℕ → List Causes
-prefixOrder n es entries = VariableCount n ∷ At0 2 (PrefixLong es ⊎ ClausesLong entries) ∷ PrefixCause n es ∷ []
+prefixOrder n es entries = VariableCount n ∷ LengthCause es entries ∷ PrefixCause n es ∷ []
 
 -- the order of check: 1, 2, prefix from the left, clause literals from the left
 abbrev pub checkOrder : ℕ → List ℕ → List ℤ → List Causes
-checkOrder n es ls = prefixOrder n es (length ls) ++ (ClauseCause n ls ∷ [])
+checkOrder n es ls = VariableCount n ∷ LengthCause es (length ls) ∷ PrefixCause n es ∷ ClauseCause n ls ∷ []
 
--- the order of the clause call: 1, 2, clause literals from the left, 13: clause number not below the count
+-- the order of the clause call: 1, 2, clause literals from the left, 13
 abbrev pub clauseOrder : ℕ → List ℤ → ℕ → List Causes
-clauseOrder n ls asked = VariableCount n ∷ At0 2 (ClausesLong (length ls)) ∷ ClauseCause n ls ∷ At0 13 (length (clauses ls) ≤ asked) ∷ []
+clauseOrder n ls asked = VariableCount n ∷ ClausesLengthCause ls ∷ ClauseCause n ls ∷ NumberCause ls asked ∷ []

@@ -2,14 +2,14 @@
 use Prim.Native.Nat.{ℕ, zero, suc, _<_}
 use mathlib.Core.Path.{_≡_}
 use mathlib.Core.Bool.{Bool, true, false, cond, not, _&&_}
-use mathlib.Core.List.{List, [], _∷_, _++_}
-use mathlib.Core.Logic.{_⊎_, _≢_}
+use mathlib.Core.List.{List, [], _∷_}
+use mathlib.Core.Logic.{_≢_}
 use lib.Dec.{eqb, ltb}
 use lib.ListN.{length}
 use Rattle.terms.specs.Limits.{mostBlocks}
 use Rattle.terms.specs.Refusals.{Causes, At0}
 use Rattle.formula.specs.Tables.{at, opens, MarkAt, VariableAt, EndsInside}
-use Rattle.formula.specs.Causes.{VariableCount, PrefixLong, ClausesLong, PrefixCause, ClauseCause}
+use Rattle.formula.specs.Causes.{VariableCount, LengthCause, PrefixCause, ClauseCause}
 use Rattle.formula.specs.Lent.{Formula, formulaOf}
 use Rattle.formula_rules.specs.Joined.{joinedPrefix}
 
@@ -64,9 +64,12 @@ PrefixCauseBy rule n es = causesIf (eqb rule 2) n es
 abbrev pub NoRule : ℕ → Type 0
 NoRule rule = (rule ≢ 1) × (rule ≢ 2)
 
--- what every call that takes a rule and a prefix looks at first: 23 before all others, 1, 2, prefix from the left; beside it so many clause entries are lent
+abbrev pub RuleCause : ℕ → Causes
+RuleCause rule = At0 23 (NoRule rule)
+
+-- the order of a prefix alone under a rule, beside which so many clause entries are lent: 23 before all others, 1, 2, prefix from the left
 abbrev pub ruledPrefix : ℕ → ℕ → List ℕ → ℕ → List Causes
-ruledPrefix rule n es entries = At0 23 (NoRule rule) ∷ VariableCount n ∷ At0 2 (PrefixLong es ⊎ ClausesLong entries) ∷ PrefixCauseBy rule n es ∷ []
+ruledPrefix rule n es entries = RuleCause rule ∷ VariableCount n ∷ LengthCause es entries ∷ PrefixCauseBy rule n es ∷ []
 
 -- a formula as a rule reads it: its prefix as the rule reads that, and all else as it is lent
 abbrev pub readBy : ℕ → Formula → Formula
@@ -74,4 +77,6 @@ readBy rule f = formulaOf (f .n) (readAs rule (f .prefix)) (f .clauses)
 
 -- the order of check under a rule: 23, 1, 2, prefix from the left, clause literals from the left
 abbrev pub checkOrder : ℕ → Formula → List Causes
-checkOrder rule f = ruledPrefix rule (f .n) (f .prefix) (length (f .clauses)) ++ (ClauseCause (f .n) (f .clauses) ∷ [])
+checkOrder rule f =
+    RuleCause rule ∷ VariableCount (f .n) ∷ LengthCause (f .prefix) (length (f .clauses)) ∷ PrefixCauseBy rule (f .n) (f .prefix)
+    ∷ ClauseCause (f .n) (f .clauses) ∷ []

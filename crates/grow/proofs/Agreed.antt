@@ -11,7 +11,8 @@ use Rattle.formula.specs.Lent.{Formula}
 use Rattle.formula_rules.specs.Rules.{ruledPrefix}
 use Rattle.formula_rules.proofs.Agreement.{rules-agree}
 use Rattle.forest_tables.specs.Formula.{variables, Shares}
-use Rattle.grow.specs.Grown.{Standing, many, TooShort, TallyOf, behindAdd, Rewrites, AddsBehind, Builds, Adds}
+use Rattle.grow.specs.Grown.{Standing, many, TooShort, TallyOf, Rewrites, AddsBehind, Builds, Adds}
+use Rattle.grow.specs.InnerOrders.{behindAdd}
 use Rattle.grow.proofs.Standings.{carry-rewrites}
 
 pub build-agrees : (f : Formula) (s s′ : Standing) (a : Filled) → NoneOf (ruledPrefix 1 (f .n) (f .prefix) (length (f .clauses)))

@@ -11,8 +11,9 @@ use Rattle.terms.specs.Answers.{verdictOf}
 use Rattle.terms.specs.Refusals.{Causes, At0, Judged}
 use Rattle.terms.specs.declared.Filled.{Filled}
 use Rattle.terms.specs.declared.Filled.the-variants.{Count, Refused}
+use Rattle.formula.specs.Causes.{VariableCount, LengthCause, ClauseCause}
 use Rattle.formula.specs.Lent.{Formula}
-use Rattle.formula_rules.specs.Rules.{readAs, readBy, ruledPrefix, checkOrder}
+use Rattle.formula_rules.specs.Rules.{readAs, readBy, RuleCause, PrefixCauseBy}
 use Rattle.formula.specs.Meaning.{clauses, connected}
 use Rattle.forest_tables.specs.Causes.{ForestCause}
 use Rattle.forest_tables.specs.Lent.{Rows, rowsIn, rowsOut, variablesOf}
@@ -59,21 +60,24 @@ many ls = length (clauses ls)
 abbrev pub TooShort : ℕ → Standing → Type 0
 TooShort n s = (length (s .rows .classes) < n) ⊎ ((length (s .rows .parents) < n) ⊎ (length (s .rows .counts) < n))
 
--- the order of build: that of check, then 14
+abbrev pub RowsCause : ℕ → Standing → Causes
+RowsCause n s = At0 14 (TooShort n s)
+
+-- the order of build: 23, 1, 2, prefix from the left, clause literals from the left, 14
 abbrev pub buildOrder : ℕ → Formula → Standing → List Causes
-buildOrder rule f s = checkOrder rule f ++ (At0 14 (TooShort (f .n) s) ∷ [])
+buildOrder rule f s =
+    RuleCause rule ∷ VariableCount (f .n) ∷ LengthCause (f .prefix) (length (f .clauses)) ∷ PrefixCauseBy rule (f .n) (f .prefix)
+    ∷ ClauseCause (f .n) (f .clauses) ∷ RowsCause (f .n) s ∷ []
 
 -- 18: a tally that does not fit the rows
 abbrev pub TallyCause : Variables → Standing → Causes
 TallyCause X s = At0 18 (WrongTally (s .tally) (classNames X s) (existentials X))
 
--- what add looks for behind the prefix, where that is read as es: the clause's literals from the left, 12, 18
-abbrev pub behindAdd : ℕ → List ℕ → Standing → List ℤ → List Causes
-behindAdd n es s ls = AddedCause n ls ∷ ForestCause n es (s .rows) ∷ TallyCause (variables n es) s ∷ []
-
 -- the order of add: 23, 1, 2, prefix from the left, the clause's literals from the left, 12, 18
 abbrev pub addOrder : ℕ → ℕ → List ℕ → Standing → List ℤ → List Causes
-addOrder rule n es s ls = ruledPrefix rule n es (length ls) ++ behindAdd n (readAs rule es) s ls
+addOrder rule n es s ls =
+    RuleCause rule ∷ VariableCount n ∷ LengthCause es (length ls) ∷ PrefixCauseBy rule n es ∷ AddedCause n ls
+    ∷ ForestCause n (readAs rule es) (s .rows) ∷ TallyCause (variables n (readAs rule es)) s ∷ []
 
 -- the joins that the lent tables stand for, with a clause added; one that is always true adds none
 abbrev pub Extended : Variables → Table → List ℤ → ℕ → ℕ → Type 0

@@ -1,3 +1,4 @@
 -- The definitions of growth: first what the two calls promise, then what their inner functions do, which only proofs rest on.
 pub mod Grown
 pub mod Rows
+pub mod InnerOrders

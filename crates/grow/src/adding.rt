@@ -26,7 +26,8 @@ ghost use Rattle.forest_tables.specs.Causes.{ForestCause};
 ghost use Rattle.forest_tables.specs.Counting.{FormedBy};
 ghost use Rattle.forest_tables.specs.Formula.{variables};
 ghost use Rattle.forest_tables.specs.Lent.{rowsIn};
-ghost use Rattle.grow.specs.Grown.{standingIn, standingOut, TallyCause, behindAdd, Extended, AddsBehind};
+ghost use Rattle.grow.specs.Grown.{standingIn, standingOut, TallyCause, Extended, AddsBehind};
+ghost use Rattle.grow.specs.InnerOrders.{behindAdd};
 ghost use Rattle.grow_rows.specs.Rows.{Rowed, Recounted};
 ghost use Rattle.grow.specs.Rows.{Room};
 

@@ -11,7 +11,8 @@ use Rattle.formula.specs.Lent.{Formula, formulaOf}
 use Rattle.formula_rules.specs.Rules.{readAs, readBy, checkOrder}
 use Rattle.forest_tables.specs.Formula.{variables}
 use Rattle.forest_tables.specs.Lent.{Rows}
-use Rattle.sets.specs.Sets.{AllSetsBy, behindSets, setsOrder, SetsListed}
+use Rattle.sets.specs.Sets.{AllSetsBy, setsOrder, SetsListed}
+use Rattle.sets.specs.InnerOrders.{behindSets}
 use Rattle.sets.proofs.Records.{records-as}
 use Rattle.sets.proofs.Settled.{sets-settled}
 use Rattle.grow_reduced.specs.Reduced.{Reduction}

@@ -18,7 +18,8 @@ use Rattle.formula_rules.specs.Rules.{readAs, readBy, checkOrder}
 use Rattle.forest_tables.specs.Formula.{variables, Shares}
 use Rattle.forest_tables.specs.Lent.{Rows}
 use Rattle.forest_tables.specs.Causes.{ForestCause}
-use Rattle.forest.specs.Causes.{NotUniversal, behindCheck, askOrder, listOrder}
+use Rattle.forest.specs.Causes.{NotUniversal, askOrder, listOrder}
+use Rattle.forest.specs.InnerOrders.{behindCheck}
 use Rattle.forest.specs.Answers.{EntriesBy, MembersBy, EntriesListed, SetListed, Sized}
 use Rattle.forest.proofs.Demands.{list-settled, size-settled}
 use Rattle.grow.specs.Grown.{Standing, many, TooShort, TallyOf, Leaves, Builds}

@@ -30,7 +30,8 @@ use Rattle.forest.specs.Answers.{DependsBy}
 use Rattle.forest.specs.Causes.{NotDeeper}
 use Rattle.forest.proofs.Demands.{universal-alone}
 use Rattle.path_check.specs.Paths.{Acceptable}
-use Rattle.path_check.specs.Causes.{Misnamed, pairOrder, pathOrder, PathJudged}
+use Rattle.path_check.specs.Causes.{Misnamed, pathOrder, PathJudged}
+use Rattle.path_check.specs.InnerOrders.{pairOrder}
 use Rattle.path_check.proofs.Agreeing.{deep-not}
 use Rattle.path_check.proofs.Acceptance.{acceptable-exactly}
 use Rattle.path_check.proofs.Reached.{Trail, acceptable-below, path-reaches, trail, trail-ends, trail-short, trail-path}

@@ -23,7 +23,8 @@ use Rattle.forest_theory.proofs.Choice.{both}
 use Rattle.forest_theory.specs.Search.{has}
 use Rattle.formula_rules.specs.Rules.{readAs, checkOrder}
 use Rattle.forest_tables.specs.Formula.{variables, universal}
-use Rattle.path_check.specs.Causes.{Misnamed, NumberOver, PathCause, pairOrder, PathJudged}
+use Rattle.path_check.specs.Causes.{Misnamed, NumberOver, PathCause, PathJudged}
+use Rattle.path_check.specs.InnerOrders.{pairOrder}
 use Rattle.path_check.proofs.Deciding.{hasVariable, isDeep, common, shares, joins, fails, scan, judge, judge-judged}
 
 abbrev es : List ℕ

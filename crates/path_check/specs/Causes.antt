@@ -3,18 +3,19 @@
 use Prim.Native.Nat.{ℕ, suc, _<_, _≤_}
 use mathlib.Core.Path.{_≡_}
 use mathlib.Core.Bool.{true}
-use mathlib.Core.List.{List, [], _∷_, _++_}
+use mathlib.Core.List.{List, [], _∷_}
 use mathlib.Core.Logic.{_⊎_}
 use lib.IntN.{ℤ}
 use lib.ListN.{length}
 use Rattle.terms.specs.Refusals.{Causes, At0, Judged}
 use Rattle.terms.specs.declared.Verdict.{Verdict}
+use Rattle.formula.specs.Causes.{VariableCount, LengthCause, ClauseCause}
 use Rattle.formula.specs.Lent.{Formula}
 use Rattle.formula.specs.Meaning.{clauses, alwaysTrue}
 use Rattle.formula.specs.Tables.{at}
 use Rattle.forest_theory.specs.Reach.{Variables}
 use Rattle.forest.specs.Causes.{NotUniversal, NotDeeper}
-use Rattle.formula_rules.specs.Rules.{readBy, checkOrder}
+use Rattle.formula_rules.specs.Rules.{readBy, RuleCause, PrefixCauseBy}
 use Rattle.forest_tables.specs.Lent.{variablesOf}
 use Rattle.path_check.specs.Paths.{clauseAt, HasVariable, Shared}
 
@@ -25,6 +26,9 @@ NumberOver count path = (i : ℕ) × (i < length path) × (count ≤ at path i)
 -- 13: x not universal; y not existential and deeper than x; some clause number not below the count
 abbrev pub Misnamed : Formula → ℕ → ℕ → List ℕ → Type 0
 Misnamed f x y path = NotUniversal (f .n) (f .prefix) x ⊎ (NotDeeper (f .n) (f .prefix) x y ⊎ NumberOver (length (clauses (f .clauses))) path)
+
+abbrev pub MisnamedCause : Formula → ℕ → ℕ → List ℕ → Causes
+MisnamedCause f x y path = At0 13 (Misnamed f x y path)
 
 -- 24: the path is empty, or fails at an entry
 pub data PathCause (X : Variables) (ls : List ℤ) (x y : ℕ) (path : List ℕ) (number place : ℕ) : Type 0 where
@@ -39,13 +43,11 @@ pub data PathCause (X : Variables) (ls : List ℤ) (x y : ℕ) (path : List ℕ)
   -- the last clause does not have y
   without-y : number ≡ 24 → suc place ≡ length path → (HasVariable ls (at path place) y → ⊥) → PathCause X ls x y path number place
 
--- what the path check looks for behind check, in the formula as it is read: 13 for x, y and every clause number, then 24
-abbrev pub pairOrder : Formula → ℕ → ℕ → List ℕ → List Causes
-pairOrder f x y path = At0 13 (Misnamed f x y path) ∷ PathCause (variablesOf f) (f .clauses) x y path ∷ []
-
--- the order of the path check: that of check, 13, 24
+-- the order of the path check: 23, 1, 2, prefix from the left, clause literals from the left, 13 for x, y and every clause number, 24
 abbrev pub pathOrder : ℕ → Formula → ℕ → ℕ → List ℕ → List Causes
-pathOrder rule f x y path = checkOrder rule f ++ pairOrder (readBy rule f) x y path
+pathOrder rule f x y path =
+    RuleCause rule ∷ VariableCount (f .n) ∷ LengthCause (f .prefix) (length (f .clauses)) ∷ PrefixCauseBy rule (f .n) (f .prefix)
+    ∷ ClauseCause (f .n) (f .clauses) ∷ MisnamedCause (readBy rule f) x y path ∷ PathCause (variablesOf (readBy rule f)) (f .clauses) x y path ∷ []
 
 -- What the path check promises: its refusals in their order.
 abbrev pub PathJudged : ℕ → Formula → ℕ → ℕ → List ℕ → Verdict → Type 0

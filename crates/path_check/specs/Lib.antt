@@ -1,3 +1,4 @@
 pub mod Paths
 pub mod Causes
 pub mod Walk
+pub mod InnerOrders

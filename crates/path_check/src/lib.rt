@@ -25,7 +25,8 @@ ghost use Rattle.formula.specs.Levels.{SoundPrefix, Levelled};
 ghost use Rattle.formula.specs.Lookup.{SoundClauses};
 ghost use Rattle.formula.specs.Meaning.{clauses as Meaning·clauses};
 ghost use Rattle.forest_tables.specs.Tabled.{tabled};
-ghost use Rattle.path_check.specs.Causes.{NumberOver, PathCause, pairOrder, PathJudged};
+ghost use Rattle.path_check.specs.Causes.{NumberOver, PathCause, PathJudged};
+ghost use Rattle.path_check.specs.InnerOrders.{pairOrder};
 
 // Whether the path is acceptable for the pair (x, y), with the prefix read by a rule: its first clause has x, its last has y, neighbours share an
 // existential deeper than x, and none is always true. Refused with the first cause of 23, 1 to 11, 13 and 24.

@@ -26,7 +26,7 @@ use Rattle.forest_members.specs.Picked.{pick, picked}
 use Rattle.forest_members.proofs.Picked.{picked-listed}
 use Rattle.forest_entries.proofs.Flags.{literal-past}
 use Rattle.path_resolution.specs.Paths.{DependsByPaths}
-use Rattle.path_resolution.specs.Ends.{ReadClauses, Flags}
+use Rattle.path_resolution.specs.InnerEnds.{ReadClauses, Flags}
 use Rattle.path_resolution.proofs.Reaching.{depends-same}
 
 -- The two literals of x are each other's complement.

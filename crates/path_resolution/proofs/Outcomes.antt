@@ -15,7 +15,8 @@ use Rattle.formula.specs.Lent.{Formula, formulaOf}
 use Rattle.formula_rules.specs.Rules.{readBy, ruledPrefix}
 use Rattle.formula_rules.proofs.Agreement.{one-to-two, two-to-one}
 use Rattle.forest_tables.specs.Lent.{variablesOf}
-use Rattle.path_resolution.specs.Paths.{DependsByPaths, behindResolution, resolutionOrder, ResolutionListed}
+use Rattle.path_resolution.specs.Paths.{DependsByPaths, resolutionOrder, ResolutionListed}
+use Rattle.path_resolution.specs.InnerEnds.{behindResolution}
 
 -- Where rule 1 accepts the prefix, what is promised under one rule is promised under the other.
 pub resolution-agrees : (f : Formula) (x : ℕ) (before after : List ℕ) (r : Filled) → NoneOf (ruledPrefix 1 (f .n) (f .prefix) (length (f .clauses)))

@@ -23,7 +23,7 @@ use Rattle.forest_entries.proofs.Sides.{signed-variable}
 use Rattle.sets_occurrences.specs.Threads.{Threaded}
 use Rattle.path_resolution.specs.Paths.{Crosses, Path, enters, goes-on, DependsByPaths}
 use Rattle.path_resolution.specs.Walk.{marked, Passes, Walk, starts, steps, Walked, Chained, Rowed}
-use Rattle.path_resolution.specs.Ends.{Barred, ReadClauses, Ends, Pairs}
+use Rattle.path_resolution.specs.InnerEnds.{Barred, ReadClauses, Ends, Pairs}
 use Rattle.path_resolution.proofs.Places.{inside-less}
 use Rattle.path_resolution.proofs.Crossings.{passes-crosses}
 

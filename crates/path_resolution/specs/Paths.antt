@@ -3,21 +3,23 @@
 use Prim.Native.Nat.{ℕ, _<_}
 use mathlib.Core.Path.{_≡_}
 use mathlib.Core.Bool.{Bool, true, false, not}
-use mathlib.Core.List.{List, [], _∷_, _++_, List·Memᴰ}
+use mathlib.Core.List.{List, [], _∷_, List·Memᴰ}
 use mathlib.Core.Logic.{_≢_}
 use lib.IntN.{ℤ, negℤ}
-use Rattle.terms.specs.Answers.{TooLong, Listing}
+use lib.ListN.{length}
+use Rattle.terms.specs.Answers.{Listing}
 use Rattle.terms.specs.Limits.{mostResolutionVariables}
 use Rattle.terms.specs.Literals.{variableOf}
 use Rattle.terms.specs.Refusals.{Causes, At0}
 use Rattle.terms.specs.declared.Filled.{Filled}
+use Rattle.formula.specs.Causes.{VariableCount, LengthCause, ClauseCause}
 use Rattle.formula.specs.Lent.{Formula}
 use Rattle.formula.specs.Meaning.{clauses, alwaysTrue}
 use Rattle.forest_theory.specs.Reach.{Variables, Deeper}
-use Rattle.formula_rules.specs.Rules.{readBy, checkOrder}
+use Rattle.formula_rules.specs.Rules.{readAs, readBy, RuleCause, PrefixCauseBy}
 use Rattle.forest_tables.specs.Formula.{signed}
 use Rattle.forest_tables.specs.Lent.{variablesOf}
-use Rattle.forest.specs.Causes.{NotUniversal}
+use Rattle.forest.specs.Causes.{AskedCause, OutputCause}
 
 -- A clause, not an always-true one, is entered by one literal and left by a literal of another variable.
 pub record Crosses (ls : List ℤ) (enter leave : ℤ) : Type 0 where
@@ -41,15 +43,16 @@ pub record DependsByPaths (X : Variables) (ls : List ℤ) (x y : ℕ) : Type 0 w
   pub from-x : Path X ls x (signed true x) (signed sign y)
   pub from-negation : Path X ls x (signed false x) (signed (not sign) y)
 
--- what the call looks for behind check, in the formula as it is read: 13: x not universal, 27: n over 512, 14
-abbrev pub behindResolution : Formula → ℕ → List ℕ → List Causes
-behindResolution f x before =
-    At0 13 (NotUniversal (f .n) (f .prefix) x) ∷ At0 27 (mostResolutionVariables < f .n)
-    ∷ At0 14 (TooLong (DependsByPaths (variablesOf f) (f .clauses) x) before) ∷ []
+-- 27: n over 512
+abbrev pub ResolutionCause : ℕ → Causes
+ResolutionCause n = At0 27 (mostResolutionVariables < n)
 
--- the order of the call: that of check, 13, 27, 14
+-- the order of the call: 23, 1, 2, prefix from the left, clause literals from the left, 13, 27, 14
 abbrev pub resolutionOrder : ℕ → Formula → ℕ → List ℕ → List Causes
-resolutionOrder rule f x before = checkOrder rule f ++ behindResolution (readBy rule f) x before
+resolutionOrder rule f x before =
+    RuleCause rule ∷ VariableCount (f .n) ∷ LengthCause (f .prefix) (length (f .clauses)) ∷ PrefixCauseBy rule (f .n) (f .prefix)
+    ∷ ClauseCause (f .n) (f .clauses) ∷ AskedCause (f .n) (readAs rule (f .prefix)) x ∷ ResolutionCause (f .n)
+    ∷ OutputCause (DependsByPaths (variablesOf (readBy rule f)) (f .clauses) x) before ∷ []
 
 -- What the call promises: its refusals in their order, the ascending list of all that depends on x by the formula as it is read, and what it leaves in
 -- the lent output.

@@ -17,7 +17,7 @@ ghost use Rattle.forest_tables.specs.Rows.{Tells};
 ghost use Rattle.path_resolution.specs.Walk.{Chained};
 ghost use Rattle.forest_theory.specs.Reach.{Deeper};
 ghost use Rattle.path_resolution.specs.Paths.{DependsByPaths};
-ghost use Rattle.path_resolution.specs.Ends.{Barred, ReadClauses, Ends, Pairs, Flags};
+ghost use Rattle.path_resolution.specs.InnerEnds.{Barred, ReadClauses, Ends, Pairs, Flags};
 
 // Flags each variable from 1 to n that depends on x. Every variable is tied to its clauses first.
 pub fn flag_dependent(

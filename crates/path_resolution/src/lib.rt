@@ -18,7 +18,7 @@ ghost use mathlib.Core.List.{List};
 ghost use Rattle.formula.specs.Lent.{formulaOf, formulaIn};
 ghost use Rattle.formula.specs.Levels.{SoundPrefix, Levelled};
 ghost use Rattle.path_resolution.specs.Paths.{ResolutionListed};
-ghost use Rattle.path_resolution.specs.Ends.{ReadClauses, SoundListed};
+ghost use Rattle.path_resolution.specs.InnerEnds.{ReadClauses, SoundListed};
 
 // The resolution-path set of x under a reading rule, written ascending into `out`, with the count of its members.
 pub fn resolution_set(

@@ -13,7 +13,8 @@ use Rattle.formula.specs.Lent.{Formula, formulaOf}
 use Rattle.formula_rules.specs.Rules.{ruledPrefix}
 use Rattle.formula_rules.proofs.Agreement.{rules-agree}
 use Rattle.forest_tables.specs.Lent.{Rows}
-use Rattle.sets.specs.Sets.{AllSetsBy, behindSets, SetsListed}
+use Rattle.sets.specs.Sets.{AllSetsBy, SetsListed}
+use Rattle.sets.specs.InnerOrders.{behindSets}
 
 module _ (scheme : Scheme) (f : Formula) (r : Rows) where
   -- the formula with another prefix

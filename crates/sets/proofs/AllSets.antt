@@ -29,7 +29,8 @@ use Rattle.forest.specs.Answers.{EntriesBy, MembersBy}
 use Rattle.forest_climb.specs.Search.{TopRows}
 use Rattle.forest_entries.specs.Flags.{Takes, Via, Entering}
 use Rattle.forest_members.specs.Picked.{pick, picked}
-use Rattle.sets.specs.Sets.{AllSetsBy, SetsTooLong, behindSets}
+use Rattle.sets.specs.Sets.{AllSetsBy, SetsTooLong}
+use Rattle.sets.specs.InnerOrders.{behindSets}
 use Rattle.sets_occurrences.specs.Threads.{Closed, Together, EnteredBy}
 use Rattle.sets_record.specs.Put.{PutSet, RoomFor}
 use Rattle.sets.specs.Passed.{SetsUpto, RoomUpto, PutAll, Fills}

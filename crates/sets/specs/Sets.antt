@@ -6,8 +6,9 @@ use mathlib.Core.List.{List, [], _∷_, _++_}
 use lib.ListN.{length}
 use Rattle.terms.specs.Refusals.{Causes, At0}
 use Rattle.terms.specs.declared.Filled.{Filled}
+use Rattle.formula.specs.Causes.{VariableCount, LengthCause, ClauseCause}
 use Rattle.formula.specs.Lent.{Formula}
-use Rattle.formula_rules.specs.Rules.{readBy, checkOrder}
+use Rattle.formula_rules.specs.Rules.{readAs, readBy, RuleCause, PrefixCauseBy}
 use Rattle.forest_tables.specs.Lent.{Rows}
 use Rattle.terms.specs.Listed.{Listed}
 use Rattle.forest_tables.specs.Formula.{universal}
@@ -34,13 +35,15 @@ AllSetsBy scheme f r = Records (universal (f .n) (f .prefix)) (MembersBy scheme 
 abbrev pub SetsTooLong : Scheme → Formula → Rows → List ℕ → Type 0
 SetsTooLong scheme f r before = (list : List ℕ) × AllSetsBy scheme f r list × (length before < length list)
 
--- what is looked for behind check, in the formula as it is read: 12, 14
-abbrev pub behindSets : Scheme → Formula → Rows → List ℕ → List Causes
-behindSets scheme f r before = ForestCause (f .n) (f .prefix) r ∷ At0 14 (SetsTooLong scheme f r before) ∷ []
+-- 14: so of the formula as it is read
+abbrev pub SetsOutputCause : Scheme → Formula → Rows → List ℕ → Causes
+SetsOutputCause scheme f r before = At0 14 (SetsTooLong scheme f r before)
 
--- the order: that of check, 12, 14
+-- the order: 23, 1, 2, prefix from the left, clause literals from the left, 12, 14
 abbrev pub setsOrder : ℕ → Scheme → Formula → Rows → List ℕ → List Causes
-setsOrder rule scheme f r before = checkOrder rule f ++ behindSets scheme (readBy rule f) r before
+setsOrder rule scheme f r before =
+    RuleCause rule ∷ VariableCount (f .n) ∷ LengthCause (f .prefix) (length (f .clauses)) ∷ PrefixCauseBy rule (f .n) (f .prefix)
+    ∷ ClauseCause (f .n) (f .clauses) ∷ ForestCause (f .n) (readAs rule (f .prefix)) r ∷ SetsOutputCause scheme (readBy rule f) r before ∷ []
 
 -- what the call for all sets by a scheme promises
 abbrev pub SetsListed : ℕ → Scheme → Formula → Rows → List ℕ → List ℕ → Filled → Type 0

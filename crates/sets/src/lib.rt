@@ -20,7 +20,8 @@ ghost use Rattle.formula.specs.Lookup.{SoundClauses};
 ghost use Rattle.forest_tables.specs.Counting.{FormedBy};
 ghost use Rattle.forest_tables.specs.Lent.{rows, rowsIn};
 ghost use Rattle.sets.specs.Passed.{Fills};
-ghost use Rattle.sets.specs.Sets.{AllSetsBy, behindSets, SetsListed};
+ghost use Rattle.sets.specs.Sets.{AllSetsBy, SetsListed};
+ghost use Rattle.sets.specs.InnerOrders.{behindSets};
 ghost use Rattle.sets_occurrences.specs.Threads.{Closed};
 
 // The sets of all universals by a scheme, written into `out`: for each universal ascending its number, the count of its set and its set

@@ -8,7 +8,8 @@ use Rattle.terms.specs.declared.Expanded.the-variants.{Formula, Refused}
 use Rattle.formula.specs.Lent.{Formula as Lent}
 use Rattle.formula_rules.specs.Rules.{readAs, readBy, checkOrder}
 use Rattle.forest.specs.Causes.{NotUniversal}
-use Rattle.expand.specs.Promise.{ResultTables, OfExpanded, ManyVariables, Long, Short, behindExpand, expandOrder, Leaves, Expands}
+use Rattle.expand.specs.Promise.{ResultTables, OfExpanded, ManyVariables, Long, Short, expandOrder, Leaves, Expands}
+use Rattle.expand.specs.InnerOrders.{behindExpand}
 use Rattle.expand.proofs.Tight.{expand-settled}
 use Rattle.c_answers.specs.Cells.{Fits, Any, Laid}
 use Rattle.c_answers.specs.Formulas.{expandedSaid}

@@ -12,7 +12,8 @@ use Rattle.formula_rules.specs.Rules.{NoRule, readAs, readBy, checkOrder}
 use Rattle.file_format.specs.Layout.{SumsToZero}
 use Rattle.file_format.specs.Places.{formulaHeld}
 use Rattle.file_format.specs.Causes.{fileBytes, TooLarge, RecordCause, OrderCause, wrong, missing, ForestFileCause, rows-disagree, sets-disagree}
-use Rattle.file_format.specs.Causes.{Lent, NoRoom, FileTooLarge, FileTooLong, fileOrder, afterRule, loadOrder, behindStore, storeOrder}
+use Rattle.file_format.specs.Causes.{Lent, NoRoom, FileTooLarge, FileTooLong, loadOrder, storeOrder}
+use Rattle.file_format.specs.InnerOrders.{fileOrder, tableOrder, behindStore}
 use Rattle.file_format.specs.Promises.{Loads}
 use Rattle.file_layout.specs.Laid.{Laid}
 use Rattle.file_layout.proofs.Walks.{record-cause, reached-within}
@@ -61,7 +62,7 @@ module _ (file : List ℕ) where
   small-load : (rule : ℕ) (lent : Lent) → Small (loadOrder rule file lent)
   small-load rule lent =
       let held = formulaHeld file in
-      let order = afterRule (checkOrder rule held) in
+      let order = tableOrder rule held in
       let rows = ForestFileCause (readBy rule held) file in
       let last = At0 14 (NoRoom held lent) ∷ [] in
       small-then (At0 23 (NoRule rule) ∷ []) (fileOrder file ++ (order ++ (rows ∷ last))) (small-at0 23 (NoRule rule))

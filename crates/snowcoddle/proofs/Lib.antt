@@ -1,4 +1,6 @@
--- The laws of what C is told, in reading order: that every place and count fits its cell, how a library's answer is told, and that nothing is left open.
+-- The laws of what C is told, in reading order: of what parts each order is made, that every place and count fits its cell, how a library's answer is
+-- told, and that nothing is left open.
+pub mod Composed
 pub mod Places
 pub mod Telling
 pub mod Rewritten

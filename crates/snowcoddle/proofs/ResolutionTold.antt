@@ -8,7 +8,8 @@ use Rattle.formula.specs.Lent.{Formula}
 use Rattle.formula_rules.specs.Rules.{readAs, readBy, checkOrder}
 use Rattle.forest_tables.specs.Lent.{variablesOf}
 use Rattle.forest.specs.Causes.{NotUniversal}
-use Rattle.path_resolution.specs.Paths.{DependsByPaths, behindResolution, resolutionOrder}
+use Rattle.path_resolution.specs.Paths.{DependsByPaths, resolutionOrder}
+use Rattle.path_resolution.specs.InnerEnds.{behindResolution}
 use Rattle.snowcoddle.proofs.Places.{Small, small-then, small-none, small-zero, small-check}
 
 pub small-resolution : (rule : ℕ) (f : Formula) (x : ℕ) (before : List ℕ) → Small (resolutionOrder rule f x before)

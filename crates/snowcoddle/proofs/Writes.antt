@@ -6,7 +6,8 @@ use native.Mathlib.Omega.{arith}
 use Rattle.terms.specs.Refusals.{Causes}
 use Rattle.terms.specs.declared.Filled.{Filled}
 use Rattle.text_write.specs.Texts.{Overlong}
-use Rattle.text_write.specs.Stored.{ShortOut, short-out, writeOrder, Stored, WritesAfter}
+use Rattle.text_write.specs.Stored.{ShortOut, short-out, Stored}
+use Rattle.text_write.specs.InnerOrders.{writeOrder, WritesAfter}
 use Rattle.c_answers.specs.Cells.{Fits, Any, Laid, filledSaid}
 use Rattle.snowcoddle.specs.Told.{Told}
 use Rattle.snowcoddle.proofs.Places.{Small, small-then, small-within}

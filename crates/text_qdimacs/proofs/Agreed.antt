@@ -10,7 +10,8 @@ use Rattle.formula.specs.Causes.{ClauseCause}
 use Rattle.formula.specs.Lent.{Formula}
 use Rattle.formula_rules.specs.Rules.{ruledPrefix}
 use Rattle.formula_rules.proofs.Agreement.{rules-agree}
-use Rattle.text_write.specs.Stored.{Stored, writeOrder}
+use Rattle.text_write.specs.Stored.{Stored}
+use Rattle.text_write.specs.InnerOrders.{writeOrder}
 use Rattle.text_qdimacs.specs.Stored.{formulaText, Writes}
 
 pub write-agrees : (f : Formula) → NoneOf (ruledPrefix 1 (f .n) (f .prefix) (length (f .clauses))) → (out out′ : List ℕ) (a : Filled)

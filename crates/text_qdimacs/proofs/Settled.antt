@@ -11,7 +11,8 @@ use Rattle.terms.proofs.Verdicts.{firstOf-same, first-or-none}
 use Rattle.terms.specs.declared.Reading.{Reading}
 use Rattle.terms.specs.declared.Filled.{Filled}
 use Rattle.text_qdimacs.specs.Reading.{readOrder, ReadInto, ReadIs}
-use Rattle.text_write.specs.Stored.{Stored, writeOrder, WritesAfter}
+use Rattle.text_write.specs.Stored.{Stored}
+use Rattle.text_write.specs.InnerOrders.{writeOrder, WritesAfter}
 use Rattle.text_qdimacs.proofs.Unique.{text-same}
 
 -- A table by its rows in front and those behind.

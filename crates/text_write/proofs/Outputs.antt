@@ -14,7 +14,8 @@ use Rattle.terms.specs.declared.Filled.{Filled}
 use Rattle.terms.specs.declared.Filled.the-variants.{Count, Refused}
 use Rattle.text_write.specs.Texts.{TEXT-MOST, Overlong, overlong}
 use Rattle.text_write.specs.Bytes.{Wrote}
-use Rattle.text_write.specs.Stored.{ShortOut, short-out, writeOrder, WriteIs, WritesAfter}
+use Rattle.text_write.specs.Stored.{ShortOut, short-out}
+use Rattle.text_write.specs.InnerOrders.{writeOrder, WriteIs, WritesAfter}
 
 -- A text that is too long, read or to be written, and one that is not.
 pub first-overlong : (text : List ℕ) → TEXT-MOST < length text → First (Overlong text) 15 TEXT-MOST

@@ -3,3 +3,4 @@ pub mod Texts
 pub mod Writing
 pub mod Stored
 pub mod Bytes
+pub mod InnerOrders

@@ -23,7 +23,7 @@ ghost use lib.IntN.{natAbs};
 ghost use Rattle.text_write.specs.Writing.{cnfBytes, problemBytes, literalWord, spaced, prefixText, clauseText, clauseCount, textOf};
 ghost use Rattle.terms.specs.Limits.{prefixEntries, clauseEntries};
 ghost use Rattle.text_write.specs.Bytes.{nextFirst, entryBytes, literalBytes, Wrote, SmallEntries, SmallLiterals, Writable};
-ghost use Rattle.text_write.specs.Stored.{WriteIs};
+ghost use Rattle.text_write.specs.InnerOrders.{WriteIs};
 ghost use mathlib.Core.Bool.{true};
 
 // Writes the text of tables that were accepted into a lent buffer. The length is found first, in a buffer of its own that no one sees, so that

@@ -8,7 +8,8 @@ use Rattle.terms.proofs.Orders.{carry-judged}
 use Rattle.formula.specs.Lent.{formulaOf}
 use Rattle.formula_rules.specs.Rules.{readAs}
 use Rattle.formula_rules.proofs.Reading.{refused-read, hand-read, sound-read, more-read, behind-read}
-use Rattle.dqbf_lists.specs.Causes.{ListCause, listedFormula}
+use Rattle.dqbf_lists.specs.Causes.{ListCause}
+use Rattle.dqbf_lists.specs.Inner.{listedFormula}
 use Rattle.dqbf_lists.proofs.check.Statement.{statement}
 use Rattle.dqbf_lists.proofs.check.Tie as tie
 

@@ -11,7 +11,7 @@ use Rattle.terms.proofs.Answers.{carry-filling}
 use Rattle.formula.specs.Lent.{formulaOf}
 use Rattle.formula_rules.specs.Rules.{readAs}
 use Rattle.formula_rules.proofs.Reading.{refused-read, hand-read, sound-read, more-read, behind-read}
-use Rattle.dqbf_lists.specs.Causes.{listedFormula}
+use Rattle.dqbf_lists.specs.Inner.{listedFormula}
 use Rattle.dqbf_sets.specs.Depends.{DependsOnBy}
 use Rattle.dqbf_sets.specs.Inner.{behindFormula}
 use Rattle.dqbf_sets.proofs.set_of.Statement.{statement}

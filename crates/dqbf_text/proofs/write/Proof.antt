@@ -4,7 +4,7 @@ use borrow.Author.Needs.{needs}
 use Rattle.terms.specs.Refusals.{NoneOf}
 use Rattle.terms.proofs.Verdicts.{refused-first}
 use Rattle.formula.specs.Lent.{Formula, formulaOf}
-use Rattle.text_write.specs.Stored.{writeOrder}
+use Rattle.text_write.specs.InnerOrders.{writeOrder}
 use Rattle.text_write.proofs.Outputs.{writes-accepted}
 use Rattle.dqbf_lists.specs.Causes.{checkListsOrder}
 use Rattle.dqbf_lists.specs.Answers.{ListsChecked}

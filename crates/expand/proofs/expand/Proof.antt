@@ -7,7 +7,8 @@ use Rattle.terms.specs.Refusals.{Causes}
 use Rattle.formula.specs.Lent.{Formula, formulaOf}
 use Rattle.formula_rules.specs.Rules.{checkOrder, readAs}
 use Rattle.formula_rules.proofs.Reading.{refused-read, hand-read, sound-read, more-read, behind-read}
-use Rattle.expand.specs.Promise.{ResultTables, resultTables, behindExpand, ExpandsBy}
+use Rattle.expand.specs.Promise.{ResultTables, resultTables, ExpandsBy}
+use Rattle.expand.specs.InnerOrders.{behindExpand}
 use Rattle.expand.proofs.Outcome.{carry-expands}
 use Rattle.expand.proofs.expand.Statement.{statement}
 use Rattle.expand.proofs.expand.Tie as tie

@@ -17,7 +17,8 @@ use Rattle.formula.specs.Lent.{Formula, formulaOf}
 use Rattle.forest_tables.specs.Formula.{universal}
 use Rattle.forest_tables.proofs.Agreeing.{universal-within}
 use Rattle.forest.specs.Causes.{NotUniversal}
-use Rattle.expand.specs.Promise.{ResultTables, resultTables, resultOrder, behindExpand}
+use Rattle.expand.specs.Promise.{ResultTables, resultTables}
+use Rattle.expand.specs.InnerOrders.{resultOrder, behindExpand}
 use Rattle.expand.proofs.Outcome.{found-room, found-set, carry-expands}
 use Rattle.expand.proofs.sound_expand.Statement.{statement}
 use Rattle.expand.proofs.sound_expand.Tie as tie

@@ -4,7 +4,7 @@ use borrow.Author.Needs.{needs}
 use borrow.Author.Tests.{not-true, not-false}
 use Rattle.terms.specs.Refusals.{Judged}
 use Rattle.forest_tables.proofs.Readings.{told, told-not}
-use Rattle.file_format.specs.Causes.{fileOrder}
+use Rattle.file_format.specs.InnerOrders.{fileOrder}
 use Rattle.file_layout.proofs.Laying.{file-laid}
 use Rattle.file_verify.specs.Verified.{IsRule}
 use Rattle.file_verify.proofs.Judging.{no-rule, records-refused, records-then}

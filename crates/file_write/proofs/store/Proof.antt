@@ -9,7 +9,7 @@ use Rattle.formula_rules.specs.Rules.{readAs, checkOrder}
 use Rattle.formula_rules.proofs.Orders.{limits}
 use Rattle.formula_rules.proofs.Reading.{refused-read, hand-read, none-read, sound-read, more-read, behind-read}
 use Rattle.file_format.specs.Layout.{FileWith}
-use Rattle.file_format.specs.Causes.{behindStore}
+use Rattle.file_format.specs.InnerOrders.{behindStore}
 use Rattle.file_write.proofs.store.Statement.{statement}
 use Rattle.file_write.proofs.store.Tie as tie
 

@@ -7,7 +7,7 @@ use Rattle.formula.specs.Lent.{Formula, formulaOf}
 use Rattle.formula_rules.specs.Rules.{ruledPrefix, readAs}
 use Rattle.formula_rules.proofs.Reading.{refused-read, hand-read, sound-read, behind-read}
 use Rattle.forest_tables.specs.Lent.{Rows, rows}
-use Rattle.forest.specs.Causes.{behindEntry}
+use Rattle.forest.specs.InnerOrders.{behindEntry}
 use Rattle.forest.specs.Answers.{Entry}
 use Rattle.forest.proofs.entry_point.Statement.{statement}
 use Rattle.forest.proofs.entry_point.Tie as tie

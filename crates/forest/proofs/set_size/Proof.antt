@@ -7,7 +7,7 @@ use Rattle.formula.specs.Lent.{Formula, formulaOf}
 use Rattle.formula_rules.specs.Rules.{checkOrder, readAs}
 use Rattle.formula_rules.proofs.Reading.{refused-read, hand-read, sound-read, more-read, behind-read}
 use Rattle.forest_tables.specs.Lent.{Rows, rows}
-use Rattle.forest.specs.Causes.{behindCheck}
+use Rattle.forest.specs.InnerOrders.{behindCheck}
 use Rattle.forest.specs.Answers.{SizeBy}
 use Rattle.forest.proofs.set_size.Statement.{statement}
 use Rattle.forest.proofs.set_size.Tie as tie

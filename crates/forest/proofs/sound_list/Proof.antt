@@ -8,7 +8,7 @@ use Rattle.terms.proofs.Verdicts.{refused-first}
 use Rattle.formula.specs.Lent.{Formula, formulaOf}
 use Rattle.forest_tables.specs.Lent.{Rows, rows}
 use Rattle.forest_members.specs.Picked.{pick}
-use Rattle.forest.specs.Causes.{behindCheck}
+use Rattle.forest.specs.InnerOrders.{behindCheck}
 use Rattle.forest.specs.Wanted.{Enters, Wanted}
 use Rattle.forest.proofs.Listings.{picks-listing, asked-listed}
 use Rattle.forest.proofs.sound_list.Statement.{statement}

@@ -4,7 +4,7 @@ use borrow.Author.Needs.{needs}
 use Rattle.terms.specs.Refusals.{NoneOf, Judged}
 use Rattle.formula.specs.Lent.{Formula, formulaOf}
 use Rattle.forest_tables.specs.Lent.{Rows, rows}
-use Rattle.forest.specs.Causes.{behindCheck}
+use Rattle.forest.specs.InnerOrders.{behindCheck}
 use Rattle.forest.specs.Answers.{SizeBy}
 use Rattle.forest.specs.Wanted.{Enters}
 use Rattle.forest.proofs.Listings.{entries-sized, counts-small}

@@ -8,7 +8,8 @@ use Rattle.formula_rules.specs.Rules.{ruledPrefix, readAs}
 use Rattle.formula_rules.proofs.Reading.{refused-read, hand-read, sound-read, behind-read}
 use Rattle.forest_tables.specs.Formula.{variables}
 use Rattle.forest_tables.specs.Lent.{rows}
-use Rattle.grow.specs.Grown.{Standing, standing, tableOf, behindAdd, addOrder, Extended, Took, AddsBehind}
+use Rattle.grow.specs.Grown.{Standing, standing, tableOf, addOrder, Extended, Took, AddsBehind}
+use Rattle.grow.specs.InnerOrders.{behindAdd}
 use Rattle.grow.proofs.Standings.{refusal, carry-rewrites}
 use Rattle.grow.proofs.add.Statement.{statement}
 use Rattle.grow.proofs.add.Tie as tie

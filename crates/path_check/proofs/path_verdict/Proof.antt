@@ -7,7 +7,7 @@ use Rattle.terms.proofs.Orders.{carry-judged}
 use Rattle.formula.specs.Lent.{formulaOf}
 use Rattle.formula_rules.specs.Rules.{checkOrder, readAs}
 use Rattle.formula_rules.proofs.Reading.{refused-read, hand-read, sound-read, more-read, behind-read}
-use Rattle.path_check.specs.Causes.{pairOrder}
+use Rattle.path_check.specs.InnerOrders.{pairOrder}
 use Rattle.path_check.proofs.path_verdict.Statement.{statement}
 use Rattle.path_check.proofs.path_verdict.Tie as tie
 

@@ -11,7 +11,8 @@ use Rattle.formula.specs.Lent.{Formula, formulaOf}
 use Rattle.formula_rules.specs.Rules.{checkOrder, readAs}
 use Rattle.formula_rules.proofs.Reading.{refused-read, hand-read, none-read, sound-read, behind-read}
 use Rattle.forest_tables.specs.Lent.{variablesOf}
-use Rattle.path_resolution.specs.Paths.{DependsByPaths, behindResolution}
+use Rattle.path_resolution.specs.Paths.{DependsByPaths}
+use Rattle.path_resolution.specs.InnerEnds.{behindResolution}
 use Rattle.path_resolution.proofs.Listing.{read-clauses}
 use Rattle.path_resolution.proofs.resolution_set.Statement.{statement}
 use Rattle.path_resolution.proofs.resolution_set.Tie as tie

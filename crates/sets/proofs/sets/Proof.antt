@@ -9,7 +9,8 @@ use Rattle.formula.specs.Lent.{Formula, formulaOf}
 use Rattle.formula_rules.specs.Rules.{checkOrder, readBy}
 use Rattle.formula_rules.proofs.Reading.{refused-read, hand-read, none-read, sound-read, more-read, behind-read}
 use Rattle.forest_tables.specs.Lent.{Rows, rows}
-use Rattle.sets.specs.Sets.{AllSetsBy, behindSets}
+use Rattle.sets.specs.Sets.{AllSetsBy}
+use Rattle.sets.specs.InnerOrders.{behindSets}
 use Rattle.sets.proofs.AllSets.{sound-closed}
 use Rattle.sets.proofs.sets.Statement.{statement}
 use Rattle.sets.proofs.sets.Tie as tie

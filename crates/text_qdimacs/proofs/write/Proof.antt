@@ -7,7 +7,7 @@ use Rattle.terms.proofs.Verdicts.{refused-first}
 use Rattle.formula.specs.Lent.{Formula, formulaOf}
 use Rattle.formula_rules.specs.Rules.{checkOrder}
 use Rattle.formula_rules.proofs.Orders.{limits}
-use Rattle.text_write.specs.Stored.{writeOrder}
+use Rattle.text_write.specs.InnerOrders.{writeOrder}
 use Rattle.text_write.proofs.Outputs.{writes-accepted}
 use Rattle.text_qdimacs.specs.Stored.{formulaText}
 use Rattle.text_qdimacs.proofs.Accepted.{small}

@@ -9,7 +9,8 @@ use Rattle.forest_tables.specs.Causes.{ForestCause}
 use Rattle.forest_tables.specs.Formula.{variables}
 use Rattle.forest_tables.specs.Lent.{rows}
 use Rattle.grow_refusals.specs.Admitted.{AddedCause}
-use Rattle.grow.specs.Grown.{Standing, standing, tableOf, TallyCause, behindAdd, Extended, Took}
+use Rattle.grow.specs.Grown.{Standing, standing, tableOf, TallyCause, Extended, Took}
+use Rattle.grow.specs.InnerOrders.{behindAdd}
 use Rattle.grow.proofs.Accepted.{added-rows}
 use Rattle.grow.proofs.Standings.{refusal, carry-rewrites}
 use Rattle.grow.proofs.adding.add_read.Statement.{statement}

@@ -7,6 +7,7 @@ use lib.ListN.{length, getD}
 use Rattle.forest_entries.proofs.Flags.{literal-past}
 use Rattle.forest_tables.proofs.Readings.{told, told-not}
 use Rattle.forest_tables.specs.Tabled.{tabled}
+use Rattle.forest_theory.specs.Reach.{Deeper}
 use Rattle.path_check.proofs.Entries.{Passing, pass-none, pass-more, passed-all, passed-one}
 use Rattle.path_check.proofs.walk.meets.Statement.{statement}
 use Rattle.path_check.proofs.walk.meets.Tie as tie
@@ -54,5 +55,4 @@ returns-3 c =
 pub meets-spec : {M : Type 1} → statement M
 meets-spec =
     tie.close (tie.spec Inv-loop μ-loop loop-holds (λ c κs. search needs) returns (λ c κs. search needs) returns-2 (λ c. omega arith)
-    (λ c. omega arith) loop-again returns-3)use Rattle.forest_theory.specs.Reach.{Deeper}
-
+    (λ c. omega arith) loop-again returns-3)

@@ -6,7 +6,7 @@ use borrow.Author.Tests.{not-true, not-false}
 use Rattle.forest_tables.specs.Tabled.{tabled}
 use Rattle.forest_tables.proofs.Readings.{told, told-not, told-both}
 use Rattle.forest_theory.specs.Reach.{Deeper}
-use Rattle.path_resolution.specs.Ends.{Pairs}
+use Rattle.path_resolution.specs.InnerEnds.{Pairs}
 use Rattle.path_resolution.proofs.Reaching.{deeper-some, pairs-told}
 use Rattle.path_resolution.proofs.ends.depends.Statement.{statement}
 use Rattle.path_resolution.proofs.ends.depends.Tie as tie

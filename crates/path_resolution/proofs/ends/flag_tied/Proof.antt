@@ -11,7 +11,7 @@ use Rattle.terms.specs.Literals.{variableOf}
 use Rattle.forest_tables.specs.Tabled.{tabled}
 use Rattle.forest_tables.specs.Formula.{signed}
 use Rattle.forest_entries.proofs.Sides.{signed-variable}
-use Rattle.path_resolution.specs.Ends.{Ends}
+use Rattle.path_resolution.specs.InnerEnds.{Ends}
 use Rattle.path_resolution.proofs.Reaching.{depends-are}
 use Rattle.path_resolution.proofs.Listing.{complement-plain, complement-negation}
 use Rattle.path_resolution.proofs.ends.flag_tied.Statement.{statement}

@@ -8,7 +8,7 @@ use Rattle.terms.specs.Limits.{resolutionRows}
 use Rattle.forest_tables.specs.Tabled.{tabled}
 use Rattle.forest_tables.specs.Rows.{Tells}
 use Rattle.forest_theory.specs.Reach.{Deeper}
-use Rattle.path_resolution.specs.Ends.{Pairs, Flags}
+use Rattle.path_resolution.specs.InnerEnds.{Pairs, Flags}
 use Rattle.path_resolution.proofs.Reaching.{flag-more}
 use Rattle.path_resolution.proofs.ends.pair_ends.Statement.{statement}
 use Rattle.path_resolution.proofs.ends.pair_ends.Tie as tie

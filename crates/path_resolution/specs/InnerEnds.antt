@@ -2,12 +2,13 @@
 use Prim.Native.Nat.{ℕ, _≤_}
 use mathlib.Core.Path.{_≡_}
 use mathlib.Core.Bool.{Bool, true, false, not}
-use mathlib.Core.List.{List}
+use mathlib.Core.List.{List, [], _∷_}
 use mathlib.Core.Logic.{_↔_}
 use lib.IntN.{ℤ}
 use lib.ListN.{getD}
 use Rattle.terms.specs.Answers.{Listing}
 use Rattle.terms.specs.Literals.{variableOf}
+use Rattle.terms.specs.Refusals.{Causes}
 use Rattle.terms.specs.declared.Filled.{Filled}
 use Rattle.formula.specs.Lent.{Formula}
 use Rattle.formula.specs.Tables.{literalAt}
@@ -15,9 +16,10 @@ use Rattle.formula.specs.Lookup.{SoundClauses}
 use Rattle.forest_theory.specs.Reach.{Variables, Deeper}
 use Rattle.forest_tables.specs.Formula.{signed}
 use Rattle.forest_tables.specs.Lent.{variablesOf}
+use Rattle.forest.specs.Causes.{AskedCause, OutputCause}
 use Rattle.sets_occurrences.specs.Threads.{Closed}
 use Rattle.path_resolution.specs.Walk.{marked}
-use Rattle.path_resolution.specs.Paths.{Path, DependsByPaths, behindResolution}
+use Rattle.path_resolution.specs.Paths.{Path, DependsByPaths, ResolutionCause}
 
 -- the literals of the variables up to n that a path may not pass are marked, and no other of them
 abbrev pub Barred : Variables → ℕ → List Bool → Type 0
@@ -37,6 +39,11 @@ Ends X ls x from marks =
 -- two tables have opposite literals of v
 abbrev pub Pairs : List Bool → List Bool → ℕ → Type 0
 Pairs ends others v = (sign : Bool) × (marked ends (signed sign v) ≡ true) × (marked others (signed (not sign) v) ≡ true)
+
+-- what is looked for behind check, in the formula as it is read: 13, 27, 14
+abbrev pub behindResolution : Formula → ℕ → List ℕ → List Causes
+behindResolution f x before =
+    AskedCause (f .n) (f .prefix) x ∷ ResolutionCause (f .n) ∷ OutputCause (DependsByPaths (variablesOf f) (f .clauses) x) before ∷ []
 
 -- what the call promises of an accepted formula, as it is read
 abbrev pub SoundListed : Formula → ℕ → List ℕ → List ℕ → Filled → Type 0
