@@ -42,6 +42,27 @@ static void fill(uint32_t variables, uint32_t entries)
     x = 1;
 }
 
+/* For resolution paths: each variable is equal to the next, so that a walk passes all literals, one inside the other. */
+static void fill_chain(uint32_t variables, uint32_t entries)
+{
+    int32_t v;
+    (void)entries;
+    n = variables;
+    prefix_len = clauses_len = 0;
+    prefix[prefix_len++] = UNIVERSAL;
+    prefix[prefix_len++] = 1;
+    prefix[prefix_len++] = 0;
+    prefix[prefix_len++] = EXISTENTIAL;
+    for (v = 2; v <= (int32_t)n; v++) prefix[prefix_len++] = (uint32_t)v;
+    prefix[prefix_len++] = 0;
+    for (v = 1; v < (int32_t)n; v++) {
+        const int32_t equal[] = {v, -(v + 1), 0, -v, v + 1, 0};
+        uint32_t i;
+        for (i = 0; i < 6; i++) clauses[clauses_len++] = equal[i];
+    }
+    x = 1;
+}
+
 #define FORMULA rule, n, prefix, prefix_len, clauses, clauses_len
 #define FOREST classes, n, parents, n, counts, n
 
@@ -113,30 +134,31 @@ static const struct measured {
     const char *name;
     uint32_t (*call)(void);
     uint32_t variables, entries;
+    void (*fill)(uint32_t variables, uint32_t entries);
 } calls[] = {
-    {"check", check, SNOW_MOST_VARIABLES, SNOW_MOST_CLAUSES},
-    {"build", build, SNOW_MOST_VARIABLES, SNOW_MOST_CLAUSES},
-    {"clause", clause_at, SNOW_MOST_VARIABLES, SNOW_MOST_CLAUSES},
-    {"entry point", entry_point, SNOW_MOST_VARIABLES, SNOW_MOST_CLAUSES},
-    {"entry points", entry_points, SNOW_MOST_VARIABLES, SNOW_MOST_CLAUSES},
-    {"entry points, standard", entry_points_standard, SNOW_MOST_VARIABLES, SNOW_MOST_CLAUSES},
-    {"set", set, SNOW_MOST_VARIABLES, SNOW_MOST_CLAUSES},
-    {"set, standard", set_standard, SNOW_MOST_VARIABLES, SNOW_MOST_CLAUSES},
-    {"size", size, SNOW_MOST_VARIABLES, SNOW_MOST_CLAUSES},
-    {"all sets", sets, SNOW_MOST_VARIABLES, SNOW_MOST_CLAUSES},
-    {"all sets, standard", sets_standard, SNOW_MOST_VARIABLES, SNOW_MOST_CLAUSES},
-    {"add", add, SNOW_MOST_VARIABLES, SNOW_MOST_CLAUSES},
-    {"read", read_text, SNOW_MOST_VARIABLES, SNOW_MOST_CLAUSES / 4},
-    {"write", write_text, SNOW_MOST_VARIABLES, SNOW_MOST_CLAUSES / 4},
-    {"check with lists", check_lists, SNOW_MOST_VARIABLES, SNOW_MOST_CLAUSES},
-    {"set by lists", listed_set, SNOW_MOST_VARIABLES, SNOW_MOST_CLAUSES},
-    {"read with lists", read_lists, SNOW_MOST_VARIABLES, SNOW_MOST_CLAUSES / 4},
-    {"write with lists", write_lists, SNOW_MOST_VARIABLES, SNOW_MOST_CLAUSES / 4},
-    {"store", store, SNOW_MOST_VARIABLES, SNOW_MOST_CLAUSES},
-    {"load", load, SNOW_MOST_VARIABLES, SNOW_MOST_CLAUSES},
-    {"path check", path, SNOW_MOST_VARIABLES, SNOW_MOST_CLAUSES},
-    {"expand", expand, SNOW_MOST_VARIABLES / 2, SNOW_MOST_CLAUSES / 2},
-    {"resolution-path set", resolution_set, SNOW_MOST_PATH_VARIABLES, SNOW_MOST_CLAUSES},
+    {"check", check, SNOW_MOST_VARIABLES, SNOW_MOST_CLAUSES, fill},
+    {"build", build, SNOW_MOST_VARIABLES, SNOW_MOST_CLAUSES, fill},
+    {"clause", clause_at, SNOW_MOST_VARIABLES, SNOW_MOST_CLAUSES, fill},
+    {"entry point", entry_point, SNOW_MOST_VARIABLES, SNOW_MOST_CLAUSES, fill},
+    {"entry points", entry_points, SNOW_MOST_VARIABLES, SNOW_MOST_CLAUSES, fill},
+    {"entry points, standard", entry_points_standard, SNOW_MOST_VARIABLES, SNOW_MOST_CLAUSES, fill},
+    {"set", set, SNOW_MOST_VARIABLES, SNOW_MOST_CLAUSES, fill},
+    {"set, standard", set_standard, SNOW_MOST_VARIABLES, SNOW_MOST_CLAUSES, fill},
+    {"size", size, SNOW_MOST_VARIABLES, SNOW_MOST_CLAUSES, fill},
+    {"all sets", sets, SNOW_MOST_VARIABLES, SNOW_MOST_CLAUSES, fill},
+    {"all sets, standard", sets_standard, SNOW_MOST_VARIABLES, SNOW_MOST_CLAUSES, fill},
+    {"add", add, SNOW_MOST_VARIABLES, SNOW_MOST_CLAUSES, fill},
+    {"read", read_text, SNOW_MOST_VARIABLES, SNOW_MOST_CLAUSES / 4, fill},
+    {"write", write_text, SNOW_MOST_VARIABLES, SNOW_MOST_CLAUSES / 4, fill},
+    {"check with lists", check_lists, SNOW_MOST_VARIABLES, SNOW_MOST_CLAUSES, fill},
+    {"set by lists", listed_set, SNOW_MOST_VARIABLES, SNOW_MOST_CLAUSES, fill},
+    {"read with lists", read_lists, SNOW_MOST_VARIABLES, SNOW_MOST_CLAUSES / 4, fill},
+    {"write with lists", write_lists, SNOW_MOST_VARIABLES, SNOW_MOST_CLAUSES / 4, fill},
+    {"store", store, SNOW_MOST_VARIABLES, SNOW_MOST_CLAUSES, fill},
+    {"load", load, SNOW_MOST_VARIABLES, SNOW_MOST_CLAUSES, fill},
+    {"path check", path, SNOW_MOST_VARIABLES, SNOW_MOST_CLAUSES, fill},
+    {"expand", expand, SNOW_MOST_VARIABLES / 2, SNOW_MOST_CLAUSES / 2, fill},
+    {"resolution-path set", resolution_set, SNOW_MOST_PATH_VARIABLES, SNOW_MOST_CLAUSES, fill_chain},
 };
 
 int main(void)
@@ -146,7 +168,7 @@ int main(void)
         const struct measured *m = &calls[i];
         long bytes[2];
         for (rule = SNOW_PLAIN; rule <= SNOW_JOINED; rule++) {
-            fill(m->variables, m->entries);
+            m->fill(m->variables, m->entries);
             build();
             write_text();
             store();

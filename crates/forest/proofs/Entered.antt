@@ -64,7 +64,7 @@ module _ {X : Variables} {W : Table} (law : Lawful X) (formed : WellFormed X W) 
         back : EntryPointOf X W S x e → Via (X .count) tops (S x) e
         back o =
             let v = o .for in
-            let (k, p) = rows v .found (o .existential, o .deeper) in
+            let (k, p) = rows v .found (record { existential = o .existential; deep = o .deeper }) in
             let low = entry-within (o .existential) (o .entry) .0 in
             record { for = v; holds = o .shares; is = entry-one formed p (o .entry) .0; some = λ z. omega arith }
 
@@ -87,7 +87,7 @@ module _ {X : Variables} {W : Table} (law : Lawful X) (formed : WellFormed X W) 
         back : MemberBy X W P y → getD entered (row (X .count) tops y) false ≡ true
         back m =
             let f = member-deeper formed points m in
-            let (k, p) = rows y .found (f .existential, f .deep) in
+            let (k, p) = rows y .found (record { existential = f .existential; deep = f .deep }) in
             let top = ap (λ (c : Climbed). c .top) (entry-climb formed p) in
             tells (row (X .count) tops y) (entry-within (f .existential) p .1) .1 (subst P top (member-climb formed points (f .existential) (f .deep) .0 m))
 
