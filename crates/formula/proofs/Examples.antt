@@ -1,4 +1,4 @@
--- Worked examples of document 01, as verdicts that the promise of check leaves no choice in.
+-- The worked cases of rule 17.2, each as the only verdict that the promise of check allows.
 use Prim.Native.Nat.{ℕ, zero, suc, _-_, _<_}
 use mathlib.Core.Path.{_≡_, refl}
 use mathlib.Core.List.{List, [], _∷_}

@@ -138,7 +138,7 @@ itsLevel number mark = number
 abbrev itsKind : ℕ → ℕ → Bool
 itsKind number mark = eqb mark 2
 
--- The tables hold what the blocks before entry i say, so that what they and the rest say is what all say.
+-- The tables hold what the blocks before entry i say of each variable; that, with what the rest says, is what all blocks say.
 pub record Levelling (es : List ℕ) (i : ℕ) (opening : Bool) (mark block : ℕ) (levels : List ℕ) (universals : List Bool) : Type 0 where
   pub within : i ≤ length es
   pub opening-is : opening ≡ opens es i

@@ -38,7 +38,7 @@ clauses-closed ls start z next l =
     (eq-eqb _ 0 (at-rest ls start (z - start) ∙ ap (λ e. variableOf (literalAt ls e)) there ∙ next .closes l))
     ∙ ap (λ rest. take (z - start) (drop start ls) ∷ cut isNought rest) (drop-drop (suc (z - start)) start ls ∙ ap (λ e. drop e ls) after)
 
--- With no 0 left, no clause is.
+-- Where no 0 is left, no clause is left.
 pub clauses-unclosed : (ls : List ℤ) (start z : ℕ) → NextZero ls start z → length ls ≤ z → clauses (drop start ls) ≡ []
 unfolding clauses isNought
 clauses-unclosed ls start z next l =

@@ -38,11 +38,11 @@ pub record Scanned (n : ℕ) (es : List ℕ) (i : ℕ) (opening fresh : Bool) (m
   pub few : count ≤ 64
   pub naming : Named es i named
 
--- the two numbers from 1 to 2
+-- a number from 1 to 2 is a mark
 pub is-mark : (entry : ℕ) → 1 ≤ entry → entry < 3 → IsMark entry
 is-mark entry low high = ⊎-elim (λ q. inr q) (λ l. inl (omega arith)) (eq-or-lt-of-le (le-of-suc-le-suc high))
 
--- nothing is wrong with a mark of which no number is said
+-- a mark for which no refusal number is given is sound
 mark-fine : {entry before count number : ℕ} → MarkFault entry before count number → number ≡ 0 → IsMark entry × (entry ≢ before) × (count ≢ 64)
 mark-fine (MarkFault.fine _ good other few) none = (good, other, few)
 mark-fine (MarkFault.no-mark q _ _) none = absurd (omega arith)

@@ -18,7 +18,7 @@ use Rattle.formula.specs.Tables.{literalAt}
 use Rattle.formula.specs.Meaning.{opposite, denied, alwaysTrue, connected}
 use Rattle.formula.specs.Lookup.{InRows, Stamps}
 
--- Two literals are opposite exactly if the row of the second is the other row of the first, and so is either to the other.
+-- Two literals are opposite exactly if the row of one is the other row of the other.
 pub opposite-row : (a b : ℤ) → rowOf b ≡ otherRow a → opposite b a ≡ true
 unfolding rowOf otherRow opposite
 opposite-row (pos v) (pos w) q = absurd (omega arith)
@@ -74,7 +74,7 @@ pairs-false (a ∷ ls) none =
       pairs-false ls (λ d e l m. none (suc d) (suc e) (omega arith) (omega arith)),
     ) refl
 
--- A higher limit, and a table of zeros.
+-- Stamps below a limit are below a higher one, and those of a table of zeros are below 1.
 pub stamps-more : {seen : List ℕ} {limit more : ℕ} → Stamps seen limit → limit ≤ more → Stamps seen more
 stamps-more s l = record { size = s .size; below = λ row. let m = s .below row in omega arith }
 

@@ -1,5 +1,5 @@
--- The causes of refusals 1 to 11, and of 13 for a clause number, line by line as the table of document 01 has them, and the orders in which check
--- and the clause call look for them.
+-- The causes of refusals 1 to 11, and of 13 for a clause number, line by line as the table of rule 8.1 has them, and the orders in which check and
+-- the clause call look for them (rule 8.2).
 use Prim.Native.Nat.{ℕ, suc, _<_, _≤_}
 use mathlib.Core.Path.{_≡_}
 use mathlib.Core.List.{List, [], _∷_}

@@ -1,4 +1,4 @@
--- What the clause call returns, and where a clause stands in the table (document 01, "The formula as lent").
+-- What the clause call returns (rule 7.3), and where a clause stands in the table.
 use Prim.Native.Nat.{ℕ, zero, suc, _+_}
 use mathlib.Core.Path.{_≡_}
 use mathlib.Core.List.{List, [], _∷_}

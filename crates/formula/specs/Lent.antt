@@ -1,4 +1,4 @@
--- A formula as it is lent to a call.
+-- A formula as it is lent to a call (rule 7.1).
 use Prim.Native.Nat.{ℕ}
 use mathlib.Core.List.{List, []}
 use lib.IntN.{ℤ}

@@ -16,11 +16,11 @@ pub record SoundPrefix (n : ℕ) (es : List ℕ) : Type 0 where
   pub short : length es ≤ prefixEntries
   pub faultless : None (PrefixCause n es)
 
--- The two tables have a row for each number up to the limit ...
+-- The two tables have a row for each variable up to the limit ...
 abbrev pub LevelRows : List ℕ → List Bool → Type 0
 LevelRows levels universals = (length levels ≡ variableRows) × (length universals ≡ variableRows)
 
--- ... and before any block is passed, every variable stands there as a free one.
+-- ... and before any block is passed, every row is that of a free variable.
 abbrev pub AllFree : ℕ → List ℕ → List Bool → Type 0
 AllFree free levels universals =
     ((v : ℕ) → v < variableRows → getD levels v 0 ≡ free) × ((v : ℕ) → v < variableRows → getD universals v false ≡ false)

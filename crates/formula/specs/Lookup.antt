@@ -28,7 +28,7 @@ Stands ls asked (At start end) =
     × (start ≡ beginOf (clauses ls) asked)
 Stands ls asked Nowhere = length (clauses ls) ≤ asked
 
--- Every variable has a row in a table for all numbers up to the limit.
+-- Every variable is within the limit, so that a table with a row for each has one for it.
 abbrev pub InRows : List ℤ → Type 0
 InRows ls = (e : ℕ) → e < length ls → variableOf (literalAt ls e) ≤ mostVariables
 
@@ -37,7 +37,7 @@ pub record SoundClauses (ls : List ℤ) : Type 0 where
   pub short : length ls ≤ clauseEntries
   pub rows : InRows ls
 
--- A table with a row for each literal, and in every row a stamp below a limit.
+-- A table with a row for each literal, in which every stamp is below a limit.
 pub record Stamps (seen : List ℕ) (limit : ℕ) : Type 0 where
   pub size : length seen ≡ literalRows
   pub below : (row : ℕ) → getD seen row 0 < limit

@@ -1,4 +1,4 @@
--- Lent tables: their entries, the lists that they hold, each closed by a 0, and the places of a prefix (document 01, "The formula as lent").
+-- Lent tables (rule 1.2, rule 1.3): their entries, the lists that they hold, each closed by a 0, and the places of a prefix.
 use Prim.Native.Nat.{ℕ, zero, suc, _<_, _-_}
 use mathlib.Core.Path.{_≡_}
 use mathlib.Core.Bool.{Bool, true, false, cond}

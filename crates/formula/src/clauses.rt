@@ -71,7 +71,7 @@ fn first_over(n: u32, clauses: &[i32]) -> usize
     i
 }
 
-// Whether some entry has a variable over n. No entry ends the pass, so that many are looked at together.
+// Whether some entry has a variable over n. The loop has no early exit, so that the processor can take several entries at once.
 fn any_over(n: u32, clauses: &[i32]) -> bool
     ensures none { λ r. ⌜ (r ≡ false → AllUpto n (now (clauses .entry)) (length (now (clauses .entry)))) ⌝ }
 {

@@ -6,8 +6,8 @@ ghost use mathlib.Core.Path.{_≡_};
 ghost use Rattle.formula.specs.Meaning.{alwaysTrue};
 ghost use Rattle.formula.specs.Lookup.{InRows, Stamps};
 
-// Whether a clause has both signs of one variable. The row of each literal passed gets the stamp, and every row held a lesser one before: so
-// one table serves clause after clause, with a greater stamp each time.
+// Whether a clause has both signs of one variable. `seen` has a row for each literal, which gets the stamp when the literal is passed. Every row
+// holds a lesser stamp before, so that one table serves clause after clause, each with a greater stamp, and is never cleared.
 pub fn always_true(clause: &[i32], seen: &mut [u16], stamp: u16) -> bool
     requires rows { ⌜ InRows (now clause) ⌝ }
     requires stamps { ⌜ Stamps (now seen) stamp ⌝ }

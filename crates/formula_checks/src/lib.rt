@@ -1,4 +1,4 @@
-// What is judged of a formula as lent: its prefix by rule 1, and the clause with a given number.
+// Checks of a formula as lent: its prefix by reading rule 1, and the clause call (rule 7.3).
 
 pub mod prefix;
 

@@ -30,8 +30,8 @@ pub fn prefix_verdict(n: u32, prefix: &[u32], entries: usize) -> Verdict
     check_prefix(n, prefix)
 }
 
-// The first cause of a refusal in the prefix of a formula with n variables, one block after another.
-// A table of the variables named so far, a row for each number up to the limit, spares every search.
+// The first cause of a refusal in the prefix of a formula with n variables, one block after another. `named` has a flag for each variable that was
+// named so far, so that the prefix is not searched again.
 fn check_prefix(n: u32, prefix: &[u32]) -> Verdict
     requires few { ⌜ n ≤ mostVariables ⌝ }
     ensures judged { λ r. ⌜ Judged (PrefixCause n (now (prefix .entry)) ∷ []) r ⌝ }

@@ -1,4 +1,4 @@
-// Levels and quantifiers of all variables, from one pass over an accepted prefix.
+// Levels and quantifiers of all variables (rule 1.4, rule 1.5), from one pass over an accepted prefix.
 
 use terms::Variable;
 ghost use Prim.Native.Nat.{ℕ};
@@ -6,7 +6,7 @@ ghost use mathlib.Core.Path.{_≡_};
 ghost use Rattle.formula.specs.Levels.{SoundPrefix, LevelRows, AllFree, Levelled};
 ghost use Rattle.formula.specs.Meaning.{freeLevel};
 
-// Fills row v with the level of the variable v, and with whether v is universal, for every number up to the limit.
+// Fills row v with the level of variable v, and with whether v is universal, for every v up to the limit.
 pub fn fill_levels(prefix: &[u32], levels: &mut [u32], universals: &mut [bool])
     requires sound { ⌜ ((n : ℕ) × SoundPrefix n (now prefix)) ⌝ }
     requires rows { ⌜ LevelRows (now levels) (now universals) ⌝ }
@@ -28,7 +28,7 @@ fn free_level(prefix: &[u32]) -> u32
     if prefix[0] == 1 { 1 } else { 0 }
 }
 
-// Every variable as a free one.
+// Every row as that of a free variable.
 fn all_free(free: u32, levels: &mut [u32], universals: &mut [bool])
     requires rows { ⌜ LevelRows (now levels) (now universals) ⌝ }
     ensures all { λ r. ⌜ AllFree free (now (levels .exit)) (now (universals .exit)) ⌝ }

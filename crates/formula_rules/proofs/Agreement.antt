@@ -1,4 +1,4 @@
--- Where rule 1 accepts a prefix, so does rule 2, and reads it as it stands: everything then agrees.
+-- Where rule 1 accepts a prefix, so does rule 2, and reads it as it stands: everything then agrees (rule 6.3).
 use Prim.Native.Nat.{ℕ, zero, suc, _≤_, _<_, _+_}
 use mathlib.Core.Path.{_≡_, refl, sym, ap, _∙_, subst}
 use mathlib.Core.Bool.{Bool, true, false, cond, not, _&&_}
@@ -62,7 +62,7 @@ module _ {n : ℕ} {es : List ℕ} (few : n ≤ 4096) (none : None (PrefixCause 
           (λ b. ltb (suc i) (length es) && b) f ∙ ap (λ b. b && false) l))))
           (λ f. absurd (clash t (ap (λ b. b && eqb (at es (suc i)) 0) f)))
 
-  -- What is left to write is what is left, behind the 0 that is not written yet.
+  -- What is left to write is what is left of the prefix, behind the 0 of the open block, which is not written yet.
   left : Bool → ℕ → List ℕ → List ℕ
   left true mark more = closing mark ++ more
   left false mark more = more
@@ -174,7 +174,7 @@ module _ {n : ℕ} {es : List ℕ} (few : n ≤ 4096) (none : None (PrefixCause 
   pub same-prefix : joinedPrefix es ≡ es
   same-prefix = sym (rest-joined (passes also-accepted)) ∙ same-rest
 
--- What stands first under rule 1 stands against nothing: then it does so under rule 2, and both read one prefix.
+-- Where rule 1 accepts n, the lengths and the prefix, so does rule 2, and both read the same prefix.
 pub both-accept : (n : ℕ) (es : List ℕ) (entries : ℕ) → NoneOf (ruledPrefix 1 n es entries) → NoneOf (ruledPrefix 2 n es entries) × (readAs 2 es ≡ readAs 1 es)
 unfolding readAs
 both-accept n es entries none =
@@ -183,7 +183,7 @@ both-accept n es entries none =
     let sound = none .1 .1 .1 .0 in
     ((at0-none 23 (λ w. w .1 refl), (none .1 .0, (none .1 .1 .0, (also-accepted few sound, tt)))), same-prefix few sound)
 
--- So every promise that goes over from one order to another is the same under both.
+-- So every promise that holds by any order that says the same is the same under both rules.
 module _ (S : List Causes → List ℕ → Type 0) (carry : (order order′ : List Causes) (es : List ℕ) → Carries order order′ → S order es → S order′ es)
     (later : List ℕ → List Causes) (n : ℕ) (es : List ℕ) (entries : ℕ) (none : NoneOf (ruledPrefix 1 n es entries)) where
   agrees : (rule other : ℕ) → NoneOf (ruledPrefix rule n es entries) → NoneOf (ruledPrefix other n es entries) → readAs rule es ≡ readAs other es
@@ -202,7 +202,7 @@ module _ (S : List Causes → List ℕ → Type 0) (carry : (order order′ : Li
   pub rules-agree : S (ruledPrefix 1 n es entries ++ later (readAs 1 es)) (readAs 1 es) ↔ S (ruledPrefix 2 n es entries ++ later (readAs 2 es)) (readAs 2 es)
   rules-agree = (one-to-two, two-to-one)
 
--- Check is one of these.
+-- Check's promise is one of these.
 pub check-agrees : (f : Formula) → NoneOf (ruledPrefix 1 (f .n) (f .prefix) (length (f .clauses))) → (v : Verdict)
     → Judged (checkOrder 1 f) v ↔ Judged (checkOrder 2 f) v
 check-agrees f none v =

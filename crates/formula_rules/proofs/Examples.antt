@@ -1,4 +1,4 @@
--- Worked examples of request 7: lines of one quantifier side by side, lines with no variables, and a rule number that is none.
+-- Worked examples of rule 6.2: neighbours with one quantifier, and empty blocks; and a rule number that is neither 1 nor 2 (rule 8.2).
 use Prim.Native.Nat.{ℕ}
 use mathlib.Core.Path.{_≡_, refl}
 use mathlib.Core.List.{List, [], _∷_}

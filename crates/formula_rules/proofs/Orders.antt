@@ -35,19 +35,19 @@ module _ (rule n : ℕ) (es : List ℕ) (entries : ℕ) where
   pub no-rule : rule ≢ 1 → rule ≢ 2 → FirstOf (ruledPrefix rule n es entries) 23 0
   no-rule one two = inl (at0-first 23 (one, two))
 
-  -- under rule 1 today's order
+  -- under rule 1 the order of a prefix alone
   pub rule-one : rule ≡ 1 → (v : Verdict) → Judged (prefixOrder n es entries) v → Judged (ruledPrefix rule n es entries) v
   rule-one is v judged =
       subst (λ (r : ℕ). Judged (ruledPrefix r n es entries) v) (sym is)
       (accepted-then (At0 23 (NoRule 1) ∷ []) (prefixOrder n es entries) {v = Accepted} v refl (at0-none 23 (λ w. w .0 refl), tt) judged)
 
-  -- under rule 2 that of the prefix read by it
+  -- under rule 2 the order with the causes of a joined prefix
   pub rule-two : rule ≡ 2 → (v : Verdict) → Judged (VariableCount n ∷ At0 2 (PrefixLong es ⊎ ClausesLong entries) ∷ JoinedCause n es ∷ []) v → Judged (ruledPrefix rule n es entries) v
   rule-two is v judged =
       subst (λ (r : ℕ). Judged (ruledPrefix r n es entries) v) (sym is)
       (accepted-then (At0 23 (NoRule 2) ∷ []) (VariableCount n ∷ At0 2 (PrefixLong es ⊎ ClausesLong entries) ∷ JoinedCause n es ∷ []) {v = Accepted} v refl (at0-none 23 (λ w. w .1 refl), tt) judged)
 
-  -- A rule other than 1 under which nothing stands against the prefix is rule 2, and the limits are kept.
+  -- A rule other than 1 that accepts the prefix is rule 2, and the limits are kept.
   pub accepted-two : rule ≢ 1 → NoneOf (ruledPrefix rule n es entries) → (rule ≡ 2) × (n ≤ 4096) × (length es ≤ 8192) × (entries ≤ 16384) × None (JoinedCause n es)
   accepted-two other none =
       let is : rule ≡ 2 = by-cases (ℕ-discrete rule 2) (λ q. q) (λ two. absurd (none .0 23 0 (refl, refl, (other, two)))) in
@@ -56,7 +56,7 @@ module _ (rule n : ℕ) (es : List ℕ) (entries : ℕ) where
       let small : ¬ (16384 < entries) = λ over. none .1 .1 .0 2 0 (refl, refl, inr over) in
       (is, omega arith, omega arith, omega arith, subst (λ (r : ℕ). None (PrefixCauseBy r n es)) is (none .1 .1 .1 .0))
 
-  -- Then the joined prefix, where it stands in a table that is as long as it may be, is sound.
+  -- Then the joined prefix, which stands at the front of a table, is sound.
   pub joined-read : (table : List ℕ) (count : ℕ) → rule ≢ 1 → NoneOf (ruledPrefix rule n es entries) → length table ≡ joinedEntries
       → count ≤ length table → take count table ≡ joinedPrefix es → ReadsPrefix rule n es entries table (Count count)
   unfolding readAs
@@ -67,7 +67,7 @@ module _ (rule n : ℕ) (es : List ℕ) (entries : ℕ) where
       let sound : SoundPrefix n (joinedPrefix es) = record { few = few; short = fits; faultless = joined-accepted few fits faultless } in
       (none, subst (SoundPrefix n) read sound, inr (room, written ∙ read), tt)
 
-  -- Under rule 1 the lent prefix is.
+  -- Under rule 1 the lent prefix is sound.
   pub lent-read : (table : List ℕ) → rule ≡ 1 → NoneOf (ruledPrefix rule n es entries) → ReadsPrefix rule n es entries table (Count 0)
   lent-read table is none =
       let over : ¬ (4096 < n) = λ l. none .1 .0 1 0 (refl, refl, l) in
@@ -76,7 +76,7 @@ module _ (rule n : ℕ) (es : List ℕ) (entries : ℕ) where
       let sound : SoundPrefix n es = record { few = omega arith; short = omega arith; faultless = faultless } in
       (none, subst (SoundPrefix n) (sym (lent-one rule es is)) sound, inl is, tt)
 
--- What is known of a formula that a rule accepts: the limits are kept, and one of the two rules has nothing against its prefix.
+-- What is known of a formula that a rule accepts: the limits are kept, and its prefix has no cause under one of the two rules.
 module _ (rule : ℕ) (f : Formula) (none : NoneOf (checkOrder rule f)) where
   pub limits : (f .n ≤ 4096) × (length (f .prefix) ≤ 8192) × (length (f .clauses) ≤ 16384)
   limits =

@@ -35,7 +35,7 @@ pub record Scanned (n : ℕ) (es : List ℕ) (i : ℕ) (opening : Bool) (last co
   pub few : count ≤ 64
   pub naming : Named es i named
 
--- nothing is wrong with a mark of which no number is said
+-- a mark for which no refusal number is given is sound
 mark-fine : {entry count number : ℕ} {new : Bool} → MarkFault entry new count number → number ≡ 0 → IsMark entry × ((new ≡ false) ⊎ (count ≢ 64))
 mark-fine (MarkFault.fine _ good few) none = (good, few)
 mark-fine (MarkFault.no-mark q _ _) none = absurd (omega arith)
@@ -45,7 +45,8 @@ pub mark-some : (entry : ℕ) → IsMark entry → entry ≢ 0
 mark-some entry (inl q) z = omega arith
 mark-some entry (inr q) z = omega arith
 
--- At an entry that opens a block the last mark and the count go on as the test says: a mark that begins no block is empty or the same again.
+-- At an entry that opens a block the last mark and the count of blocks go on as the test says: a mark that begins no block is that of an empty block,
+-- or equals the last mark.
 last-cases : (empty : Bool) (a l : ℕ) → cond (not empty) a l ≡ cond (not empty && not (eqb a l)) a l
 last-cases true a l = refl
 last-cases false a l = go (ℕ-discrete a l)
@@ -231,7 +232,7 @@ module _ {n : ℕ} {es : List ℕ} {start last count : ℕ} {named : List Bool} 
   block-closed (faulty _ some _ _ _ _) fine more = absurd (some fine)
   block-closed (unclosed _ _ q) fine more = absurd (omega arith)
 
--- What is known by a test is known by what the test came out as.
+-- A scan that is told with a test holds with the test's outcome in its place.
 pub settled : {n : ℕ} {es : List ℕ} {i : ℕ} {opening : Bool} {named : List Bool} (mark last count : ℕ) (new : Bool) {tested : Bool} → tested ≡ new
     → Scanned n es i opening (cond tested mark last) (cond tested (count + 1) count) named
     → Scanned n es i opening (cond new mark last) (cond new (count + 1) count) named

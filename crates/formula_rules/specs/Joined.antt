@@ -1,4 +1,4 @@
--- A prefix as reading rule 2 takes it (document 02, request 7): empty blocks dropped, and neighbours with one quantifier joined.
+-- A prefix as reading rule 2 takes it (rule 6.2): empty blocks dropped, and neighbours with one quantifier joined.
 use Prim.Native.Nat.{ℕ}
 use mathlib.Core.Bool.{cond}
 use mathlib.Core.List.{List, [], _∷_, _++_}

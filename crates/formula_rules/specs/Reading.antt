@@ -1,4 +1,4 @@
--- What the inner functions promise that judge a prefix, or a formula, by a rule and give the prefix as the rule reads it.
+-- Inner: what functions promise that judge a prefix, or a formula, by a rule and give the prefix as the rule reads it.
 use Prim.Native.Nat.{ℕ, _≤_}
 use mathlib.Core.Path.{_≡_}
 use mathlib.Core.List.{List}
@@ -12,7 +12,7 @@ use Rattle.formula.specs.Levels.{SoundPrefix}
 use Rattle.formula.specs.Lookup.{SoundClauses}
 use Rattle.formula_rules.specs.Rules.{readAs, ruledPrefix, checkOrder}
 
--- the prefix as the rule reads it is at hand: it is the lent one, or it stands in front in a table
+-- the prefix as the rule reads it is at hand: it is the lent one, or stands at the front of a table
 abbrev pub AtHand : ℕ → List ℕ → List ℕ → ℕ → Type 0
 AtHand rule es table count = (rule ≡ 1) ⊎ ((count ≤ length table) × (take count table ≡ readAs rule es))
 

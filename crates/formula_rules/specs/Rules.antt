@@ -1,4 +1,5 @@
--- The two reading rules for prefixes (document 02, request 7): the prefix as each reads it, its causes of refusal, and the order of a call that takes a rule number.
+-- The two reading rules for prefixes (rule 6.1, rule 6.2): the prefix as each reads it, its causes of refusal, with places in the prefix as lent
+-- (rule 6.4), and the order of a call that takes a rule number (rule 8.2).
 use Prim.Native.Nat.{ℕ, zero, suc, _<_}
 use mathlib.Core.Path.{_≡_}
 use mathlib.Core.Bool.{Bool, true, false, cond, not, _&&_}
@@ -52,7 +53,7 @@ pub data JoinedCause (n : ℕ) (es : List ℕ) (number e : ℕ) : Type 0 where
   -- 8: variable named before
   named-before : (b : ℕ) → number ≡ 8 → VariableAt es e → b < e → VariableAt es b → at es b ≡ at es e → JoinedCause n es number e
 
--- the causes in a prefix by the rule: those of document 01, or where the rule joins those above
+-- the causes in a prefix by the rule: those above where the rule joins, else those of the prefix as it stands
 abbrev pub causesIf : Bool → ℕ → List ℕ → Causes
 causesIf false n es = PrefixCause n es
 causesIf true n es = JoinedCause n es

@@ -1,4 +1,4 @@
--- What the inner functions promise that judge a prefix under rule 2 and write it joined. What a reader must believe is in Joined and Rules.
+-- Inner: what functions promise that judge a prefix under rule 2 and write it joined. What a reader must believe is in Joined and Rules.
 use Prim.Native.Nat.{ℕ, zero, suc, _+_, _≤_}
 use mathlib.Core.Path.{_≡_}
 use mathlib.Core.Bool.{Bool, true, false}
@@ -19,7 +19,7 @@ unfoldable pub closing : ℕ → List ℕ
 closing zero = []
 closing (suc last) = 0 ∷ []
 
--- Some entries are written behind those that stand already, and the count goes on by theirs.
+-- Some entries are written behind those that are there already, and the count grows by their number.
 pub record Put (more out out′ : List ℕ) (count count′ : ℕ) : Type 0 where
   pub size : length out′ ≡ length out
   pub end : count′ ≡ count + length more

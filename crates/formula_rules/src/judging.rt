@@ -1,4 +1,4 @@
-// The prefix under rule 2, scanned once from the left for refusals 3, 4, 6, 7 and 8.
+// The prefix under reading rule 2, scanned once from the left for refusals 3, 4, 6, 7 and 8.
 
 use formula_checks::prefix::name_variables;
 use terms::Level;
@@ -13,8 +13,8 @@ ghost use Rattle.terms.specs.Refusals.{Judged};
 ghost use Rattle.formula_rules.specs.Rules.{beginsAfter, JoinedCause};
 ghost use Rattle.formula_rules.specs.Writing.{MarkFault};
 
-// The first cause of a refusal under rule 2 in the prefix of a formula with n variables, one block after another.
-// A table of the variables named so far, a row for each number up to the limit, spares every search.
+// The first cause of a refusal under rule 2 in the prefix of a formula with n variables, one block after another. `named` has a flag for each
+// variable that was named so far, so that the prefix is not searched again.
 pub fn joined_verdict(n: u32, prefix: &[u32]) -> Verdict
     requires few { ⌜ n ≤ mostVariables ⌝ }
     ensures judged { λ r. ⌜ Judged (JoinedCause n (now (prefix .entry)) ∷ []) r ⌝ }
@@ -46,7 +46,8 @@ pub fn joined_verdict(n: u32, prefix: &[u32]) -> Verdict
     Verdict::Accepted
 }
 
-// Whether entry i, as a mark, begins a block after one with the mark `last`: 0 does not directly follow it, and it is another.
+// Whether the mark at entry i begins a new block once empty blocks are dropped and neighbours joined: no 0 directly follows it, and it differs from
+// `last`, the mark of the block before.
 pub fn begins_after(prefix: &[u32], i: usize, last: u32) -> bool
     requires within { ⌜ i < length (now prefix) ⌝ }
     ensures told { λ r. ⌜ r ≡ beginsAfter (now (prefix .entry)) i last ⌝ }

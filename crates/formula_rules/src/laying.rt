@@ -1,4 +1,4 @@
-// The prefix as rule 2 reads it, written into a table: one pass, in which the 0 that closes a block is written when the next one begins.
+// The prefix as reading rule 2 takes it, written into a table in one pass. The 0 that closes a block is written when the next one begins.
 
 use crate::judging::begins_after;
 ghost use Prim.Native.Nat.{ℕ, _≤_, _<_};

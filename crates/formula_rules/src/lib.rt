@@ -1,4 +1,4 @@
-// Reading rules for prefixes: the refusals of a prefix by a rule number, and the prefix as rule 2 reads it.
+// Reading rules for prefixes (rule 6.1, rule 6.2): the refusals of a prefix by a rule number, and the prefix as rule 2 reads it.
 
 mod judging;
 mod laying;
@@ -43,8 +43,8 @@ pub fn rule_verdict(rule: u32, n: u32, prefix: &[u32], entries: usize) -> Verdic
     joined_verdict(n, prefix)
 }
 
-// Judges a prefix by a rule, and has it at hand as the rule reads it: the lent one under rule 1, and else joined, in front in a table, with the
-// count of its entries. Beside the prefix so many clause entries are lent.
+// Judges a prefix by a rule. Under rule 2 an accepted prefix is written joined at the front of `joined`, and its count of entries given; under rule 1
+// the lent prefix is read itself, and the count is 0. Beside the prefix so many clause entries are lent.
 pub fn read_prefix(rule: u32, n: u32, prefix: &[u32], entries: usize, joined: &mut [u32]) -> Filled
     requires room { ⌜ length (now joined) ≡ joinedEntries ⌝ }
     ensures reads { λ r. ⌜ ReadsPrefix rule n (now (prefix .entry)) entries (now (joined .exit)) r ⌝ }
@@ -61,7 +61,7 @@ pub fn read_prefix(rule: u32, n: u32, prefix: &[u32], entries: usize, joined: &m
     }
 }
 
-// Judges a formula by a rule, its clauses after its prefix, and has the prefix at hand as the rule reads it.
+// Judges a formula by a rule, its clauses after its prefix, and writes the prefix as `read_prefix` does.
 pub fn read_formula(
     rule: u32,
     n: u32,
@@ -81,7 +81,7 @@ pub fn read_formula(
     }
 }
 
-// The prefix that is at hand: the lent one under rule 1, and else the front of the table.
+// The prefix as the rule reads it, once it is judged: the lent one under rule 1, else the front of the table.
 pub fn as_read<'a>(rule: u32, lent: &'a [u32], joined: &'a [u32], count: u32) -> &'a [u32]
     requires hand { ⌜ AtHand rule (now lent) (now joined) count ⌝ }
     ensures read { λ r. ⌜ now r ≡ readAs rule (now (lent .entry)) ⌝ }

@@ -1,4 +1,4 @@
--- What an answer says: it is settled by its order and by what is asked for, and it goes over from one order to another.
+-- What an answer says: it is settled by its order and by what is asked for, and it holds by any other order that says the same.
 use Prim.Native.Nat.{ℕ}
 use mathlib.Core.Path.{_≡_, sym, ap, ap₂, _∙_}
 use mathlib.Core.List.{List}
@@ -64,7 +64,7 @@ answered-settled order P one (EntryAnswer.Refused number place) (EntryAnswer.Ref
     let (k, p) = firstOf-same order number place number′ place′ first first′ in
     ap₂ EntryAnswer.Refused k p
 
--- What is answered by one order is answered by another that says as much.
+-- What is answered by one order is answered by another that says the same.
 pub carry-filling : (L : List ℕ → Type 0) (before after : List ℕ) (r : Filled) (order order′ : List Causes)
     → Carries order order′ → Filling order L before after r → Filling order′ L before after r
 carry-filling L before after (Filled.Count count) order order′ c (none, list) = (c .none none, list)

@@ -1,4 +1,4 @@
--- One order for another: what the first says, the second says as well.
+-- One order of refusals for another: when what the first says, the second says as well.
 use Prim.Native.Nat.{ℕ}
 use mathlib.Core.Path.{refl}
 use mathlib.Core.List.{List, [], _∷_, _++_}
@@ -17,8 +17,7 @@ pub carry-judged : (order order′ : List Causes) → Carries order order′ →
 carry-judged order order′ c Accepted judged = c .none judged
 carry-judged order order′ c (Refused number place) judged = c .first number place judged
 
--- An order carries over to itself; with a family more in front of each, where the causes of one are as good as those of the other; behind a common front; and
--- by way of a third order.
+-- An order carries over to itself; with causes put in front of each, where the two say the same; behind a common front; and by way of a third order.
 pub same-order : (order : List Causes) → Carries order order
 same-order order = record { none = λ none. none; first = λ number place first. first }
 
@@ -44,7 +43,7 @@ behind (causes ∷ front) more = one-more causes causes (λ k p cause. cause) (�
 pub carries-then : {order order′ order″ : List Causes} → Carries order order′ → Carries order′ order″ → Carries order order″
 carries-then a b = record { none = λ none. b .none (a .none none); first = λ number place f. b .first number place (a .first number place f) }
 
--- what is judged behind causes that nothing has
+-- Of an order whose front has no cause: what it says is said of its later part.
 pub none-later : (front later : List Causes) → NoneOf (front ++ later) → NoneOf later
 none-later [] later none = none
 none-later (causes ∷ front) later none = none-later front later (none .1)
@@ -54,7 +53,7 @@ later-first [] later number place none first = first
 later-first (causes ∷ front) later number place none (inl first) = absurd (none .0 number place (first .holds))
 later-first (causes ∷ front) later number place none (inr first) = later-first front later number place (none .1) (first .1)
 
--- Two fronts that nothing has may be exchanged.
+-- Two fronts of which no cause holds may be exchanged.
 pub exchanged : (front front′ later : List Causes) → NoneOf front → NoneOf front′ → Carries (front ++ later) (front′ ++ later)
 exchanged front front′ later none none′ =
     record {

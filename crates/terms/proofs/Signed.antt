@@ -46,7 +46,7 @@ unfolding rowOf otherRow
 row-signed (pos n) = rw (le-ltb n 0 (omega arith)) (refl, omega arith)
 row-signed (negsuc n) = (omega arith, refl)
 
--- so from a literal that is read back from its bits
+-- the same, for a literal that is read back from its bits
 module _ {z : ℤ} (fits : SFits w32 z) {half : ℕ} (size : half ≡ variableOf (toZ w32 (ofZ w32 z))) where
   back : half ≡ variableOf z
   back = size ∙ ap variableOf (toZ-ofZ fits)

@@ -1,4 +1,4 @@
--- The answers of calls that give more than a verdict: what each case says, as document 01 numbers it.
+-- The answers of calls that give more than a verdict: what each case says (rule 18.9), and what a call leaves in a table that it fills (rule 7.5).
 use Prim.Native.Nat.{ℕ, _<_}
 use mathlib.Core.Path.{_≡_}
 use mathlib.Core.List.{List}

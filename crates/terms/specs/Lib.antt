@@ -1,4 +1,4 @@
--- What to believe of the words of the library: limits, literals, refusals and answers. Pairs is inner.
+-- What to believe of the words of the library: limits, literals, refusals, ascending lists and answers.
 pub mod Limits
 pub mod Literals
 pub mod Refusals

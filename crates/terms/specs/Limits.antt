@@ -1,4 +1,4 @@
--- The limits of document 01, which the types `Variable`, `Level` and `Literal` carry as constants.
+-- The limits (rule 1.1, rule 1.4, rule 8.1, rule 14.4), which the types `Variable`, `Level` and `Literal` carry as constants (rule 1.8).
 use Prim.Native.Nat.{ℕ}
 
 -- the largest variable count
@@ -17,7 +17,7 @@ prefixEntries = 8192
 abbrev pub clauseEntries : ℕ
 clauseEntries = 16384
 
--- the rows of a table with one for each number from 0 to the largest variable count
+-- the rows of a table with one for each variable up to the limit, and row 0
 abbrev pub variableRows : ℕ
 variableRows = 4097
 
@@ -33,7 +33,7 @@ joinedEntries = 4224
 abbrev pub mostResolutionVariables : ℕ
 mostResolutionVariables = 512
 
--- the rows of a table with one for each number from 0 to that, and of one with two for each, one for each literal
+-- the rows of a table with one for each variable of such a formula and row 0, and of one with two for each of these, one for each literal
 abbrev pub resolutionRows : ℕ
 resolutionRows = 513
 

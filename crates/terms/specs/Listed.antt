@@ -1,4 +1,4 @@
--- Ascending lists of exactly those numbers of which something holds.
+-- Ascending lists of exactly those numbers of which something holds (rule 7.4).
 use Prim.Native.Nat.{ℕ, _<_}
 use mathlib.Core.List.{List, [], _∷_, List·Memᴰ}
 

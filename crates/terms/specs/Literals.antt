@@ -1,4 +1,4 @@
--- The variable of a literal (document 01, "The formula as lent").
+-- The variable of a literal (rule 1.3), also of the smallest 32-bit one (rule 17.3).
 use Prim.Native.Nat.{ℕ}
 use lib.IntN.{ℤ, natAbs}
 

@@ -1,4 +1,4 @@
--- Refusals: what it is to be the first cause in a call's order, and what a verdict then says (document 01, "Refusal numbers").
+-- Refusals: what it is to be the first cause in a call's order, and what a verdict then says (demand 1, rule 8.2, rule 18.9).
 use Prim.Native.Nat.{ℕ, _≤_}
 use mathlib.Core.Path.{_≡_}
 use mathlib.Core.List.{List, [], _∷_}

@@ -1,4 +1,5 @@
-// The words of the library: variables, levels and literals, kept apart at compile time, with the limits of each, and what calls answer.
+// The words of the library: variables, levels and literals, kept apart at compile time (rule 1.8, rule 18.4), with the limits of each, and what calls
+// answer.
 
 pub mod pairs;
 
@@ -20,11 +21,11 @@ pub struct Literal(pub i32);
 impl Variable {
     // The largest variable count that a formula may have.
     pub const MOST: u32 = 4096;
-    // The rows of a table with one for each number from 0 to that: row v is for variable v.
+    // The rows of a table with one for each variable: row v is for variable v, and row 0 for none.
     pub const ROWS: usize = 4097;
     // The largest variable count of a formula of which resolution paths are asked.
     pub const RESOLUTION_MOST: u32 = 512;
-    // The rows of a table with one for each number from 0 to that.
+    // The rows of a table with one for each variable of such a formula.
     pub const RESOLUTION_ROWS: usize = 513;
 
     pub fn new(number: u32) -> Variable
@@ -56,9 +57,9 @@ impl Level {
     pub const MOST: u32 = 64;
     // The most entries that the table of the levels, the prefix, may have.
     pub const ENTRIES: usize = 8192;
-    // The most that it may have once neighbouring blocks are joined: all variables, and a mark and a 0 for each block.
+    // The most entries that it may have once neighbouring blocks are joined: all variables, and a mark and a 0 for each block.
     pub const JOINED: usize = 4224;
-    // A number that no block has and that nothing is deeper than: a pass over the universals begins with the tops over it, which are none.
+    // A level over every block number, so that no variable is deeper. A pass over the universals starts from it: no class is an entry point yet.
     pub const NONE_DEEPER: u32 = 4294967295;
 
     pub fn new(number: u32) -> Level
@@ -71,7 +72,7 @@ impl Level {
 impl Literal {
     // The most entries that a table of literals, the clause table or an added clause, may have.
     pub const ENTRIES: usize = 16384;
-    // The rows of a table with two for each number from 0 to the largest variable count, one for each literal.
+    // The rows of a table with two for each variable, one for each of its literals, and two for none.
     pub const ROWS: usize = 8194;
     // The rows of such a table where resolution paths are asked for.
     pub const RESOLUTION_ROWS: usize = 1026;
@@ -89,7 +90,7 @@ impl Literal {
         Variable(magnitude(self.0))
     }
 
-    // The row of the literal in a table with two rows for each variable: 2v for v, and the next for its negation.
+    // The row of the literal in a table with two rows for each variable: 2v for v, and 2v + 1 for its negation.
     pub fn row(self) -> usize
         ensures own { λ r. ⌜ r ≡ rowOf (self .0) ⌝ }
     {
@@ -191,7 +192,7 @@ pub enum Scheme {
     Strict,
 }
 
-// A running tally beside a forest: the clauses taken, the merges made and the classes left.
+// A tally beside a forest: the clauses taken, the merges made and the classes left (rule 4.3).
 pub struct Tally {
     pub clauses: u32,
     pub merges: u32,

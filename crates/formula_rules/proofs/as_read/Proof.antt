@@ -1,4 +1,4 @@
--- Under rule 1 the lent prefix is what the rule reads, and else the front of the table is, by what is asked.
+-- Under rule 1 the rule reads the lent prefix; under rule 2 it reads the front of the table, by `AtHand`.
 use mathlib.Core.Path.{sym}
 use borrow.Author.Needs.{needs}
 use Rattle.formula_rules.proofs.Orders.{lent-one}

@@ -1,4 +1,4 @@
--- What the rule has against the prefix comes first, and then what is wrong with the clauses.
+-- The refusals of the prefix come first, and then those of the clauses.
 use mathlib.Core.List.{[], _∷_}
 use lib.ListN.{length}
 use borrow.Author.Needs.{needs}

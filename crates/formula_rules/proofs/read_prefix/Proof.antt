@@ -1,4 +1,4 @@
--- Where the rule has nothing against the prefix, the lent one is sound under rule 1, and under rule 2 what is laid out joined.
+-- Where the rule accepts the prefix, the lent one is sound under rule 1, and under rule 2 the joined one that is written.
 use mathlib.Core.Path.{subst, _∙_}
 use native.Mathlib.Omega.{arith}
 use borrow.Author.Needs.{needs}
