@@ -1,5 +1,5 @@
--- Where both rules accept a prefix, everything agrees: what each call promises under one rule it promises under the other.
--- (Where rule 1 accepts a prefix so does rule 2: `formula_rules/proofs/Agreement`, both-accept.)
+-- Where both reading rules accept a prefix, everything agrees: what each call promises under one rule it promises under the other (rule 6.3). (Where
+-- rule 1 accepts a prefix so does rule 2: `formula_rules/proofs/Agreement`, both-accept.)
 use Prim.Native.Nat.{ℕ}
 use mathlib.Core.List.{List, [], _∷_, _++_}
 use mathlib.Core.Logic.{_↔_}

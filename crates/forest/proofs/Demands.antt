@@ -131,7 +131,7 @@ module _ (rule : ℕ) (f : Formula) (r : Rows) (x : ℕ) where
         let u = universal-alone (read .n) (read .prefix) x (not-refused (MembersBy scheme read r x) before none) in
         (written .0, listed-as (members-depend read r x forest scheme u) (written .1), written .2, written .3)
 
-    -- And what the entry point call answers is the class of definition 4.24, said by reach.
+    -- And what the entry point call answers is the entry point by reach (rule 2.6; Lonsing and Biere, definition 4.24).
     pub entry-is-class : (y : ℕ) (class : Variable) (rises : ℕ)
         → EntryAnswered rule f r x y (At class rises) → EntryClass (variablesOf read) (Shares (f .clauses)) x y (class .0)
     entry-is-class y class rises (none, entry) =

@@ -1,5 +1,5 @@
--- Strict sets, of what the calls promise: they lie within the standard ones, and are empty where x has one sign only; and their first steps with a clause
--- put last.
+-- Strict sets, of what the calls promise: they lie within the standard ones, and are empty where x has one sign only (rule 5.3); and their first
+-- steps with a clause put last.
 use Prim.Native.Nat.{ℕ}
 use mathlib.Core.Path.{_≡_, refl, sym, ap, _∙_, subst}
 use mathlib.Core.Bool.{Bool, false}

@@ -1,4 +1,4 @@
--- What the calls that ask of a forest answer, and what they promise.
+-- What the calls that ask of a forest answer, and what they promise (demand 2; rule 2.7, rule 2.8, rule 3.4, rule 4.2, rule 5.1, rule 5.2).
 use Prim.Native.Nat.{ℕ, _≤_}
 use mathlib.Core.Path.{_≡_}
 use mathlib.Core.List.{List}

@@ -1,5 +1,5 @@
--- The causes of refusal 13 for calls that read a forest, as the table of document 01 has them, and the orders of these calls. What is looked for behind the prefix is
--- looked for in the formula as the rule reads it.
+-- The causes of refusal 13 for calls that read a forest, as the table of rule 8.1 has them, and the orders of these calls (rule 8.2). What is looked
+-- for behind the prefix is looked for in the formula as the rule reads it.
 use Prim.Native.Nat.{ℕ, _≤_}
 use mathlib.Core.Path.{_≡_}
 use mathlib.Core.Bool.{false}

@@ -1,4 +1,4 @@
--- What the inner functions are asked for, by a scheme and by the lent rows.
+-- Inner: what functions are asked for, by a scheme and by the lent rows.
 use Prim.Native.Nat.{ℕ}
 use mathlib.Core.Path.{_≡_}
 use mathlib.Core.Bool.{Bool}

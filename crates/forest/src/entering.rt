@@ -27,8 +27,8 @@ ghost use Rattle.forest_tables.specs.Lent.{rows, rowsIn};
 ghost use Rattle.forest.specs.InnerOrders.{behindCheck};
 ghost use Rattle.forest.specs.Wanted.{Enters};
 
-// Refusals 12 and 13 of an accepted formula, and where there is none the flags of all entry points of x by the scheme, and rows `tops` that say for
-// each variable by whose flag it is a member. The two tables hold the levels and the universals before, so that x needs no table of its own.
+// Refusals 12 and 13 of an accepted formula; where there is none, the flags of all entry points of x by the scheme, and in `tops` for each variable
+// the number by whose flag it is a member. Before that the two tables hold the levels and the universals, so that no others are needed (rule 7.6).
 pub fn enter(
     scheme: Scheme,
     n: u32,
@@ -72,7 +72,7 @@ pub fn enter(
     }
 }
 
-// The tops over the level of x in place of the levels, and then the flags of its entry points in place of the universals. Nothing is judged.
+// Puts the tops over the level of x in place of the levels, and then the flags of its entry points in place of the universals. Nothing is judged.
 pub fn enter_over(
     scheme: Scheme,
     n: u32,

@@ -1,5 +1,5 @@
-// Lent forest tables asked, under a reading rule: the entry point of x for y, the entry points of x, the set of x and its size, by the standard
-// scheme or the strict one.
+// The calls that ask of a lent forest, under a reading rule: the entry point of x for y, the entry points of x, the set of x and its size, by the
+// standard scheme or the strict one.
 
 mod entering;
 

@@ -1,4 +1,4 @@
--- What the inner functions find in lent rows, by the level table. What a reader must believe of the calls is in the definitions of `forest`.
+-- Inner: what functions find in lent rows, by the level table. What a reader must believe of the calls is in the definitions of `forest`.
 use Prim.Native.Nat.{ℕ, _+_, _≤_, _<_}
 use mathlib.Core.Path.{_≡_}
 use mathlib.Core.Bool.{true, cond}
@@ -57,7 +57,8 @@ Topless n tops from = (v : ℕ) → 1 ≤ v → v ≤ from → row n tops v ≡ 
 abbrev pub Behind : List ℕ → ℕ → ℕ → Type 0
 Behind es floor place = (opens es place ≡ true) × (marksBefore es place ≡ floor)
 
--- such a place is known, where the floor is a level: the passes over the universals begin with tops over 4294967295, which no level is
+-- such a place is known, where the floor is a level: a pass over the universals begins with tops over 4294967295 (Level::NONE_DEEPER), which no level
+-- is
 abbrev pub Known : List ℕ → ℕ → ℕ → Type 0
 Known es floor place = floor < 4294967295 → Behind es floor place
 

@@ -1,5 +1,5 @@
-// The search for entry points, from the class of y from parent to parent, while the next class is still deeper than x; and the tops of all variables
-// over a level, which are where those searches end.
+// The climb for entry points (rule 2.6, rule 18.2): from the class of y from parent to parent, while the next class is still deeper than x. The class
+// where it ends, over a level, is the top of y over that level. The tops of all variables over a level are filled in one pass.
 
 use forest_tables::rows::existential_at;
 use forest_tables::rows::level_at;
@@ -26,22 +26,22 @@ pub struct End {
     pub rises: u32,
 }
 
-// What a table of tops is over: a level, the place in the prefix where the blocks deeper than that begin, and a number up to which no variable has
-// a top.
+// What a table of tops is filled for: the level that the tops are over, the place in the prefix where the blocks deeper than it begin, and a number
+// `from` up to which no variable has a top.
 pub struct Floor {
     pub level: Level,
     pub place: usize,
     pub from: u32,
 }
 
-// What the search for y finds: the entry point and its rises; nowhere for a y that is not existential and deeper than x.
+// What the climb for y finds: the entry point and its rises; nowhere for a y that is not existential and deeper than x.
 pub enum Found {
     At(Variable, u32),
     Nowhere,
 }
 
-// The climb from a class, with some rises behind it: while the parent is deeper than the floor, on to the parent.
-// The block number falls at each call.
+// The climb from a class, with some rises behind it: while the parent is deeper than the floor, on to the parent. The block number falls at each
+// call.
 fn climb(n: u32, levels: &[u32], parents: &[u32], floor: Level, class: Variable, rises: u32) -> End
     requires falling { ⌜ Falling n (now levels) (now parents) × (floor .0 < getD (now levels) (class .0) 0)
         × (rises + getD (now levels) (class .0) 0 < 4294967296) ⌝ }
@@ -87,9 +87,9 @@ pub fn find_entry(
     Found::At(class, rises)
 }
 
-// Fills the row of each variable with its top over a level, by the place in the prefix where the blocks deeper than that begin: the class name where
-// the search from its class ends, 0 for a variable that is not existential and deeper. The prefix names a class behind the classes above it, so that
-// one pass along it needs no climb.
+// Fills the row of each variable with its top over a level: the class name where the climb from its class ends, 0 for a variable that is not
+// existential and deeper. `place` is where in the prefix the blocks deeper than the level begin. The prefix names a class behind the classes above
+// it, so that one pass along it needs no climb.
 pub fn fill_tops(
     n: u32,
     prefix: &[u32],
@@ -119,7 +119,7 @@ pub fn clear_rows(n: u32, rows: &mut [u32])
     }
 }
 
-// Gives each variable of the blocks from a place on its top, in the order of the prefix, where the first n rows are 0 before.
+// Fills the row of each variable that the blocks from `place` on name with its top, in the order of the prefix; the first n rows are 0 before.
 fn top_blocks(
     n: u32,
     prefix: &[u32],
@@ -150,7 +150,7 @@ fn top_blocks(
     }
 }
 
-// The top of v, of a block deeper than the floor, once its parent has its own: none for a universal, else that of the parent of its class, and
+// The top of v, of a block deeper than the floor, once the parent of its class has its own: none for a universal, else the top of that parent, and
 // the class itself if the parent has none.
 fn top_of(n: u32, classes: &[u32], parents: &[u32], tops: &[u32], v: Variable) -> Variable
     ensures own { λ r. ⌜ r .0
@@ -164,7 +164,8 @@ fn top_of(n: u32, classes: &[u32], parents: &[u32], tops: &[u32], v: Variable) -
     if above.0 == 0 { class } else { above }
 }
 
-// The place in the prefix where the blocks deeper than a level begin, sought from where they do over a lesser one, if that is known.
+// The place in the prefix where the blocks deeper than a level begin: sought from the known place if that is over a lesser level, else from the
+// front.
 fn deeper_place(prefix: &[u32], known: Floor, floor: Level) -> usize
     requires known { ⌜ ((n : ℕ) × SoundPrefix n (now prefix)) × ((x : ℕ) × (x ≤ 4096) × (floor .0 ≡ level (now prefix) x))
         × Known (now prefix) (known .level .0) (known .place) ⌝ }
@@ -177,7 +178,7 @@ fn deeper_place(prefix: &[u32], known: Floor, floor: Level) -> usize
     place_behind(prefix, 0, floor.0)
 }
 
-// The place behind so many blocks, from one on where a block opens.
+// The place so many blocks further on from a place where a block opens.
 pub fn place_behind(prefix: &[u32], place: usize, blocks: u32) -> usize
     requires opening { ⌜ ((n : ℕ) × SoundPrefix n (now prefix)) × (opens (now prefix) place ≡ true)
         × ((x : ℕ) × (x ≤ 4096) × (marksBefore (now prefix) place + blocks ≡ level (now prefix) x)) ⌝ }
@@ -199,7 +200,8 @@ pub fn place_behind(prefix: &[u32], place: usize, blocks: u32) -> usize
     i
 }
 
-// Refills the rows, which are tops over one floor, with those over the level of x, if that is another; gives the floor that they are over now.
+// Refills the rows, which are tops over one floor, with those over the level of x, unless that is the same level; gives the floor that they are over
+// now.
 pub fn retop(
     n: u32,
     prefix: &[u32],
@@ -228,7 +230,7 @@ pub fn retop(
     Floor { level, place, from }
 }
 
-// The last number up to which no variable has a top.
+// The greatest number up to which no variable has a top.
 fn topless(n: u32, tops: &[u32]) -> u32
     ensures none { λ r. ⌜ (r ≤ n) × Topless n (now (tops .entry)) r ⌝ }
 {

@@ -47,7 +47,7 @@ flag-set old v l =
 pub flag-nothing : {P : ℕ → Type 0} (old : List Bool) → ((v : ℕ) → v < length old → P v → ⊥) → Flagged P old old
 flag-nothing old none = record { size = refl; flags = λ v l. (λ t. inl t, ⊎-elim (λ t. t) (λ p. absurd (none v l p))) }
 
--- The same flags in other words, and some after others.
+-- The same flags by an equivalent condition, and flags set one after another.
 pub flag-as : {P Q : ℕ → Type 0} {old new : List Bool} → Flagged P old new → ((v : ℕ) → P v ↔ Q v) → Flagged Q old new
 flag-as f same =
     record {

@@ -1,5 +1,5 @@
--- Flags of the tops of what shares a clause with x, by either sign of x or by both. What a reader must believe of the calls is in the definitions
--- of `forest`.
+-- Inner: flags of the tops of what shares a clause with x, by either sign of x or by both. What a reader must believe of the calls is in the
+-- definitions of `forest`.
 use Prim.Native.Nat.{ℕ, _-_, _≤_, _<_}
 use mathlib.Core.Path.{_≡_}
 use mathlib.Core.Bool.{Bool, true, false, cond}
@@ -86,7 +86,7 @@ pub record Blank (flags : List Bool) : Type 0 where
 unfoldable pub ifFlagged : List Bool → ℕ → ℕ
 ifFlagged flags top = cond (getD flags top false) top 0
 
--- the flags tell of which numbers P holds, and what the row of a variable says by them is what its entry says
+-- the flags tell of which numbers P holds, and the row of a variable is flagged exactly if its entry is
 pub record Entering (n : ℕ) (P : ℕ → Type 0) (entries tops : List ℕ) (flags : List Bool) : Type 0 where
   pub tells : (e : ℕ) → e ≤ 4096 → (getD flags e false ≡ true) ↔ P e
   pub same : (y : ℕ) → getD flags (row n tops y) false ≡ getD flags (row n entries y) false

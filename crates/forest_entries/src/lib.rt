@@ -33,15 +33,15 @@ pub struct Scan {
     pub side: Side,
 }
 
-// By which signs of x a scan flags.
+// By which signs of x clauses are taken.
 pub enum Signs {
     Either,
     Positive,
     Negative,
 }
 
-// Flags the entry points of x by a scheme, the tops of variables that share a clause with it; what was flagged before is forgotten. A top that
-// is no entry point may be taken out of the rows on the way.
+// Flags the entry points of x by a scheme, the tops of variables that share a clause with it; flags that were set before are cleared. By the strict
+// scheme the rows of variables whose top is no entry point may be made 0 on the way.
 pub fn flag_entries(
     scheme: Scheme,
     n: u32,
@@ -60,7 +60,7 @@ pub fn flag_entries(
     }
 }
 
-// Takes back every flag.
+// Clears every flag.
 fn clear_flags(flags: &mut [bool])
     ensures cleared { λ r. ⌜ ((v : ℕ) → getD (now (flags .exit)) v false ≡ false) ⌝ }
 {
@@ -71,7 +71,8 @@ fn clear_flags(flags: &mut [bool])
     }
 }
 
-// Flags the tops that both signs of x have: those by the one are all that is left in the rows when those by the other are flagged.
+// Flags the tops that both signs of x have: only rows whose top is flagged by the positive sign are kept, and of these the tops by the negative sign
+// are flagged.
 fn flag_both(n: u32, clauses: &[i32], x: Variable, tops: &mut [u32], flags: &mut [bool])
     requires sound { ⌜ SoundClauses (now clauses) × Blank (now flags) × (n ≤ length (now tops)) ⌝ }
     ensures entered { λ r. ⌜ SharedBy Strict n (now (clauses .entry)) (x .0) (now (tops .entry)) (now (tops .exit)) (now (flags .exit)) ⌝ }
@@ -82,7 +83,7 @@ fn flag_both(n: u32, clauses: &[i32], x: Variable, tops: &mut [u32], flags: &mut
     flag_signs(Signs::Negative, n, clauses, x, tops, flags);
 }
 
-// Takes every top that is not flagged out of the rows.
+// Makes every row 0 whose top is not flagged.
 fn keep_flagged(n: u32, flags: &[bool], tops: &mut [u32])
     requires enough { ⌜ n ≤ length (now tops) ⌝ }
     ensures kept { λ r. ⌜ ((v : ℕ) → row n (now (tops .exit)) v ≡ ifFlagged (now (flags .entry)) (row n (now (tops .entry)) v)) ⌝ }
@@ -176,7 +177,8 @@ pub fn side_of(literal: Literal) -> Side
     Side::Positive
 }
 
-// Flags the tops of the variables that the clause from start up to end connects: none where it is always true, which `seen` is for telling.
+// Flags the tops of the variables that the clause from start up to end connects: none where it is always true. That is told by stamps of literals in
+// `seen`; the stamp of a clause is greater than that of every clause before it.
 fn flag_clause(
     n: u32,
     clauses: &[i32],

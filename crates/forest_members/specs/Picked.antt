@@ -1,4 +1,4 @@
--- The numbers that are picked by flags, and the list of them. What a reader must believe of the calls is in the definitions of `forest`.
+-- Inner: the numbers that are picked by flags, and the list of them. What a reader must believe of the calls is in the definitions of `forest`.
 use Prim.Native.Nat.{ℕ, zero, suc, _+_, _≤_, _<_}
 use mathlib.Core.Path.{_≡_}
 use mathlib.Core.Bool.{Bool, false, cond}

@@ -138,12 +138,12 @@ module _ (P : ℕ → Type 0) (n : ℕ) where
   pub bad-none : {passed : ℕ} → Right passed → n ≤ passed → FirstBad P n 0
   bad-none r l = record { right = λ v a b _. r .1 v a (omega arith); wrong = λ some. absurd (some refl) }
 
--- The first bad row of what holds alike.
+-- Where P and Q hold of the same variables, the first bad row is the same by both.
 pub bad-same : {P Q : ℕ → Type 0} {n bad : ℕ} → ((v : ℕ) → P v ↔ Q v) → FirstBad P n bad → FirstBad Q n bad
 bad-same {bad = bad} same f =
     record { right = λ v a b first. same v .0 (f .right v a b first); wrong = λ some. let w = f .wrong some in (w .0, λ q. w .1 (same bad .1 q)) }
 
--- No table is too short.
+-- Where every table has a row for each variable, none is too short.
 all-long : {n c p k : ℕ} → n ≤ c → n ≤ p → n ≤ k → (c < n) ⊎ (p < n) ⊎ (k < n) → ⊥
 all-long a b d (inl l) = omega arith
 all-long a b d (inr (inl l)) = omega arith

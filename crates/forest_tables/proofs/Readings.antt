@@ -40,7 +40,7 @@ row-kept n rows v x w some other = by-cases (ℕ-discrete w 0) (λ z. row-none n
     ∙ sym (row-at n rows w named l))
     (λ l. row-over n (set rows (v - 1) x) w (omega arith) ∙ sym (row-over n rows w (omega arith))))
 
--- A flag of a variable from 1 to n is itself, and any other is none.
+-- The flag of a variable from 1 to n is as it stands in the table, and any other variable has none.
 pub flag-none : (n v : ℕ) (b : Bool) → v ≡ 0 → (leb 1 v && leb v n && b) ≡ false
 flag-none n v b q = ap (λ t. t && leb v n && b) (lt-leb 1 v (omega arith))
 

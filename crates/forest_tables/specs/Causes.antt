@@ -1,4 +1,4 @@
--- The causes of refusal 12, as the table of document 01 and its rule of well formed have them, counts included.
+-- The causes of refusal 12, as the table of rule 8.1 and the rules of well formed have them (rule 3.3, rule 4.1).
 use Prim.Native.Nat.{ℕ, _<_, _≤_}
 use mathlib.Core.Path.{_≡_}
 use mathlib.Core.List.{List}

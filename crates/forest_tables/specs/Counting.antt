@@ -1,5 +1,5 @@
--- Inner: what the functions that count hold in a table of their own, row v for the variable v, on the way to the counts of a forest. Nobody needs
--- to believe this: what a count is stands in connection/specs/Counts.
+-- Inner: what the functions that count hold in a table of their own, row v for the variable v, on the way to the counts of a forest. Nobody needs to
+-- believe this: what a count is stands in forest_theory/specs/Counts.
 use Prim.Native.Nat.{ℕ, _+_}
 use mathlib.Core.Path.{_≡_}
 use mathlib.Core.Bool.{cond}

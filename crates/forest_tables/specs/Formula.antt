@@ -1,4 +1,5 @@
--- A lent formula as the theory of connection takes it: its variables, the joins of its clauses, and those of a variable by its sign.
+-- A lent formula as the theory of connection takes it: its variables, the joins of its clauses (rule 1.7, rule 2.1), and those of a variable by its
+-- sign (rule 5.2).
 use Prim.Native.Nat.{ℕ}
 use mathlib.Core.Bool.{Bool, true, false, _&&_}
 use mathlib.Core.List.{List, map, List·Memᴰ}

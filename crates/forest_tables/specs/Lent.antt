@@ -1,4 +1,4 @@
--- The rows of a forest as they are lent to a call.
+-- The rows of a forest as they are lent to a call (rule 3.1).
 use mathlib.Core.List.{List}
 use Prim.Native.Nat.{ℕ}
 use denote.Ref.{RefT, now}

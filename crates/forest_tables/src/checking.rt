@@ -1,4 +1,4 @@
-// Whether lent forest tables are well formed: their rows of class names and parents, and once these are, their counts.
+// Whether lent forest tables are well formed (rule 3.3): their rows of class names and parents, and once these are, their counts (rule 4.1).
 
 use crate::counts::fill_counts;
 use crate::rows::first_bad;
@@ -62,7 +62,7 @@ fn first_miscounted(n: u32, prefix: &[u32], classes: &[u32], parents: &[u32], co
     first_other(n, &right, counts)
 }
 
-// The first variable whose row is another than that of a table with row v for the variable v, 0 where none is.
+// The first variable v whose row differs from row v of the table; 0 where none does.
 fn first_other(n: u32, table: &[u16], rows: &[u32]) -> u32
     requires rows { ⌜ n < length (now table) ⌝ }
     ensures first { λ r. ⌜ FirstBad (λ v. row n (now (rows .entry)) v ≡ getD (now (table .entry)) v 0) n r ⌝ }

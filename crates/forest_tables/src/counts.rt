@@ -1,5 +1,6 @@
-// The counts of a forest: for each class name the number of variables in its class and in all classes below it, 0 elsewhere. Each variable is
-// counted in its class; then the classes pass their counts up to their parents, the prefix from its end, so that a class has all of its own before.
+// The counts of a forest (rule 4.1): for each class name the number of variables in its class and in all classes below it, 0 elsewhere. Each variable
+// is counted in its class. Then each class passes its count up to its parent, in the order of the prefix from its end, so that a class has the counts
+// of all classes below it before it passes its own.
 
 use crate::rows::row_of;
 use terms::Variable;

@@ -113,7 +113,7 @@ module _ {X : Variables} {W : Table} (formed : WellFormed X W) where
       least : Ends X W (suc (X .lev x)) (W .cls y) e k → (p n : ℕ) → Above W p (W .cls y) n → X .lev x < X .lev p → X .lev e ≤ X .lev p
       least h p n a d = omega (arith, above-falls (ends-pass a d (h .above) (h .stop) .1))
 
-  -- Theorem (f): the climb from y's class with none behind it gives the entry point of x for y, and as its rises the classes passed.
+  -- Theorem (f): the climb from y's class gives the entry point of x for y, and as its rises the number of classes passed (rule 2.7).
   pub entry-climb : {x y e k : ℕ} → EntryPoint X W x y e k → climb X W (suc (X .lev x)) (W .cls y) 0 ≡ record { top = e; rises = k }
   entry-climb {e = e} {k = k} h =
       let sum : 0 + k ≡ k = omega arith in

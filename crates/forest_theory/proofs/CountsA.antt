@@ -1,4 +1,4 @@
--- The counts of formula A, before and after P8 adds {1 -2}: rows 1 and 2 go from 3 and 1 to 4 and 0, and of 7 classes 6 are left.
+-- The counts of formula A, before and after P8 adds {1 -2} (rule 17.1): rows 1 and 2 go from 3 and 1 to 4 and 0, and of 7 classes 6 are left.
 use Prim.Native.Nat.{ℕ}
 use mathlib.Core.Path.{_≡_, refl, subst}
 use mathlib.Core.List.{List, [], _∷_}

@@ -17,7 +17,7 @@ use Rattle.forest_theory.proofs.Numbered.{how-many-less}
 use Rattle.forest_theory.proofs.Counts.{names-class}
 
 module _ {X : Variables} where
-  -- What names itself under more joins did so under fewer: its class was part of what it is.
+  -- What names its class under more joins does so under fewer: with fewer joins, its class is part of that class.
   names-before : {J K : ℕ → ℕ → Type 0} {v : ℕ} → ((a b : ℕ) → J a b → K a b) → Names X K v v → Names X J v v
   names-before {J} {K} {v} more n =
       let m = n .member in

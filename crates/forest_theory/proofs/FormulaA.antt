@@ -1,4 +1,4 @@
--- The errors of document 01 that look right, refuted by computing on formula A. (That P1 to P10 hold of the calls is the crate `grow_cases`.)
+-- The errors of rule 17.3 that look right, refuted by computing on formula A. (That P1 to P10 hold of the calls is the crate `grow_cases`.)
 use Prim.Native.Nat.{ℕ, suc, _≤_, _<_}
 use mathlib.Core.Path.{_≡_, refl, subst}
 use mathlib.Core.Bool.{true, false}

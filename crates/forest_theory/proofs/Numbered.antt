@@ -47,7 +47,7 @@ module _ {P : ℕ → Type 0} where
           size = let s = i .size in let t = m .size in omega arith;
         }
 
--- What holds of no number together with P: the numbers add.
+-- Where P and Q hold of no number together, their numbers add.
 module _ {P : ℕ → Type 0} {j : ℕ} (m : Numbered P j) where
   -- First for a list, one number after another ...
   with-list : (list : List ℕ) → Ascending list → ((v : ℕ) → List·Memᴰ v list → P v → ⊥) → Numbered (λ v. P v ⊎ List·Memᴰ v list) (j + length list)

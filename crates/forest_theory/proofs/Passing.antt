@@ -105,7 +105,7 @@ module _ {X : Variables} {W : Table} where
     λ i. record { existential = i .existential; passes = passes-along (λ d some. same d .1) (i .passes) },
   )) r
 
-  -- ... and so does finishing a class that has no parent.
+  -- ... and neither does finishing a class that has no parent.
   pub pass-over : {D D′ : ℕ → Type 0} {w : ℕ} {counts : ℕ → ℕ} → Finishes D w D′ → W .par w ≡ 0 → RowsCount (WithinBy X W D) counts
       → RowsCount (WithinBy X W D′) counts
   pass-over {D} {D′} {w} f orphan r = rows-same (λ c v. (

@@ -27,7 +27,7 @@ module _ {J : ℕ → ℕ → Type 0} {E : ℕ → Type 0} where
   reach-ends v here = v
   reach-ends v (step r j e) = e
 
-  -- Symmetric, for symmetric joins and a start that may be stepped on (lemma 4.10).
+  -- Symmetric, for symmetric joins and a start that may be stepped on (Lonsing and Biere, lemma 4.10).
   pub reach-sym : Symmetric J → {v y : ℕ} → E v → Reach J E v y → Reach J E y v
   reach-sym flip v here = here
   reach-sym flip v (step {y = y} {z = z} r j e) = reach-trans (reach-one (flip y z j) (reach-ends v r)) (reach-sym flip v r)
@@ -68,7 +68,7 @@ from-less h f = allow (f .existential) (omega (arith, f .deep))
 pub reach-along : {J K : ℕ → ℕ → Type 0} {E : ℕ → Type 0} {v y : ℕ} → ((a b : ℕ) → J a b → K a b) → Reach J E v y → Reach K E v y
 reach-along joins r = reach-mono joins (λ a e. e) r
 
--- ... and at a lesser level (corollary 4.7).
+-- ... and at a lesser level (Lonsing and Biere, corollary 4.7).
 pub reach-level : {X : Variables} {J : ℕ → ℕ → Type 0} {i j v y : ℕ} → i ≤ j → Reach J (From X j) v y → Reach J (From X i) v y
 reach-level h r = reach-mono (λ a b j. j) (λ a f. from-less h f) r
 

@@ -59,7 +59,7 @@ unfolding keep
 member-keep {w} e (List·Memᴰ·head {x = x} q) t = rw (sym (ap e q) ∙ t) (List·Memᴰ·head q)
 member-keep {w} e (List·Memᴰ·tail {x = x} m) t = choice (List·Memᴰ w) (e x) (λ b. List·Memᴰ·tail (member-keep e m t)) (λ b. member-keep e m t)
 
--- What a search for a clause comes to: none has any of what is seen, or one has, and the others are the others.
+-- What a search for a clause comes to: none has any of what is seen; or one has, and the other clauses are the rest of the list.
 data Sight (seen : List ℕ) (cs : List (List ℕ)) : Found → Type 0 where
   unmet : ((c : List ℕ) → List·Memᴰ c cs → meets seen c ≡ false) → Sight seen cs nowhere
   met : {c : List ℕ} {ds : List (List ℕ)} → meets seen c ≡ true → List·Memᴰ c cs → ((d : List ℕ) → List·Memᴰ d ds → List·Memᴰ d cs)

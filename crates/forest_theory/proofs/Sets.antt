@@ -19,7 +19,7 @@ use Rattle.forest_theory.proofs.Growth.{forest-is}
 pub from-deeper : {X : Variables} {x v : ℕ} → Universal X x → From X (X .lev x) v → From X (suc (X .lev x)) v
 from-deeper {v = v} u f = record { existential = f .existential; deep = let n = u .alone v (f .existential) in omega (arith, f .deep) }
 
--- Entry points by more first steps are more.
+-- An entry point by some first steps is one by more first steps.
 pub entries-along : {X : Variables} {W : Table} {S T : ℕ → ℕ → Type 0} {x e : ℕ} → ((z : ℕ) → S x z → T x z) → EntryPointOf X W S x e → EntryPointOf X W T x e
 entries-along more o = record { for = o .for; shares = more (o .for) (o .shares); existential = o .existential; deeper = o .deeper; rises = o .rises; entry = o .entry }
 

@@ -1,5 +1,5 @@
--- To be believed: counts, that is, how many variables a class has with all classes below it, their sum, and how many classes there are (document 02,
--- request 3).
+-- To be believed: counts, that is, how many variables a class has with all classes below it, their sum, and how many classes there are (rule 4.1,
+-- rule 4.2, rule 4.3).
 use Prim.Native.Nat.{ℕ, zero, suc, _+_}
 use mathlib.Core.Path.{_≡_}
 use mathlib.Core.Bool.{Bool, true, cond, _&&_}

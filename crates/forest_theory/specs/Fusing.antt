@@ -36,7 +36,7 @@ under X j (m ∷ ms) = let b = under X j ms in cond (ltb (X .lev m) j && goes-be
 unfoldable pub fuse-class : Variables → Table → List ℕ → ℕ → ℕ
 fuse-class X W ms v = cond (X .ex v) (cond (has (W .cls v) ms) (under X (suc (X .lev v)) ms) (W .cls v)) 0
 
--- What the parent row of a class becomes: the next mark below its block if it is marked, else the new class of its parent.
+-- What the parent row of a class becomes: the next mark of a lesser block if it is marked, else the new class of its parent.
 unfoldable pub fuse-parent : Variables → Table → List ℕ → ℕ → ℕ
 fuse-parent X W ms v = cond (X .ex v && eqb (fuse-class X W ms v) v) (cond (has v ms) (under X (X .lev v) ms) (fuse-class X W ms (W .par v))) 0
 

@@ -17,7 +17,7 @@ pub record Placed (X : Variables) (W : Table) (m c v : ℕ) : Type 0 where
   pub most : v ≤ m
   pub class : W .cls v ≡ c
 
--- The way up from c passes p, where it goes on only from classes that are done, that is, that have been passed up.
+-- The way up from c passes p, where it goes on only from classes that are done, that is, whose counts have been passed up.
 pub data Passes (W : Table) (D : ℕ → Type 0) (p : ℕ) : ℕ → Type 0 where
   there : Passes W D p p
   onward : {c : ℕ} → D c → W .par c ≢ 0 → Passes W D p (W .par c) → Passes W D p c

@@ -36,12 +36,13 @@ unfoldable pub find : List ℕ → List (List ℕ) → Found
 find seen [] = nowhere
 find seen (clause ∷ clauses) = cond (meets seen clause) (found clause clauses) (put-back clause (find seen clauses))
 
--- What is seen, and on from there: of a clause that has some of it all that may be stepped on is seen too, until there is no such clause.
+-- What is seen once a clause is found: all of it that may be stepped on is seen too, and the search goes on; where none is found, nothing more is
+-- seen.
 unfoldable pub see : (List (List ℕ) → List ℕ → List ℕ) → (ℕ → Bool) → List ℕ → Found → List ℕ
 see on e seen nowhere = seen
 see on e seen (found clause others) = on others (keep e clause ++ seen)
 
--- All that is seen from the clauses, with fuel for each of them.
+-- All that is seen in the end. The fuel is the number of clauses, since each is taken at most once.
 unfoldable pub spread : (ℕ → Bool) → ℕ → List (List ℕ) → List ℕ → List ℕ
 spread e zero clauses seen = seen
 spread e (suc fuel) clauses seen = see (λ others more. spread e fuel others more) e seen (find seen clauses)

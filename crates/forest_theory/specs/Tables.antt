@@ -1,5 +1,5 @@
--- To be believed: forest tables by themselves, that is, when they are well formed, the chain of parents, entry points, members, and the joins that they
--- stand for (document 01, "Forest tables").
+-- To be believed: forest tables by themselves, that is, when they are well formed (rule 3.1, rule 3.2, rule 3.3), the chain of parents, entry points
+-- (rule 2.6, rule 2.7, rule 2.8, rule 5.2), members (rule 3.4), and the joins that they stand for (rule 3.5).
 use Prim.Native.Nat.{ℕ, zero, suc, _≤_, _<_}
 use mathlib.Core.Path.{_≡_}
 use mathlib.Core.Bool.{Bool, true, false, cond}
@@ -74,7 +74,7 @@ pub record EntryPointOf (X : Variables) (W : Table) (S : ℕ → ℕ → Type 0)
 pub record StrictEntryOf (X : Variables) (W : Table) (S : Bool → ℕ → ℕ → Type 0) (x e : ℕ) : Type 0 where
   pub by : (sign : Bool) → EntryPointOf X W (S sign) x e
 
--- y is a member of a class at or below one that is an entry, by P.
+-- y is in a class at or below one of which P holds.
 pub record MemberBy (X : Variables) (W : Table) (P : ℕ → Type 0) (y : ℕ) : Type 0 where
   pub existential : X .ex y ≡ true
   pub entry : ℕ

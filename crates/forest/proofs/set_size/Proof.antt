@@ -1,4 +1,4 @@
--- The formula is judged by the rule; the size by the prefix that is at hand stands behind that in the order.
+-- The formula is judged by the rule first; the size by the prefix as the rule reads it stands behind that in the order.
 use mathlib.Core.List.{_++_}
 use borrow.Author.Needs.{needs}
 use Rattle.terms.specs.Answers.{Numbered}

@@ -1,4 +1,4 @@
--- The entry points of x are flagged over its level, and what the flags pick, which no table of n rows is too short for, is the set.
+-- The entry points of x are flagged over its level, and what the flags pick is the set. It fits, since it has at most n members.
 use mathlib.Core.List.{[]}
 use native.Mathlib.Omega.{arith}
 use borrow.Author.Needs.{needs}

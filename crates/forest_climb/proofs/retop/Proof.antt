@@ -1,5 +1,5 @@
--- Tops over the level of x stay. Others are refilled from the place where the deeper blocks begin, and then passed to tell up to which number there
--- are none.
+-- Tops over the level of x stay. Others are refilled from the place where the deeper blocks begin; then the rows are passed to find up to which
+-- number there are none.
 use mathlib.Core.Path.{_≡_, _∙_}
 use borrow.Author.Needs.{needs}
 use Rattle.formula.specs.Meaning.{level}

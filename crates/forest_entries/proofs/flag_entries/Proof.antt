@@ -1,4 +1,4 @@
--- The flags are taken back first; then each scheme is one case, by flag_signs for either sign or by flag_both.
+-- The flags are cleared first; then each scheme is one case, by flag_signs for either sign or by flag_both.
 use Prim.Native.Nat.{ℕ}
 use mathlib.Core.Path.{sym, _∙_, subst}
 use mathlib.Core.Bool.{Bool}
@@ -9,7 +9,7 @@ use borrow.Author.Needs.{needs}
 use Rattle.forest_entries.proofs.flag_entries.Statement.{statement}
 use Rattle.forest_entries.proofs.flag_entries.Tie as tie
 
--- the flags are blank once they are taken back
+-- the flags are blank once they are cleared
 blank : (c : tie.After-clear-flags) → Blank (c .clear-flags .last .0)
 blank c = record { size = c .clear-flags .kept .0 ∙ c .before .before .before .before .pre .1; blank = c .clear-flags .ensures }
 
