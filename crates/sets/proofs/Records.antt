@@ -15,7 +15,7 @@ use Rattle.terms.specs.Listed.{Listed}
 use Rattle.terms.proofs.Listed.{listed-one, listed-most}
 use Rattle.sets.specs.Sets.{Record, Records}
 
--- The same sets, said otherwise.
+-- The same sets by an equivalent condition.
 pub records-as : {U : ℕ → Bool} {P Q : ℕ → ℕ → Type 0} → ((x : ℕ) → U x ≡ true → (v : ℕ) → P x v ↔ Q x v)
     → (m : ℕ) (list : List ℕ) → Records U P m list → Records U Q m list
 records-as both zero list q = q

@@ -1,5 +1,5 @@
--- What was lent settles what the call for all sets answers and writes; its list holds what the set call by the same scheme gives for each universal;
--- and demand 2 for it.
+-- What was lent settles what the call for all sets answers and writes (rule 18.1); its list holds what the set call by the same scheme gives for each
+-- universal; and demand 2 for it.
 use Prim.Native.Nat.{ℕ}
 use mathlib.Core.Path.{_≡_, sym, ap, _∙_}
 use mathlib.Core.List.{List, _∷_, _++_}

@@ -1,5 +1,5 @@
--- Inner: what the function looks for behind check to which the prefix is lent as the rule reads it. What a reader must believe is the order of the
--- call, in Sets.
+-- Inner: what is looked for behind check by the function to which the prefix is lent as the rule reads it. What a reader must believe is the order of
+-- the call, in Sets.
 use Prim.Native.Nat.{ℕ}
 use mathlib.Core.List.{List, [], _∷_}
 use Rattle.terms.specs.Refusals.{Causes}

@@ -1,4 +1,4 @@
--- What the inner functions of the call for all sets count and write.
+-- Inner: what the functions of the call for all sets count and write.
 use Prim.Native.Nat.{ℕ, _≤_, _<_}
 use mathlib.Core.Path.{_≡_}
 use mathlib.Core.Bool.{Bool, true, false, cond}

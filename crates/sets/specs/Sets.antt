@@ -1,4 +1,5 @@
--- All sets of a formula in one list, the causes of refusal of the call that writes it, and what that call promises.
+-- All sets of a formula in one list (rule 7.4), the causes of refusal of the call that writes it and their order (rule 8.1, rule 8.2), and what that
+-- call promises.
 use Prim.Native.Nat.{ℕ, zero, suc, _<_}
 use mathlib.Core.Path.{_≡_}
 use mathlib.Core.Bool.{Bool, true, false}
@@ -35,7 +36,7 @@ AllSetsBy scheme f r = Records (universal (f .n) (f .prefix)) (MembersBy scheme 
 abbrev pub SetsTooLong : Scheme → Formula → Rows → List ℕ → Type 0
 SetsTooLong scheme f r before = (list : List ℕ) × AllSetsBy scheme f r list × (length before < length list)
 
--- 14: so of the formula as it is read
+-- 14: the output is shorter than the list
 abbrev pub SetsOutputCause : Scheme → Formula → Rows → List ℕ → Causes
 SetsOutputCause scheme f r before = At0 14 (SetsTooLong scheme f r before)
 

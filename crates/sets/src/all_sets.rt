@@ -40,8 +40,8 @@ struct Visit {
     was: Floor,
 }
 
-// Writes the sets of all universals into the front of `out`, if there is room for all of them. Few clauses take a short table of links, which is
-// cleared sooner.
+// Writes the sets of all universals into the front of `out`, if there is room for all of them. A small clause table takes a short table of links,
+// which is cleared sooner.
 pub fn list_sets(
     scheme: Scheme,
     n: u32,
@@ -189,9 +189,9 @@ fn sets_fit(
     true
 }
 
-// Passes over all universals in ascending order and writes their sets, or only counts; gives the count of all entries. The tops, their runs and
-// where their sets stand depend on the block of the universal only, and stay while it does; at first the tops are those over a level that
-// nothing is deeper than.
+// Passes over all universals in ascending order and writes their sets, or only counts; gives the count of all entries. The tops, their runs and the
+// places of their sets depend only on the block of the universal, and stay while it does. At first the floor is a level that nothing is deeper than,
+// so that there are no tops.
 fn pass_sets(
     pass: Pass,
     prefix: &[u32],
@@ -266,8 +266,8 @@ fn pass_sets(
     end
 }
 
-// Refills the tops, ties their runs anew and forgets where their sets stand, if the level of x is another than that which they are over; gives
-// the floor that they are over now.
+// Refills the tops, links their runs anew and clears the places of their sets, if the level of x is another than that which they are over; gives the
+// floor that they are over now.
 fn refloor(
     visit: Visit,
     prefix: &[u32],

@@ -169,7 +169,7 @@ module _ {n : ℕ} {tops : List ℕ} {ls : List ℤ} {next : List ℕ} {signs : 
               );
         }
 
-    -- One with none of them is passed: nothing is.
+    -- An entry with none of the signs is passed: nothing beside it is told.
     pub follow-past : (By signs (λ sign. literalAt ls entry ≡ signed sign x) → ⊥) → Following n tops ls next signs x head Asked Old New (linkAt next entry)
     follow-past none =
         record {
@@ -213,7 +213,8 @@ module _ {n : ℕ} {tops : List ℕ} {ls : List ℤ} {next : List ℕ} {signs : 
             record { start = b .start; place = b .place; own = inside; other = b .other; connecting = b .connecting; is = b .is },
           )
 
--- The loop along a chain, whatever it tells. It does not name the variable that the chain is of: what is said is said of any, and there is one.
+-- The loop along a chain, whatever it tells. It does not name the variable that the chain is of: what it says holds of any such variable, and there
+-- is one.
 pub record Tracing (n : ℕ) (tops : List ℕ) (ls : List ℤ) (next : List ℕ) (signs : Signs) (head : ℕ) (Asked Old New : ℕ → Type 0) (k : ℕ) : Type 0 where
   pub follows : (x : ℕ) → Heading ls next x head → Following n tops ls next signs x head Asked Old New k
   pub whose : ℕ
@@ -266,7 +267,7 @@ module _ {n : ℕ} {tops : List ℕ} {ls : List ℤ} {next : List ℕ} {signs : 
               (follow-more f (k - 1) is-next New′ z own (subst (λ s. NextZero ls s z) high closes)
               (subst (λ s. (e : ℕ) → Asked e → New′ e ↔ (New e ⊎ Via n tops (Has ls s z) e)) high more))
 
-      -- It has none of them: nothing is.
+      -- It has none of them: nothing beside it is told.
       pub trace-past : sideBy signs side ≡ false → Tracing n tops ls next signs head Asked Old New after
       trace-past not = record { follows = follows′; whose = t .whose; heading = t .heading; small = less }
         where

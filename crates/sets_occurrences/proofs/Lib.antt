@@ -1,3 +1,4 @@
+-- The laws of chains and of sole tops, in reading order.
 pub mod Chains
 pub mod Gathering
 pub mod Followed

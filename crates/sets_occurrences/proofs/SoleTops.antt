@@ -9,7 +9,7 @@ use Rattle.forest_entries.proofs.Flags.{via-as, via-or}
 use Rattle.sets_occurrences.specs.declared.soles.Sole.{Sole}
 use Rattle.sets_occurrences.specs.SoleTops.{Is, SoleOf}
 
--- The same tops in other words.
+-- The same tops by an equivalent condition.
 pub sole-as : {P Q : ℕ → Type 0} → ((e : ℕ) → P e ↔ Q e) → (r : Sole) → SoleOf r P → SoleOf r Q
 sole-as same (Sole.Top top) p = λ e. (λ t. same e .0 (p e .0 t), λ q. p e .1 (same e .1 q))
 sole-as same Sole.Several p = tt

@@ -1,4 +1,4 @@
--- What is told of the tops of some variables where there is at most one.
+-- Inner: what is told of the tops of some variables where there is at most one.
 use Prim.Native.Nat.{ℕ}
 use mathlib.Core.Path.{_≡_}
 use mathlib.Core.Logic.{_≢_, _↔_}

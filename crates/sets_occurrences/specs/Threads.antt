@@ -1,4 +1,4 @@
--- Where clauses begin, and the chains that tie a variable to its clauses: what the inner functions of the call for all sets find.
+-- Inner: where clauses begin, and the chains (occurrence lists) that tie a variable to its clauses.
 use Prim.Native.Nat.{ℕ, zero, suc, _+_, _-_, _≤_, _<_}
 use mathlib.Core.Path.{_≡_}
 use mathlib.Core.Bool.{Bool, true, false}
@@ -20,7 +20,7 @@ pub data Begins (ls : List ℤ) : ℕ → Type 0 where
   first : {s : ℕ} → s ≡ 0 → Begins ls s
   after : {s : ℕ} (b z : ℕ) → Begins ls b → NextZero ls b z → z < length ls → s ≡ z + 1 → Begins ls s
 
--- s is the last entry up to p with none but literals from it up to p, p not counted
+-- s begins the clause in which entry p stands: it is the first entry, or stands behind the last 0 before p
 pub record LastZero (ls : List ℤ) (p s : ℕ) : Type 0 where
   pub most : s ≤ p
   pub literals : (e : ℕ) → s ≤ e → e < p → variableOf (literalAt ls e) ≢ 0
@@ -36,14 +36,14 @@ pub record Inside (ls : List ℤ) (s p : ℕ) : Type 0 where
 abbrev pub Connecting : List ℤ → ℕ → Type 0
 Connecting ls s = (z : ℕ) × NextZero ls s z × (alwaysTrue (take (z - s) (drop s ls)) ≡ false)
 
--- a flag tells whether the clause that begins with s is always true, and no stamp is as great as that of the next clause
+-- a flag tells whether the clause that begins with s is always true, and every stamp is less than that of the next clause
 pub record Skipping (ls : List ℤ) (s : ℕ) (skip : Bool) (seen : List ℕ) : Type 0 where
   pub end : ℕ
   pub next : NextZero ls s end
   pub told : skip ≡ alwaysTrue (take (end - s) (drop s ls))
   pub stamps : Stamps seen (end + 1 + 1)
 
--- what is recalled for the clause that begins with s: whether it is always true, if it was judged last, and else that no stamp is as great as its own
+-- what is known of the clause that begins with s: whether it is always true, if it was judged last, and else that every stamp is less than its own
 abbrev pub Recalled : List ℤ → ℕ → ℕ → Bool → List ℕ → Type 0
 Recalled ls s judged skip seen = (s ≡ judged → Skipping ls s skip seen) × (s ≢ judged → Stamps seen (s + 1))
 

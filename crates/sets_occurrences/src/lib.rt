@@ -1,6 +1,6 @@
-// Chains through the clause table, one for each universal, that tie it to its clauses: its entry points are then found without a scan of all
-// clauses. A chain holds one entry of each clause that has the universal, the last clause first; k + 1 stands for entry k, and 0 ends it. The row of
-// an entry holds two numbers: what comes after it on the chain, and the entry that its clause begins with.
+// Occurrence lists, here called chains: for each universal the clauses that have it, so that its entry points are found without a scan of all
+// clauses. A chain holds one entry of each such clause, the last clause first; k + 1 stands for entry k, and 0 ends it. Row x of `first` is the head
+// of the chain of x. The row of an entry in `next` packs two numbers: what comes after it on the chain, and the entry that its clause begins with.
 
 pub mod soles;
 
@@ -31,7 +31,7 @@ ghost use Rattle.terms.specs.declared.Scheme.the-variants.{Strict};
 ghost use Rattle.forest_entries.specs.Flags.{By, Flagged, Via, Blank};
 ghost use Rattle.sets_occurrences.specs.Threads.{Inside, Connecting, Skipping, Recalled, Covered, marked, Gathered, Together, EnteredBy, Common, Threaded, Tied};
 
-// Ties every universal to its clauses, those that are always true left out. Few clauses take short tables, which are cleared sooner.
+// Builds the chains of all universals, clauses that are always true left out. A small clause table takes short tables, which are cleared sooner.
 pub fn thread(clauses: &[i32], universals: &[bool], first: &mut [u32], next: &mut [u32])
     requires sound { ⌜ SoundClauses (now clauses) × (length (now universals) ≤ length (now first)) × (length (now clauses) ≤ length (now next))
         × ((x : ℕ) → getD (now first) x 0 ≡ 0) × Covered (now clauses) (now universals) ⌝ }
@@ -49,7 +49,7 @@ pub fn thread(clauses: &[i32], universals: &[bool], first: &mut [u32], next: &mu
     thread_by(clauses, universals, &mut places, &mut starts, first, next);
 }
 
-// Ties them by way of two tables with a row for each entry: the entries of universals are gathered in one pass and tied in another.
+// Builds them by way of two tables with a row for each entry: the entries of universals are gathered in one pass and put on their chains in another.
 fn thread_by(
     clauses: &[i32],
     universals: &[bool],
@@ -68,8 +68,8 @@ fn thread_by(
     tie_places(clauses, places, starts, count, first, next);
 }
 
-// Writes the entries of all universals, ascending, and beside each the entry that its clause begins with; gives their count. Each entry of the
-// clauses is stored, and counted if it is a universal's, so that no branch hangs on what cannot be foreseen.
+// Writes the entries of all universals, ascending, and beside each the entry that its clause begins with; gives their count. The loop is branch-free,
+// since a processor cannot predict which entries are universals: every entry is stored, and only that of a universal is counted.
 fn gather(clauses: &[i32], universals: &[bool], places: &mut [u16], starts: &mut [u16]) -> usize
     requires sound { ⌜ SoundClauses (now clauses) × (length (now clauses) ≤ length (now places)) × (length (now clauses) ≤ length (now starts))
         × Covered (now clauses) (now universals) ⌝ }
@@ -102,14 +102,15 @@ fn counted(universals: &[bool], variable: Variable) -> usize
     }
 }
 
-// Where the clause of the next entry begins: there, behind a 0, and else where that of this entry does.
+// Where the clause of the next entry begins: with that entry behind a 0, else where the clause of this entry does.
 fn begun(variable: Variable, start: usize, next: usize) -> usize
     ensures begun { λ r. ⌜ r ≡ cond (eqb (variable .0) 0) next start ⌝ }
 {
     if variable.0 == 0 { next } else { start }
 }
 
-// Puts the gathered entries, one after the other, in front of the chains of their variables; whether a clause is always true is told at its first.
+// Puts the gathered entries, one after the other, in front of the chains of their variables. Whether a clause is always true is told at its first
+// gathered entry.
 fn tie_places(
     clauses: &[i32],
     places: &[u16],
@@ -143,7 +144,7 @@ fn tie_places(
     }
 }
 
-// Whether the clause from `start` on is always true; where it was the last that was judged, `skip` says it.
+// Whether the clause from `start` on is always true. `judged` is where the clause judged last begins, and `skip` is what was told of it.
 fn is_true(clauses: &[i32], start: usize, judged: usize, skip: bool, seen: &mut [u16]) -> bool
     requires recalled { ⌜ SoundClauses (now clauses) × (start ≤ length (now clauses)) × Recalled (now clauses) start judged skip (now seen) ⌝ }
     ensures told { λ r. ⌜ Skipping (now (clauses .entry)) start r (now (seen .exit)) ⌝ }
@@ -194,7 +195,7 @@ pub fn flag_points(
     }
 }
 
-// Flags the tops that both signs of x have. The rows stay, since the universals of a block share them: each sign has flags of its own.
+// Flags the tops that both signs of x have. The rows of `tops` stay, since the universals of a block share them; so each sign has flags of its own.
 fn flag_both(
     n: u32,
     clauses: &[i32],
@@ -222,7 +223,7 @@ fn flag_both(
     keep_common(&positive, flags);
 }
 
-// Takes back every flag that the other table does not have. Every row is stored, so that many are at once.
+// Clears every flag that the other table does not have. Every row is stored, branch-free, so that several are done at once.
 fn keep_common(other: &[bool], flags: &mut [bool])
     requires enough { ⌜ length (now flags) ≤ length (now other) ⌝ }
     ensures common { λ r. ⌜ Common (now (other .entry)) (now (flags .entry)) (now (flags .exit)) ⌝ }

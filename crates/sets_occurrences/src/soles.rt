@@ -1,4 +1,4 @@
-// Whether a universal has more than one entry point, found along its chain with no table of flags: most have one at most.
+// The sole entry point of a universal, found along its chain with no table of flags: most universals have at most one.
 
 use forest_entries::Signs;
 use forest_entries::has_sign;
@@ -17,13 +17,13 @@ ghost use Rattle.forest_entries.specs.Flags.{Has, By, Takes, Via};
 ghost use Rattle.sets_occurrences.specs.Threads.{Together, Tied};
 ghost use Rattle.sets_occurrences.specs.SoleTops.{Is, SoleOf};
 
-// The tops that some variables have: one at most, 0 for none, or several.
+// The tops that some variables have: at most one, 0 for none, or perhaps several.
 pub enum Sole {
     Top(Variable),
     Several,
 }
 
-// The sole entry point of the universal x by a scheme: of the tops of the variables that share a clause with x, the one that it takes.
+// The sole entry point of the universal x by a scheme: of the tops of the variables that share a clause with x, the one that the scheme takes.
 pub fn sole_point(
     scheme: Scheme,
     n: u32,
@@ -109,7 +109,7 @@ fn sole_along(
     Sole::Top(sole)
 }
 
-// The sole top of the variables of the entries from `start` up to the next 0, and of others that have none but `before`.
+// The sole top of the variables of the entries from `start` up to the next 0, together with `before`, 0 for none.
 fn sole_after(n: u32, clauses: &[i32], start: usize, tops: &[u32], before: Variable) -> Sole
     ensures sole { λ r. ⌜ ((z : ℕ) → NextZero (now (clauses .entry)) start z
         → SoleOf r (λ e. Is (before .0) e ⊎ Via n (now (tops .entry)) (Has (now (clauses .entry)) start z) e)) ⌝ }
@@ -132,7 +132,7 @@ fn sole_after(n: u32, clauses: &[i32], start: usize, tops: &[u32], before: Varia
     Sole::Top(sole)
 }
 
-// The sole top where there is one and another, 0 for none.
+// The sole top of two, 0 for none.
 fn join(one: Variable, other: Variable) -> Sole
     ensures sole { λ r. ⌜ SoleOf r (λ e. Is (one .0) e ⊎ Is (other .0) e) ⌝ }
 {

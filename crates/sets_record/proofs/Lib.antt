@@ -1,2 +1,3 @@
+-- The laws of one record, in reading order.
 pub mod Soles
 pub mod Places

@@ -1,4 +1,4 @@
--- Where sets stand already in the table of the call for all sets, from which they are copied.
+-- Inner: where sets stand already in the table of the call for all sets, from which they are copied.
 use Prim.Native.Nat.{ℕ, _+_, _≤_, _<_}
 use mathlib.Core.Path.{_≡_}
 use mathlib.Core.List.{List}

@@ -1,4 +1,4 @@
--- The record of one universal in the list of all sets, as it is written or only counted.
+-- Inner: the record of one universal in the list of all sets, as it is written or only counted.
 use Prim.Native.Nat.{ℕ, _+_, _≤_}
 use mathlib.Core.Path.{_≡_}
 use mathlib.Core.Bool.{Bool, true, cond}

@@ -1,5 +1,5 @@
-// The record of one universal: its number, the count of its set, and its set, written or only counted. A row of `places` has where in `out` the
-// set of a top stands already, 0 for nowhere: a copy takes less than a walk along the run.
+// The record of one universal: its number, the count of its set, and its set, written or only counted. Row t of `places` is the entry of `out` where
+// the set of the top t stands already, 0 for nowhere: a copy takes less time than a walk along the run.
 
 use forest_members::Asked;
 use forest_members::count_picked;
@@ -66,7 +66,7 @@ pub fn put_set(
     }
 }
 
-// Puts a record by the flags of the entry points, however many there are.
+// Puts a record by the flags of the entry points, whose number does not matter.
 fn put_flagged(
     draft: Draft,
     clauses: &[i32],
@@ -175,7 +175,7 @@ fn note_place(places: &mut [u32], top: Variable, start: u32)
     }
 }
 
-// Copies so many entries from one entry on to another, behind them.
+// Copies `count` entries from the entry `from` on to the entry `to` on, which is behind them.
 fn copy_entries(from: usize, count: usize, to: usize, out: &mut [u32])
     requires behind { ⌜ (from + count ≤ to) × (to + count ≤ length (now out)) ⌝ }
     ensures copied { λ r. ⌜ ((list : List ℕ) → length list ≡ count → Standing (now (out .entry)) from list to

@@ -1,1 +1,2 @@
+-- The laws of runs.
 pub mod Linked

@@ -201,7 +201,7 @@ module _ {n : ℕ} {tops lead after : List ℕ} {v top : ℕ} (o : Over n tops l
       flag =
           ap (λ u. getD (only top) (row n tops u) false) (sym next) ∙ ap (λ t. getD (only top) t false) (sym is ∙ sym own) ∙ only-own top named small
 
--- All runs on the way, those of 0 not told; and no row counts more than are passed.
+-- All runs on the way, but that of 0, of which nothing is said; and no row counts more than are passed.
 abbrev pub Linking : ℕ → List ℕ → List ℕ → List ℕ → ℕ → Type 0
 Linking n tops lead after v =
     ((top : ℕ) → top ≢ 0 → top ≤ n → Over n tops lead after v top) × ((top : ℕ) → top ≤ n → highOf (getD lead top 0) + v ≤ n)

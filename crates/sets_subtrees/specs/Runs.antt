@@ -1,4 +1,4 @@
--- The runs of tops: the variables of one top, each tied to the next higher of the same.
+-- Inner: the runs of tops, that is, the variables of one top, each linked to the next higher of the same.
 use Prim.Native.Nat.{ℕ, zero, suc, _≤_, _<_}
 use mathlib.Core.Path.{_≡_}
 use mathlib.Core.Bool.{Bool, true, false}
@@ -23,7 +23,7 @@ unfoldable pub only : ℕ → List Bool
 only zero = replicate variableRows false
 only (suc top) = set (replicate variableRows false) (suc top) true
 
--- the variables that have a top
+-- the variables that have this top
 abbrev pub having : ℕ → List ℕ → ℕ → List ℕ
 having n tops top = picked (pick Set n (only top) tops) n
 

@@ -1,6 +1,6 @@
-// Runs through the variables, one for each top: the set of a universal with one entry point is the run of that top, and is found without a pass
-// over all rows. The row of a top in `lead` holds two numbers: its lowest variable, and how many it has. That of a variable in `after` has the next
-// higher of the same top. 0 stands for none.
+// For each top a run, a linked list of the variables that have it, ascending: the set of a universal with one entry point is the run of that top, and
+// is found without a pass over all rows. The row of a top in `lead` packs two numbers: its lowest variable, and how many it has. The row of a
+// variable in `after` is the next higher variable of the same top. 0 stands for none.
 
 use forest_climb::Floor;
 use forest_climb::clear_rows;
@@ -22,7 +22,7 @@ ghost use Rattle.forest_tables.specs.Counting.{FormedBy};
 ghost use Rattle.forest_climb.specs.Search.{Topless};
 ghost use Rattle.sets_subtrees.specs.Runs.{Run, Within, Led, Floored};
 
-// Refills the tops and ties their runs anew, if the level of x is another than that which they are over; gives the floor that they are over now.
+// Refills the tops and links their runs anew, if the level of x is another than that which they are over; gives the floor that they are over now.
 pub fn refloor(
     n: u32,
     prefix: &[u32],
@@ -52,8 +52,8 @@ pub fn refloor(
     floor
 }
 
-// Ties the variables of each top together, where none up to `from` has one. They are passed downwards, so that each comes in front of its run;
-// those without a top are tied too, with no test, and let go at the end.
+// Links the variables of each top, where none up to `from` has one. They are passed downwards, so that each comes in front of its run. Variables
+// without a top go on the run of 0, which spares a test; that run is dropped at the end.
 fn link_runs(n: u32, tops: &[u32], from: u32, lead: &mut [u32], after: &mut [u32])
     requires within { ⌜ (n ≤ 4096) × (from ≤ n) × Topless n (now tops) from × Within n (now tops) × (n < length (now lead)) × (n < length (now after)) ⌝ }
     ensures led { λ r. ⌜ Led n (now (tops .entry)) (now (lead .exit)) (now (after .exit)) ⌝ }

@@ -1,5 +1,5 @@
--- Where the level is another, no set stands anywhere any more, since all rows of `places` are cleared; where it is the same, the tops stay, and with
--- them what stands.
+-- Where the level is another, all rows of `places` are cleared, so that no set stands anywhere. Where it is the same, the tops stay, and with them
+-- the places.
 use mathlib.Core.Path.{sym, subst}
 use native.Mathlib.Omega.{arith}
 use Rattle.sets_record.specs.Places.{Placed}
