@@ -1,4 +1,4 @@
--- Where both rules accept a prefix, what build and add promise under one rule they promise under the other.
+-- Where both reading rules accept a prefix, what build and add promise under one rule they promise under the other (rule 6.3).
 use Prim.Native.Nat.{ℕ}
 use mathlib.Core.List.{List, [], _∷_}
 use mathlib.Core.Logic.{_↔_}

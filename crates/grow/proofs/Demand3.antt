@@ -1,4 +1,4 @@
--- Demand 3, of what build and add promise, with the counts and the tally.
+-- Demand 3, of what build and add promise, with the counts and the tally (rule 4.3, rule 4.4).
 use Prim.Native.Nat.{ℕ, _+_, _≤_, _<_}
 use mathlib.Core.Path.{_≡_, refl, sym, _∙_, ap, subst}
 use mathlib.Core.Bool.{true}
@@ -88,7 +88,7 @@ module _ (rule n : ℕ) (es : List ℕ) where
         let (_, grown, took) = added .leaves in
         omega (arith, took .merges, took .classes, agrees-classes (s .tally) agrees, agrees-sum (s .tally) agrees, fewer-added (connected clause) law formed (grown .forest) n)
 
-    -- A clause that is always true changes no row and no count, of any tables that are taken, and of the tally only the clauses.
+    -- A clause that is always true changes no row and no count, of any tables that are taken, and of the tally only the clauses (rule 1.7, rule 3.6).
     pub adding-true : alwaysTrue clause ≡ true → s′ ≡ one-more s
     adding-true always = add-tight es {b = one-more s} (Count m) (Count n) added
         (record {
@@ -148,7 +148,8 @@ module _ (rule n : ℕ) (es : List ℕ) where
     added-tally = let took = added .leaves .2 in let t = built .leaves .2 in
         record { clauses = took .clauses ∙ ap (λ (i : ℕ). i + 1) (t .clauses) ∙ sym (many-last accepted first); classes = took .classes; merges = adding-sum added }
 
-    -- Demand 3, first sentence: adding a clause to the built forest gives row by row, and in the tally, what build gives with the clause put last, if the longer list is within the limits.
+    -- Demand 3, first sentence: adding a clause to the built forest gives row by row, and in the tally, what build gives with the clause put last, if
+    -- the longer list is within the limits.
     pub adding-builds : {s‴ : Standing} (answer : Filled) → length (withLast ls clause) ≤ clauseEntries → Builds rule (with (withLast ls clause)) s s‴ answer → (answer ≡ Count n) × (s‴ ≡ s″)
     adding-builds answer small again =
         let none = built .judged in

@@ -52,7 +52,7 @@ module _ (order : List Causes) (X : Variables) (J : ℕ → ℕ → Type 0) (T :
       let kept = subst (λ (u : Tally). Grown X J (standing r t) (standing r′ u) × T (standing r′ u)) (sym same) (grown, tally) in
       subst (Rewrites order X J T (standing r t) (standing r′ t′)) (sym is) (record { judged = none; leaves = (refl, kept .0, kept .1) })
 
--- What is promised by one order is promised by another that says as much.
+-- What is promised by one order is promised by another that says the same.
 pub carry-rewrites : {X : Variables} {J : ℕ → ℕ → Type 0} {T : Standing → Type 0} {s s′ : Standing} (answer : Filled) (order order′ : List Causes)
     → Carries order order′ → Rewrites order X J T s s′ answer → Rewrites order′ X J T s s′ answer
 carry-rewrites answer order order′ c w = record { judged = carry-judged order order′ c (verdictOf answer) (w .judged); leaves = w .leaves }

@@ -1,4 +1,4 @@
--- What build and add promise leaves nothing open: for one input the answer, every row and the tally are settled.
+-- What build and add promise leaves nothing open (rule 18.1): for one input the answer, every row and the tally are settled.
 use Prim.Native.Nat.{ℕ, _+_}
 use mathlib.Core.Path.{_≡_, sym, _∙_, ap, ap₂, subst}
 use mathlib.Core.List.{List, [], _∷_, _++_}

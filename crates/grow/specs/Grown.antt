@@ -1,4 +1,5 @@
--- What build and add promise: the order in which each looks for refusals, and what it leaves in the lent rows and in the tally.
+-- What build and add promise: the order in which each looks for refusals (rule 8.2), and what it leaves in the lent rows and in the tally (demand 3;
+-- rule 3.5, rule 4.3, rule 4.4, rule 7.2, rule 7.5).
 use Prim.Native.Nat.{ℕ, _+_, _-_, _<_}
 use mathlib.Core.Path.{_≡_}
 use mathlib.Core.List.{List, [], _∷_, _++_}
@@ -89,7 +90,8 @@ pub record Grown (X : Variables) (J : ℕ → ℕ → Type 0) (s s′ : Standing
   pub forest : Forest X J (tableOf X s′)
   pub counted : Counted X (tableOf X s′) (row (X .count) (s′ .rows .counts))
 
--- The tally of a list of so many clauses, beside its forest: all are taken, the classes left are the class names, and these and the merges sum to the existentials.
+-- The tally of a list of so many clauses, beside its forest: all are taken, the classes left are the class names, and these and the merges sum to the
+-- existentials.
 pub record TallyOf (X : Variables) (taken : ℕ) (s : Standing) : Type 0 where
   pub clauses : s .tally .clauses ≡ taken
   pub classes : s .tally .classes ≡ classNames X s

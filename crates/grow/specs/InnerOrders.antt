@@ -1,5 +1,5 @@
--- Inner: what the function looks for behind the prefix to which that is lent as the rule reads it. What a reader must believe is the order of the
--- call, in Grown.
+-- Inner: what is looked for behind the prefix by the function to which that is lent as the rule reads it. What a reader must believe is the order of
+-- the call, in Grown.
 use Prim.Native.Nat.{ℕ}
 use mathlib.Core.List.{List, [], _∷_}
 use lib.IntN.{ℤ}

@@ -1,4 +1,4 @@
--- What the inner functions of build and add ask of the lent tables.
+-- Inner: what functions of build and add ask of the lent tables.
 use Prim.Native.Nat.{ℕ, _≤_}
 use mathlib.Core.List.{List}
 use lib.ListN.{length}

@@ -1,4 +1,4 @@
-// Add with the running tally lent by `&mut`, as a caller keeps it beside the forest: its value is passed on, and what comes back is stored.
+// Add with the tally lent by `&mut` (rule 18.6), as a caller keeps it beside the forest: its value is passed on, and what comes back is stored.
 
 use terms::Filled;
 use terms::Tally;

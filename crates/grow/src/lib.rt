@@ -19,8 +19,8 @@ ghost use Rattle.terms.specs.declared.Filled.the-variants.{Refused};
 ghost use Rattle.formula.specs.Lent.{formulaIn};
 ghost use Rattle.grow.specs.Grown.{standingIn, standingOut, Builds, Adds};
 
-// Fills the lent rows of 1 to n with the forest of a formula and its counts, and gives n as the count and the tally of its list. The tally is passed,
-// since that before is what a refusal leaves, and returned.
+// Fills the lent rows of 1 to n with the forest of a formula and its counts, and gives n as the count and the tally of its list. The tally before is
+// passed in, since a refusal gives it back.
 pub fn build(
     rule: u32,
     n: u32,

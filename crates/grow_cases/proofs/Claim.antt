@@ -1,4 +1,4 @@
--- The claim: the P cases of document 01 hold of what the calls ensure.
+-- The claim: the worked cases of rule 17.1 hold of what the calls ensure.
 use Prim.Native.Nat.{ℕ, _≤_}
 use mathlib.Core.Path.{_≡_, refl, sym, subst}
 use mathlib.Core.Bool.{true}

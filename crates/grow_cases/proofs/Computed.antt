@@ -35,7 +35,7 @@ pub record ForestRows (X : Variables) (ls : List ℤ) (s : Standing) : Type 0 wh
   pub tallied : TallyOf X (many ls) s
   pub long : (length (s .rows .classes) ≡ X .count) × (length (s .rows .parents) ≡ X .count) × (length (s .rows .counts) ≡ X .count)
 
--- A with {5 8} added, of which document 01 lists no rows.
+-- A with {5 8} added, of which rule 17.1 lists no rows.
 abbrev pub stand58 : Standing
 stand58 =
     standing (rows (1 ∷ 2 ∷ 0 ∷ 4 ∷ 4 ∷ 0 ∷ 7 ∷ 8 ∷ 9 ∷ []) (0 ∷ 0 ∷ 0 ∷ 1 ∷ 0 ∷ 0 ∷ 4 ∷ 4 ∷ 4 ∷ []) (6 ∷ 1 ∷ 0 ∷ 5 ∷ 0 ∷ 0 ∷ 1 ∷ 1 ∷ 1 ∷ [])) (tally 6 1 6)

@@ -1,5 +1,5 @@
--- P1 to P10 of document 01, "Two sides of each rule", as one table, with the counts and the tally of document 02, request 3: what the promise of each
--- call allows, under rule 1, on formula A as lent. Sets are standard ones, as request 10 says.
+-- P1 to P10 of rule 17.1 as one table, with the counts and the tally (rule 4.1, rule 4.3): what the promise of each call allows, under reading
+-- rule 1, on formula A as lent. Sets are standard ones (rule 5.4).
 use Prim.Native.Nat.{ℕ, _≤_}
 use mathlib.Core.Path.{_≡_}
 use mathlib.Core.List.{List, [], _∷_, _++_}
@@ -31,7 +31,7 @@ written built s = longer built (drop 9 (s .rows .classes)) (drop 9 (s .rows .par
 abbrev pub BuildLeaves : Standing → Standing → Type 0
 BuildLeaves s left = (answer : Filled) (s′ : Standing) → Builds 1 (withClauses clausesA) s s′ answer ↔ ((answer ≡ Count 9) × (s′ ≡ left))
 
--- Add of a clause does likewise.
+-- Add of a clause counts 9 rows and leaves what is lent as `left`.
 abbrev pub AddLeaves : Standing → List ℤ → Standing → Type 0
 AddLeaves s clause left = (answer : Filled) (s′ : Standing) → Adds 1 9 prefixA s clause s′ answer ↔ ((answer ≡ Count 9) × (s′ ≡ left))
 

@@ -1,4 +1,5 @@
--- Formula A of document 01, as it is lent: n 9, blocks e 1 2, a 3, e 4 5, a 6, e 7 8 9, clauses {3 4 7} {-4 8} {6 9} {5 9} {1 5}; and what build and add leave of it.
+-- Formula A of rule 17.1, as it is lent: n 9, blocks e 1 2, a 3, e 4 5, a 6, e 7 8 9, clauses {3 4 7} {-4 8} {6 9} {5 9} {1 5}; and what build and
+-- add leave of it.
 use Prim.Native.Nat.{ℕ}
 use mathlib.Core.List.{List, [], _∷_}
 use lib.IntN.{ℤ, pos, negsuc}
@@ -27,14 +28,14 @@ classesA = 1 ∷ 2 ∷ 0 ∷ 4 ∷ 5 ∷ 0 ∷ 7 ∷ 8 ∷ 9 ∷ []
 abbrev pub parentsA : List ℕ
 parentsA = 0 ∷ 0 ∷ 0 ∷ 0 ∷ 1 ∷ 0 ∷ 4 ∷ 4 ∷ 5 ∷ []
 
--- its counts, and its tally: seven existentials, none of which a clause merges
+-- the counts of 1 to 9; and a tally by its three numbers
 abbrev pub countsA : List ℕ
 countsA = 3 ∷ 1 ∷ 0 ∷ 3 ∷ 2 ∷ 0 ∷ 1 ∷ 1 ∷ 1 ∷ []
 
 abbrev pub tally : ℕ → ℕ → ℕ → Tally
 tally clauses merges classes = record { clauses = clauses; merges = merges; classes = classes }
 
--- All that build leaves of A.
+-- All that build leaves of A: five clauses are taken, none merges two existentials, and each of the seven names its class.
 abbrev pub standA : Standing
 standA = standing (rows classesA parentsA countsA) (tally 5 0 7)
 

@@ -1,2 +1,3 @@
+-- The worked cases: formula A, and the table of what the calls ensure on it.
 pub mod FormulaA
 pub mod Cases

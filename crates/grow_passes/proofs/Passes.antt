@@ -85,7 +85,7 @@ fill-one {n} {f} {T} {v} x s more is =
           (getD-set-same T v x 0 (omega arith) ∙ is);
     }
 
--- All rows have it, where f says 0 past n.
+-- All rows have what f says, where that is 0 past n.
 pub fill-all : {n : ℕ} {f : ℕ → ℕ} {T : List ℕ} {v : ℕ} → ((u : ℕ) → n < u → f u ≡ 0) → FilledTo n f T v → n < v → (u : ℕ) → getD T u 0 ≡ f u
 fill-all {n} zero s all u = by-cases (decLt n u) (λ h. s .ends .past u h ∙ sym (zero u h)) (λ h. s .rows u (omega arith))
 

@@ -1,4 +1,4 @@
--- To be believed: lent rows past n stay.
+-- To be believed: lent rows past n stay (rule 3.2).
 use Prim.Native.Nat.{ℕ, _≤_}
 use mathlib.Core.Path.{_≡_}
 use mathlib.Core.List.{List}

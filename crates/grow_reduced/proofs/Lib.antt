@@ -1,4 +1,4 @@
--- That reduced clauses change nothing, in reading order.
+-- That reduced clauses change nothing (rule 15.1), in reading order.
 -- Which joins count: where those along which a step may go are kept, all is kept.
 pub mod Carried
 -- What a clause keeps when it is reduced, and a table of clauses, some of them reduced, in any order.

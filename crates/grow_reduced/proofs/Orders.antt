@@ -11,7 +11,7 @@ use Rattle.terms.specs.declared.Filled.{Filled}
 use Rattle.terms.proofs.Verdicts.{accepted-then}
 use Rattle.terms.specs.Answers.{Filling}
 
--- The same causes, family by family.
+-- The same causes, in the same order.
 abbrev pub SameCauses : List Causes → List Causes → Type 0
 SameCauses [] [] = Unit {0}
 SameCauses [] (g ∷ gs) = ⊥

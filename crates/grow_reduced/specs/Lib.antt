@@ -1,1 +1,2 @@
+-- Reduced clauses, which a reader has to believe.
 pub mod Reduced

@@ -1,4 +1,4 @@
--- Reduced clauses, and lists of clauses that differ in which of them are reduced and in their order (document 02, request 11).
+-- Reduced clauses, and lists of clauses that differ in which of them are reduced and in their order (rule 15.1).
 use Prim.Native.Nat.{ℕ}
 use mathlib.Core.Path.{_≡_}
 use mathlib.Core.Bool.{Bool, true, cond, not, _&&_, _||_}
@@ -10,7 +10,7 @@ use Rattle.terms.specs.Literals.{variableOf}
 use Rattle.formula.specs.Meaning.{alwaysTrue, clauses}
 use Rattle.forest_theory.specs.Reach.{Variables}
 
--- v is deeper than every existential literal of a clause, as it is where there is none
+-- v is deeper than every existential literal of a clause, and so is every v where there is none
 unfoldable pub deeperThanAll : Variables → List ℤ → ℕ → Bool
 deeperThanAll X [] v = true
 deeperThanAll X (literal ∷ more) v = (not (X .ex (variableOf literal)) || ltb (X .lev (variableOf literal)) (X .lev v)) && deeperThanAll X more v

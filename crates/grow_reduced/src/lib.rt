@@ -1,1 +1,1 @@
-// Reduced clauses give the same forest and the same sets: definitions in specs/, theorems in proofs/. No code.
+// Reduced clauses give the same forest and the same sets (rule 15.1): definitions in specs/, theorems in proofs/. No code.

@@ -1,4 +1,4 @@
--- To be believed: what add refuses of the clause and of the tally that it is given.
+-- To be believed: what add refuses of the clause and of the tally that it is given, as the table of rule 8.1 has it (10 and 18).
 use Prim.Native.Nat.{ℕ, _+_, _≤_, _<_}
 use mathlib.Core.Path.{_≡_}
 use mathlib.Core.List.{List}

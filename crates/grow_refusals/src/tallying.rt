@@ -1,4 +1,4 @@
-// The tally beside a forest: whether it agrees with the existentials and class names of the rows, and what an add makes of it.
+// The tally beside a forest (rule 4.3): whether it agrees with the existentials and class names of the rows, and what an add makes of it.
 
 use terms::Tally;
 ghost use Prim.Native.Nat.{_+_, _-_, _≤_, _<_};
@@ -7,7 +7,7 @@ ghost use Rattle.terms.specs.Limits.{mostVariables};
 ghost use Rattle.forest_tables.specs.Rows.{Tells};
 ghost use Rattle.grow_refusals.specs.Admitted.{tallyClauses, WrongTally};
 
-// Whether a tally is refused as 18. Its merges and classes are never added up, since their sum might not fit.
+// Whether a tally is refused as 18. Its merges and classes are never added up, since their sum might overflow.
 pub fn disagrees(tally: Tally, names: u32, existentials: u32) -> bool
     requires fewer { ⌜ names ≤ existentials ⌝ }
     ensures told { λ r. ⌜ Tells r (WrongTally tally names existentials) ⌝ }

@@ -69,7 +69,7 @@ pub fn put_in(n: u32, prefix: &[u32], classes: &mut [u32], parents: &mut [u32], 
     write_exact(n, &depths, &mut loose, &ups, classes, parents);
 }
 
-// Settles loose rows and writes them out: the lent rows represent the joins that the loose ones stand for, by any prefix that has the depths.
+// Settles loose rows and writes them out: the lent rows represent the joins that the loose ones stand for, by any prefix with these depths.
 fn write_exact(
     n: u32,
     depths: &[u32],

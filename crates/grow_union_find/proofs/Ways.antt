@@ -17,7 +17,7 @@ use Rattle.grow_union_find.specs.Loose.{Loose, Kept, Falling, FindsRoot,
 use Rattle.grow_union_find.proofs.Inside.{inside-reach, equal-refl, equal-trans}
 use Rattle.grow_union_find.proofs.Relinked.{halved}
 
--- Rows that are left as they are stand for what they stand for; and so it is kept from rows to rows.
+-- Rows that are left as they are stand for the same, and standing for the same is transitive.
 pub kept-none : {X : Variables} {W : Table} → Loose X W → Kept X W W
 kept-none loose = record { loose = loose; equal = equal-refl; roots = λ u r. r }
 

@@ -46,7 +46,7 @@ pub record Loose (X : Variables) (W : Table) : Type 0 where
 pub record Kept (X : Variables) (W W′ : Table) : Type 0 where
   pub loose : Loose X W′
   pub equal : Equal X (Linked X W) (Linked X W′)
-  -- what names itself does so still
+  -- every root is still one
   pub roots : (u : ℕ) → W .cls u ≡ u → W′ .cls u ≡ u
 
 -- r is the root of v: it names itself, stands in the block of v, and is reached from v at the level of that block.

@@ -66,7 +66,7 @@ fn root(classes: &mut [u32], v: Variable) -> Variable
     Variable(at)
 }
 
-// One step at the two roots p and q, of which p is as deep or deeper: of one block they become one class, and else q is hung over p.
+// One step at the two roots p and q, of which p is as deep or deeper: of one block they become one class, and else q becomes a class above p.
 fn step(depths: &[u32], classes: &mut [u32], parents: &mut [u32], p: Variable, q: Variable) -> Rest
     requires roots { ⌜ Roots (now depths) (now classes) (now parents) (p .0) (q .0) ⌝ }
     ensures stepped { λ r. ⌜ Stepped (now (depths .entry)) (now (classes .entry)) (now (parents .entry)) (p .0) (q .0)
@@ -92,7 +92,8 @@ fn unite(classes: &mut [u32], parents: &mut [u32], p: Variable, q: Variable) -> 
     point(classes, parents, q, p)
 }
 
-// Points the root `high` to the lower root `low` of its block, and takes its parent from it: that parent is left to be joined to the one class.
+// Points the root `high` to the lower root `low` of its block, and takes away the parent of `high`: that parent is left to be joined to the one
+// class.
 fn point(classes: &mut [u32], parents: &mut [u32], low: Variable, high: Variable) -> Rest
     requires inside { ⌜ (high .0 < length (now classes)) × (high .0 < length (now parents)) ⌝ }
     ensures pointed { λ r. ⌜ (now (classes .exit) ≡ set (now (classes .entry)) (high .0) (low .0))

@@ -1,4 +1,4 @@
--- The prefix is judged by the rule; what is added by the one that is at hand stands behind that in the order.
+-- The prefix is judged by the rule first; what is added by the prefix as the rule reads it stands behind that in the order.
 use Prim.Native.Nat.{ℕ}
 use mathlib.Core.List.{List, _++_}
 use borrow.Author.Needs.{needs}
