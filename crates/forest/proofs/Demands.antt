@@ -1,4 +1,5 @@
--- Demand 2, as theorems about what the calls ensure; that a block has one quantifier; and that what was lent settles every outcome.
+-- Demand 2, as theorems about what the calls ensure (rule 2.3, rule 3.6, rule 4.2, rule 5.2); that a block has one quantifier; and that what was lent
+-- settles every outcome (rule 18.1).
 use Prim.Native.Nat.{ℕ, suc, _+_, _≤_}
 use mathlib.Core.Path.{_≡_, refl, sym, ap, _∙_}
 use mathlib.Core.Bool.{Bool, true, false, cond, not}

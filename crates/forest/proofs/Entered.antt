@@ -1,4 +1,4 @@
--- The entry points and the set of x, by the entries of all variables; and that nothing is lost from the level table to the prefix.
+-- The entry points and the set of x, by the entries of all variables; and that what is found by the level table holds by the prefix.
 use Prim.Native.Nat.{ℕ, _≤_, _<_}
 use mathlib.Core.Path.{_≡_, refl, sym, ap, _∙_, subst}
 use mathlib.Core.Bool.{Bool, true, false}

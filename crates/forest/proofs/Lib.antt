@@ -1,3 +1,4 @@
+-- The laws of the calls that ask of a forest, in reading order.
 pub mod Agreeing
 pub mod Entered
 pub mod Schemes

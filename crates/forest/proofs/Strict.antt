@@ -25,7 +25,7 @@ use Rattle.forest_entries.proofs.Sides.{connected-open, shares-some, shares-x}
 pub strict-set-within : (f : Formula) (r : Rows) (x y : ℕ) → MembersBy Strict f r x y → MembersBy Standard f r x y
 strict-set-within f r x y m = strict-member-within (λ sign z. shares-some sign) m
 
--- A list of what there is none of is empty.
+-- The list of the numbers of which P holds is empty where it holds of none.
 none-listed : {P : ℕ → Type 0} → ((v : ℕ) → P v → ⊥) → (list : List ℕ) → Listed P list → list ≡ []
 none-listed none [] l = refl
 none-listed none (v ∷ list) l = absurd (none v (l .each v (List·Memᴰ·head refl)))

@@ -1,2 +1,3 @@
+-- The laws of the climb and of tops, in reading order.
 pub mod Climbing
 pub mod Tops

@@ -320,7 +320,7 @@ module _ {n : ℕ} {tops : List ℕ} {ls : List ℤ} {signs : Signs} {x : ℕ} {
             );
       }
 
-  -- A clause that does not, or that connects nothing: nothing is.
+  -- A clause that does not, or that connects nothing: no top is flagged.
   pub share-not : (z : ℕ) → NextZero ls start z → z < length ls
       → ((v : ℕ) → By signs (λ sign. HasLiteral ls start z (signed sign x)) → Connects ls start z v → ⊥)
       → Sharing n tops ls signs x old new (z + 1)

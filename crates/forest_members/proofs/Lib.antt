@@ -1,1 +1,2 @@
+-- The laws of picked numbers.
 pub mod Picked

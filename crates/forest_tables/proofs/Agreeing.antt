@@ -26,7 +26,7 @@ use Rattle.forest_tables.specs.Rows.{rowsOf, FirstBad}
 use Rattle.forest_tables.proofs.Formed.{bad-same}
 use Rattle.forest_tables.proofs.Readings.{row-none, row-over, flag-over, flag-within}
 
--- The same existentials, of the same levels.
+-- X and Y have the same existentials, of the same levels.
 pub record Same (X Y : Variables) : Type 0 where
   pub ex : (v : ℕ) → X .ex v ≡ Y .ex v
   pub lev : (v : ℕ) → X .ex v ≡ true → X .lev v ≡ Y .lev v
@@ -34,7 +34,7 @@ pub record Same (X Y : Variables) : Type 0 where
 pub same-back : {X Y : Variables} → Same X Y → Same Y X
 same-back s = record { ex = λ v. sym (s .ex v); lev = λ v e. sym (s .lev v (s .ex v ∙ e)) }
 
--- The same are deeper than x, where x has the same level.
+-- What is deeper than x in X is deeper than x in Y, where x has the same level in both.
 pub deeper-same : {X Y : Variables} {x v : ℕ} → Same X Y → X .lev x ≡ Y .lev x → Deeper X x v → Deeper Y x v
 deeper-same {v = v} s own d =
     record { existential = sym (s .ex v) ∙ d .existential; deep = let q = s .lev v (d .existential) in omega (arith, d .deep) }

@@ -25,7 +25,7 @@ names-class {X} {W} {v} = (
   λ n. rw (n .existential) (eq-eqb (W .cls v) v (n .itself)),
 )
 
--- So there are as many class names as pass it.
+-- So there are as many class names as pass it: the classes left, in a tally (rule 4.3).
 pub names-numbered : {X : Variables} {W : Table} → Lawful X → Numbered (ClassName X W) (how-many (names X W) (X .count))
 names-numbered {X} {W} lawful = numbered-same
     (λ v. (λ p. names-class .0 (p .2), λ n. let (a, b) = lawful .within v (n .existential) in (a, b, names-class .1 n)))

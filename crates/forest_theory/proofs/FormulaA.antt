@@ -84,10 +84,10 @@ pub record Refuted : Type 0 where
   -- One existential block too far in, 3 loses 4 and 8.
   pub too-far-4 : Reach (Joined clauses) (From A 4) 3 4 → ⊥
   pub too-far-8 : Reach (Joined clauses) (From A 4) 3 8 → ⊥
-  -- With {6 8} added, stepping on the universal 6 joins 8 and 9, which nothing else does at any level.
+  -- With {6 8} added, stepping on the universal 6 joins 8 and 9 (against rule 2.2), which nothing else does at any level.
   pub through : Reach (Joined (with (6 ∷ 8 ∷ []))) (λ v. 4 ≤ A .lev v) 8 9
   pub not-through : Reach (Joined (with (6 ∷ 8 ∷ []))) (From A 0) 8 9 → ⊥
-  -- In B the entry point of 3 for 7 is 4. The deepest, 7 itself, is none, and taking it loses 4, which is in the set.
+  -- In B the entry point of 3 for 7 is 4. The deepest class, 7 itself, is not the entry point, and taking it loses 4, which is in the set.
   pub least : EntryPoint A (table-of A (forest-of A B)) 3 7 4 1
   pub not-deepest : (k : ℕ) → EntryPoint A (table-of A (forest-of A B)) 3 7 7 k → ⊥
   pub lost : (k : ℕ) → Above (table-of A (forest-of A B)) 7 4 k → ⊥

@@ -99,7 +99,7 @@ before-true X m b t n = go (eqb b 0) (ltb (X .lev b) (X .lev m)) (eqb (X .lev b)
     go false false true false ep eq er es t = absurd (false≢true t)
     go false false false s ep eq er es t = absurd (false≢true t)
 
--- What does not, the other way round.
+-- Where m does not go before b, there is a b, as deep as m or deeper, and if as deep then no higher.
 before-false : (X : Variables) (m b : ℕ) → goes-before X m b ≡ false → (b ≢ 0) × (X .lev m ≤ X .lev b) × (X .lev b ≡ X .lev m → b ≤ m)
 unfolding goes-before
 before-false X m b t =

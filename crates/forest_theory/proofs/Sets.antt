@@ -125,7 +125,7 @@ module _ {X : Variables} {J : ℕ → ℕ → Type 0} {W : Table} (rep : Represe
   at-above {p} {c} n (at e) = (0, subst (λ (q : ℕ). Above W q c 0) e start)
   at-above n (over a) = let r = class-above n .0 a in (suc (r .0), r .1)
 
-  -- So the entry point by reach is the entry point by the table.
+  -- So the entry point by reach is the entry point by the table (rule 2.6).
   pub entry-class : {x y e : ℕ} → X .ex y ≡ true → EntryClass X J x y e ↔ ((k : ℕ) × EntryPoint X W x y e k)
   entry-class {x} {y} {e} ex = (
     there,

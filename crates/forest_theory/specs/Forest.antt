@@ -1,5 +1,5 @@
--- To be believed: the forest that joins determine, that is, class names, parents and entry points, said by reach (rule 2.4, rule 2.5, rule 2.6, rule
--- 3.1).
+-- To be believed: the forest that joins determine, that is, class names, parents and entry points, said by reach (rule 2.4, rule 2.5, rule 2.6,
+-- rule 3.1).
 use Prim.Native.Nat.{ℕ, _≤_, _<_}
 use mathlib.Core.Path.{_≡_}
 use mathlib.Core.Bool.{true, false}
@@ -35,8 +35,8 @@ module _ (X : Variables) (J : ℕ → ℕ → Type 0) where
     at : c ≡ p → AtOrAbove c p
     over : ClassAbove p c → AtOrAbove c p
 
-  -- The entry point of x for y: of the class of y and the classes above it, the least deep that is deeper than x (Lonsing and Biere, definition
-  -- 4.24).
+  -- The entry point of x for y: of the class of y and the classes above it, the least deep that is deeper than x (Lonsing and Biere,
+  -- definition 4.24).
   pub record EntryClass (x y e : ℕ) : Type 0 where
     pub class : ℕ
     pub names : Names class y

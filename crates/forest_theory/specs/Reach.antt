@@ -30,8 +30,7 @@ pub record Deeper (X : Variables) (x v : ℕ) : Type 0 where
   pub existential : X .ex v ≡ true
   pub deep : X .lev x < X .lev v
 
--- One clause has both v and y. Clauses stand here by the variables that they connect, in either sign; one that is always true connects none (rule
--- 1.7).
+-- One clause has both v and y. A clause stands here by the variables that it connects, in either sign: none where it is always true (rule 1.7).
 pub record Joined (clauses : List (List ℕ)) (v y : ℕ) : Type 0 where
   pub clause : List ℕ
   pub listed : List·Memᴰ clause clauses

@@ -1,4 +1,4 @@
--- The worked cases of rule 17.2, each as the only verdict that the promise of check allows.
+-- The worked cases of rule 17.2, and so the limits of rule 1.1 and rule 1.4: each as the only verdict that the promise of check allows.
 use Prim.Native.Nat.{ℕ, zero, suc, _-_, _<_}
 use mathlib.Core.Path.{_≡_, refl}
 use mathlib.Core.List.{List, [], _∷_}

@@ -1,4 +1,4 @@
--- The promises of the clause calls leave nothing open: two outcomes that they allow for one input are equal.
+-- The promises of the clause calls (rule 7.3) leave nothing open: two outcomes that they allow for one input are equal.
 use Prim.Native.Nat.{ℕ}
 use mathlib.Core.Path.{_≡_, sym, _∙_}
 use mathlib.Core.List.{List}

@@ -12,7 +12,7 @@ use Rattle.terms.specs.Refusals.{Causes, At0}
 use Rattle.formula.specs.Meaning.{clauses}
 use Rattle.formula.specs.Tables.{at, literalAt, MarkAt, VariableAt, CloseAt, NearestMark, marksBefore, EndsInside}
 
--- 1: n over 4,096
+-- 1: n over 4,096 (rule 1.1)
 abbrev pub VariableCount : ℕ → Causes
 VariableCount n = At0 1 (mostVariables < n)
 

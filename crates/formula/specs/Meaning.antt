@@ -1,5 +1,5 @@
--- What a formula means: its blocks, the level and the quantifier of each variable, and its clauses (rule 1.2, rule 1.3, rule 1.4, rule 1.5, rule
--- 1.7).
+-- What a formula means: its blocks, the level and the quantifier of each variable, and its clauses (rule 1.2, rule 1.3, rule 1.4, rule 1.5,
+-- rule 1.7).
 use Prim.Native.Nat.{ℕ, suc}
 use mathlib.Core.Bool.{Bool, true, false, cond, not, _&&_, _||_}
 use mathlib.Core.List.{List, [], _∷_, map}

@@ -209,6 +209,6 @@ check-agrees f none v =
     rules-agree (λ order read. Judged order v) (λ order order′ read c judged. carry-judged order order′ c v judged)
     (λ read. ClauseCause (f .n) (f .clauses) ∷ []) (f .n) (f .prefix) (length (f .clauses)) none
 
--- What check promises leaves nothing open: two verdicts that it allows for one input are equal.
+-- What check promises leaves nothing open: two verdicts that it allows for one input are equal (rule 18.1).
 pub check-settled : (rule : ℕ) (f : Formula) (v w : Verdict) → Judged (checkOrder rule f) v → Judged (checkOrder rule f) w → v ≡ w
 check-settled rule f = judged-unique (checkOrder rule f)

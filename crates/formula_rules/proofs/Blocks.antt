@@ -1,4 +1,4 @@
--- The blocks of the joined prefix are the joined blocks: levels, which number the blocks of a table, number these.
+-- The blocks of the joined prefix are the joined blocks (rule 6.2): levels, which number the blocks of a table, number these.
 use Prim.Native.Nat.{ℕ}
 use mathlib.Core.Path.{_≡_, refl, sym, ap, _∙_, subst}
 use mathlib.Core.Bool.{Bool, cond}

@@ -51,7 +51,7 @@ module _ (order : List Causes) (more : Type 0) (rule n : ℕ) (es table : List �
     pub sound-read : {read : List ℕ} → read ≡ readAs rule es → SoundPrefix n read
     sound-read same = subst (SoundPrefix n) (sym same) (accepted .1)
 
-    -- What the call promises of what is at hand behind the first causes, it promises by its whole order of the prefix as the rule reads it.
+    -- What the call promises by its later causes, of the prefix at hand, it promises by its whole order, of the prefix as the rule reads it.
     pub behind-read : (S : List Causes → List ℕ → Type 0)
         → ((order order′ : List Causes) (read : List ℕ) → Carries order order′ → S order read → S order′ read)
         → (later : List ℕ → List Causes) {read : List ℕ} → read ≡ readAs rule es → S (later read) read → S (order ++ later (readAs rule es)) (readAs rule es)

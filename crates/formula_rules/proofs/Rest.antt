@@ -94,7 +94,7 @@ record Inside (last : ℕ) (es : List ℕ) : Type 0 where
   empty : startsZero es ≡ true → variables ≡ []
   some : startsZero es ≡ false → (v : ℕ) × (more : List ℕ) × (variables ≡ v ∷ more)
 
--- a mark that begins no block is that of an empty one, or the same again
+-- a mark that begins no block is that of an empty block, or equals the mark of the last one
 pub old-mark : (mark last : ℕ) (more : List ℕ) → startsZero more ≡ false → newMark mark last more ≡ false → mark ≡ last
 old-mark mark last more f old = by-test (eqb mark last) (eqb-true mark last) (λ g. absurd (clash (ap (λ b. not b && not (eqb mark last)) f ∙ ap not g) old))
 

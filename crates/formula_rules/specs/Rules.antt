@@ -40,7 +40,7 @@ abbrev pub begunBefore : List ℕ → ℕ → ℕ
 begunBefore es zero = 0
 begunBefore es (suc e) = cond (begins es e) (suc (begunBefore es e)) (begunBefore es e)
 
--- 3 to 8 under rule 2, from the left; 5 and 9 are not given
+-- 3 to 8 under rule 2, from the left; 5 and 9 are not given (rule 8.1)
 pub data JoinedCause (n : ℕ) (es : List ℕ) (number e : ℕ) : Type 0 where
   -- 3: prefix ends inside a block; place its length
   ends-inside : number ≡ 3 → e ≡ length es → EndsInside 0 es → JoinedCause n es number e

@@ -1,3 +1,4 @@
+-- The laws of the words of the library, in reading order.
 pub mod Common
 pub mod Signed
 pub mod Verdicts

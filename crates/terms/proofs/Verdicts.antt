@@ -1,4 +1,4 @@
--- Laws of first causes and verdicts: how a first cause is found, and that what was lent settles the verdict.
+-- Laws of first causes and verdicts (rule 8.2): how a first cause is found, and that what was lent settles the verdict.
 use Prim.Native.Nat.{ℕ, _≤_, _<_}
 use mathlib.Core.Path.{_≡_, refl, sym, ap₂, subst}
 use mathlib.Core.List.{List, [], _∷_, _++_}

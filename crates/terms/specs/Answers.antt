@@ -37,6 +37,6 @@ Filling order L before after (Refused number place) = FirstOf order number place
 abbrev pub Listing : List Causes → (ℕ → Type 0) → List ℕ → List ℕ → Filled → Type 0
 Listing order P = Filling order (Listed P)
 
--- the list needs more room than the lent table has
+-- 14 of rule 8.1: the list needs more room than the lent table has
 abbrev pub TooLong : (ℕ → Type 0) → List ℕ → Type 0
 TooLong P before = (list : List ℕ) × Listed P list × (length before < length list)

@@ -192,7 +192,7 @@ pub enum Scheme {
     Strict,
 }
 
-// A tally beside a forest: the clauses taken, the merges made and the classes left (rule 4.3).
+// A tally beside a forest: the clauses taken, the merges made and the classes left (rule 4.3, rule 18.6).
 pub struct Tally {
     pub clauses: u32,
     pub merges: u32,

@@ -1,4 +1,4 @@
--- The free level hangs on the mark of the first block, and that is the first entry (free-of-first).
+-- The free level depends on the mark of the first block, and that is the first entry (free-of-first).
 use mathlib.Core.Path.{ap, sym, _∙_}
 use mathlib.Core.Bool.{cond}
 use borrow.Author.Needs.{needs}
