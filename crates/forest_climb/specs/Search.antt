@@ -57,8 +57,7 @@ Topless n tops from = (v : ℕ) → 1 ≤ v → v ≤ from → row n tops v ≡ 
 abbrev pub Behind : List ℕ → ℕ → ℕ → Type 0
 Behind es floor place = (opens es place ≡ true) × (marksBefore es place ≡ floor)
 
--- such a place is known, where the floor is a level: a pass over the universals begins with tops over 4294967295 (Level::NONE_DEEPER), which no level
--- is
+-- such a place is known, where the floor is a level; a pass over the universals begins over 4294967295 (Level::NONE_DEEPER), which is none
 abbrev pub Known : List ℕ → ℕ → ℕ → Type 0
 Known es floor place = floor < 4294967295 → Behind es floor place
 

@@ -40,8 +40,7 @@ pub enum Found {
     Nowhere,
 }
 
-// The climb from a class, with some rises behind it: while the parent is deeper than the floor, on to the parent. The block number falls at each
-// call.
+// The climb from a class, with some rises behind it: on to the parent, while that is deeper than the floor. The block number falls at each call.
 fn climb(n: u32, levels: &[u32], parents: &[u32], floor: Level, class: Variable, rises: u32) -> End
     requires falling { ⌜ Falling n (now levels) (now parents) × (floor .0 < getD (now levels) (class .0) 0)
         × (rises + getD (now levels) (class .0) 0 < 4294967296) ⌝ }
@@ -164,8 +163,7 @@ fn top_of(n: u32, classes: &[u32], parents: &[u32], tops: &[u32], v: Variable) -
     if above.0 == 0 { class } else { above }
 }
 
-// The place in the prefix where the blocks deeper than a level begin: sought from the known place if that is over a lesser level, else from the
-// front.
+// The place in the prefix where the blocks deeper than a level begin: sought from the known place, if that is over a lesser level, else from 0.
 fn deeper_place(prefix: &[u32], known: Floor, floor: Level) -> usize
     requires known { ⌜ ((n : ℕ) × SoundPrefix n (now prefix)) × ((x : ℕ) × (x ≤ 4096) × (floor .0 ≡ level (now prefix) x))
         × Known (now prefix) (known .level .0) (known .place) ⌝ }
@@ -200,8 +198,7 @@ pub fn place_behind(prefix: &[u32], place: usize, blocks: u32) -> usize
     i
 }
 
-// Refills the rows, which are tops over one floor, with those over the level of x, unless that is the same level; gives the floor that they are over
-// now.
+// Refills the rows, which are tops over one floor, with those over the level of x, if that is another; gives the floor that they are over now.
 pub fn retop(
     n: u32,
     prefix: &[u32],

@@ -71,8 +71,8 @@ fn clear_flags(flags: &mut [bool])
     }
 }
 
-// Flags the tops that both signs of x have: only rows whose top is flagged by the positive sign are kept, and of these the tops by the negative sign
-// are flagged.
+// Flags the tops that both signs of x have. Rows with a top that the positive sign does not have are made 0; then the tops that are left are flagged
+// by the negative sign.
 fn flag_both(n: u32, clauses: &[i32], x: Variable, tops: &mut [u32], flags: &mut [bool])
     requires sound { ⌜ SoundClauses (now clauses) × Blank (now flags) × (n ≤ length (now tops)) ⌝ }
     ensures entered { λ r. ⌜ SharedBy Strict n (now (clauses .entry)) (x .0) (now (tops .entry)) (now (tops .exit)) (now (flags .exit)) ⌝ }

@@ -36,8 +36,7 @@ unfoldable pub find : List ℕ → List (List ℕ) → Found
 find seen [] = nowhere
 find seen (clause ∷ clauses) = cond (meets seen clause) (found clause clauses) (put-back clause (find seen clauses))
 
--- What is seen once a clause is found: all of it that may be stepped on is seen too, and the search goes on; where none is found, nothing more is
--- seen.
+-- What is seen once a clause is found: all of it that may be stepped on is seen too, and the search goes on; else nothing more is seen.
 unfoldable pub see : (List (List ℕ) → List ℕ → List ℕ) → (ℕ → Bool) → List ℕ → Found → List ℕ
 see on e seen nowhere = seen
 see on e seen (found clause others) = on others (keep e clause ++ seen)

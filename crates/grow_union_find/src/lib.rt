@@ -92,8 +92,7 @@ fn unite(classes: &mut [u32], parents: &mut [u32], p: Variable, q: Variable) -> 
     point(classes, parents, q, p)
 }
 
-// Points the root `high` to the lower root `low` of its block, and takes away the parent of `high`: that parent is left to be joined to the one
-// class.
+// Points the root `high` to the lower root `low` of its block, and takes away its parent, which is left to be joined to the one class.
 fn point(classes: &mut [u32], parents: &mut [u32], low: Variable, high: Variable) -> Rest
     requires inside { ⌜ (high .0 < length (now classes)) × (high .0 < length (now parents)) ⌝ }
     ensures pointed { λ r. ⌜ (now (classes .exit) ≡ set (now (classes .entry)) (high .0) (low .0))

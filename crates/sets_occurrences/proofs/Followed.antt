@@ -213,8 +213,7 @@ module _ {n : ℕ} {tops : List ℕ} {ls : List ℤ} {next : List ℕ} {signs : 
             record { start = b .start; place = b .place; own = inside; other = b .other; connecting = b .connecting; is = b .is },
           )
 
--- The loop along a chain, whatever it tells. It does not name the variable that the chain is of: what it says holds of any such variable, and there
--- is one.
+-- The loop along a chain, whatever it tells. It does not name the variable of the chain: what it says holds of any such variable, and there is one.
 pub record Tracing (n : ℕ) (tops : List ℕ) (ls : List ℤ) (next : List ℕ) (signs : Signs) (head : ℕ) (Asked Old New : ℕ → Type 0) (k : ℕ) : Type 0 where
   pub follows : (x : ℕ) → Heading ls next x head → Following n tops ls next signs x head Asked Old New k
   pub whose : ℕ

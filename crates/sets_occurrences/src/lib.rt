@@ -109,8 +109,7 @@ fn begun(variable: Variable, start: usize, next: usize) -> usize
     if variable.0 == 0 { next } else { start }
 }
 
-// Puts the gathered entries, one after the other, in front of the chains of their variables. Whether a clause is always true is told at its first
-// gathered entry.
+// Puts the gathered entries in turn in front of the chains of their variables. Whether a clause is always true is told at its first such entry.
 fn tie_places(
     clauses: &[i32],
     places: &[u16],

@@ -1,5 +1,4 @@
-// The words of the library: variables, levels and literals, kept apart at compile time (rule 1.8, rule 18.4), with the limits of each, and what calls
-// answer.
+// The words of the library: variables, levels and literals, kept apart at compile time (rule 1.8, rule 18.4), their limits, and what calls answer.
 
 pub mod pairs;
 
