@@ -1,6 +1,6 @@
--- Request 8, as theorems about what the path check promises: accepted exactly if acceptable, every accepted pair is in the standard set, every pair of
--- a standard set has a short path that is accepted, what was lent settles the verdict, and both rules agree. All but refusals speak of the formula as
--- the rule reads it.
+-- Theorems about what the path check promises: accepted exactly if acceptable (rule 11.1), every accepted pair is in the standard set, every pair of
+-- a standard set has a short path that is accepted (rule 11.3), what was lent settles the verdict (rule 18.1), and both reading rules agree (rule 6.3).
+-- All but refusals speak of the formula as the reading rule reads it.
 use Prim.Native.Nat.{ℕ, _-_, _≤_}
 use mathlib.Core.Path.{_≡_, refl, sym, subst}
 use mathlib.Core.Bool.{Bool, true, false}

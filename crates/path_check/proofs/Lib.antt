@@ -9,7 +9,7 @@ pub mod Agreeing
 -- Causes told by computing; accepted exactly if acceptable.
 pub mod Deciding
 pub mod Acceptance
--- Where acceptable paths lead, and the demands of request 8.
+-- Where acceptable paths lead; rule 11.1 and rule 11.3 as theorems.
 pub mod Reached
 pub mod Demands
 -- A worked example.

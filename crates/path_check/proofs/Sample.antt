@@ -1,5 +1,5 @@
--- The path check on formula A of document 01 under rule 1, by computing: n 9, blocks e 1 2, a 3, e 4 5, a 6, e 7 8 9, clauses {3 4 7} {-4 8} {6 9}
--- {5 9} {1 5}, and an always-true clause {3 8 -8} put last, which has the number 5.
+-- The path check on formula A (rule 17.1), its prefix read as it stands, by computing: n 9, blocks e 1 2, a 3, e 4 5, a 6, e 7 8 9, clauses {3 4 7}
+-- {-4 8} {6 9} {5 9} {1 5}, and an always-true clause {3 8 -8} put last, which has the number 5.
 use Prim.Native.Nat.{ℕ, zero, suc}
 use mathlib.Core.Path.{_≡_, refl, subst}
 use mathlib.Core.Bool.{Bool, true, _&&_}
@@ -85,7 +85,7 @@ refused-13 x y path wrong = behind-check x y path (Refused 13 0) (inl (at0-first
 pub record Sampled : Type 0 where
   -- {3 4 7} {-4 8} share 4
   pub path-3-8 : PathJudged 1 formula-A 3 8 (0 ∷ 1 ∷ []) Accepted
-  -- the first has not 3, the last has not 8, and no clause at all
+  -- the first clause lacks 3; the last lacks 8; the path is empty
   pub without-3 : PathJudged 1 formula-A 3 8 (1 ∷ []) (Refused 24 0)
   pub without-8 : PathJudged 1 formula-A 3 8 (0 ∷ []) (Refused 24 0)
   pub no-clause : PathJudged 1 formula-A 3 8 [] (Refused 24 0)

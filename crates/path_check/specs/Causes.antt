@@ -1,5 +1,4 @@
--- The causes of refusals 13 and 24 for a path, as the table of document 01 and request 8 of document 02 have them, the order of the call, and what it
--- promises.
+-- The causes of refusals 13 and 24 for a path (rule 8.1, rule 11.2), the order of the call (rule 8.2), and what it promises.
 use Prim.Native.Nat.{ℕ, suc, _<_, _≤_}
 use mathlib.Core.Path.{_≡_}
 use mathlib.Core.Bool.{true}

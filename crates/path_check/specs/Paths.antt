@@ -1,4 +1,4 @@
--- Paths of clause numbers that another tool gives for a pair (x, y), and when one is acceptable (document 02, request 8).
+-- Paths of clause numbers that another tool gives for a pair (x, y), and when one is acceptable (rule 11.1).
 use Prim.Native.Nat.{ℕ, suc, _<_, _-_}
 use mathlib.Core.Path.{_≡_}
 use mathlib.Core.Bool.{true, false}

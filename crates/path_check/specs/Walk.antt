@@ -27,7 +27,7 @@ pub data Begin (ls : List ℤ) (k row : ℕ) : Type 0 where
   idle : row ≡ 0 → alwaysTrue (clauseAt ls k) ≡ true → Begin ls k row
   from : (start end : ℕ) → row ≡ suc start → StandsFrom ls k start end → Begin ls k row
 
--- the same of the entries from start up to end, whatever the number of their clause
+-- the row of a clause that is given by its entries, from start up to end, and not by its number
 pub data RowOf (ls : List ℤ) (start end row : ℕ) : Type 0 where
   idle : row ≡ 0 → alwaysTrue (take (end - start) (drop start ls)) ≡ true → RowOf ls start end row
   from : row ≡ suc start → alwaysTrue (take (end - start) (drop start ls)) ≡ false → RowOf ls start end row

@@ -33,7 +33,7 @@ pub fn fill_begins(clauses: &[i32], begins: &mut [u16]) -> usize
     count
 }
 
-// The row of the clause from start up to end, which `seen` is for telling whether it is always true.
+// The row of the clause from start up to end. `seen` has a stamp for each literal, by which an always-true clause is told.
 fn row_of(clauses: &[i32], start: usize, end: usize, seen: &mut [u16]) -> u16
     requires there { ⌜ SoundClauses (now clauses) × NextZero (now clauses) start end × (end < length (now clauses)) × Stamps (now seen) (start + 1) ⌝ }
     ensures own { λ r. ⌜ RowOf (now (clauses .entry)) start end r × Stamps (now (seen .exit)) (end + 1 + 1) ⌝ }

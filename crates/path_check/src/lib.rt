@@ -51,7 +51,7 @@ pub fn path_verdict(
     }
 }
 
-// What a path of an accepted formula is refused for, 13 or 24: found by the level table of the prefix.
+// What a path of an accepted formula is refused for, 13 or 24. Makes the level table of the prefix.
 fn sound_path(
     n: u32,
     prefix: &[u32],
@@ -69,7 +69,7 @@ fn sound_path(
     path_by_levels(n, &levels, &universals, clauses, x, y, path)
 }
 
-// What it is refused for by the level table of a prefix, whichever prefix that is of: 13 for x and y, and on.
+// What a path is refused for, by the level table of any sound prefix: 13 for x and y first, then what `known_pair` finds.
 fn path_by_levels(
     n: u32,
     levels: &[u32],
@@ -92,7 +92,7 @@ fn path_by_levels(
     known_pair(n, levels, universals, clauses, x, y, path)
 }
 
-// What a path is refused for once x and y are what they should be: 13 for the clause numbers, and 24.
+// What a path is refused for where x is universal, and y existential and deeper: 13 for the clause numbers, then 24.
 fn known_pair(
     n: u32,
     levels: &[u32],

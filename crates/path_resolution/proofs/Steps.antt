@@ -1,4 +1,5 @@
--- The two steps of the walk: marks that are added one walk after the other, along the chain of a literal's variable and through the entries of a clause.
+-- The two steps of the walk: marks that are added one walk after the other, along a variable's occurrence list (its chain) and through the entries of a
+-- clause.
 use Prim.Native.Nat.{ℕ, suc, _+_, _-_, _≤_, _<_}
 use mathlib.Core.Path.{_≡_, refl, sym, ap, _∙_, subst}
 use mathlib.Core.Bool.{Bool, true, false}

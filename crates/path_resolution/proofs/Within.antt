@@ -1,4 +1,4 @@
--- The resolution-path set lies within the strict set: a path from a literal of x leads, clause by clause, along steps that the strict scheme takes.
+-- The resolution-path set lies within the strict set (rule 14.3): a path from a literal of x leads, clause by clause, along steps that the strict scheme takes.
 use Prim.Native.Nat.{ℕ}
 use mathlib.Core.Path.{sym, subst}
 use mathlib.Core.Bool.{Bool, true, false, not}
@@ -18,12 +18,12 @@ use Rattle.forest_entries.proofs.Sides.{signed-variable}
 use Rattle.path_resolution.specs.Paths.{Crosses, Path, enters, goes-on, DependsByPaths}
 use Rattle.path_resolution.proofs.Marks.{complement-variable}
 
--- What a path may pass the strict scheme may step on.
+-- The strict scheme may step on whatever a path may pass.
 deeper-from : {X : Variables} {x v : ℕ} → Deeper X x v → From X (X .lev x) v
 deeper-from d = record { existential = d .existential; deep = let l = d .deep in omega arith }
 
 module _ {ls : List ℤ} where
-  -- What a clause is entered and left by it connects.
+  -- A clause that a path crosses connects all its variables, also those by which it is entered and left.
   crosses-has : {enter leave : ℤ} (k : Crosses ls enter leave) (l : ℤ)
       → List·Memᴰ l (k .clause) → List·Memᴰ (variableOf l) (connected (k .clause))
   crosses-has k l m = subst (List·Memᴰ (variableOf l)) (sym (connected-all (k .clause) (k .takes-part))) (Memᴰ·map variableOf m)

@@ -1,5 +1,5 @@
--- Resolution paths, what depends on a universal by them, and what the call for the resolution-path set promises: document 02, request 13, whose words
--- decide over document 004.
+-- Resolution paths (rule 14.1), what depends on a universal by them (rule 14.2), and what the call for the resolution-path set promises: its refusals
+-- (rule 14.4, rule 8.2) and its list. Where this differs from the paper of Wimmer and others, the rules decide.
 use Prim.Native.Nat.{ℕ, _<_}
 use mathlib.Core.Path.{_≡_}
 use mathlib.Core.Bool.{Bool, true, false, not}

@@ -49,12 +49,12 @@ pub record Grown (ls : List ℤ) (S : ℤ → Type 0) (before after : List Bool)
   pub come : (l : ℤ) → marked before l ≡ false → marked after l ≡ true → Walk ls before S l
   pub whole : (l m : ℤ) → marked before l ≡ false → marked after l ≡ true → Passes ls (negℤ l) m → marked after m ≡ true
 
--- the same, and all of which S holds is marked: the walk is at its end
+-- a walk at its end: marks that it has added, with every literal of which S holds marked
 pub record Walked (ls : List ℤ) (S : ℤ → Type 0) (before after : List Bool) : Type 0 where
   pub grown : Grown ls S before after
   pub all : (l : ℤ) → S l → marked after l ≡ true
 
--- a chain for each variable ties it to all its clauses but those that are always true
+-- occurrence lists: that of a variable leads to all its clauses but those that are always true
 pub record Chained (ls : List ℤ) (first next : List ℕ) : Type 0 where
   pub heads : (e : ℕ) → variableOf (literalAt ls e) < length first
   pub links : length ls ≤ length next

@@ -19,7 +19,7 @@ ghost use Rattle.forest_theory.specs.Reach.{Deeper};
 ghost use Rattle.path_resolution.specs.Paths.{DependsByPaths};
 ghost use Rattle.path_resolution.specs.InnerEnds.{Barred, ReadClauses, Ends, Pairs, Flags};
 
-// Flags each variable from 1 to n that depends on x. Every variable is tied to its clauses first.
+// Flags each variable from 1 to n that depends on x. The occurrence list of every variable is made first.
 pub fn flag_dependent(
     n: u32,
     clauses: &[i32],
@@ -40,7 +40,7 @@ pub fn flag_dependent(
     flag_tied(n, clauses, levels, universals, &first, &next, x, flags);
 }
 
-// Flags each variable that depends on x, along the chains that tie variables to their clauses.
+// Flags each variable that depends on x, by the occurrence lists of the variables.
 fn flag_tied(
     n: u32,
     clauses: &[i32],

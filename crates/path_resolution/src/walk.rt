@@ -1,5 +1,5 @@
 // The walk along resolution paths: from a literal to its complement, and from the complement to a clause. The two steps call each other, and each
-// literal is marked before the walk goes on from it, so that the unmarked ones fall.
+// literal is marked before the walk goes on from it, so that ever fewer are unmarked and the walk ends.
 
 use formula::clauses::literal_at;
 use formula::clauses::variable_at;
@@ -13,7 +13,7 @@ ghost use Rattle.terms.specs.Literals.{variableOf};
 ghost use Rattle.sets_occurrences.specs.Threads.{LastZero, linkAt};
 ghost use Rattle.path_resolution.specs.Walk.{Leaves, Passes, Walked, Chained, Rowed, InClause};
 
-// From a literal to its complement: every clause that has it is entered by it, along the chain of its variable.
+// From a literal to its complement: every clause that has the complement is entered by it, along the occurrence list of the variable.
 pub fn literal_step(clauses: &[i32], first: &[u32], next: &[u32], from: Literal, marks: &mut [bool])
     requires chained { ⌜ Chained (now clauses) (now first) (now next) × Rowed (now clauses) (now marks)
         × (variableOf (from .0) < length (now first)) ⌝ }
@@ -59,7 +59,7 @@ fn clause_step(clauses: &[i32], first: &[u32], next: &[u32], entry: usize, marks
     }
 }
 
-// Where a chain goes on behind an entry.
+// The entry that follows in an occurrence list, plus one; 0 at its end.
 fn link_at(next: &[u32], entry: usize) -> u32
     requires within { ⌜ entry < length (now next) ⌝ }
     ensures linked { λ r. ⌜ r ≡ linkAt (now (next .entry)) entry ⌝ }

@@ -1,4 +1,4 @@
--- Chains for all variables but 0 tie each to its clauses (threads-chained), and along these what depends on x is flagged.
+-- The occurrence lists of all variables lead to their clauses (threads-chained), and along these what depends on x is flagged.
 use Prim.Native.Nat.{ℕ}
 use mathlib.Core.Path.{_∙_}
 use mathlib.Core.Bool.{Bool, true, false}

@@ -1,5 +1,4 @@
--- The invariant: from i up to the entry stand literals only. So a 0 before i, or the beginning of the table, is where the clause begins
--- behind.
+-- The invariant: from i up to the entry stand literals only. So the clause begins at i where a 0 stands before i, or where the table begins.
 use Prim.Native.Nat.{ℕ, _≤_, _<_, _-_}
 use mathlib.Core.Path.{_≡_, sym, ap, _∙_}
 use mathlib.Core.Logic.{_≢_, inl, inr, by-cases}
