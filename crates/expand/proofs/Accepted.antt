@@ -1,4 +1,4 @@
--- Check accepts an expanded formula: no cause of 1 to 11 holds of the tables that are written, under either rule.
+-- Check accepts an expanded formula (rule 12.5): no cause of 1 to 11 holds of the tables that are written, under either reading rule.
 use Prim.Native.Nat.{ℕ, zero, suc, _+_, _≤_, _<_}
 use mathlib.Core.Path.{_≡_, refl, sym, ap, _∙_, subst}
 use mathlib.Core.Bool.{Bool, true, false, cond, not, _&&_}

@@ -24,7 +24,7 @@ unfolding closing
 closed-zero out at zero some s = absurd (some refl)
 closed-zero out at (suc last) some s = stored-one 0 at s
 
--- at most one entry
+-- closing writes at most one entry
 pub closing-most : (last : ℕ) → length (closing last) ≤ 1
 unfolding closing
 closing-most zero = omega arith

@@ -1,4 +1,4 @@
--- Formula A with 3 expanded, as document 02 has it: the set, the blocks, the clauses and the literal total, computed.
+-- Formula A (rule 17.1) with 3 expanded: the set, the blocks, the clauses and the literal total, computed.
 use Prim.Native.Nat.{ℕ, _<_}
 use mathlib.Core.Path.{_≡_, refl, subst}
 use mathlib.Core.List.{List, [], _∷_, List·Memᴰ, List·Memᴰ·not-nil}

@@ -1,4 +1,5 @@
--- What was lent settles what expanding answers, and every entry of both tables; and where rule 1 accepts a prefix both rules promise the same.
+-- What was lent settles what expanding answers, and every entry of both tables (rule 18.1); and where rule 1 accepts a prefix both reading rules promise
+-- the same (rule 6.3).
 use Prim.Native.Nat.{ℕ}
 use mathlib.Core.Path.{_≡_, sym, ap, ap₂, _∙_}
 use mathlib.Core.List.{List, _∷_}

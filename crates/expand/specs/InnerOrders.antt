@@ -7,10 +7,10 @@ use Rattle.formula.specs.Lent.{Formula}
 use Rattle.forest.specs.Causes.{AskedCause}
 use Rattle.expand.specs.Promise.{ResultTables, ResultCountCause, ResultLengthCause, ResultOutputCause}
 
--- of the result: 1, 2, 14
+-- what is looked for in the result: 1, 2, 14
 abbrev pub resultOrder : Formula → ℕ → ResultTables → List Causes
 resultOrder f x out = ResultCountCause f x ∷ ResultLengthCause f x ∷ ResultOutputCause f x out ∷ []
 
--- 13, and then of the result
+-- 13 for x, and then what is looked for in the result
 abbrev pub behindExpand : Formula → ℕ → ResultTables → List Causes
 behindExpand f x out = AskedCause (f .n) (f .prefix) x ∷ resultOrder f x out

@@ -1,5 +1,5 @@
--- What expanding one universal promises: the order in which it looks for refusals, its answer, and what it leaves in the lent tables (document 02,
--- request 9). All but the order of check speaks of the formula as the reading rule reads it.
+-- What expanding one universal promises (rule 12.1): the order in which it looks for refusals (rule 8.5), its answer, and what it leaves in the lent
+-- tables. All but the order of check speaks of the formula as the reading rule reads it.
 use Prim.Native.Nat.{ℕ, _+_, _<_}
 use mathlib.Core.Path.{_≡_}
 use mathlib.Core.List.{List, [], _∷_}
@@ -29,7 +29,7 @@ pub record ResultTables : Type 0 where
 abbrev pub resultTables : List ℕ → List ℤ → ResultTables
 resultTables prefix clauses = record { prefix = prefix; clauses = clauses }
 
--- those of a call's parameters, as they were passed, and as the call leaves them
+-- the tables of a call's parameters, as they were passed, and as the call leaves them
 abbrev pub resultIn : {P C : Type 0} → Both (RefT (List ℕ)) P → Both (RefT (List ℤ)) C → ResultTables
 resultIn prefix clauses = resultTables (now (prefix .entry)) (now (clauses .entry))
 
@@ -44,19 +44,19 @@ SetOf f x members = Listed (DependsBy Standard f x) members
 abbrev pub expandedWith : ℕ → ℕ → (ℕ → ℕ) → Formula → Formula
 expandedWith count x copy f = formulaOf count (expandedPrefix x copy (f .prefix)) (expandedClauses x copy (f .clauses))
 
--- so by the list of the set of x, of which each member has a copy
+-- the expanded formula by the list of the set of x: each member has a copy, numbered from n + 1
 abbrev pub expandedBy : Formula → ℕ → List ℕ → Formula
 expandedBy f x members = expandedWith (f .n + length members) x (copyOf (f .n) members) f
 
--- something of the expanded formula
+-- P holds of the formula with x expanded by its set
 abbrev pub OfExpanded : Formula → ℕ → (Formula → Type 0) → Type 0
 OfExpanded f x P = (members : List ℕ) × SetOf f x members × P (expandedBy f x members)
 
--- 1: it has over 4,096 variables
+-- 1: the result has over 4,096 variables
 abbrev pub ManyVariables : Formula → Type 0
 ManyVariables g = mostVariables < g .n
 
--- 2: its prefix has over 8,192 entries, or its clause table over 16,384
+-- 2: the prefix of the result has over 8,192 entries, or its clause table over 16,384
 abbrev pub Long : Formula → Type 0
 Long g = (prefixEntries < length (g .prefix)) ⊎ (clauseEntries < length (g .clauses))
 
@@ -64,7 +64,7 @@ Long g = (prefixEntries < length (g .prefix)) ⊎ (clauseEntries < length (g .cl
 abbrev pub Short : ResultTables → Formula → Type 0
 Short out g = (length (out .prefix) < length (g .prefix)) ⊎ (length (out .clauses) < length (g .clauses))
 
--- the same as causes: 1 and 2 if the result passes a limit, and 14
+-- the causes of 1 and 2, if the result passes a limit, and of 14, each at 0
 abbrev pub ResultCountCause : Formula → ℕ → Causes
 ResultCountCause f x = At0 1 (OfExpanded f x ManyVariables)
 

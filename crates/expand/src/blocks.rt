@@ -42,7 +42,7 @@ pub fn lay(prefix: &[u32], x: Variable, copies: &[u32], out: &mut [u32]) -> usiz
     close(last, out, count)
 }
 
-// Begins the block with the mark `mark`, where the one that is not closed yet has another.
+// Begins a block with the mark `mark`, unless the open block has that mark. The open block is closed first.
 fn begin(mark: u32, last: u32, out: &mut [u32], at: usize) -> usize
     requires within { ⌜ at ≤ 32768 ⌝ }
     ensures stored { λ r. ⌜ Stored (beginning mark last) (now (out .entry)) (now (out .exit)) at r ⌝ }
@@ -55,7 +55,7 @@ fn begin(mark: u32, last: u32, out: &mut [u32], at: usize) -> usize
     closed + 1
 }
 
-// Closes the block with the mark `last`, where there is one.
+// Closes the open block, whose mark is `last`; 0 stands for none.
 fn close(last: u32, out: &mut [u32], at: usize) -> usize
     requires within { ⌜ at ≤ 32768 ⌝ }
     ensures stored { λ r. ⌜ Stored (closing last) (now (out .entry)) (now (out .exit)) at r ⌝ }

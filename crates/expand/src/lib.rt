@@ -163,7 +163,7 @@ fn fill(
     Expanded::Formula(count, entries as u32, literals as u32)
 }
 
-// How many entries the prefix of the result has: it is written into a table that no one sees.
+// How many entries the prefix of the result has. `lay` counts all of them, and stores only as many as fit into a table of one row.
 fn prefix_entries(prefix: &[u32], x: Variable, copies: &[u32]) -> usize
     requires sound { ⌜ ((n : ℕ) × SoundPrefix n (now prefix)) ⌝ }
     ensures counted { λ r. ⌜ r ≡ length (expandedPrefix (x .0) (tabled (now (copies .entry))) (now (prefix .entry))) ⌝ }
@@ -172,7 +172,7 @@ fn prefix_entries(prefix: &[u32], x: Variable, copies: &[u32]) -> usize
     lay(prefix, x, copies, &mut unseen)
 }
 
-// How many entries its clause table has.
+// How many entries the clause table of the result has, counted in the same way by `copy_clauses`.
 fn clause_entries(clauses: &[i32], x: Variable, copies: &[u32]) -> usize
     requires sound { ⌜ SoundClauses (now clauses) × Copies (now copies) ⌝ }
     ensures counted { λ r. ⌜ r ≡ length (expandedClauses (x .0) (tabled (now (copies .entry))) (now (clauses .entry))) ⌝ }

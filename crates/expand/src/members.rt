@@ -19,7 +19,7 @@ ghost use Rattle.forest.specs.Answers.{DependsBy};
 ghost use Rattle.forest.specs.Wanted.{Lists};
 
 // Writes the standard set of a universal x, whose level is known, ascending into a table with room for all variables, and gives the count of its
-// members: the rows of the forest are made, and the set is listed by them. Of a forest made here nothing is judged, counted or tallied.
+// members. The classes and parents of the formula's forest are made, and the set is listed by them; counts and tally are not needed.
 pub fn find(
     n: u32,
     prefix: &[u32],

@@ -20,7 +20,7 @@ use Rattle.expand_clauses.specs.Expansion.{without, named, hasCopy, copi
 use Rattle.expand_clauses.specs.Copied.{Stored, closed, copied}
 use Rattle.expand_clauses.proofs.Storing.{stored-one, stored-none, stored-as, stored-more, Onward, onward-none, onward-as, onward-all, onward-more}
 
--- The literals before entry i are passed, and those that x leaves are stored.
+-- The literals before entry i are passed, and those that are not of x are stored.
 pub record Literals (value : Bool) (x : ℕ) (copy : ℕ → ℕ) (clause out₀ : List ℤ) (at i : ℕ) (out : List ℤ) (end : ℕ) : Type 0 where
   pub within : i ≤ length clause
   pub few : end ≤ at + i
@@ -72,7 +72,7 @@ module _ {value : Bool} {x : ℕ} {copy : ℕ → ℕ} {clause out₀ : List ℤ
   unfolding without
   literals-all done stored = onward-all (onward-as (s .on) (ap (closed value x copy) (drop-of-length-le clause done))) (stored-one (pos 0) end stored)
 
--- x leaves no more literals than there are
+-- a clause without x has no more literals than with it
 without-most : (x : ℕ) (clause : List ℤ) → length (without x clause) ≤ length clause
 unfolding without
 without-most x [] = omega arith

@@ -15,7 +15,7 @@ module _ {A : Type 0} where
   pub stored-one : {before after : List A} (a : A) (at : ℕ) → after ≡ set before at a → Stored (a ∷ []) before after at (at + 1)
   stored-one a at s = record { count = refl; store = s }
 
-  -- stored as other entries that they are
+  -- equal entries are stored alike
   pub stored-as : {entries other before after : List A} {at end : ℕ} → entries ≡ other → Stored entries before after at end
       → Stored other before after at end
   stored-as {before = before} {after} {at} {end} q s = subst (λ (r : List A). Stored r before after at end) q s
@@ -49,7 +49,7 @@ module _ {A : Type 0} {whole before : List A} {from : ℕ} where
     pub onward-all : {after : List A} {end : ℕ} → Stored rest now after at end → Stored whole before after from end
     onward-all s = record { count = s .count ∙ o .count; store = s .store ∙ o .store }
 
-  -- the first of what is to be stored is stored
+  -- one step of the loop: the front of what is to be stored is stored
   pub onward-more : {now next : List A} {at end : ℕ} (front rest : List A) → Onward whole before from (front ++ rest) now at
       → Stored front now next at end → Onward whole before from rest next end
   onward-more {now} {next} {at} {end} front rest o s = record {

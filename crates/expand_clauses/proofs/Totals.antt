@@ -1,4 +1,4 @@
--- The literal total of an expanded formula, from the input: what the copies of each clause have together.
+-- The literal total of an expanded formula, from the input (rule 12.4): what the copies of each clause have together.
 use Prim.Native.Nat.{ℕ, suc, _+_, _-_}
 use mathlib.Core.Path.{_≡_, refl, sym, ap, ap₂, _∙_}
 use mathlib.Core.Bool.{Bool, true, false, cond, not, _||_}

@@ -1,4 +1,4 @@
--- How the functions that number the copies and write the clauses are told of tables. What a reader must believe is in Expansion and Total.
+-- What the functions that number the copies and write the clauses say of their tables. What a reader must believe is in Expansion and Total.
 use Prim.Native.Nat.{ℕ, _+_, _≤_}
 use mathlib.Core.Path.{_≡_}
 use mathlib.Core.Bool.{Bool}
@@ -25,7 +25,7 @@ expandedVariables = 8192
 abbrev pub expandedEntries : ℕ
 expandedEntries = 32768
 
--- copies within that
+-- a table of copies: a row for each variable, and no number over that limit
 pub record Copies (table : List ℕ) : Type 0 where
   pub size : length table ≡ variableRows
   pub most : (v : ℕ) → tabled table v ≤ expandedVariables

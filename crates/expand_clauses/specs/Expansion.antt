@@ -1,4 +1,4 @@
--- The formula with one universal x expanded, by the list of its set (document 02, request 9): the copies of the members, the prefix and the clauses.
+-- The formula with one universal x expanded, by the list of its set: the copies of the members and the prefix (rule 12.2), and the clauses (rule 12.3).
 use Prim.Native.Nat.{ℕ, suc}
 use mathlib.Core.Bool.{Bool, true, false, cond, not, _&&_, _||_}
 use mathlib.Core.List.{List, [], _∷_, _++_, map}
@@ -53,7 +53,7 @@ unfoldable pub hasMember : (ℕ → ℕ) → List ℤ → Bool
 hasMember copy [] = false
 hasMember copy (literal ∷ more) = not (eqb (copy (variableOf literal)) 0) || hasMember copy more
 
--- the literals of a clause that x leaves
+-- the literals of a clause that are not of x
 unfoldable pub without : ℕ → List ℤ → List ℤ
 without x [] = []
 without x (literal ∷ more) = cond (eqb (variableOf literal) x) (without x more) (literal ∷ without x more)

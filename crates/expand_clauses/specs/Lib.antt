@@ -1,4 +1,4 @@
--- The definitions of the expanded formula and of its literal total, and last how inner functions are told of tables.
+-- The definitions of the expanded formula and of its literal total; then what inner functions say of the tables that they fill.
 pub mod Expansion
 pub mod Total
 pub mod Copied

@@ -1,4 +1,4 @@
--- The literal total of an expanded formula, from the input alone (document 02, request 9).
+-- The literal total of an expanded formula, from the input alone (rule 12.4).
 use Prim.Native.Nat.{ℕ, _+_, _-_}
 use mathlib.Core.Bool.{cond}
 use mathlib.Core.List.{List, [], _∷_}

@@ -225,7 +225,7 @@ fn plain_literal(v: Variable) -> Literal
     Literal::new(v.0 as i32)
 }
 
-// The literal of its negation.
+// The negated literal of a variable.
 fn negated_literal(v: Variable) -> Literal
     requires few { ⌜ v .0 ≤ expandedVariables ⌝ }
     ensures negated { λ r. ⌜ r .0 ≡ negℤ (pos (v .0)) ⌝ }

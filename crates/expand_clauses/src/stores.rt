@@ -1,4 +1,4 @@
-// Entries stored in a table as far as it has rows, and the copies read with no index that could be out of range.
+// Entries stored in a table as far as it has rows, and copies looked up; a row past the end is neither written nor read.
 
 use terms::Variable;
 ghost use mathlib.Core.Path.{_≡_};

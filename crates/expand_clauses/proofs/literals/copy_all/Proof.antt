@@ -1,5 +1,5 @@
--- The invariant: the copies of the clauses before `start` are stored, and with those of the others all would be (Clauses); no stamp is as
--- great as that of the next clause. Each round passes one clause (clauses-more).
+-- The invariant: the copies of the clauses before `start` are stored, and with those of the others all would be (Clauses); every stamp is less
+-- than that of the next clause. Each round passes one clause (clauses-more).
 use Prim.Native.Nat.{_+_, _-_}
 use native.Mathlib.Omega.{arith}
 use lib.ListN.{length}

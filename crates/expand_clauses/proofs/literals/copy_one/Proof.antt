@@ -1,4 +1,4 @@
--- The invariant: what x leaves of the literals before entry i is stored, and with the others and a 0 the copy would stand (Literals). A
+-- The invariant: of the literals before entry i those that are not of x are stored, and with the later ones and a 0 the copy would stand (Literals). A
 -- literal of x is passed over, and any other is stored by its name.
 use Prim.Native.Nat.{_-_, _≤_}
 use mathlib.Core.Path.{ap, _∙_}
