@@ -13,7 +13,7 @@ use Rattle.file_format.specs.Layout.{prefixKind, clausesKind, rowsKind, closing
 use Rattle.file_format.proofs.Lengths.{number-length, bytes-length, bytes-append}
 use Rattle.file_bytes.specs.Parts.{headBytes, closing}
 
--- bytes stored are those that are meant
+-- equal bytes are written alike
 pub wrote-as : {xs ys before after : List ℕ} {at next : ℕ} → xs ≡ ys → Wrote xs before after at next → Wrote ys before after at next
 wrote-as {before = before} {after = after} {at = at} {next = next} q w = subst (λ (bytes : List ℕ). Wrote bytes before after at next) q w
 
@@ -70,7 +70,7 @@ pub tables-bytes : (classes parents counts : List ℕ)
 tables-bytes classes parents counts =
     ap (λ (rest : List ℕ). bytesOf 4 classes ++ rest) (sym (bytes-append 4 parents counts)) ∙ sym (bytes-append 4 classes (parents ++ counts))
 
--- the word that is one over the sum from wrapping is the one that closes it
+-- the only word with which the sum wraps to zero is the closing word
 pub closing-is : (front : List ℕ) (sum word : ℕ) → sum ≡ wordSum (front ++ headBytes 2 closingKind) % 65536 → word < 65536
     → (word + sum) % 65536 ≡ 0 → word ≡ closing front
 unfolding closing

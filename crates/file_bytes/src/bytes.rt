@@ -11,7 +11,7 @@ ghost use Rattle.text_write.specs.Bytes.{Wrote};
 ghost use Rattle.file_format.specs.Numbers.{numberBytes, bytesOf, literalNumber};
 ghost use Rattle.file_bytes.specs.Parts.{headBytes};
 
-// So many bytes of a number, the lowest first.
+// Stores so many bytes of a number, little-endian.
 pub fn put_number(out: &mut [u8], at: usize, width: u32, number: u32) -> usize
     requires near { ⌜ (at < 2097152) × (width ≤ 4) ⌝ }
     ensures wrote { λ r. ⌜ Wrote (numberBytes width number) (now (out .entry)) (now (out .exit)) at r ⌝ }
@@ -27,7 +27,7 @@ pub fn put_number(out: &mut [u8], at: usize, width: u32, number: u32) -> usize
     next
 }
 
-// Numbers one after the other, each of so many bytes.
+// Stores numbers one after the other, each of so many bytes.
 pub fn put_numbers(out: &mut [u8], at: usize, width: u32, numbers: &[u32]) -> usize
     requires near { ⌜ (at < 1048576) × (width ≤ 4) × (length (now numbers) ≤ prefixEntries) ⌝ }
     ensures wrote { λ r. ⌜ Wrote (bytesOf width (now (numbers .entry))) (now (out .entry)) (now (out .exit)) at r ⌝ }
@@ -41,7 +41,7 @@ pub fn put_numbers(out: &mut [u8], at: usize, width: u32, numbers: &[u32]) -> us
     next
 }
 
-// Literals one after the other, each of four bytes.
+// Stores literals one after the other, each of four bytes.
 pub fn put_literals(out: &mut [u8], at: usize, clauses: &[i32]) -> usize
     requires near { ⌜ (at < 1048576) × (length (now clauses) ≤ clauseEntries) ⌝ }
     ensures wrote { λ r. ⌜ Wrote (bytesOf 4 (map literalNumber (now (clauses .entry)))) (now (out .entry)) (now (out .exit)) at r ⌝ }
@@ -56,7 +56,7 @@ pub fn put_literals(out: &mut [u8], at: usize, clauses: &[i32]) -> usize
     next
 }
 
-// The head of a record: the length of its payload in four bytes, and its kind in two.
+// Stores the head of a record: the length of its payload in four bytes, and its kind in two.
 pub fn put_head(out: &mut [u8], at: usize, head: Record) -> usize
     requires near { ⌜ at < 1048576 ⌝ }
     ensures wrote { λ r. ⌜ Wrote (headBytes (head .size) (head .kind)) (now (out .entry)) (now (out .exit)) at r ⌝ }

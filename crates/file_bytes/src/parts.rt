@@ -76,7 +76,7 @@ fn put_tables(out: &mut [u8], at: usize, classes: &[u32], parents: &[u32], count
     put_numbers(out, third, 4, counts)
 }
 
-// Kind 65,535: the word that lets the sum of all words wrap to zero.
+// Kind 65,535: the word with which the sum of all words wraps to zero.
 pub fn put_closing(out: &mut [u8], at: usize) -> usize
     requires room { ⌜ (at < 524288) × (at + 8 ≤ length (now out)) ⌝ }
     ensures wrote { λ r. ⌜ Wrote (closingRecord (closing (take at (now (out .entry))))) (now (out .entry)) (now (out .exit)) at r ⌝ }

@@ -1,4 +1,4 @@
--- Where rule 1 accepts a prefix, writing and reading a file promise the same under both rules.
+-- Where rule 1 accepts a prefix, writing and reading a file promise the same under both reading rules (rule 6.3).
 use Prim.Native.Nat.{ℕ}
 use mathlib.Core.Path.{_≡_, sym, subst}
 use mathlib.Core.List.{List, [], _∷_, _++_}
@@ -35,7 +35,7 @@ module _ (file : List ℕ) (lent lent′ : Lent) (answer : Loaded) where
   abbrev front : ℕ → List Causes
   front rule = ruledPrefix rule (countIn file) (prefixIn file) (length (clausesIn file))
 
-  -- the same without 23
+  -- the order of the prefix without 23
   abbrev unruled : ℕ → List Causes
   unruled rule = VariableCount (countIn file) ∷ LengthCause (prefixIn file) (length (clausesIn file)) ∷ PrefixCauseBy rule (countIn file) (prefixIn file) ∷ []
 

@@ -1,4 +1,4 @@
--- A file that is accepted under a rule is refused under every rule once one of its 16-bit words is changed.
+-- A file that is accepted under a reading rule is refused under every one once one of its 16-bit words is changed (rule 10.6).
 use Prim.Native.Nat.{ℕ, zero, suc, _+_, _*_, _/_, _%_, _<_}
 use mathlib.Core.Path.{_≡_, refl, sym, ap, ap₂, _∙_}
 use mathlib.Core.Bool.{Bool}
@@ -19,7 +19,7 @@ use Rattle.file_format.specs.Promises.{Loads}
 abbrev pub Bytes : List ℕ → Type 0
 Bytes file = (i : ℕ) → i < length file → getD file i 0 < 256
 
--- two numbers of 16 bits that make the same of another, however it wraps, are one; and so are their high bytes
+-- two 16-bit words that give the same wrapped sum with a third number are equal; equal words have equal high bytes
 same-rest : (more word other : ℕ) → word < 65536 → other < 65536 → (more + word) % 65536 ≡ (more + other) % 65536 → word ≡ other
 same-rest more word other fits fits′ sum =
     by-cases (ℕ-discrete ((more + word) / 65536) ((more + other) / 65536)) (λ same. omega arith)

@@ -1,5 +1,5 @@
--- What is written under a rule reads back the same under it: the formula as it was lent, and its rows. A file with kind 4, as it was written
--- before request 14, is still accepted, and reading tells that sets were there.
+-- What is written under a reading rule reads back the same under it (rule 10.6): the formula as it was lent, and its rows. A file with kind 4, which is
+-- no longer written, is still accepted, and reading tells that sets were there (rule 10.5).
 use Prim.Native.Nat.{ℕ, _+_, _-_, _/_, _<_, _≤_}
 use mathlib.Core.Path.{_≡_, refl, sym, ap, _∙_, subst}
 use mathlib.Core.Bool.{Bool, true, false, false≢true}

@@ -1,4 +1,4 @@
--- What was lent settles what writing and reading answer and every entry that they leave.
+-- What was lent settles what writing and reading answer and every entry that they leave (rule 18.1).
 use Prim.Native.Nat.{ℕ}
 use mathlib.Core.Path.{_≡_, sym, ap, ap₂, _∙_}
 use mathlib.Core.List.{List}

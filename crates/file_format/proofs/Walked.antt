@@ -71,7 +71,7 @@ pub data Run : ℕ → List ℕ → Type 0 where
   next : {before : ℕ} {bytes : List ℕ} (kind : ℕ) (payload more : List ℕ) → bytes ≡ recordBytes kind payload ++ more → kind < 65536
       → mayFollow before kind ≡ true → Shape kind payload → Run kind more → Run before bytes
 
--- The same of the bytes of a file from a place on.
+-- The bytes of a file from a place on are such records.
 pub record From (file : List ℕ) (before place : ℕ) : Type 0 where
   pub front : List ℕ
   pub bytes : List ℕ

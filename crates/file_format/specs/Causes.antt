@@ -1,5 +1,5 @@
--- The causes of refusals 19 to 22, and of 14, for reading and writing a file, line by line as document 02, request 6 has them, and the orders of the two calls,
--- which take a rule number (request 7).
+-- The causes of refusals 19 to 22, and of 14, for reading and writing a file, line by line as the table has them (rule 8.1, rule 10.5), and the orders of
+-- the two calls (rule 8.4), which take the number of a reading rule (rule 6.1).
 use Prim.Native.Nat.{ℕ, _<_, _≤_, _%_}
 use mathlib.Core.Path.{_≡_}
 use mathlib.Core.Bool.{true, false}
@@ -49,7 +49,7 @@ pub data OrderCause (file : List ℕ) (number place : ℕ) : Type 0 where
   -- a kind missing: the file ends, and not behind kind 65,535
   missing : (before : ℕ) → number ≡ 20 → Reached file before place → place ≡ length file → before ≢ closingKind → OrderCause file number place
 
--- 21: sum
+-- 21: the file's words do not sum to zero
 abbrev pub SumCause : List ℕ → Causes
 SumCause file = At0 21 (SumsToZero file → ⊥)
 
@@ -74,7 +74,7 @@ pub record Lent : Type 0 where
 abbrev pub lentTables : List ℕ → List ℤ → Rows → Lent
 lentTables prefix clauses rows = record { prefix = prefix; clauses = clauses; rows = rows }
 
--- so of a call's parameters, as they were passed, and as the call leaves them
+-- the tables of a call's parameters, as they were passed, and as the call leaves them
 abbrev pub lentIn : {P L C Q N : Type 0}
     → Both (RefT (List ℕ)) P → Both (RefT (List ℤ)) L → Both (RefT (List ℕ)) C → Both (RefT (List ℕ)) Q → Both (RefT (List ℕ)) N → Lent
 lentIn prefix clauses classes parents counts = lentTables (now (prefix .entry)) (now (clauses .entry)) (rowsIn classes parents counts)
@@ -90,7 +90,7 @@ NoRoom f lent =
     ⊎ ((length (lent .clauses) < length (f .clauses))
     ⊎ ((length (lent .rows .classes) < f .n) ⊎ ((length (lent .rows .parents) < f .n) ⊎ (length (lent .rows .counts) < f .n))))
 
--- the tables are long enough for all of it
+-- every lent table is long enough for what a formula and its rows have for it
 abbrev pub Roomy : Formula → Lent → Type 0
 Roomy f lent =
     (length (f .prefix) ≤ length (lent .prefix)) × (length (f .clauses) ≤ length (lent .clauses))
@@ -99,8 +99,8 @@ Roomy f lent =
 abbrev pub RoomCause : Formula → Lent → Causes
 RoomCause f lent = At0 14 (NoRoom f lent)
 
--- the order of reading: 23, which comes before all others (request 7), 19 (too long), 19, 20, 21, of the formula in the file 1, 2, prefix from the left
--- and clause literals from the left, 22, 14
+-- the order of reading: 23, which comes before all others, 19 (too long), 19, 20, 21, of the formula in the file 1, 2, prefix from the left and clause
+-- literals from the left, 22, 14
 abbrev pub loadOrder : ℕ → List ℕ → Lent → List Causes
 loadOrder rule file lent =
     RuleCause rule ∷ LargeCause file ∷ RecordCause file ∷ OrderCause file ∷ SumCause file ∷ VariableCount (formulaHeld file .n)
@@ -108,8 +108,8 @@ loadOrder rule file lent =
     ∷ PrefixCauseBy rule (formulaHeld file .n) (formulaHeld file .prefix) ∷ ClauseCause (formulaHeld file .n) (formulaHeld file .clauses)
     ∷ ForestFileCause (readBy rule (formulaHeld file)) file ∷ RoomCause (formulaHeld file) lent ∷ []
 
--- 19 and 14, for writing a formula whose prefix is read so: its file is too long, which within the limits it never is (proofs/Short); it is longer
--- than the table that is lent for it
+-- 19 and 14, for writing a formula whose prefix is read as `read`: its file is too long, which within the limits it never is (proofs/Short); it is
+-- longer than the table that is lent for it
 abbrev pub FileTooLarge : Formula → List ℕ → Type 0
 FileTooLarge f read = (file : List ℕ) × FileWith f read [] file × TooLarge file
 

@@ -1,5 +1,5 @@
--- The records of a file, and the file of a formula (document 02, requests 6 and 14). A record is its payload length in four bytes, its kind in two,
--- and the payload.
+-- The records of a file (rule 10.1, rule 10.2), and the file of a formula (rule 10.3, rule 10.4). A record is its payload length in four bytes, its kind
+-- in two, and the payload.
 use Prim.Native.Nat.{ℕ, _+_, _<_, _%_}
 use mathlib.Core.Path.{_≡_}
 use mathlib.Core.Bool.{Bool, true, false}
@@ -75,8 +75,8 @@ closingRecord word = recordBytes closingKind (numberBytes 2 word)
 abbrev pub SumsToZero : List ℕ → Type 0
 SumsToZero file = wordSum file % 65536 ≡ 0
 
--- A file of a formula whose prefix is read so, with these bytes for its kind 4: the records in the order of their kinds, of which the last has the
--- word that closes the sum. The prefix is kept as it is lent (request 7); the rows are those of the prefix as it is read.
+-- A file of a formula whose prefix is read as `read`, with these bytes for its kind 4: the records in the order of their kinds, of which the last has
+-- the word that closes the sum. The prefix is kept as it is lent (rule 6.4); the rows are those of the prefix as it is read.
 pub record FileWith (f : Formula) (read : List ℕ) (sets-record file : List ℕ) : Type 0 where
   pub rows : Rows
   pub right : ForestRows (formulaOf (f .n) read (f .clauses)) rows
@@ -86,6 +86,6 @@ pub record FileWith (f : Formula) (read : List ℕ) (sets-record file : List ℕ
       ++ (clausesRecord (f .clauses) ++ (rowsRecord (rows .classes) (rows .parents) (rows .counts) ++ (sets-record ++ closingRecord word)))
   pub sum : SumsToZero file
 
--- The file that is written under a rule: it has no kind 4 (request 14).
+-- The file that is written under a reading rule: it has no kind 4 (rule 10.4).
 abbrev pub FileOf : ℕ → Formula → List ℕ → Type 0
 FileOf rule f = FileWith f (readAs rule (f .prefix)) []

@@ -4,5 +4,5 @@ pub mod Layout
 pub mod Places
 pub mod Causes
 pub mod Promises
--- Inner, which nobody needs to believe.
+-- Inner: what functions look for one after the other, which only proofs rest on.
 pub mod InnerOrders

@@ -1,4 +1,4 @@
--- Numbers and literals in a file: so many bytes each, the lowest first; and the sum of the file's 16-bit words (document 02, request 6).
+-- Numbers and literals in a file: so many bytes each, little-endian (rule 10.1); and the sum of the file's 16-bit words (rule 10.3).
 use Prim.Native.Nat.{ℕ, zero, suc, _+_, _*_, _-_, _/_, _%_}
 use mathlib.Core.Bool.{cond}
 use mathlib.Core.List.{List, [], _∷_, _++_}

@@ -1,4 +1,4 @@
--- Where the records of any file begin, and what the records of the first kinds say of a formula.
+-- Where the records of any file begin (rule 10.1), in which order kinds may come, and the formula that kinds 1 and 2 hold (rule 10.2).
 use Prim.Native.Nat.{ℕ, _+_, _*_, _-_, _/_, _<_, _≤_}
 use mathlib.Core.Path.{_≡_}
 use mathlib.Core.Bool.{Bool, _&&_, _||_}

@@ -1,4 +1,4 @@
--- What writing and reading a file promise, each under a reading rule (document 02, requests 6, 7 and 14).
+-- What writing (rule 10.4) and reading (rule 10.5) a file promise, each under a reading rule, and a file without its sets (rule 10.7).
 use Prim.Native.Nat.{ℕ}
 use mathlib.Core.Path.{_≡_}
 use mathlib.Core.Bool.{Bool, true, false}
@@ -46,8 +46,7 @@ Loading order read file lent lent′ (Loaded.Refused number place) = FirstOf ord
 abbrev pub Loads : ℕ → List ℕ → Lent → Lent → Loaded → Type 0
 Loads rule file lent = Loading (loadOrder rule file lent) (readBy rule (formulaHeld file)) file lent
 
--- A file without its kind 4 (request 14), by whether it has one: the record goes, the closing word is refitted, and nothing else changes;
--- or it stays as it is.
+-- A file without its kind 4, by whether it has one: the record goes, the closing word is refitted, and nothing else changes; or it stays as it is.
 pub data WithoutSets (file : List ℕ) : Bool → List ℕ → Type 0 where
   as-it-is : {without : List ℕ} → without ≡ file → WithoutSets file false without
   refitted : {without : List ℕ} (head sets : List ℕ) (word word′ : ℕ) → length head ≡ fourthAt file

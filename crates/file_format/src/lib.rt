@@ -25,6 +25,6 @@ impl Record {
     pub const CLOSING: u32 = 65535;
     // The bytes of a head: four for the length of the payload, and two for the kind.
     pub const HEAD: usize = 6;
-    // The most bytes that the records of a file may have together.
+    // The most bytes that a file may have.
     pub const FILE_BYTES: usize = 262144;
 }

@@ -1,4 +1,4 @@
-// Numbers out of the bytes of a file, the lowest byte first, and literals as four-byte numbers and back.
+// Numbers out of the bytes of a file, little-endian, and literals as four-byte numbers in two's complement and back.
 
 ghost use mathlib.Core.Path.{_≡_};
 ghost use Prim.Native.Nat.{_<_};
@@ -42,7 +42,7 @@ fn wide(byte: u8) -> u32
     byte as u32
 }
 
-// A literal as a four-byte number: of a negative one the complement is never negative.
+// A literal as a four-byte number, in two's complement. The bits of a negative one are flipped first, since its negation may not fit.
 pub fn literal_number(literal: i32) -> u32
     ensures encoded { λ r. ⌜ r ≡ literalNumber literal ⌝ }
 {

@@ -18,7 +18,7 @@ pub fn sum_words(file: &[u8]) -> u16
     sum
 }
 
-// The word of two bytes, the low one first.
+// The word of two bytes, little-endian.
 fn word(low: u8, high: u8) -> u16
     ensures joined { λ r. ⌜ r ≡ low + 256 * high ⌝ }
 {

@@ -1,5 +1,5 @@
 -- Writing again what was read from an accepted file gives the same file where it has no kind 4, and where it has one the file without that
--- record and with another closing word (document 02, request 14).
+-- record and with another closing word (rule 10.7).
 use Prim.Native.Nat.{ℕ, _<_, _≤_}
 use mathlib.Core.Path.{_≡_, refl, sym, ap, _∙_, subst}
 use mathlib.Core.Bool.{Bool, true, false}

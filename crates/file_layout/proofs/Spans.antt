@@ -12,7 +12,7 @@ use Rattle.file_format.specs.Causes.{fileBytes}
 use Rattle.file_layout.specs.Laid.{Laid}
 use Rattle.file_layout.proofs.Heads.{next-read}
 
--- So many numbers are so many.
+-- The list of so many numbers from a place on is that long.
 pub numbers-length : (width : ℕ) (file : List ℕ) (p many : ℕ) → length (numbersAt width file p many) ≡ many
 unfolding numbersAt
 numbers-length width file p zero = refl

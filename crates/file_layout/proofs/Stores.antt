@@ -71,7 +71,7 @@ module _ {A : Type 0} (f : ℕ → A) (width : ℕ) (file : List ℕ) (from many
     pub storing-all : many ≤ i → table ≡ sets before 0 (map f (numbersAt width file from many))
     storing-all l = sym (ap (λ (xs : List ℕ). sets table i (map f xs)) (numbers-none width file at many i l)) ∙ s .full
 
--- numbers as they are
+-- mapping each number to itself changes nothing
 pub map-same : (xs : List ℕ) → map (λ (x : ℕ). x) xs ≡ xs
 map-same [] = refl
 map-same (x ∷ xs) = ap (λ (rest : List ℕ). x ∷ rest) (map-same xs)

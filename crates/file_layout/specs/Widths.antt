@@ -1,4 +1,4 @@
--- How many bytes the numbers of a file have; nothing of it is cited by a call.
+-- How many bytes the numbers of a file have. Only inner functions cite it.
 use Prim.Native.Nat.{ℕ}
 use mathlib.Core.Path.{_≡_}
 use mathlib.Core.Logic.{_⊎_}

@@ -1,4 +1,4 @@
-// Numbers of a file in tables: stored there, or held against them.
+// The numbers of a file, stored in tables or compared with them.
 
 use crate::places::clause_entries;
 use crate::places::prefix_entries;
@@ -30,7 +30,7 @@ fn number_in(file: &[u8], width: usize, at: usize) -> u32
     }
 }
 
-// So many numbers from a place on, stored in front in a table.
+// Stores so many numbers from a place on in front in a table.
 pub fn fill_numbers(file: &[u8], width: usize, from: usize, many: usize, table: &mut [u32])
     requires room { ⌜ Width width × (from + width * many < 4294967294) × (many ≤ length (now table)) ⌝ }
     ensures stored { λ r. ⌜ now (table .exit) ≡ sets (now (table .entry)) 0 (numbersAt width (now (file .entry)) from many) ⌝ }
@@ -44,7 +44,7 @@ pub fn fill_numbers(file: &[u8], width: usize, from: usize, many: usize, table: 
     }
 }
 
-// So many literals from a place on, stored in front in a clause table.
+// Stores so many literals from a place on in front in a clause table.
 fn fill_literals(file: &[u8], from: usize, many: usize, table: &mut [i32])
     requires room { ⌜ (from + 4 * many < 4294967294) × (many ≤ length (now table)) ⌝ }
     ensures stored { λ r. ⌜ now (table .exit) ≡ sets (now (table .entry)) 0 (map literalOf (numbersAt 4 (now (file .entry)) from many)) ⌝ }
@@ -59,7 +59,7 @@ fn fill_literals(file: &[u8], from: usize, many: usize, table: &mut [i32])
     }
 }
 
-// The prefix and the clauses of the file, stored in front in tables.
+// Stores the prefix and the clauses of the file in front in tables.
 pub fn fill_formula(file: &[u8], prefix: &mut [u32], clauses: &mut [i32])
     requires room { ⌜ Laid (now file) × (length (prefixIn (now file)) ≤ length (now prefix))
         × (length (clausesIn (now file)) ≤ length (now clauses)) ⌝ }

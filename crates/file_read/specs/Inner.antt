@@ -14,7 +14,7 @@ use Rattle.file_verify.specs.Verified.{rowsHeld}
 abbrev pub saidOf : List ℕ → Loaded
 saidOf file = Loaded.Formula (formulaHeld file .n) (length (formulaHeld file .prefix)) (length (formulaHeld file .clauses)) (hasSets file)
 
--- What reading promises of a file whose rows are right, of any formula as it is read: 14 is left.
+-- What reading promises of a file whose rows are those of a formula, whatever the formula: only 14 is left to refuse.
 abbrev pub LoadsRight : List ℕ → Lent → Lent → Loaded → Type 0
 LoadsRight file lent lent′ answer =
     (read : Formula) → RightRows read file (rowsHeld file) → Loading (At0 14 (NoRoom (formulaHeld file) lent) ∷ []) read file lent lent′ answer

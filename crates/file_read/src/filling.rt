@@ -73,7 +73,7 @@ pub fn fill_lent(
     said_of(file)
 }
 
-// The rows of the file, stored.
+// Stores the rows of the file.
 fn fill_rows(file: &[u8], classes: &mut [u32], parents: &mut [u32], counts: &mut [u32])
     requires room { ⌜ Laid (now file) × (countIn (now file) ≤ length (now classes)) × (countIn (now file) ≤ length (now parents))
         × (countIn (now file) ≤ length (now counts)) ⌝ }

@@ -1,4 +1,4 @@
-// What the records of a file hold: the formula is judged once under a reading rule, its forest is built, and rows and sets are held against it.
+// What the records of a file hold: the formula is judged once under a reading rule, its forest is built, and rows and sets are compared with it.
 
 use file_format::Record;
 use file_format::numbers::two_at;
@@ -107,7 +107,7 @@ fn forest_verdict(file: &[u8], n: u32, prefix: &[u32], clauses: &[i32]) -> Verdi
     )
 }
 
-// Refusal 22, by an accepted formula and the rows of its forest: those of the file are held against them, and then its sets, if it has any.
+// Refusal 22, by an accepted formula and the rows of its forest: the file's rows are compared with them, and then its sets, if it has any.
 fn rows_verdict(
     file: &[u8],
     n: u32,
@@ -173,7 +173,7 @@ fn sets_hold(
     listed_hold(file, n, prefix, clauses, classes, parents, &mut list)
 }
 
-// The same with a table for the sets: a list that is longer than the table is longer than any file.
+// Whether the record of kind 4 has just the sets of the formula, which are listed in a table first. Where they do not fit there, no file can hold them.
 fn listed_hold(
     file: &[u8],
     n: u32,

@@ -24,7 +24,7 @@ frontOf f r = formulaPart f ++ rowsRecord (r .classes) (r .parents) (r .counts)
 unfoldable pub wholeOf : Formula → Rows → List ℕ
 wholeOf f r = frontOf f r ++ closingRecord (closing (frontOf f r))
 
--- how many bytes that is: so many prefix entries, literals, and rows of each table
+-- how many bytes the whole file has, by its prefix entries, literals, and rows of each table
 abbrev pub sizeOf : ℕ → ℕ → ℕ → ℕ
 sizeOf entries literals rows = 2 * entries + 4 * literals + 12 * rows + 28
 
@@ -40,6 +40,6 @@ pub record Small (f : Formula) (r : Rows) : Type 0 where
 abbrev pub StoresWhole : List ℕ → List ℕ → List ℕ → Filled → Type 0
 StoresWhole whole before = Filling (At0 14 (length before < length whole) ∷ []) (λ (file : List ℕ). file ≡ whole) before
 
--- What writing promises of an accepted formula whose prefix is read so: 19 and 14 are left.
+-- What writing promises of an accepted formula whose prefix is read as `read`: only 19 and 14 are left to refuse.
 abbrev pub StoresRead : Formula → List ℕ → List ℕ → List ℕ → Filled → Type 0
 StoresRead f read before = Filling (behindStore f read before) (FileWith f read []) before

@@ -18,7 +18,7 @@ ghost use Rattle.formula.specs.Lookup.{SoundClauses};
 ghost use Rattle.file_format.specs.Promises.{Stores};
 ghost use Rattle.file_write.specs.Parts.{StoresRead};
 
-// Writes the file of a formula with its forest into a lent table; with the count of its bytes. The prefix is written as it is lent.
+// Writes the file of a formula and its forest into a lent table, and gives the count of its bytes. The prefix is written as it is lent.
 pub fn store(rule: u32, n: u32, prefix: &[u32], clauses: &[i32], file: &mut [u8]) -> Filled
     ensures stored { λ r. ⌜ Stores rule (formulaIn n prefix clauses) (now (file .entry)) (now (file .exit)) r ⌝ }
 {
@@ -32,8 +32,8 @@ pub fn store(rule: u32, n: u32, prefix: &[u32], clauses: &[i32], file: &mut [u8]
     }
 }
 
-// Writes the file of an accepted formula, whose prefix is at hand as it is lent and as it is read: its forest is built in tables of its own, which
-// are never too short for it.
+// Writes the file of an accepted formula, from its prefix as lent and as read: its forest is built in tables of its own, which have room for the most
+// variables.
 fn store_read(n: u32, prefix: &[u32], read: &[u32], clauses: &[i32], file: &mut [u8]) -> Filled
     requires sound { ⌜ SoundPrefix n (now read) × SoundClauses (now clauses) × (length (now prefix) ≤ prefixEntries) ⌝ }
     ensures stored { λ r. ⌜ StoresRead (formulaIn n prefix clauses) (now (read .entry)) (now (file .entry)) (now (file .exit)) r ⌝ }

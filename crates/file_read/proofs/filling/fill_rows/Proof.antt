@@ -17,7 +17,7 @@ start at-third = at-third .before .before .before .before .before .before
 counted : (c : tie.After-third-at) → c .before .two-at .result ≡ countIn (start c .args .file .now)
 counted c = count-read (start c .args .file .now) (c .before .two-at .ensures .0)
 
--- everything is near
+-- every place that is read is near enough
 near : (c : tie.After-third-at) → c .third-at .result + 6 + 12 * c .before .two-at .result < 4294967294
 near c =
     let ends = laid-ends (start c .args .file .now) (start c .pre .0) in

@@ -13,7 +13,7 @@ use Rattle.file_verify.proofs.contents.list_holds.Tie as tie
 abbrev start : tie.After-fourth-at → tie.Start
 start at-fourth = at-fourth .before .before .before
 
--- everything is near
+-- every place that is read is near enough
 near : (c : tie.After-fourth-at) → c .fourth-at .result + 6 + 2 * length (start c .args .list .now) < 4294967294
 near c =
     let at-start = start c in

@@ -17,7 +17,7 @@ use Rattle.file_verify.proofs.contents.rows_hold.Tie as tie
 abbrev start : tie.After-third-at → tie.Start
 start at-third = at-third .before .before .before .before .before
 
--- everything is near
+-- every place that is read is near enough
 near : (c : tie.After-third-at)
     → (let a = start c .args in
     c .third-at .result + 6 + 4 * length (a .classes .now) + 4 * length (a .parents .now) + 4 * length (a .counts .now) < 4294967294)
