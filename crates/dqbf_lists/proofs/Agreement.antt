@@ -1,4 +1,4 @@
--- Where rule 1 accepts a prefix both rules promise the same; and what was lent settles what the check of lists answers.
+-- Where rule 1 accepts a prefix both reading rules promise the same (rule 6.3); and what was lent settles what the check of lists answers (rule 18.1).
 use Prim.Native.Nat.{ℕ}
 use mathlib.Core.Path.{_≡_}
 use mathlib.Core.List.{List, [], _∷_, _++_}

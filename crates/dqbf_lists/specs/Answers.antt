@@ -1,4 +1,4 @@
--- What the call promises that judges a formula with dependency lists.
+-- What the check of a formula with dependency lists promises (rule 8.2, rule 13.1).
 use Prim.Native.Nat.{ℕ}
 use mathlib.Core.List.{List}
 use Rattle.terms.specs.Refusals.{Judged}

@@ -1,4 +1,4 @@
--- The causes of refusals 25 and 26, and of 2 and 11 for a table of lists, as request 12 has them, and the orders of the calls that take lists.
+-- The causes of refusals 25 and 26, and of 2 and 11 for a table of lists (rule 8.1), and the order of the check that takes lists (rule 8.2).
 use Prim.Native.Nat.{ℕ, _<_}
 use mathlib.Core.Path.{_≡_}
 use mathlib.Core.Bool.{false}
@@ -17,7 +17,7 @@ use Rattle.dqbf_lists.specs.Lists.{listEntries, OneList, InBlock}
 abbrev pub ListsLong : ℕ → Type 0
 ListsLong entries = listEntries < entries
 
--- so of a formula, or of the lists beside it, of which there are so many entries
+-- 2, for a formula and a table of lists of so many entries: one of its three tables is too long
 abbrev pub ListedLengthCause : Formula → ℕ → Causes
 ListedLengthCause f entries = At0 2 (PrefixLong (f .prefix) ⊎ (ClausesLong (length (f .clauses)) ⊎ ListsLong entries))
 
@@ -28,14 +28,14 @@ pub data ListCause (n : ℕ) (es ds : List ℕ) (number e : ℕ) : Type 0 where
   -- 25: y already placed, in a block or with a list before
   in-block : number ≡ 25 → MarkAt ds e → InBlock es (at ds e) → ListCause n es ds number e
   listed-before : (b : ℕ) → number ≡ 25 → MarkAt ds e → b < e → MarkAt ds b → at ds b ≡ at ds e → ListCause n es ds number e
-  -- 26: an x that isn't a universal
+  -- 26: an x that is not a universal
   no-universal : number ≡ 26 → VariableAt ds e → universal n es (at ds e) ≡ false → ListCause n es ds number e
   -- 26: an x that comes twice in its list
   twice : (b : ℕ) → number ≡ 26 → VariableAt ds e → OneList ds b e → VariableAt ds b → at ds b ≡ at ds e → ListCause n es ds number e
   -- 11: table of lists ends inside a list; place its length
   ends-inside : number ≡ 11 → e ≡ length ds → EndsInside 0 ds → ListCause n es ds number e
 
--- the order of the call that only judges: 23, 1, 2, prefix from the left, clause literals from the left, lists from the left by the prefix as the
+-- the order of the check that takes lists: 23, 1, 2, prefix from the left, clause literals from the left, lists from the left by the prefix as the
 -- rule reads it
 abbrev pub checkListsOrder : ℕ → Formula → List ℕ → List Causes
 checkListsOrder rule f ds =

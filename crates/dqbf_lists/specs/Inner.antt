@@ -55,7 +55,7 @@ pub data PassedTo (n : ℕ) (universals : List Bool) (ds : List ℕ) (start : �
   one-passed : (e : ℕ) {seen : List ℕ} → PassedTo n universals ds start last e seen → e < length ds → MayFollow n universals seen start (at ds e)
       → PassedTo n universals ds start last (e + 1) (set seen (at ds e) (e + 1))
 
--- so far as `end`, where the table of lists ends, or an entry stands that may not follow
+-- the universals are passed up to `end`, where the table of lists ends, or an entry stands that may not follow
 pub record Passes (n : ℕ) (universals : List Bool) (ds : List ℕ) (start : ℕ) (last last′ : List ℕ) (end : ℕ) : Type 0 where
   pub from : start ≤ end
   pub within : end ≤ length ds

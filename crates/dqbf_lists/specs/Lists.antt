@@ -1,4 +1,4 @@
--- Dependency lists as lent, a table of y, its universals, 0, and which existentials have x in their list (request 12).
+-- Dependency lists as lent, a table of y, its universals, 0, and which existentials have x in their list (rule 13.1).
 use Prim.Native.Nat.{ℕ, _≤_, _<_}
 use mathlib.Core.Path.{_≡_}
 use mathlib.Core.Bool.{true, false}

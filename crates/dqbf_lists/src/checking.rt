@@ -19,7 +19,7 @@ ghost use Rattle.dqbf_lists.specs.Lists.{listEntries};
 ghost use Rattle.dqbf_lists.specs.Causes.{ListCause};
 ghost use Rattle.dqbf_lists.specs.Inner.{Places, MayOpen, MayFollow, Passes};
 
-// The refusals of the lists, by an accepted prefix.
+// The first refusal of the lists, by an accepted prefix, whose level table is made here.
 pub fn lists_verdict(n: u32, prefix: &[u32], lists: &[u32]) -> Verdict
     requires sound { ⌜ SoundPrefix n (now prefix) ⌝ }
     requires short { ⌜ length (now lists) ≤ listEntries ⌝ }
@@ -31,8 +31,8 @@ pub fn lists_verdict(n: u32, prefix: &[u32], lists: &[u32]) -> Verdict
     check_lists(n, prefix, &universals, lists)
 }
 
-// The first cause of a refusal in the table of lists, one list after another. One table has what is placed so far, in a block or with a list, and one, for
-// each universal, the place behind its last entry, which tells whether that stands in the list that is open.
+// The first cause of a refusal in the table of lists, one list after another. `placed` flags the variables that a block or a list before has. `last` has,
+// for each universal, the place behind its last entry: if that is past the beginning of the open list, the list has the universal already.
 pub fn check_lists(n: u32, prefix: &[u32], universals: &[bool], lists: &[u32]) -> Verdict
     requires sound { ⌜ SoundPrefix n (now prefix) ⌝ }
     requires short { ⌜ length (now lists) ≤ listEntries ⌝ }

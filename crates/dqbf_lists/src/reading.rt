@@ -10,7 +10,7 @@ ghost use Rattle.terms.specs.Limits.{joinedEntries};
 ghost use Rattle.formula.specs.Lent.{formulaIn};
 ghost use Rattle.dqbf_lists.specs.Inner.{ReadsListed, LongRefused};
 
-// Judges a formula by a rule, beside lists of so many entries, and has its prefix at hand as the rule reads it.
+// Judges a formula by a rule, beside lists of so many entries, and makes its prefix as the rule reads it.
 pub fn read_listed(
     rule: u32,
     n: u32,

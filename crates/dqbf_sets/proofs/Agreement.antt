@@ -1,4 +1,5 @@
--- Where no list is lent the set is that of demand 2; where both rules accept a prefix they agree; and what was lent settles what the call answers and writes.
+-- Where no list is lent the set is that of demand 2 (rule 13.3); where rule 1 accepts a prefix both reading rules promise the same (rule 6.3); and what was
+-- lent settles what the call answers and writes (rule 18.1).
 use Prim.Native.Nat.{ℕ, _<_}
 use mathlib.Core.Path.{_≡_, sym, subst}
 use mathlib.Core.Bool.{true}

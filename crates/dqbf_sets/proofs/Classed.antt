@@ -1,4 +1,4 @@
--- Loose rows over one depth: there are no parents, and two are in one class exactly if one is reached from the other.
+-- A union-find (loose rows) over one depth: there are no parents, and two are in one class exactly if one is reached from the other.
 use Prim.Native.Nat.{ℕ, _+_, _-_, _≤_, _<_}
 use mathlib.Core.Path.{_≡_, refl, sym, ap, _∙_, subst}
 use mathlib.Core.List.{List}

@@ -26,7 +26,7 @@ use Rattle.dqbf_lists.specs.Lists.{ListHas}
 use Rattle.dqbf_sets.specs.Depends.{DependsOn, DependsOnBy}
 use Rattle.dqbf_sets.specs.Inner.{behindFormula, ToldRows, Flat, Classed}
 
--- What a scheme takes, in other words.
+-- What a scheme takes of P it takes of Q, where P gives Q for each sign.
 takes-map : (scheme : Scheme) {P Q : Bool → Type 0} → ((sign : Bool) → P sign → Q sign) → Takes scheme P → Takes scheme Q
 takes-map Standard more = ⊎-elim (λ p. inl (more true p)) (λ p. inr (more false p))
 takes-map Strict more = λ p. (more true (p .0), more false (p .1))

@@ -1,5 +1,5 @@
--- What the call promises that lists the set of a universal by dependency lists: its refusals in their order, and the set ascending with its count, and what is
--- left in the lent output.
+-- What the call promises that lists the set of a universal by dependency lists (rule 13.2): its refusals in their order (rule 8.2), the set ascending with
+-- its count (rule 7.4), and what is left in the lent output (rule 7.5).
 use Prim.Native.Nat.{ℕ}
 use mathlib.Core.List.{List, [], _∷_}
 use lib.ListN.{length}

@@ -1,4 +1,4 @@
--- What depends on x by dependency lists, by either scheme (request 12).
+-- What depends on x by dependency lists, by either scheme (rule 13.2).
 use Prim.Native.Nat.{ℕ}
 use mathlib.Core.Bool.{Bool}
 use mathlib.Core.List.{List}

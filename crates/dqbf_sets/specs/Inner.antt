@@ -27,7 +27,7 @@ use Rattle.dqbf_sets.specs.Depends.{DependsOnBy}
 abbrev pub behindFormula : ℕ → List ℕ → List ℕ → ℕ → List Causes
 behindFormula n es ds x = ListCause n es ds ∷ AskedCause n es x ∷ []
 
--- so the set of x by a scheme, of a formula that is accepted
+-- what the call promises of an accepted formula: the set of x by a scheme, with the lists, 13 and 14 left to refuse
 abbrev pub SetBehind : Scheme → Formula → List ℕ → ℕ → List ℕ → List ℕ → Filled → Type 0
 SetBehind scheme f ds x before =
     Listing (behindFormula (f .n) (f .prefix) ds x ++ (OutputCause (DependsOnBy scheme f ds x) before ∷ [])) (DependsOnBy scheme f ds x) before
@@ -39,7 +39,7 @@ Told P v r = ((r ≡ 1) × P v) ⊎ ((r ≡ 0) × (P v → ⊥))
 abbrev pub ToldRows : (ℕ → Type 0) → ℕ → List ℕ → Type 0
 ToldRows P n rows = (v : ℕ) → Told P v (row n rows v)
 
--- by the level table v is an existential over a floor
+-- by the level table v is an existential deeper than the level `floor`
 abbrev pub Over : ℕ → List ℕ → List Bool → ℕ → ℕ → Type 0
 Over n levels universals floor v = (existentialIn n universals v ≡ true) × (floor < getD levels v 0)
 

@@ -1,5 +1,5 @@
-// Classes of what may be stepped on from x: two are in one class if one is reached from the other. They grow clause by clause in loose rows, in which all
-// that may be stepped on stands at one depth.
+// Classes of what may be stepped on from x: two are in one class if one is reached from the other. They grow clause by clause in a union-find (loose
+// rows), in which all that may be stepped on has one depth, so that there are classes but no parents.
 
 use grow_passes::rows::load;
 use grow_passes::rows::put_all;
@@ -15,8 +15,8 @@ ghost use Rattle.formula.specs.Lookup.{SoundClauses};
 ghost use Rattle.forest_theory.specs.Tables.{row};
 ghost use Rattle.dqbf_sets.specs.Inner.{Flat, Classed};
 
-// Takes rows with 1 for what may be stepped on and 0 for all else, and puts the name of its class in place of each 1. There are no parents: the table of
-// the depths, which has done its work, takes their rows.
+// Takes rows with 1 for what may be stepped on and 0 for all else, and puts the name of its class in place of each 1. The parent rows, which are all 0,
+// are written over the depths, which are no longer needed.
 pub fn class_rows(n: u32, clauses: &[i32], rows: &mut [u32])
     requires sound { ⌜ SoundClauses (now clauses) ⌝ }
     requires room { ⌜ (n ≤ mostVariables) × (n ≤ length (now rows)) ⌝ }

@@ -21,7 +21,7 @@ ghost use Rattle.dqbf_lists.specs.Lists.{listEntries, ListHas};
 ghost use Rattle.dqbf_lists.specs.Causes.{ListCause};
 ghost use Rattle.dqbf_sets.specs.Inner.{behindFormula, Told, ToldRows, Over, WithGiven, OpensRows};
 
-// Refusals of the lists and 13, by an accepted prefix, and where there is none the rows.
+// Judges the lists, and then x (13), by an accepted prefix. Where nothing is refused, the rows are filled.
 pub fn open_rows(n: u32, prefix: &[u32], lists: &[u32], x: Variable, rows: &mut [u32]) -> Verdict
     requires sound { ⌜ SoundPrefix n (now prefix) ⌝ }
     requires short { ⌜ length (now lists) ≤ listEntries ⌝ }
@@ -79,7 +79,7 @@ fn open_blocks(n: u32, levels: &[u32], universals: &[bool], floor: Level, rows: 
     }
 }
 
-// The row of v by the blocks.
+// The row of v by the blocks: 1 for an existential deeper than the level `floor`.
 fn block_row(n: u32, levels: &[u32], universals: &[bool], floor: Level, v: Variable) -> u32
     ensures told { λ r. ⌜ Told (Over n (now (levels .entry)) (now (universals .entry)) (floor .0)) (v .0) r ⌝ }
 {
