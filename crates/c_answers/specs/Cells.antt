@@ -1,4 +1,4 @@
--- What the functions promise that lay answers out in cells: what an answer says, and where it then stands.
+-- What the functions promise that lay answers out in the cells of a C caller: what an answer says, and in which cells it then stands.
 use Prim.Native.Nat.{ℕ, _<_}
 use mathlib.Core.Path.{_≡_}
 use mathlib.Core.List.{List}
@@ -26,7 +26,7 @@ abbrev pub Fits : {C : Type 0} → (C → Type 0) → Said C → Type 0
 Fits B (gives cells) = B cells
 Fits B (refuses number at) = InCell at
 
--- any cells, where their numbers have 32 bits already
+-- no bound, for cells whose numbers have 32 bits already
 abbrev pub Any : {C : Type 0} → C → Type 0
 Any cells = Unit {0}
 
@@ -44,7 +44,7 @@ Cell = Both (RefT ℕ) (RefT ℕ)
 abbrev pub TallyCells : Type 0
 TallyCells = Both (RefT (List ℕ)) (RefT (List ℕ))
 
--- What is said stands in no cell but that of the place, in one besides, or in two to four.
+-- What is said stands in the cell of the place alone, or in one to four cells beside it.
 abbrev pub LaidBy : {C : Type 0} → Said C → C → C → Cell → ℕ → Type 0
 LaidBy said cells cells′ place = Laid said cells cells′ (now (place .entry)) (now (place .exit))
 

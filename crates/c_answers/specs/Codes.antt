@@ -1,4 +1,4 @@
--- How C writes a scheme, a tally, and whether there are sets (include/snowcoddle.h): each as numbers.
+-- How C writes a scheme (rule 5.5), a tally (rule 4.3), and whether a file has sets (rule 10.5): each as numbers, as include/snowcoddle.h has them.
 use Prim.Native.Nat.{ℕ}
 use mathlib.Core.Bool.{Bool, cond}
 use mathlib.Core.List.{List, [], _∷_}

@@ -1,5 +1,5 @@
--- What the answers say that give a formula: its variable count, the counts of the entries of its tables, and what else there is; and which of those
--- fit cells.
+-- What the answers say that give a formula: its variable count, the counts of the entries of its tables, and whether a file has sets; and that these
+-- fit cells of 32 bits.
 use Prim.Native.Nat.{ℕ}
 use Rattle.terms.specs.declared.Reading.{Reading}
 use Rattle.terms.specs.declared.ListedReading.{ListedReading}

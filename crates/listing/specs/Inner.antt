@@ -13,7 +13,7 @@ use Rattle.forest_members.specs.declared.Asked.the-variants.{Points, Set}
 use Rattle.forest_members.specs.Picked.{pick, picked}
 use Rattle.listing_lines.specs.Lines.{universalLine}
 
--- What the rows of tops stand for: rows of a forest that are well formed by a prefix, of which they are the tops over the level of x.
+-- What the rows of tops stand for: the tops over the level of x of a forest whose rows are well formed by a prefix.
 pub record TopsOf (n : ℕ) (es : List ℕ) (r : Rows) (x floor : ℕ) (tops : List ℕ) : Type 0 where
   pub formed : FormedBy n es (r .classes) (r .parents)
   pub low : floor ≡ level es x

@@ -1,5 +1,4 @@
--- What the lines of the listing program say (document 01, "Two sides of each rule"; document 02, request 10). How they are spelt is in the
--- definitions of `listing_lines`.
+-- What the lines of the listing program say (rule 16.2, rule 5.4). How they are spelt is in the definitions of `listing_lines`.
 use Prim.Native.Nat.{ℕ}
 use mathlib.Core.Path.{_≡_}
 use mathlib.Core.List.{List}

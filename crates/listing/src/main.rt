@@ -1,4 +1,4 @@
-// Lists the strict dependency sets of a QDIMACS text on standard input: a line for the formula, and one for each universal.
+// Lists the strict dependency sets of a QDIMACS text on standard input (rule 16.1): a line for the formula, and one for each universal (rule 16.2).
 
 use forest_climb::Floor;
 use forest_members::Asked;
@@ -81,7 +81,7 @@ fn print_refusal(number: u32, place: usize)
     io::write_all(STDOUT_FILENO, &line[..end]);
 }
 
-// Lists a formula under the first reading rule; what is refused build refuses. The counts and the tally are not asked for.
+// Lists a formula under the first reading rule, or prints the refusal that `build` gives. The counts and the tally are not used.
 fn list_formula(n: u32, prefix: &[u32], clauses: &[i32]) {
     let mut classes = [0u32; Variable::MOST as usize];
     let mut parents = [0u32; Variable::MOST as usize];
@@ -173,7 +173,7 @@ fn count_clauses(clauses: &[i32]) -> usize
     count
 }
 
-// A line for each universal, in ascending order, once they are tied to their clauses.
+// Prints a line for each universal, in ascending order. The occurrence list of each universal is made first.
 fn list_universals(
     n: u32,
     prefix: &[u32],
@@ -202,8 +202,8 @@ fn list_universals(
     );
 }
 
-// The lines. The tops and their runs depend on the block of a universal only, and stay while it does; at first the tops are those over a level
-// that nothing is deeper than. All lines are made in one buffer.
+// Prints the lines, by the occurrence lists of the universals. Tops, the uppermost classes deeper than a level, and the runs of their members depend only
+// on the block of a universal; they are made anew where the block changes. At first there is no top. All lines are made in one buffer.
 fn list_tied(
     n: u32,
     prefix: &[u32],
@@ -260,8 +260,8 @@ fn list_tied(
     }
 }
 
-// Stores the line of one universal from the start of `line` on, and gives its length. Whatever prefix and rows the tops are of, it is the line of x by
-// them. Where x has one strict entry point, its set is the run of that.
+// Stores the line of one universal from the start of `line` on, and gives its length. It is the line of x by whatever prefix and rows the tops are of.
+// Where x has at most one strict entry point, its set is the run of that.
 fn line_of(
     n: u32,
     clauses: &[i32],
@@ -285,7 +285,7 @@ fn line_of(
     }
 }
 
-// Stores the line of a universal with one entry point at most, the run of which is its set: where that begins, and how many numbers it has.
+// Stores the line of a universal with at most one entry point, 0 for none. Its set is the run that begins at `run.low` and has `run.high` numbers.
 fn run_line(
     run: Pair,
     after: &[u32],
@@ -307,7 +307,7 @@ fn run_line(
     universal_line(line, x.0, level.0, &points[..count], &set[..size])
 }
 
-// How many entry points there are, where one is the only one, or 0 for none.
+// How many entry points there are: one, unless it is 0.
 fn sole_count(top: Variable) -> usize
     ensures counted { λ r. ⌜ (r ≤ 1) × (take r (top .0 ∷ []) ≡ soleList (top .0)) ⌝ }
 {
@@ -317,8 +317,8 @@ fn sole_count(top: Variable) -> usize
     1
 }
 
-// Stores the line of a universal with any number of entry points: they are flagged, along its chain, and they and the set are listed by the
-// flags.
+// Stores the line of a universal with any number of entry points: they are flagged along its occurrence list, and they and the set are listed by
+// the flags.
 fn flagged_line(
     n: u32,
     clauses: &[i32],

@@ -1,1 +1,2 @@
+-- The laws of the lines that the program prints.
 pub mod Spelt

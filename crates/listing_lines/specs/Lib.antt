@@ -1,1 +1,2 @@
+-- The bytes of each line that the program prints.
 pub mod Lines

@@ -1,4 +1,4 @@
--- The lines that the listing program prints, byte for byte (document 01, "Two sides of each rule").
+-- The lines that the listing program prints, byte for byte (rule 16.2).
 use Prim.Native.Nat.{ℕ, _+_, _<_, _≤_}
 use mathlib.Core.List.{List, [], _∷_, _++_}
 use lib.ListN.{length, getD}
@@ -41,7 +41,7 @@ unfoldable pub numbers : List ℕ → List ℕ
 numbers [] = []
 numbers (v ∷ vs) = 32 ∷ (decimal v ++ numbers vs)
 
--- `vars 9 blocks 5 clauses 5 strict`: the last word is the scheme of the lines that follow (document 02, request 10)
+-- `vars 9 blocks 5 clauses 5 strict`: the last word is the scheme of the lines that follow (rule 5.4)
 unfoldable pub headLine : ℕ → ℕ → ℕ → List ℕ
 headLine n blocks clauses = (VARS ++ decimal n) ++ (BLOCKS ++ decimal blocks) ++ (CLAUSES ++ decimal clauses) ++ (STRICT ++ END)
 
@@ -53,7 +53,7 @@ universalLine x level entries set = decimal x ++ (LEVEL ++ decimal level) ++ (EN
 unfoldable pub refusedLine : ℕ → ℕ → List ℕ
 refusedLine number place = (REFUSED ++ decimal number) ++ (AT ++ decimal place) ++ END
 
--- A word and a number, or a word and a list, that were stored from a place on, and the place after them, at most so many bytes on.
+-- Bytes that were stored from a place on, and the place after them, at most so many bytes on.
 pub record Stored (most : ℕ) (bytes before after : List ℕ) (at next : ℕ) : Type 0 where
   pub wrote : Wrote bytes before after at next
   pub near : next ≤ at + most

@@ -42,7 +42,7 @@ pub fn refused_line(out: &mut [u8], number: u32, place: u32) -> usize
     put_byte(out, b, b'\n')
 }
 
-// A word and a number.
+// Stores a word and a number behind it.
 fn put_named(out: &mut [u8], at: usize, word: &[u8], value: u32) -> usize
     requires small { ⌜ (at < 100000) × (length (now word) < 10) × (value < 100000) ⌝ }
     ensures stored { λ r. ⌜ Stored 16 (now (word .entry) ++ decimal value) (now (out .entry)) (now (out .exit)) at r ⌝ }
@@ -51,7 +51,7 @@ fn put_named(out: &mut [u8], at: usize, word: &[u8], value: u32) -> usize
     put_number(out, next, value)
 }
 
-// A word and the numbers of a list.
+// Stores a word and the numbers of a list behind it.
 fn put_list(out: &mut [u8], at: usize, word: &[u8], list: &[u32]) -> usize
     requires small { ⌜ (at < 100000) × (length (now word) < 10) × Small (now list) ⌝ }
     ensures stored { λ r. ⌜ Stored 28700 (now (word .entry) ++ numbers (now (list .entry))) (now (out .entry)) (now (out .exit)) at r ⌝ }
@@ -60,7 +60,7 @@ fn put_list(out: &mut [u8], at: usize, word: &[u8], list: &[u32]) -> usize
     put_numbers(out, next, list)
 }
 
-// A word, byte by byte.
+// Stores the bytes of a word.
 fn put_word(out: &mut [u8], at: usize, word: &[u8]) -> usize
     requires small { ⌜ (at < 4294900000) × (length (now word) < 100) ⌝ }
     ensures wrote { λ r. ⌜ Wrote (now (word .entry)) (now (out .entry)) (now (out .exit)) at r ⌝ }
@@ -74,7 +74,7 @@ fn put_word(out: &mut [u8], at: usize, word: &[u8]) -> usize
     next
 }
 
-// Numbers, each after a space.
+// Stores numbers, each after a space.
 fn put_numbers(out: &mut [u8], at: usize, list: &[u32]) -> usize
     requires small { ⌜ (at < 1000000) × Small (now list) ⌝ }
     ensures wrote { λ r. ⌜ Wrote (numbers (now (list .entry))) (now (out .entry)) (now (out .exit)) at r ⌝ }

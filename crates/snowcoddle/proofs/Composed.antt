@@ -1,4 +1,4 @@
--- Every order is one flat list of causes, as the papers have it. These laws say of what parts each is made: the order of check, or that of a prefix,
+-- Every order is one flat list of causes, as rule 8.2 has it. These laws say of what parts each is made: the order of check, or that of a prefix,
 -- stands in front, and what the call looks for behind it follows. Each holds by computing.
 use Prim.Native.Nat.{ℕ}
 use mathlib.Core.Path.{_≡_, refl}

@@ -1,5 +1,5 @@
--- What C is told leaves nothing open: the number and the cell `place` are settled by what was lent, and so are the tables and the cells of the tally after
--- build and add, and the bytes, tables and cells after store and load. (What else is given on acceptance is settled as the library's calls settle it.)
+-- What C is told leaves nothing open (rule 18.1): the number and the cell `place` are settled by what was lent, and so are the tables and the cells of the
+-- tally after build and add, and the bytes, tables and cells after store and load. (All else is settled as the library's calls settle it.)
 use Prim.Native.Nat.{ℕ}
 use mathlib.Core.Path.{_≡_, refl, sym, ap, _∙_}
 use mathlib.Core.List.{List}

@@ -1,4 +1,4 @@
--- What the calls for the file of a forest tell C: what a file that is loaded gives.
+-- What loading a file gives C (rule 10.5).
 use Prim.Native.Nat.{ℕ}
 use mathlib.Core.Path.{_≡_}
 use mathlib.Core.List.{List}

@@ -1,4 +1,5 @@
--- What each call for C promises, by name: of what is lent to it, and of the cells and tables that it may write.
+-- What each call for C (rule 7.1) promises, by name: of what is lent to it, and of the cells and tables that it may write. Where a promise takes a scheme,
+-- a call that names none gives the strict one (rule 5.4).
 use Prim.Native.Nat.{ℕ}
 use mathlib.Core.Path.{_≡_}
 use mathlib.Core.List.{List}

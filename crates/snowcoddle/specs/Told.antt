@@ -1,4 +1,4 @@
--- What a call tells C: the number that it returns, and each cell and table afterwards (include/snowcoddle.h, "What a call gives").
+-- What a call tells C: the number that it returns, and each cell and table afterwards (demand 1, rule 7.5; include/snowcoddle.h, "What a call gives").
 use Prim.Native.Nat.{ℕ}
 use mathlib.Core.Path.{_≡_}
 use mathlib.Core.List.{List, []}
@@ -19,7 +19,7 @@ pub data Told (order : List Causes) (given kept : Type 0) (returned place place�
   accepted : NoneOf order → given → returned ≡ 0 → place′ ≡ place → Told order given kept returned place place′
   refused : FirstOf order returned place′ → kept → Told order given kept returned place place′
 
--- where the clause asked for stands: its first entry, and the number of its literals
+-- where the clause asked for stands (rule 7.3): its first entry, and the number of its literals
 abbrev pub Clause : List ℤ → ℕ → ℕ → ℕ → Type 0
 Clause ls asked start len = (start ≡ beginOf (clauses ls) asked) × (len ≡ length (getD (clauses ls) asked []))
 

@@ -287,7 +287,7 @@ pub extern "C" fn snow_set_by(
     lay(answer, count, place)
 }
 
-// The size of that set.
+// The size of the set of x by the scheme that a number asks for.
 #[no_mangle]
 pub extern "C" fn snow_size_by(
     rule: u32,
@@ -350,7 +350,7 @@ pub extern "C" fn snow_sets(
     )
 }
 
-// The same by the scheme that a number asks for.
+// The sets of all universals by the scheme that a number asks for, in the same form.
 #[no_mangle]
 pub extern "C" fn snow_sets_by(
     rule: u32,
@@ -381,7 +381,7 @@ pub extern "C" fn snow_sets_by(
     lay(answer, count, place)
 }
 
-// Add a clause: the lent rows become those of the forest with it, and the tally takes it.
+// Add a clause: the lent rows become those of the forest with it, and the tally counts it.
 #[no_mangle]
 pub extern "C" fn snow_add(
     rule: u32,

@@ -1,5 +1,5 @@
 -- The invariant says that the tops and their runs are those over the floor, and that the buffer is whole. A universal has them laid anew over its
--- own level, which is what its line is made of; at first they are over a level that nothing is deeper than, and so none.
+-- own level, which is what its line is made of; at first they are over a level that nothing is deeper than, so that there is none.
 use Prim.Native.Nat.{ℕ, _≤_, _-_}
 use mathlib.Core.Path.{_≡_, sym, _∙_}
 use mathlib.Core.Bool.{true, false}

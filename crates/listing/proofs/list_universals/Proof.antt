@@ -1,4 +1,4 @@
--- The chains are those of thread, in new tables that are long enough, and all else that a pass stands on is passed on.
+-- The occurrence lists are those of thread, in new tables that are long enough, and all else that a pass stands on is passed on.
 use Prim.Native.Nat.{ℕ}
 use mathlib.Core.Path.{_∙_}
 use native.Mathlib.Omega.{arith}
