@@ -95,7 +95,7 @@ open-none n ds x y rows =
       rows = λ v. inr (refl, λ g. let l = g .before in omega arith);
     }
 
--- One entry more gives x to nobody where it has no x.
+-- An entry that is not x gives x to no further list.
 given-later : {ds : List ℕ} {x i v : ℕ} → GivenBefore ds x i v → GivenBefore ds x (suc i) v
 given-later g = record { given = g .given; before = let l = g .before in omega arith }
 
@@ -183,7 +183,7 @@ module _ {n : ℕ} {es ds : List ℕ} (sound : None (ListCause n es ds)) {x i : 
           by-cases (decLt m (g .begin)) (λ k. absurd (clash (g .for-y .0 .1) (mark .2 (g .begin) k (let b = g .one .0 in omega arith))))
           (λ k. let e : g .begin ≡ m = omega arith in sym (g .for-y .1) ∙ ap (at ds) e ∙ own))
 
-      -- and nobody else gets it
+      -- and no other existential does
       not-yet : (v : ℕ) → v ≢ y → GivenBefore ds x (suc i) v → GivenBefore ds x i v
       not-yet v other g =
           let apart : g .given .place ≢ i = λ e. other (owner v (g .given) e (o .opened-is shut)) in

@@ -40,7 +40,7 @@ use Rattle.expand.proofs.Blocking.{begin-none, begin-new}
 use Rattle.expand.proofs.Laying.{left, left-expanded}
 use Rattle.expand.proofs.Outcome.{in-front, copy-number}
 
--- Copies as they are numbered: over the n variables and within the new count, and no two variables have one.
+-- Copies as they are numbered: over the n variables and within the new count, and no two variables share one.
 pub record Distinct (n most : ℕ) (copy : ℕ → ℕ) : Type 0 where
   pub grown : n ≤ most
   pub within : (v : ℕ) → copy v ≤ most

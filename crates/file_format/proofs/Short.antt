@@ -1,4 +1,5 @@
--- The file of a formula that a rule accepts has at most 131,100 bytes: writing never gives 19 (rule 8.4). Where it is written, it stands in front in the lent table.
+-- The file of a formula that a rule accepts has at most 131,100 bytes: writing never gives 19 (rule 8.4). Where it is written, it stands in front in the
+-- lent table.
 use Prim.Native.Nat.{ℕ, _+_, _<_, _≤_}
 use mathlib.Core.Path.{_≡_, refl, sym, ap, _∙_}
 use mathlib.Core.List.{List, [], _++_}

@@ -38,7 +38,7 @@ module _ (a : List Bool) (m : ℤ) (room : rowOf m < length a) where
   set-free : (l : ℤ) → marked (set a (rowOf m) true) l ≡ false → marked a l ≡ false
   set-free l f = flag-cases (marked a l) (λ t. absurd (clash (set-kept (rowOf l) t) f)) (λ f′. f′)
 
--- A walk in other words: where less is marked, and from starts to which another walk has come.
+-- A walk is one also where less is marked, and from starts to which another walk has come.
 walk-as : {ls : List ℤ} {a b : List Bool} {S T : ℤ → Type 0} {l : ℤ} → ((m : ℤ) → marked b m ≡ false → marked a m ≡ false)
     → ((m : ℤ) → S m → marked b m ≡ false → Walk ls a T m) → Walk ls b S l → Walk ls a T l
 walk-as less first (starts {l = m} s free) = first m s free
