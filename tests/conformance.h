@@ -15,7 +15,7 @@ void test_cases(const char *path); /* cases.c */
 /* random/: random formulas, forests and texts, against the slow search */
 void test_random_formulas(void);   /* random_formulas.c */
 
-/* requests/: what one later request asks for, by hand and on random formulas */
+/* requests/: what the library does beyond sets, text and build (docs/RULES.md, sections 10 to 14), by hand and on random formulas */
 void test_stored_files(void);      /* stored_files.c: files of a forest, written, read and damaged */
 void test_path_check(void);        /* path_check.c: paths of another tool */
 void test_expansion(void);         /* expansion.c: a universal expanded, with truth before and after */

@@ -56,7 +56,7 @@ static void add_blocks(struct formula *f, uint32_t n, uint32_t blocks)
         add_block(f, b % 2 == 1 ? 1 : 2, b, b % 2 == 1 ? existentials_each(n, blocks) : universals_each(n, blocks));
 }
 
-/* One literal in eight is negative, so that the text stays within its limit; no set depends on signs. */
+/* One literal in eight is negative, so that the text stays within its limit; the standard sets, which are measured, do not depend on signs. */
 static void add_literal(struct formula *f, uint32_t v)
 {
     f->clauses[f->clauses_len++] = draw(8) == 0 ? -(int32_t)v : (int32_t)v;

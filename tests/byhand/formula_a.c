@@ -1,4 +1,4 @@
-/* Formula A and the worked examples on it, P1 to P10; every call accepted, on tables longer than n, exactly n, and empty. */
+/* Formula A and the worked cases on it, P1 to P10 (rule 17.1); every call accepted, on tables longer than n, exactly n, and empty. */
 #include <string.h>
 
 #include "comparisons.h"

@@ -1,4 +1,4 @@
-/* Each limit, at it and one past it. */
+/* Each limit, at it and one past it (rule 1.1, rule 8.1, rule 17.2). */
 #include <string.h>
 
 #include "comparisons.h"
@@ -78,7 +78,8 @@ static void prefix_calls(const struct formula *f, uint32_t number, uint32_t plac
     expect_refused(call_add(f, &w, NULL, 0), number, place, "add");
 }
 
-/* The row that v has once one clause joins all variables of 64 blocks of 64: the lowest of its block, over it that of the existential block before. */
+/* The class and the parent of v once one clause joins all variables of 64 blocks of 64: the class is named by the lowest of its block, its parent by that
+   of the existential block before. */
 static uint32_t joined_class(uint32_t v)
 {
     uint32_t block = (v - 1) / SIDE + 1;
@@ -91,7 +92,7 @@ static uint32_t joined_parent(uint32_t v)
     return joined_class(v) == v && v > 2 * SIDE ? v - 2 * SIDE : 0;
 }
 
-/* All existentials of its block and of those behind. */
+/* The count of the class that v names: all existentials of its block and of deeper ones. */
 static uint32_t joined_count(uint32_t v)
 {
     uint32_t block = (v - 1) / SIDE + 1;
@@ -99,7 +100,7 @@ static uint32_t joined_count(uint32_t v)
     return joined_class(v) == v ? (SIDE - block + 1) / 2 * SIDE : 0;
 }
 
-/* That forest, and its tally: of each existential block one class is left. */
+/* The forest of such a clause, and its tally: of each existential block one class is left. */
 static void joined_forest(const struct forest *w, const char *what)
 {
     uint32_t v, wrong = 0;
@@ -283,7 +284,7 @@ static void largest_added(void)
 }
 
 /* n 4,097, 65 blocks, the tables one entry too long, the smallest literal. */
-static void past(void)
+static void past_the_limits(void)
 {
     struct formula f;
     uint32_t start, length;
@@ -397,7 +398,7 @@ void test_limits(void)
     largest_strict();
     largest_added();
     group("limits: one past each");
-    past();
+    past_the_limits();
     long_tables();
     group("limits: texts");
     long_texts();

@@ -1,4 +1,4 @@
-/* QDIMACS texts, within and outside the rules, with what is expected of each by hand. */
+/* QDIMACS texts, within and outside rule 9.1 to rule 9.4, with what is expected of each by hand. */
 #include <string.h>
 
 #include "comparisons.h"

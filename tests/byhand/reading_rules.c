@@ -1,4 +1,4 @@
-/* Reading rules: numbers that are none, and prefixes that are joined, by hand. */
+/* Reading rules (rule 6.1 to rule 6.4): numbers that are none, and prefixes that are joined, by hand. */
 #include <string.h>
 
 #include "comparisons.h"

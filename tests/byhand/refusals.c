@@ -1,4 +1,4 @@
-/* Each refusal of each call, with its place, expected by hand. */
+/* Each refusal of each call, with its place, expected by hand (rule 8.1, rule 8.2). */
 #include <string.h>
 
 #include "comparisons.h"
@@ -147,7 +147,7 @@ static void clause_tables(void)
 }
 
 /* Two faults: the prefix comes before the clauses, n before both. */
-static void order(void)
+static void order_of_faults(void)
 {
     static const uint32_t prefix[] = { 1, 1, 0, 2, 10, 0 };
     static const int32_t clauses[] = { 10, 0 };
@@ -164,8 +164,8 @@ static void order(void)
     all_refuse(&f, IN_COUNT, 1, 0);
 }
 
-/* A literal of an added clause that is none; both come before 12. */
-static void added(void)
+/* 10 in an added clause: a literal out of range, and a 0. Both come before 12. */
+static void added_clauses(void)
 {
     static const int32_t high[] = { 1, -10 }, zero[] = { 7, -9, 0 }, least[] = { -2147483647 - 1 }, fine[] = { 7, -9 };
     struct forest w = forest_a();
@@ -269,7 +269,7 @@ static void forests(void)
     refused_rows(&w, 0);
 }
 
-/* Each count of A's forest, one too many, one too few, and some that cannot be; and two of them, of which the first is told. */
+/* Each count of A's forest, one too many, one too few, and some that cannot be; and two wrong ones, where the place is that of the first. */
 static void counts(void)
 {
     static const uint32_t by[] = { 1, 0xFFFFFFFF, 0x80000000, 9 };
@@ -354,7 +354,7 @@ static void tallies(void)
 }
 
 /* 13: no such clause; an x that is not universal; a y that is not existential and deeper. */
-static void askings(void)
+static void refused_questions(void)
 {
     static const uint32_t not_universal[] = { 0, 1, 2, 4, 9, 10, 4096, 0xFFFFFFFF };
     static const uint32_t not_deeper_than_6[] = { 0, 1, 3, 4, 5, 6, 10, 4097, 0xFFFFFFFF };
@@ -422,15 +422,15 @@ void test_refusals(void)
     prefixes();
     group("refusals 10 and 11, every call");
     clause_tables();
-    order();
-    added();
+    order_of_faults();
+    added_clauses();
     group("refusal 12");
     forests();
     counts();
     group("refusal 18");
     tallies();
     group("refusal 13");
-    askings();
+    refused_questions();
     group("refusal 14");
     outputs();
 }

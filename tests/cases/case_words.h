@@ -26,7 +26,7 @@ int read_number(struct word word, uint32_t *number);
  */
 int read_numbers(const char *line, uint32_t *into, size_t room, size_t *count);
 
-/* The same for literals, which may have a sign; each is stored as the 32 bits that it has. */
+/* Stores literals in the same way, which may have a sign; each as the 32 bits that it has. */
 int read_literals(const char *line, uint32_t *into, size_t room, size_t *count);
 
 #endif

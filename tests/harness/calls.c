@@ -5,7 +5,7 @@
 
 uint32_t reading_rule = SNOW_PLAIN;
 
-/* The formula and the forest, lent. */
+/* The copies of formula and forest that are lent to the call. */
 static struct formula lent;
 static struct forest rows;
 static struct snow_tally *tally;
@@ -46,7 +46,7 @@ static void lend_place(void)
     lend_end();
 }
 
-/* A count within a table; a call that answers more has disagreed, and nothing of it is taken. */
+/* Whether a count is within its table; a call that gives more has disagreed, and nothing that it wrote is taken. */
 static int within(uint32_t count, size_t room)
 {
     agree(count <= room, "the count is within the table");
@@ -87,7 +87,7 @@ static void take_rows(struct forest *w, uint32_t n)
     take(w->counts, rows.counts, n * sizeof *w->counts);
 }
 
-/* The same, and the tally. */
+/* Takes those rows and the tally back. */
 static void take_forest(struct forest *w, uint32_t n)
 {
     take(&w->tally, tally, sizeof w->tally);

@@ -14,7 +14,7 @@ const struct scheme schemes[SCHEMES] = {
     { SNOW_STRICT, SNOW_STRICT },
     { 0, SNOW_STANDARD },
     { 3, SNOW_STANDARD },
-    /* 2 in their lower bits */
+    /* numbers with 2, that of SNOW_STRICT, in their lower bits */
     { 0x102, SNOW_STANDARD },
     { 0x80000002, SNOW_STANDARD },
     { 0xFFFFFFFF, SNOW_STANDARD },

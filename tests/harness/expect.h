@@ -32,12 +32,12 @@ struct verdict ask_list(const struct formula *f, const struct forest *rows, int 
                         uint32_t *out, size_t out_len, uint32_t *count);
 struct verdict ask_size(const struct formula *f, const struct forest *rows, const struct scheme *by, uint32_t x, uint32_t *size);
 
-/* Entry points, set and size of x, by every one of these numbers; `room` entries are lent for a list, nine at most. */
+/* Entry points, set and size of x, by every number of `schemes`; `room` entries are lent for a list, nine at most. */
 void expect_by(const struct formula *f, const struct forest *w, uint32_t x, size_t room, struct verdict expected, const char *what);
 void expect_refused_by(const struct formula *f, const struct forest *w, uint32_t x, size_t room, uint32_t number, uint32_t place,
                        const char *what);
 
-/* All sets, by the call that names no scheme and by every one of these numbers; `room` entries of a table are lent for the list. */
+/* All sets, by the call that names no scheme and by every number of `schemes`; `room` entries of a table are lent for the list. */
 void expect_sets(const struct formula *f, const struct forest *w, uint32_t *out, size_t room, struct verdict expected, const char *what);
 void expect_sets_refused(const struct formula *f, const struct forest *w, uint32_t *out, size_t room, uint32_t number, uint32_t place,
                          const char *what);

@@ -20,7 +20,7 @@ void *lend(const void *from, size_t size);
 /* Lends a cell of 32 bits, with contents that differ from round to round. */
 uint32_t *lend_cell(void);
 
-/* The same for a cell that is as wide as a length. */
+/* Lends a cell that is as wide as a length, likewise. */
 size_t *lend_wide_cell(void);
 
 void lend_end(void);

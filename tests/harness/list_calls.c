@@ -3,7 +3,7 @@
 #include "guarded_tables.h"
 #include "list_calls.h"
 
-/* The formula and the lists, lent. */
+/* The copies of formula and lists that are lent to the call. */
 static struct formula lent;
 static const uint32_t *lent_lists;
 

@@ -1,4 +1,4 @@
-/* What the rules for lines and lists say of a text with dependency lists. */
+/* What rule 9.1 and rule 13.4 say of a text with dependency lists. */
 #include <string.h>
 
 #include "judge_dqdimacs.h"
@@ -32,7 +32,7 @@ static long number_of(const uint8_t *word, size_t length)
     return value;
 }
 
-/* The numbers of a line from a place on, the last and no other 0; how many, 0 if they are not so. */
+/* The numbers of a line from a place on, of which the last and no other is 0; how many, or 0 if the line has something else. */
 static size_t row(const uint8_t *text, size_t at, size_t end, int may_carry, int32_t *entries)
 {
     size_t count = 0, length;

@@ -1,6 +1,6 @@
 /*
- * Text with dependency lists, as the rules for lines and the request read:
- * judged line by line, and written.
+ * Text with dependency lists, by rule 9.1 and rule 13.4: judged line by line,
+ * and written.
  */
 #ifndef JUDGE_DQDIMACS_H
 #define JUDGE_DQDIMACS_H

@@ -1,4 +1,4 @@
-/* What the rules say of the file of a forest. */
+/* What rule 8.4 and rule 10.5 say of the file of a forest. */
 #include "judge_file.h"
 #include "judge_tables.h"
 #include "search.h"
@@ -14,7 +14,7 @@ static struct verdict refused(uint32_t number, size_t place)
     return v;
 }
 
-/* A number of so many bytes, the lowest first. */
+/* A number of so many bytes, little-endian. */
 static uint32_t number_at(const uint8_t *file, size_t at, size_t width)
 {
     uint32_t value = 0;
@@ -35,7 +35,8 @@ static uint32_t kind_at(const uint8_t *file, size_t at)
     return number_at(file, at + 4, 2);
 }
 
-static size_t behind(const uint8_t *file, size_t at)
+/* The place behind the record that begins at a place. */
+static size_t next_at(const uint8_t *file, size_t at)
 {
     return at + 6 + size_at(file, at);
 }
@@ -76,10 +77,10 @@ static struct verdict records(const uint8_t *file, size_t length, size_t *places
     uint32_t found[6];
     size_t at, k = 0;
 
-    for (at = 0; at < length; at = behind(file, at))
+    for (at = 0; at < length; at = next_at(file, at))
         if (bad_length(file, length, at))
             return refused(19, at);
-    for (at = 0; at < length; at = behind(file, at)) {
+    for (at = 0; at < length; at = next_at(file, at)) {
         places[k] = at;
         found[k++] = kind_at(file, at);
         if (!in_order(found, k))

@@ -1,6 +1,6 @@
 /*
- * The file of a forest, as the rules of its records read: written byte by
- * byte, and judged in the order of the refusals, with rows and sets from the
+ * The file of a forest, by rule 10.1 to rule 10.5: written byte by byte, and
+ * judged in the order of the refusals (rule 8.4), with rows and sets from the
  * slow search.
  */
 #ifndef JUDGE_FILE_H
@@ -13,7 +13,7 @@ enum {
     FILE_NUMBERS = 131072   /* two-byte numbers that a file can hold */
 };
 
-/* What a file says that is within the rules. */
+/* What a file within the rules holds. */
 struct filed {
     struct formula f;
     uint32_t prefix[FILE_NUMBERS];
@@ -27,7 +27,7 @@ struct verdict judge_file(const uint8_t *file, size_t length, struct filed *r);
 /* The file of an accepted formula of at most SMALL variables, with its sets or without them; gives its length. */
 size_t file_of(const struct formula *f, int with_sets, uint8_t *file);
 
-/* Makes the two bytes of the closing word those that let the words of the file sum to zero. */
+/* Writes the closing word with which the words of the file sum to zero (rule 10.3). */
 void close_sum(uint8_t *file, size_t length);
 
 #endif

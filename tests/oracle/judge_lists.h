@@ -1,4 +1,4 @@
-/* What check with lists says, written from the definitions. */
+/* What check with lists says, written from rule 8.1, rule 8.2 and rule 13.1. */
 #ifndef JUDGE_LISTS_H
 #define JUDGE_LISTS_H
 

@@ -1,4 +1,4 @@
-/* What the path check says, from the words of the request, one by one. */
+/* What the path check says, written from rule 11.1 and rule 11.2. */
 #include "judge_path.h"
 #include "judge_tables.h"
 

@@ -1,4 +1,4 @@
-/* What the table of refusal numbers says of a formula and of a forest. */
+/* What the table of refusal numbers (rule 8.1) says of a formula and of a forest. */
 #include "judge_tables.h"
 
 static const struct verdict accepted = { 0, 0 };

@@ -1,7 +1,7 @@
 /*
- * What the table of refusal numbers says, written from its lines one by one:
- * for each number, whether its cause holds at a place. Slow, and no scan
- * with a state: it is held against the calls, which work otherwise.
+ * What the table of refusal numbers (rule 8.1) says, written from its lines one
+ * by one: for each number, whether its cause holds at a place. Slow, and no
+ * scan with a state, so that it does not repeat how the calls work.
  */
 #ifndef JUDGE_TABLES_H
 #define JUDGE_TABLES_H
@@ -17,7 +17,7 @@ struct verdict judge_clauses(const struct formula *f);
 /* Both, in their order: check. */
 struct verdict judge_formula(const struct formula *f);
 
-/* The same for a clause to be added, in place of the clause table. */
+/* 23, 1, 2, the prefix, and the literals of a clause to be added: add. */
 struct verdict judge_added(const struct formula *f, const int32_t *clause, size_t clause_len);
 
 /* 12, for an accepted prefix; and 18, for a forest that is well formed. */

@@ -1,4 +1,4 @@
-/* What the rules of the format say of a text: cut into lines, each line into words, each word taken for what it can be. */
+/* What rule 9.1 to rule 9.3 say of a text: it is cut into lines, each line into words, and each word is taken for what it can be. */
 #include <string.h>
 
 #include "judge_text.h"

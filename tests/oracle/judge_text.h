@@ -1,4 +1,4 @@
-/* What the rules of the format say of a text. */
+/* What rule 9.1 to rule 9.3 say of a text. */
 #ifndef JUDGE_TEXT_H
 #define JUDGE_TEXT_H
 

@@ -1,4 +1,4 @@
-/* An independent slow search, written from the definitions. */
+/* An independent slow search, written from rule 2.1 to rule 2.8. */
 #include <string.h>
 
 #include "judge_tables.h"
@@ -199,7 +199,7 @@ uint32_t search_classes(const struct world *w)
     return count;
 }
 
-/* y is reached from x at the level of its block, first through a clause that has x in one sign: 0 for x itself, 1 for its negation. */
+/* y is reached from x at the level of x's block, by a first step in a clause that has x in one sign: 0 for x itself, 1 for its negation. */
 static int reached_through(const struct world *w, int sign, uint32_t x, uint32_t y)
 {
     uint32_t z, i = w->block[x];

@@ -1,8 +1,8 @@
 /*
  * An independent slow search, written from the definitions of reach, class,
- * parent, count, entry point and set by either scheme, for small formulas that
- * are accepted. Nothing here is clever: reach is a closure, all else is looked
- * up in it.
+ * parent and entry point (rule 2.1 to rule 2.8), count (rule 4.1) and set by
+ * either scheme (rule 5.1, rule 5.2), for small formulas that are accepted.
+ * Nothing here is clever: reach is a closure, all else is looked up in it.
  */
 #ifndef SEARCH_H
 #define SEARCH_H
@@ -32,7 +32,7 @@ void search_join(struct world *w, const int32_t *clause, size_t clause_len);
 /* All clauses of a table. */
 void search_clauses(struct world *w, const struct formula *f);
 
-/* {v, class name of v} for each existential and {class, parent} for each class with one. */
+/* The clauses that forest tables stand for (rule 3.5): {v, class name of v} for each existential, {class, parent} for each class with one. */
 void search_forest(struct world *w, const struct forest *rows);
 
 /* Reach at every level; before any question below. */
@@ -58,7 +58,7 @@ int search_deeper(const struct world *w, uint32_t x, uint32_t y);
 /* Entry point of x for y, and its rises, by the classes above that of y. */
 uint32_t search_entry(const struct world *w, uint32_t x, uint32_t y, uint32_t *rises);
 
-/* The same by lent tables, which need not be the formula's. */
+/* Entry point of x for y, and its rises, by lent tables, which need not be the formula's. */
 uint32_t search_lent_entry(const struct world *w, const struct forest *rows, uint32_t x, uint32_t y, uint32_t *rises);
 
 /* Whether e is an entry point of x, and y in the set of x, by a scheme, lent tables and the clauses of the world. */

@@ -1,4 +1,4 @@
-/* A universal expanded, step by step as the rule has it. */
+/* A universal expanded, step by step as rule 12.2 and rule 12.3 have it. */
 #include <string.h>
 
 #include "search.h"

@@ -1,6 +1,6 @@
 /*
- * A universal expanded: the formula without it, made step by step as the rule
- * has it, with the set from the slow search.
+ * A universal expanded: the formula without it, made step by step as rule 12.2
+ * and rule 12.3 have it, with the set from the slow search.
  */
 #ifndef SEARCH_EXPANSION_H
 #define SEARCH_EXPANSION_H
@@ -22,9 +22,9 @@ struct made {
 const struct made *search_expansion(const struct formula *f, uint32_t x);
 
 /*
- * The number of its literals, from the formula, once x has been expanded: once
- * without x or member, twice with a member but not x, and with x once less its
- * x literals.
+ * The number of literals of the expanded formula, from the formula as it was
+ * (rule 12.4): a clause counts once without x or member, twice with a member
+ * but not x, and with x once less its x literals. After search_expansion.
  */
 size_t search_literal_total(const struct formula *f, uint32_t x);
 

@@ -1,4 +1,4 @@
-/* The set of a universal by dependency lists: a slow search, written from the definition. */
+/* The set of a universal by dependency lists: a slow search, written from rule 13.2. */
 #ifndef SEARCH_LISTS_H
 #define SEARCH_LISTS_H
 

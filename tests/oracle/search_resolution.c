@@ -1,4 +1,4 @@
-/* The resolution-path set of a universal, by a walk that is written from the words of the rule. */
+/* The resolution-path set of a universal, by a walk that is written from rule 14.1 and rule 14.2. */
 #include <string.h>
 
 #include "judge_tables.h"
@@ -41,7 +41,7 @@ static int enters(int32_t from, const unsigned char *ends, int32_t literal)
     return literal == from || (ends[row(-literal)] && passable[variable(literal)]);
 }
 
-/* All ends by way of one clause; whether one is new. */
+/* Marks the ends of paths that leave by one clause; whether one is new. */
 static int through(const int32_t *clause, size_t length, int32_t from, unsigned char *ends)
 {
     size_t i, k;

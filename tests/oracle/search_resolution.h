@@ -1,7 +1,7 @@
 /*
- * The resolution-path set of a universal, by a walk that is written from the
- * words of the rule: all clauses are looked at again until no further end of a
- * path is found.
+ * The resolution-path set of a universal, by a walk that is written from
+ * rule 14.1: all clauses are looked at again until no further end of a path
+ * is found.
  */
 #ifndef SEARCH_RESOLUTION_H
 #define SEARCH_RESOLUTION_H

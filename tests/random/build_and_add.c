@@ -41,7 +41,7 @@ struct forest compare_build(const struct formula *f, struct world *w, struct tab
     return rows;
 }
 
-/* One clause of the formula's own more. */
+/* Adds one more of the formula's own clauses. */
 static void add_own(const struct formula *f, struct forest *rows, const int32_t *clause, size_t length, uint32_t taken)
 {
     expect_accepted(call_add(f, rows, clause, length), "add in turn");

@@ -212,12 +212,13 @@ static void compare_lists(const struct formula *f, const struct forest *rows, in
     }
 }
 
-/* All sets, by a scheme or by the call that names none, which means the strict one: the searched ones, one after the other. */
+/* Asks for all sets, by a scheme number or, where by is NULL, by the call that names none. */
 static struct verdict ask_sets(const struct formula *f, const struct forest *rows, const struct scheme *by, uint32_t *got, size_t room, uint32_t *count)
 {
     return by == NULL ? call_sets(f, rows, got, room, count) : call_sets_by(by->number, f, rows, got, room, count);
 }
 
+/* All sets are the searched ones, one after the other; by the call that names no scheme they are the strict ones. */
 static void compare_sets(const struct formula *f, const struct forest *rows, int own, const struct scheme *by)
 {
     static uint32_t list[SMALL * (SMALL + 2)], got[SMALL * (SMALL + 2) + 4];
@@ -379,7 +380,7 @@ static void texts(void)
 }
 
 /* Prefixes that are joined: spread over more blocks, as they are, and damaged; against the same search. */
-static void joined(void)
+static void joined_prefixes(void)
 {
     static struct drawn d;
     uint32_t round;
@@ -449,7 +450,7 @@ void test_random_formulas(void)
         draw_clauses(&d, SMALL, 20 + 10 * round, 3);
         compare(&d.f);
     }
-    joined();
+    joined_prefixes();
     group("what was drawn");
     compare_shapes_seen();
     group("random texts, damaged");

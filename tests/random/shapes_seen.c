@@ -1,4 +1,4 @@
-/* What the random tests came across, counted. */
+/* Counts which shapes of formulas, forests and tallies the random tests came across. */
 #include <stdio.h>
 
 #include "comparisons.h"

@@ -1,4 +1,4 @@
-/* What the random tests came across, counted, so that nothing that matters stays out. */
+/* Counts which shapes of formulas, forests and tallies the random tests came across, so that none that matters is missed. */
 #ifndef SHAPES_SEEN_H
 #define SHAPES_SEEN_H
 
@@ -25,7 +25,7 @@ enum shape {
 /* Counts an accepted formula, and each shape that it has. */
 void saw_formula(const struct formula *f);
 
-/* Counts something else. */
+/* Counts a shape that is not of a formula. */
 void saw(enum shape what);
 
 /* Prints the counts, and compares that none is too small. */

@@ -166,7 +166,8 @@ static void damage_lists(const struct formula *f, struct lists *d)
     }
 }
 
-static void draw_dependent(struct drawn *d)
+/* A formula with many free variables, so that lists can be drawn for some of them. */
+static void draw_with_free(struct drawn *d)
 {
     uint32_t n = 1 + draw(MOST_N), blocks = draw((n < 5 ? n : 5) + 1);
 
@@ -177,7 +178,7 @@ static void draw_dependent(struct drawn *d)
     draw_signs(d);
 }
 
-static void drawn_by(uint32_t rule)
+static void drawn_formulas(uint32_t rule)
 {
     static struct drawn d;
     struct lists lists;
@@ -186,7 +187,7 @@ static void drawn_by(uint32_t rule)
     reading_rule = rule;
     for (round = 0; round < ROUNDS; round++) {
         about("formula with lists", round);
-        draw_dependent(&d);
+        draw_with_free(&d);
         if (rule == SNOW_JOINED && round % 4 != 0)
             draw_spread(&d);
         lists = draw_lists(&d.f);
@@ -205,9 +206,9 @@ static void drawn_by(uint32_t rule)
 /* By hand: a 1 2, e 5, the lists of 3 and 4, clauses {1 3} {3 4} {-1 5} {4 5} {2 4}. */
 static const uint32_t hand_prefix[] = { 2, 1, 2, 0, 1, 5, 0 };
 static const int32_t hand_clauses[] = { 1, 3, 0, 3, 4, 0, -1, 5, 0, 4, 5, 0, 2, 4, 0 };
-static const struct formula by_hand = { 6, hand_prefix, LEN(hand_prefix), hand_clauses, LEN(hand_clauses) };
+static const struct formula hand_formula = { 6, hand_prefix, LEN(hand_prefix), hand_clauses, LEN(hand_clauses) };
 
-struct handed {
+struct hand_case {
     uint32_t lists[8];
     size_t length;
     struct verdict said;
@@ -215,9 +216,9 @@ struct handed {
     uint32_t strict[4], fewer;     /* and by the strict one */
 };
 
-static void handed(void)
+static void by_hand(void)
 {
-    static const struct handed cases[] = {
+    static const struct hand_case cases[] = {
         { { 0 }, 0, { 0, 0 }, { 5 }, 1, { 0 }, 0 },                                     /* no list: 3 and 4 are free */
         { { 3, 1, 0 }, 3, { 0, 0 }, { 3, 5 }, 2, { 0 }, 0 },                            /* 4 may not be stepped on */
         { { 3, 1, 0, 4, 2, 0 }, 6, { 0, 0 }, { 3, 5 }, 2, { 0 }, 0 },
@@ -240,30 +241,30 @@ static void handed(void)
     size_t k;
 
     for (k = 0; k < LEN(cases); k++) {
-        const struct handed *h = &cases[k];
+        const struct hand_case *h = &cases[k];
         struct lists d = { h->lists, h->length };
         uint32_t got[4] = { 0 }, count = 0;
 
         about("lists", (unsigned)k);
-        compare(&by_hand, &d);
-        expect_verdict(call_check_lists(&by_hand, &d), h->said, "check with lists");
-        expect_verdict(call_listed_set_by(SNOW_STANDARD, &by_hand, &d, 1, got, 4, &count), h->said, "set by lists");
+        compare(&hand_formula, &d);
+        expect_verdict(call_check_lists(&hand_formula, &d), h->said, "check with lists");
+        expect_verdict(call_listed_set_by(SNOW_STANDARD, &hand_formula, &d, 1, got, 4, &count), h->said, "set by lists");
         agree(count == h->count, "its count");
         expect_rows(got, h->set, h->count, "the standard set");
         count = 0;
-        expect_verdict(call_listed_set_by(SNOW_STRICT, &by_hand, &d, 1, got, 4, &count), h->said, "set by lists");
+        expect_verdict(call_listed_set_by(SNOW_STRICT, &hand_formula, &d, 1, got, 4, &count), h->said, "set by lists");
         agree(count == h->fewer, "its count");
         expect_rows(got, h->strict, h->fewer, "the strict set");
     }
 }
 
 /* The order of refusals: rule, n, lengths, prefix, clauses, lists, x, room. */
-static void ordered(void)
+static void order_of_refusals(void)
 {
     static uint32_t long_lists[SNOW_MOST_LISTS + 1];
     static const uint32_t bad_prefix[] = { 3 };
     static const int32_t bad_clauses[] = { 9, 0 };
-    struct formula f = by_hand;
+    struct formula f = hand_formula;
     struct lists d = { long_lists, SNOW_MOST_LISTS + 1 };
     uint32_t got[4] = { 0 }, count = 0;
 
@@ -294,7 +295,7 @@ static void ordered(void)
 }
 
 /* As many entries as a table of lists may have: eight lists of 2,046 universals each. */
-static void full(void)
+static void longest_table(void)
 {
     static uint32_t prefix[2048], entries[SNOW_MOST_LISTS + 1], got[8];
     static int32_t clauses[15];
@@ -334,15 +335,15 @@ static void full(void)
 void test_dependency_lists(void)
 {
     group("dependency lists, by hand");
-    handed();
+    by_hand();
     about("the order", 0);
-    ordered();
+    order_of_refusals();
     about("the limit", 0);
-    full();
+    longest_table();
     group("random dependency lists, against the slow search");
-    drawn_by(SNOW_PLAIN);
+    drawn_formulas(SNOW_PLAIN);
     group("random dependency lists with joined prefixes");
-    drawn_by(SNOW_JOINED);
+    drawn_formulas(SNOW_JOINED);
     about("sets that are not empty", sets_seen);
     agree(sets_seen > 2000 && strict_seen > 200, "sets that are not empty were seen, strict ones too");
 }

@@ -1,7 +1,7 @@
 /*
  * DQDIMACS, text with dependency lists: read and write, by hand and on random
  * texts as drawn and damaged, against a judge of lines and a writer that are
- * written from the rules for lines and the request.
+ * written from rule 9.1 and rule 13.4.
  */
 #include <string.h>
 

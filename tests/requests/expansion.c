@@ -1,8 +1,9 @@
 /*
  * Expanding a universal, under both reading rules: the formula without it
- * against one that is made step by step as the rule has it, from the slow
- * search; the number of its literals against the count from the input; and on
- * small formulas its truth against that of the formula, both tried out.
+ * against one that is made step by step (rule 12.2, rule 12.3), from the slow
+ * search; the number of its literals against the count from the input
+ * (rule 12.4); and on small formulas its truth against that of the formula,
+ * both tried out (rule 12.5).
  */
 #include <string.h>
 
@@ -103,7 +104,7 @@ static void compare_truth(const struct formula *f)
     }
 }
 
-/* A and 3, as the request has it. */
+/* Formula A with 3 expanded, by hand. */
 static void expand_a(void)
 {
     static const uint32_t result[] = { 1, 1, 2, 4, 10, 5, 0, 2, 6, 0, 1, 7, 11, 8, 12, 9, 0 };

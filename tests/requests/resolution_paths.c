@@ -1,6 +1,6 @@
 /*
  * Resolution-path sets: by hand, refused, at the limit, and of random
- * formulas, against a walk that is written from the words of the rule.
+ * formulas, against a walk that is written from rule 14.1 and rule 14.2.
  */
 #include <string.h>
 
@@ -170,7 +170,7 @@ static void limit(void)
     }
 }
 
-/* The longest walk: a 1, e 2 to 512, each equal to the next, and from 1 to all of them and back in the other sign. */
+/* The longest walk: a 1, e 2 to 512, clauses that make each equal to the next, and a path from 1 through all of them in one sign and then in the other. */
 static void longest_walk(int last)
 {
     enum { N = SNOW_MOST_PATH_VARIABLES };
