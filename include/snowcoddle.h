@@ -3,12 +3,13 @@
  *
  * The library takes a formula in prenex conjunctive form, builds its
  * connection forest, answers which existentials depend on a universal and how
- * many they are, takes further clauses, reads and writes QDIMACS text,
- * stores formula and forest in a file for another site, checks dependencies
- * that another tool gives, and expands a universal.
+ * many they are, takes further clauses, reads and writes QDIMACS and DQDIMACS
+ * text, stores formula and forest in a file for another site, checks
+ * dependencies that another tool gives, and expands a universal. It also
+ * answers by dependency lists and by resolution paths.
  * Every call is proved against its contract. There is no state between calls
  * and no allocation: all tables are the caller's, lent for the time of the
- * call.
+ * call. docs/RULES.md has the rules, each with where it is kept.
  *
  * Link the archive that tests/run proves, and names in its last line. It is
  * for x86-64 Linux, and calls nothing but memset and memcpy. A call keeps its
@@ -39,10 +40,10 @@
  *           stands. SNOW_JOINED: a block with 0 directly after its mark
  *           is dropped, and then neighbours with one mark are one block, so
  *           that blocks are counted and numbered after that; 5 and 9 are not
- *           given. Places are entries of the prefix as lent, and snow_write
- *           and snow_store write it as lent. Where SNOW_PLAIN accepts a
- *           prefix, both rules give the same. Any other number is refused as
- *           23.
+ *           given. Places are entries of the prefix as lent, and snow_write,
+ *           snow_write_lists and snow_store write it as lent. Where
+ *           SNOW_PLAIN accepts a prefix, both rules give the same. Any other
+ *           number is refused as 23.
  *
  * Formula A, for the examples below: n is 9,
  *           prefix   1 1 2 0  2 3 0  1 4 5 0  2 6 0  1 7 8 9 0
@@ -96,9 +97,10 @@
  *
  * DEPENDENCY LISTS
  *
- * lists     For the two calls that take them. An existential in no block may
- *           have a list of the universals that it may depend on: in the
- *           table its number, those universals, then 0, one list after the
+ * lists     For snow_check_lists, snow_listed_set_by and snow_write_lists;
+ *           snow_read_lists fills them. An existential in no block may have
+ *           a list of the universals that it may depend on: in the table
+ *           its number, those universals, then 0, one list after the
  *           other; at most 16,384 entries. An existential in a block has all
  *           universals of the blocks before it, and one with neither has
  *           none. No forest is needed: y depends on x if y's list has x, and
@@ -203,7 +205,10 @@ extern "C" {
 #endif
 
 /*
- * The limits, and table lengths that always suffice.
+ * The limits. Tables that long hold every formula with lists, text and file
+ * that the calls accept. snow_read and snow_read_lists do not check what they
+ * read: to them tables of SNOW_MOST_TEXT entries are never too short, and
+ * shorter ones may be refused as 14.
  */
 #define SNOW_MOST_VARIABLES 4096
 #define SNOW_MOST_BLOCKS 64
@@ -480,7 +485,7 @@ uint32_t snow_check_lists(uint32_t rule, uint32_t n,
  * many.
  *
  * With the prefix 2 1 2 0, the clauses 1 3 0 3 4 0 and the lists 3 1 0 4 2 0:
- * 3 for x = 1, since the list of 4 has not 1.
+ * 3 for x = 1, since the list of 4 lacks 1.
  *
  * Refuses 23, 1 to 11, 25, 26, 13, and 14 where out has fewer than *count
  * entries; n of them always suffice.
@@ -590,7 +595,7 @@ uint32_t snow_write(uint32_t rule, uint32_t n,
  * `d 0` is refused. So is a quantifier line after a list line.
  *
  * Refuses as snow_read does, 14 for any of the three tables; 16,384 entries of
- * lists take all that snow_check_lists can accept.
+ * lists take all that snow_check_lists can accept, 65,536 whatever can be read.
  */
 uint32_t snow_read_lists(const uint8_t *text, size_t text_len, uint32_t *n,
                          uint32_t *prefix, size_t prefix_len, uint32_t *prefix_count,
@@ -617,14 +622,14 @@ uint32_t snow_write_lists(uint32_t rule, uint32_t n,
  * forest is built here. *count says how many bytes.
  *
  * A file is records, one after the other: the length of the payload in four
- * bytes, the kind in two, and the payload, every number with its lowest byte
- * first. Kind 1: n, then the prefix, two bytes a number. Kind 2: the clauses,
- * four bytes a literal. Kind 3: n class names, n parents and n counts, four
- * bytes a number. Kind 65,535: a two-byte word, with which the 16-bit words of
- * the whole file sum to zero when the sum is let wrap. Kind 4, which is no
- * longer written and may stand in front of the last one in files that are
- * loaded: for each universal ascending its number, the count of its standard
- * set and the set, two bytes each.
+ * bytes, the kind in two, and the payload, all little-endian. Kind 1: n, then
+ * the prefix, two bytes a number. Kind 2: the clauses, four bytes a literal.
+ * Kind 3: n class names, n parents and n counts, four bytes a number. Kind
+ * 65,535: a two-byte word, with which the 16-bit words of the whole file sum
+ * to zero when the sum is let wrap. Kind 4, which is no longer written and may
+ * stand in front of the last one in files that are loaded: for each universal
+ * ascending its number, the count of its standard set and the set, two bytes
+ * each.
  *
  * Of A: 238 bytes.
  *
@@ -669,9 +674,9 @@ uint32_t snow_load(uint32_t rule, const uint8_t *file, size_t file_len,
  * every pair of a standard set has a path that is accepted and no longer than
  * the number of existentials.
  *
- * An entry fails if its clause is always true; the first if its clause has not
+ * An entry fails if its clause is always true; the first if its clause lacks
  * x; any other if its clause shares no existential deeper than x with the one
- * before; the last if its clause has not y. Since a path may be longer than
+ * before; the last if its clause lacks y. Since a path may be longer than
  * 32 bits can count, *place is of the type of a length here.
  *
  * Of A: for x = 3, y = 8 the path 0 1 is accepted, since 3 4 7 and -4 8 share
