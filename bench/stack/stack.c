@@ -42,7 +42,10 @@ static void fill(uint32_t variables, uint32_t entries)
     x = 1;
 }
 
-/* For resolution paths: each variable is equal to the next, so that a walk passes all literals, one inside the other. */
+/*
+ * For resolution paths: each variable is equal to the next, and the last leads back to the first, so that a walk passes all literals of both
+ * signs, one inside the other.
+ */
 static void fill_chain(uint32_t variables, uint32_t entries)
 {
     int32_t v;
@@ -55,6 +58,9 @@ static void fill_chain(uint32_t variables, uint32_t entries)
     prefix[prefix_len++] = EXISTENTIAL;
     for (v = 2; v <= (int32_t)n; v++) prefix[prefix_len++] = (uint32_t)v;
     prefix[prefix_len++] = 0;
+    clauses[clauses_len++] = (int32_t)n;
+    clauses[clauses_len++] = 2;
+    clauses[clauses_len++] = 0;
     for (v = 1; v < (int32_t)n; v++) {
         const int32_t equal[] = {v, -(v + 1), 0, -v, v + 1, 0};
         uint32_t i;

@@ -28,7 +28,7 @@ ghost use Rattle.forest.specs.InnerOrders.{behindCheck};
 ghost use Rattle.forest.specs.Wanted.{Enters};
 
 // Refusals 12 and 13 of an accepted formula; where there is none, the flags of all entry points of x by the scheme, and in `tops` for each variable
-// the number by whose flag it is a member. Before that the two tables hold the levels and the universals, so that no others are needed (rule 7.6).
+// the number by whose flag it is a member. Before that the two tables hold the levels and the universals, so that no others are needed (rule 7.7).
 pub fn enter(
     scheme: Scheme,
     n: u32,
