@@ -21,7 +21,7 @@ both-are {count} {cells′ = cells′} q r = ap (both count) r ∙ ap (λ (v : �
 
 module _ (tally : Tally) (cells : List ℕ) where
   abbrev builtBy : Said ℕ → Said (ℕ × List ℕ)
-  builtBy said = builtSaid said tally cells
+  builtBy said = builtSaid said tally
 
   -- the tally first, and then the count
   pub built-laid : {said : Said ℕ} {cells′ : List ℕ} {count count′ place place′ returned : ℕ}

@@ -2,7 +2,6 @@
 use Prim.Native.Nat.{ℕ, _<_}
 use mathlib.Core.Path.{_≡_}
 use mathlib.Core.List.{List}
-use lib.Seq.{sets}
 use denote.Ref.{RefT, now}
 use denote.Triple.Both.{Both}
 use Rattle.terms.specs.declared.Filled.{Filled}
@@ -79,13 +78,13 @@ entrySaid (EntryAnswer.Refused number at) = refuses number at
 
 -- Accepted, the tally stands in its cells; refused, these are kept.
 abbrev pub TallyLaid : Said ℕ → Tally → List ℕ → List ℕ → Type 0
-TallyLaid (gives count) tally cells cells′ = cells′ ≡ sets cells 0 (cellsOf tally)
+TallyLaid (gives count) tally cells cells′ = cells′ ≡ cellsOf tally
 TallyLaid (refuses number at) tally cells cells′ = cells′ ≡ cells
 
 -- build gives a count and the cells of the tally, and add those cells alone
-abbrev pub builtSaid : Said ℕ → Tally → List ℕ → Said (ℕ × List ℕ)
-builtSaid (gives count) tally cells = gives (count, sets cells 0 (cellsOf tally))
-builtSaid (refuses number at) tally cells = refuses number at
+abbrev pub builtSaid : Said ℕ → Tally → Said (ℕ × List ℕ)
+builtSaid (gives count) tally = gives (count, cellsOf tally)
+builtSaid (refuses number at) tally = refuses number at
 
 abbrev pub addedSaid : Said (ℕ × List ℕ) → Said (List ℕ)
 addedSaid (gives parts) = gives (parts .1)
@@ -94,9 +93,9 @@ addedSaid (refuses number at) = refuses number at
 -- what build and add told stands in the cells of the tally, and a count beside them
 abbrev pub BuiltLaid : Tallied → TallyCells → Cell → Cell → ℕ → Type 0
 BuiltLaid told cells count =
-    LaidBy (builtSaid (filledSaid (told .answer)) (told .tally) (now (cells .entry)))
+    LaidBy (builtSaid (filledSaid (told .answer)) (told .tally))
     (now (count .entry), now (cells .entry)) (now (count .exit), now (cells .exit))
 
 abbrev pub AddedLaid : Tallied → TallyCells → Cell → ℕ → Type 0
 AddedLaid told cells =
-    LaidBy (addedSaid (builtSaid (filledSaid (told .answer)) (told .tally) (now (cells .entry)))) (now (cells .entry)) (now (cells .exit))
+    LaidBy (addedSaid (builtSaid (filledSaid (told .answer)) (told .tally))) (now (cells .entry)) (now (cells .exit))

@@ -29,9 +29,7 @@ fn lay_tally(told: Tallied, cells: &mut TallyCells)
     let answer = told.answer;
     if let Filled::Count(_) = answer {
         let tally = told.tally;
-        cells[0] = tally.clauses;
-        cells[1] = tally.merges;
-        cells[2] = tally.classes;
+        *cells = [tally.clauses, tally.merges, tally.classes];
     }
 }
 

@@ -1,14 +1,14 @@
 -- The laws of read's answers: what a scan finds is the first cause in read's order, or that there is none.
-use Prim.Native.Nat.{ℕ, _+_, _≤_}
-use mathlib.Core.Path.{_≡_, sym, ap, _∙_, subst}
-use mathlib.Core.List.{List, _++_}
+use Prim.Native.Nat.{ℕ, _≤_}
+use mathlib.Core.Path.{ap, _∙_}
+use mathlib.Core.List.{List}
 use mathlib.Core.Logic.{inl, inr}
 use native.Mathlib.Omega.{arith}
 use native.Mathlib.Nat.{zero-add}
-use lib.ListN.{length, take, drop}
-use lib.Seq.{sets-eq, take-at, drop-at}
+use lib.ListN.{length}
 use lib.IntN.{ℤ}
 use Rattle.terms.specs.Refusals.{FirstOf, None, NoneOf}
+use Rattle.terms.proofs.Overwritten.{stored-overwritten}
 use Rattle.text_write.specs.Texts.{TEXT-MOST}
 use Rattle.text_write.proofs.Outputs.{not-overlong}
 use Rattle.terms.specs.declared.ListedReading.{ListedReading}
@@ -16,25 +16,12 @@ use Rattle.terms.specs.declared.ListedReading.the-variants.{Read, Refused}
 use Rattle.dqbf_text.specs.Grammar.{ListedText, ListedFaultIn}
 use Rattle.dqbf_text.specs.Steps.{Adds, ScanIs}
 use Rattle.dqbf_text.specs.Reading.{Tables, NoRoom, no-room-prefix, no-room-clauses, no-room-lists, readOrder, FrontFilled, ReadIs}
-use Rattle.dqbf_text.proofs.Scans.{adds-length}
 use Rattle.dqbf_text.proofs.Unique.{fault-same, text-fault, text-same}
 
 -- A table that has room for what was added: that stands in front.
 module _ {A : Type 0} {P before after : List A} {count : ℕ} (adds : Adds P 0 count before after) (room : length P ≤ length before) where
-  all-stored : after ≡ P ++ drop (0 + length P) before
-  all-stored = adds .stored ∙ sets-eq P before 0 (omega arith)
-
-  in-front : take count after ≡ P
-  in-front = ap (take count) all-stored ∙ take-at P (drop (0 + length P) before) count (sym (adds .counted ∙ zero-add (length P)))
-
-  filled : FrontFilled count before after
-  filled =
-      let e : count ≡ length P = adds .counted ∙ zero-add (length P) in
-      record {
-        room = omega arith;
-        same-length = adds-length adds;
-        kept = ap (drop count) all-stored ∙ drop-at P (drop (0 + length P) before) count (sym e) ∙ ap (λ (k : ℕ). drop k before) (zero-add (length P) ∙ sym e);
-      }
+  filled : FrontFilled P count before after
+  filled = record { counted = adds .counted ∙ zero-add (length P); left = adds .stored ∙ stored-overwritten P before room }
 
 module _ (text : List ℕ) (before : Tables) (short : length text ≤ TEXT-MOST) where
   -- a fault
@@ -89,10 +76,10 @@ module _ (text : List ℕ) (before : Tables) (short : length text ≤ TEXT-MOST)
         let lr : length (s .L) ≤ length (before .2) = omega arith in (
           nothing-wrong p c l,
           record {
-            text-of =
-                subst (λ (x : List ℕ). ListedText n′ x (take rows (after .2)) (take literals (after .1)) text) (sym (in-front (s .prefix-adds) pr))
-                (subst (λ (y : List ℕ). ListedText n′ (s .P) y (take literals (after .1)) text) (sym (in-front (s .lists-adds) lr))
-                (subst (λ (z : List ℤ). ListedText n′ (s .P) (s .L) z text) (sym (in-front (s .clauses-adds) cr)) (s .text-of)));
+            P = s .P;
+            C = s .C;
+            L = s .L;
+            text-of = s .text-of;
             prefix-filled = filled (s .prefix-adds) pr;
             clauses-filled = filled (s .clauses-adds) cr;
             lists-filled = filled (s .lists-adds) lr;

@@ -1,12 +1,11 @@
 -- The round trip: the text of tables that a text can hold reads back as them.
 use Prim.Native.Nat.{ℕ, _≤_}
-use mathlib.Core.Path.{_≡_, sym, ap, _∙_}
+use mathlib.Core.Path.{_≡_, subst}
 use mathlib.Core.Bool.{true}
 use mathlib.Core.List.{List}
-use native.Mathlib.Omega.{arith}
 use lib.IntN.{ℤ}
-use lib.ListN.{length, take}
-use lib.Seq.{length-take-le}
+use lib.ListN.{length}
+use Rattle.terms.specs.Overwritten.{overwritten}
 use Rattle.terms.proofs.Verdicts.{first-or-none}
 use Rattle.text_write.specs.Texts.{TEXT-MOST}
 use Rattle.text_qdimacs.proofs.Holdable.{Holdable}
@@ -19,25 +18,21 @@ use Rattle.dqbf_text.proofs.Readings.{nothing-wrong}
 use Rattle.dqbf_text.proofs.Holdable.{Lists}
 use Rattle.dqbf_text.proofs.Written.{written}
 
--- What was read are these tables.
-pub record ReadsBack (n : ℕ) (P : List ℕ) (C : List ℤ) (L : List ℕ) (after : Tables) (r : ListedReading) : Type 0 where
+-- What was read are these tables, in front in those that were lent.
+pub record ReadsBack (n : ℕ) (P : List ℕ) (C : List ℤ) (L : List ℕ) (before after : Tables) (r : ListedReading) : Type 0 where
   pub answer : r ≡ Read n (length P) (length C) (length L)
-  pub prefix-rows : take (length P) (after .0) ≡ P
-  pub clause-rows : take (length C) (after .1) ≡ C
-  pub list-rows : take (length L) (after .2) ≡ L
+  pub prefix-left : after .0 ≡ overwritten P (before .0)
+  pub clauses-left : after .1 ≡ overwritten C (before .1)
+  pub lists-left : after .2 ≡ overwritten L (before .2)
 
--- a table that has these rows in front
-module _ {A : Type 0} {count : ℕ} {before after rows : List A} (filled : FrontFilled count before after) (are : take count after ≡ rows) where
-  row-count : count ≡ length rows
-  row-count = let room = filled .room in let long = filled .same-length in sym (length-take-le count after (omega arith)) ∙ ap length are
-
-  rows-front : take (length rows) after ≡ rows
-  rows-front = ap (λ (k : ℕ). take k after) (sym row-count) ∙ are
+-- the rows in front by another name
+filled-as : {A : Type 0} {count : ℕ} {before after rows rows′ : List A} → rows ≡ rows′ → FrontFilled rows count before after → FrontFilled rows′ count before after
+filled-as {count = count} {before = before} {after = after} same = subst (λ (rows : List _). FrontFilled rows count before after) same
 
 module _ (n : ℕ) (P : List ℕ) (C : List ℤ) (L : List ℕ) (before after : Tables) (p : length P ≤ length (before .0)) (c : length C ≤ length (before .1))
     (l : length L ≤ length (before .2)) where
   pub text-reads-back : Holdable n P C → Lists true L → length (listedTextOf n P C L) ≤ TEXT-MOST → (r : ListedReading)
-      → ReadIs (listedTextOf n P C L) before after r → ReadsBack n P C L after r
+      → ReadIs (listedTextOf n P C L) before after r → ReadsBack n P C L before after r
   text-reads-back h d short (Refused number place) a =
       absurd
       (first-or-none (readOrder (listedTextOf n P C L) before) number place (a .0)
@@ -46,12 +41,10 @@ module _ (n : ℕ) (P : List ℕ) (C : List ℤ) (L : List ℕ) (before after : 
       let into = a .1 in
       let same = text-same (into .text-of) (written n P C L h d) in
       let number = same .number in
-      let es = row-count (into .prefix-filled) (same .prefix) in
-      let fs = row-count (into .clauses-filled) (same .clauses) in
-      let gs = row-count (into .lists-filled) (same .lists) in
-      record {
-        answer = cc;
-        prefix-rows = rows-front (into .prefix-filled) (same .prefix);
-        clause-rows = rows-front (into .clauses-filled) (same .clauses);
-        list-rows = rows-front (into .lists-filled) (same .lists);
-      }
+      let fronted = filled-as (same .prefix) (into .prefix-filled) in
+      let clauses = filled-as (same .clauses) (into .clauses-filled) in
+      let lists = filled-as (same .lists) (into .lists-filled) in
+      let es = fronted .counted in
+      let fs = clauses .counted in
+      let gs = lists .counted in
+      record { answer = cc; prefix-left = fronted .left; clauses-left = clauses .left; lists-left = lists .left }

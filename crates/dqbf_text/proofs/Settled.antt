@@ -2,13 +2,11 @@
 use Prim.Native.Nat.{ℕ}
 use mathlib.Core.Path.{_≡_, sym, ap, ap₂, _∙_}
 use mathlib.Core.List.{List}
-use native.Mathlib.Omega.{arith}
-use lib.ListN.{length, take, drop}
-use lib.Seq.{length-take-le}
+use lib.ListN.{length}
 use lib.IntN.{ℤ}
+use Rattle.terms.specs.Overwritten.{overwritten}
 use Rattle.terms.proofs.Verdicts.{firstOf-same, first-or-none}
 use Rattle.terms.specs.declared.Filled.{Filled}
-use Rattle.text_qdimacs.proofs.Settled.{rows-same}
 use Rattle.text_qdimacs.proofs.Settled as writing
 use Rattle.formula.specs.Lent.{Formula}
 use Rattle.dqbf_lists.specs.Causes.{checkListsOrder}
@@ -26,17 +24,12 @@ pub record SameAnswer (r r′ : ListedReading) (after after′ : Tables) : Type 
   pub list-rows : after .2 ≡ after′ .2
 
 -- Two tables with the same rows in front.
-module _ {A : Type 0} {before x y : List A} {k k′ : ℕ} (a : FrontFilled k before x) (b : FrontFilled k′ before y) (same : take k x ≡ take k′ y) where
+module _ {A : Type 0} {P P′ before x y : List A} {k k′ : ℕ} (a : FrontFilled P k before x) (b : FrontFilled P′ k′ before y) (same : P ≡ P′) where
   count-same : k ≡ k′
-  count-same =
-      let al = a .same-length in
-      let bl = b .same-length in
-      let ar = a .room in
-      let br = b .room in
-      sym (length-take-le k x (omega arith)) ∙ ap length same ∙ length-take-le k′ y (omega arith)
+  count-same = a .counted ∙ ap length same ∙ sym (b .counted)
 
   table-same : x ≡ y
-  table-same = rows-same k k′ x y same (a .kept ∙ ap (λ (i : ℕ). drop i before) count-same ∙ sym (b .kept))
+  table-same = a .left ∙ ap (λ (rows : List A). overwritten rows before) same ∙ sym (b .left)
 
 module _ (text : List ℕ) (before : Tables) where
   into-same : {n e l d n′ e′ l′ d′ : ℕ} {after after′ : Tables} → ReadInto n e l d text before after → ReadInto n′ e′ l′ d′ text before after′

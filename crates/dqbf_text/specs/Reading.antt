@@ -1,10 +1,11 @@
 -- What reading a text promises (document 01, "Refusal numbers", and document 02, request 12): n and the tables of the text, or the first cause
 -- in the order 15, then 16 and 17 by the earliest line, 16 first at one line, then 14.
-use Prim.Native.Nat.{ℕ, _<_, _≤_}
+use Prim.Native.Nat.{ℕ, _<_}
 use mathlib.Core.Path.{_≡_}
 use mathlib.Core.List.{List, [], _∷_}
-use lib.ListN.{length, take, drop}
+use lib.ListN.{length}
 use lib.IntN.{ℤ}
+use Rattle.terms.specs.Overwritten.{overwritten}
 use Rattle.terms.specs.Refusals.{Causes, FirstOf, NoneOf}
 use Rattle.text_write.specs.Texts.{Overlong}
 use Rattle.terms.specs.declared.ListedReading.{ListedReading}
@@ -24,18 +25,20 @@ pub data NoRoom (text : List ℕ) (before : Tables) : ℕ → ℕ → Type 0 whe
 abbrev pub readOrder : List ℕ → Tables → List Causes
 readOrder text before = Overlong text ∷ ListedFaultIn text ∷ NoRoom text before ∷ []
 
--- A table has its first rows filled: there is room for them, and the rows past them are as they were.
-pub record FrontFilled {A : Type 0} (count : ℕ) (before after : List A) : Type 0 where
-  pub room : count ≤ length before
-  pub same-length : length after ≡ length before
-  pub kept : drop count after ≡ drop count before
+-- so many rows stand in front in a table, with nothing past them changed
+pub record FrontFilled {A : Type 0} (rows : List A) (count : ℕ) (before after : List A) : Type 0 where
+  pub counted : count ≡ length rows
+  pub left : after ≡ overwritten rows before
 
--- The text is that of n and of what now stands in front in the three tables.
+-- The text is that of n and of three tables, which now stand in front in the lent ones.
 pub record ReadInto (n entries literals rows : ℕ) (text : List ℕ) (before after : Tables) : Type 0 where
-  pub text-of : ListedText n (take entries (after .0)) (take rows (after .2)) (take literals (after .1)) text
-  pub prefix-filled : FrontFilled entries (before .0) (after .0)
-  pub clauses-filled : FrontFilled literals (before .1) (after .1)
-  pub lists-filled : FrontFilled rows (before .2) (after .2)
+  pub P : List ℕ
+  pub C : List ℤ
+  pub L : List ℕ
+  pub text-of : ListedText n P L C text
+  pub prefix-filled : FrontFilled P entries (before .0) (after .0)
+  pub clauses-filled : FrontFilled C literals (before .1) (after .1)
+  pub lists-filled : FrontFilled L rows (before .2) (after .2)
 
 -- Each answer: accepted, with n and the three counts, or refused, with the tables as they were.
 abbrev pub ReadIs : List ℕ → Tables → Tables → ListedReading → Type 0

@@ -14,6 +14,7 @@ use Rattle.terms.specs.Literals.{variableOf}
 use Rattle.terms.specs.Refusals.{None, NoneOf}
 use Rattle.terms.specs.declared.Expanded.{Expanded}
 use Rattle.terms.proofs.Common.{clash, by-test}
+use Rattle.terms.proofs.Overwritten.{overwritten-front}
 use Rattle.terms.proofs.Verdicts.{at0-none}
 use Rattle.formula.specs.Causes.{ClauseCause}
 use Rattle.formula.specs.Lent.{Formula, formulaOf}
@@ -38,7 +39,7 @@ use Rattle.expand.specs.Promise.{ResultTables, expandedBy, ManyVariables
 use Rattle.expand.specs.Writing.{beginning}
 use Rattle.expand.proofs.Blocking.{begin-none, begin-new}
 use Rattle.expand.proofs.Laying.{left, left-expanded}
-use Rattle.expand.proofs.Outcome.{in-front, copy-number}
+use Rattle.expand.proofs.Outcome.{copy-number}
 
 -- Copies as they are numbered: over the n variables and within the new count, and no two variables share one.
 pub record Distinct (n most : ℕ) (copy : ℕ → ℕ) : Type 0 where
@@ -403,14 +404,12 @@ result-accepted rule f x out out′ count entries literals (none, (members, set,
     let behind = none .1 .1 .1 .1 .1 .1 in
     let few : ¬ ManyVariables g = λ over. behind .0 1 0 (refl, refl, (members, set, over)) in
     let short : ¬ Long g = λ over. behind .1 .0 2 0 (refl, refl, (members, set, over)) in
-    let room : ¬ (length (out .prefix) < length (g .prefix)) = λ l. behind .1 .1 .0 14 0 (refl, refl, (members, set, inl l)) in
-    let rooms : ¬ (length (out .clauses) < length (g .clauses)) = λ l. behind .1 .1 .0 14 0 (refl, refl, (members, set, inr l)) in
     let accepted = expanded-accepted read x members sound (none .1 .1 .1 .1 .0) few short in
     let front : take entries (out′ .prefix) ≡ g .prefix =
     ap (λ (k : ℕ). take k (out′ .prefix)) (leaves .entries-is) ∙ ap (take (length (g .prefix))) (leaves .prefix-is)
-    ∙ in-front (g .prefix) (out .prefix) (omega arith) in
+    ∙ overwritten-front (g .prefix) (out .prefix) in
     let fronts : take literals (out′ .clauses) ≡ g .clauses =
     ap (λ (k : ℕ). take k (out′ .clauses)) (leaves .literals-is) ∙ ap (take (length (g .clauses))) (leaves .clauses-is)
-    ∙ in-front (g .clauses) (out .clauses) (omega arith) in
+    ∙ overwritten-front (g .clauses) (out .clauses) in
     let same : g ≡ written out′ count entries literals = λ i. formulaOf (sym (leaves .count-is) i) (sym front i) (sym fronts i) in
     subst (λ (h : Formula). NoneOf (checkOrder 1 h) × NoneOf (checkOrder 2 h)) same (accepted, other-rule g accepted)

@@ -6,13 +6,14 @@ use mathlib.Core.List.{List, [], _∷_, List·Memᴰ, List·Memᴰ·head, List·
 use mathlib.Core.Logic.{inl}
 use native.Mathlib.Omega.{arith}
 use lib.Dec.{eqb}
-use lib.ListN.{length, getD, take, drop}
-use lib.Seq.{sets, sets-eq, length-sets, take-append-seam}
+use lib.ListN.{length, getD, take}
+use lib.Seq.{sets, length-sets}
 use Rattle.terms.specs.Limits.{mostVariables, variableRows}
 use Rattle.terms.specs.Listed.{Listed}
 use Rattle.terms.specs.Refusals.{Causes, At0}
 use Rattle.terms.specs.declared.Expanded.{Expanded}
 use Rattle.terms.proofs.Listed.{listed-one, listed-most}
+use Rattle.terms.proofs.Overwritten.{stored-overwritten, overwritten-front}
 use Rattle.terms.proofs.Orders.{Carries, one-more, same-order, carries-then, behind-none}
 use Rattle.terms.proofs.Verdicts.{at0-first, at0-none}
 use Rattle.formula.specs.Lent.{Formula}
@@ -24,12 +25,6 @@ use Rattle.expand_clauses.specs.Copied.{tabled, Copies}
 use Rattle.expand.specs.Promise.{ResultTables, SetOf, expandedBy, OfExpanded, ManyVariables, Long, Short, ExpandsBy}
 use Rattle.expand.specs.InnerOrders.{resultOrder}
 use Rattle.expand.specs.Writing.{writeOrder, Fits}
-
--- A list in front of a table stands there.
-pub in-front : {A : Type 0} (list before : List A) → length list ≤ length before → take (length list) (sets before 0 list) ≡ list
-in-front list before room =
-    ap (take (length list)) (sets-eq list before 0 (let q : 0 + length list ≤ length before = omega arith in q))
-    ∙ take-append-seam list (drop (0 + length list) before)
 
 -- no copy has a number over n and the members
 pub copy-number : (n : ℕ) (members : List ℕ) (v : ℕ) → copyFrom (suc n) members v ≤ n + length members
@@ -69,7 +64,7 @@ module _ (f : Formula) (x : ℕ) (sound : SoundPrefix (f .n) (f .prefix)) {befor
   found-set (list, set, is, put) =
       let short : length list ≤ length before = omega (arith, few-members f x sound set) in
       let all : size - 0 ≡ length list = omega arith in
-      subst (SetOf f x) (sym (ap (λ (k : ℕ). take k after) all ∙ ap (take (length list)) put ∙ in-front list before short)) set
+      subst (SetOf f x) (sym (ap (λ (k : ℕ). take k after) all ∙ ap (take (length list)) (put ∙ stored-overwritten list before short) ∙ overwritten-front list before)) set
 
 -- What is promised by one order is promised by another that says as much.
 pub carry-expands : (f : Formula) (x : ℕ) (out out′ : ResultTables) (r : Expanded) (order order′ : List Causes)

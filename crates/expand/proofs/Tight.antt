@@ -6,7 +6,7 @@ use mathlib.Core.List.{List, _∷_}
 use mathlib.Core.Logic.{_↔_}
 use lib.IntN.{ℤ}
 use lib.ListN.{length}
-use lib.Seq.{sets}
+use Rattle.terms.specs.Overwritten.{overwritten}
 use Rattle.terms.specs.Refusals.{Causes, NoneOf}
 use Rattle.terms.specs.declared.Expanded.{Expanded}
 use Rattle.terms.proofs.Listed.{listed-one}
@@ -27,8 +27,8 @@ module _ (order : List Causes) (f : Formula) (x : ℕ) (out a b : ResultTables) 
       let p : count ≡ count′ = l .count-is ∙ ap (λ (g : Formula). g .n) same ∙ sym (l′ .count-is) in
       let q : entries ≡ entries′ = l .entries-is ∙ ap (λ (g : Formula). length (g .prefix)) same ∙ sym (l′ .entries-is) in
       let s : literals ≡ literals′ = l .literals-is ∙ ap (λ (g : Formula). length (g .clauses)) same ∙ sym (l′ .literals-is) in
-      let t : a .prefix ≡ b .prefix = l .prefix-is ∙ ap (λ (g : Formula). sets (out .prefix) 0 (g .prefix)) same ∙ sym (l′ .prefix-is) in
-      let u : a .clauses ≡ b .clauses = l .clauses-is ∙ ap (λ (g : Formula). sets (out .clauses) 0 (g .clauses)) same ∙ sym (l′ .clauses-is) in
+      let t : a .prefix ≡ b .prefix = l .prefix-is ∙ ap (λ (g : Formula). overwritten (g .prefix) (out .prefix)) same ∙ sym (l′ .prefix-is) in
+      let u : a .clauses ≡ b .clauses = l .clauses-is ∙ ap (λ (g : Formula). overwritten (g .clauses) (out .clauses)) same ∙ sym (l′ .clauses-is) in
       (λ i. Expanded.Formula (p i) (q i) (s i), λ i. record { prefix = t i; clauses = u i })
   by-order (Expanded.Formula count entries literals) (Expanded.Refused k p) (none, done) (first, left) = absurd (first-or-none order k p first none)
   by-order (Expanded.Refused k p) (Expanded.Formula count entries literals) (first, left) (none, done) = absurd (first-or-none order k p first none)

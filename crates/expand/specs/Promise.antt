@@ -6,11 +6,11 @@ use mathlib.Core.List.{List, [], _∷_}
 use mathlib.Core.Logic.{_⊎_}
 use lib.IntN.{ℤ}
 use lib.ListN.{length}
-use lib.Seq.{sets}
 use denote.Ref.{RefT, now}
 use denote.Triple.Both.{Both}
 use Rattle.terms.specs.Limits.{mostVariables, prefixEntries, clauseEntries}
 use Rattle.terms.specs.Listed.{Listed}
+use Rattle.terms.specs.Overwritten.{overwritten}
 use Rattle.terms.specs.Refusals.{Causes, At0, FirstOf, NoneOf}
 use Rattle.terms.specs.declared.Expanded.{Expanded}
 use Rattle.terms.specs.declared.Scheme.the-variants.{Standard}
@@ -86,8 +86,8 @@ pub record Leaves (out out′ : ResultTables) (count entries literals : ℕ) (g 
   pub count-is : count ≡ g .n
   pub entries-is : entries ≡ length (g .prefix)
   pub literals-is : literals ≡ length (g .clauses)
-  pub prefix-is : out′ .prefix ≡ sets (out .prefix) 0 (g .prefix)
-  pub clauses-is : out′ .clauses ≡ sets (out .clauses) 0 (g .clauses)
+  pub prefix-is : out′ .prefix ≡ overwritten (g .prefix) (out .prefix)
+  pub clauses-is : out′ .clauses ≡ overwritten (g .clauses) (out .clauses)
 
 -- What the call answers by an order of refusals, and by the formula as it is read; a refusal leaves both tables.
 abbrev pub ExpandsBy : List Causes → Formula → ℕ → ResultTables → ResultTables → Expanded → Type 0

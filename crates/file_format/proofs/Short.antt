@@ -47,6 +47,4 @@ take-stored table xs count many room = ap (take count) (sets-eq xs table 0 (omeg
 pub in-front : (rule : ℕ) (f : Formula) (before after : List ℕ) (count : ℕ) → Stores rule f before after (Count count)
     → (file : List ℕ) × FileOf rule f file × (take count after ≡ file)
 in-front rule f before after count (none, (file, g, size, stored)) =
-    let clear = none-later (checkOrder rule f) (behindStore f (readAs rule (f .prefix)) before) none in
-    let fits : ¬ (length before < length file) = λ over. clear .1 .0 14 0 (refl, refl, (file, g, over)) in
-    (file, g, ap (take count) stored ∙ take-stored before file count size (omega arith))
+    (file, g, ap (take count) stored ∙ take-at file (drop (length file) before) count (sym size))

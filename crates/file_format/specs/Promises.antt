@@ -4,8 +4,8 @@ use mathlib.Core.Path.{_≡_}
 use mathlib.Core.Bool.{Bool, true, false}
 use mathlib.Core.List.{List, _++_}
 use lib.ListN.{length}
-use lib.Seq.{sets}
 use Rattle.terms.specs.Answers.{Filling}
+use Rattle.terms.specs.Overwritten.{overwritten}
 use Rattle.terms.specs.Refusals.{Causes, FirstOf, NoneOf}
 use Rattle.terms.specs.declared.Filled.{Filled}
 use Rattle.terms.specs.declared.Loaded.{Loaded}
@@ -24,8 +24,8 @@ Stores rule f before = Filling (storeOrder rule f before) (FileOf rule f) before
 -- the lent tables with a formula and rows stored in front
 abbrev pub storedIn : Lent → Formula → Rows → Lent
 storedIn lent f r =
-    lentTables (sets (lent .prefix) 0 (f .prefix)) (sets (lent .clauses) 0 (f .clauses))
-    (rows (sets (lent .rows .classes) 0 (r .classes)) (sets (lent .rows .parents) 0 (r .parents)) (sets (lent .rows .counts) 0 (r .counts)))
+    lentTables (overwritten (f .prefix) (lent .prefix)) (overwritten (f .clauses) (lent .clauses))
+    (rows (overwritten (r .classes) (lent .rows .classes)) (overwritten (r .parents) (lent .rows .parents)) (overwritten (r .counts) (lent .rows .counts)))
 
 -- What reading leaves: the formula that the file holds, and the rows of the formula as it is read, stand in front in the lent tables, and nothing past
 -- them is changed.

@@ -7,6 +7,7 @@ use mathlib.Core.List.{List, [], _∷_, _++_}
 use mathlib.Core.Logic.{inl, inr}
 use native.Mathlib.Omega.{arith}
 use lib.ListN.{length, take, drop, length-append}
+use lib.Seq.{take-at}
 use Rattle.terms.specs.Refusals.{Causes, At0, NoneOf}
 use Rattle.terms.specs.declared.Filled.{Filled}
 use Rattle.terms.specs.declared.Filled.the-variants.{Count, Refused}
@@ -26,7 +27,7 @@ use Rattle.file_format.specs.Promises.{Stores, Loads, WithoutSets, as-it-is, re
 use Rattle.file_format.proofs.Orders.{none-first}
 use Rattle.file_format.proofs.Changed.{Bytes, sums}
 use Rattle.file_format.proofs.Unique.{rows-unique, file-unique}
-use Rattle.file_format.proofs.Short.{never-too-large, take-stored, in-front}
+use Rattle.file_format.proofs.Short.{never-too-large, in-front}
 use Rattle.file_format.proofs.Lengths.{closing-length}
 use Rattle.file_layout.proofs.Recorded.{Behind, plain, with-sets, behind-rows, head, head-then, head-stands, head-length}
 
@@ -114,12 +115,10 @@ module _ (rule : ℕ) (file : List ℕ) (bytes : Bytes file) (lent lent′ : Len
 
   held-back : back ≡ f
   held-back =
-      let enough : ¬ (length (lent .prefix) < length (prefixIn file)) = λ short. roomy (inl short) in
-      let enough′ : ¬ (length (lent .clauses) < length (clausesIn file)) = λ short. roomy (inr (inl short)) in
       let prefix = ap (λ (l : Lent). take entries (l .prefix)) (loads .5 .left)
-      ∙ take-stored (lent .prefix) (prefixIn file) entries (loads .2) (omega arith) in
+      ∙ take-at (prefixIn file) (drop (length (prefixIn file)) (lent .prefix)) entries (sym (loads .2)) in
       let clauses = ap (λ (l : Lent). take literals (l .clauses)) (loads .5 .left)
-      ∙ take-stored (lent .clauses) (clausesIn file) literals (loads .3) (omega arith) in
+      ∙ take-at (clausesIn file) (drop (length (clausesIn file)) (lent .clauses)) literals (sym (loads .3)) in
       λ i. formulaOf (loads .1 i) (prefix i) (clauses i)
 
   never-refused : (before : List ℕ) → length file ≤ length before → NoneOf (storeOrder rule f before)

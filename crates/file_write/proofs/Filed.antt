@@ -5,7 +5,8 @@ use mathlib.Core.List.{List, [], _∷_, _++_, append-assoc}
 use mathlib.Core.Logic.{inl, inr}
 use native.Mathlib.Omega.{arith}
 use lib.ListN.{length}
-use lib.Seq.{sets}
+use Rattle.terms.specs.Overwritten.{overwritten}
+use Rattle.terms.proofs.Overwritten.{stored-overwritten}
 use Rattle.terms.specs.Limits.{mostVariables}
 use Rattle.terms.specs.Refusals.{At0, None}
 use Rattle.terms.specs.declared.Filled.{Filled}
@@ -66,7 +67,7 @@ module _ (f : Formula) (r : Rows) (small : Small f r) where
     pub room : size f r ≤ length before → {after : List ℕ} {count : ℕ} → Wrote whole before after 0 count
         → StoresWhole whole before after (Count count)
     room enough wrote =
-        ((at0-none 14 (λ short. omega (arith, whole-length f r small)), tt), (whole, refl, omega (arith, wrote .end), wrote .stored))
+        ((at0-none 14 (λ short. omega (arith, whole-length f r small)), tt), (whole, refl, omega (arith, wrote .end), wrote .stored ∙ stored-overwritten whole before (omega (arith, whole-length f r small))))
 
   -- It is the file of the formula, where the rows are those of the prefix as it is read.
   module _ (read : List ℕ) (few : f .n ≤ mostVariables) (right : ForestRows (formulaOf (f .n) read (f .clauses)) r) where
@@ -96,5 +97,5 @@ module _ (f : Formula) (r : Rows) (small : Small f r) where
 
     pub of-formula : (before after : List ℕ) (answer : Filled) → StoresWhole whole before after answer → StoresRead f read before after answer
     of-formula before after (Count count) (clear, (file, is, counted, stored)) =
-        ((short, carries before .none clear), (whole, file-of, counted ∙ ap length is, stored ∙ ap (sets before 0) is))
+        ((short, carries before .none clear), (whole, file-of, counted ∙ ap length is, stored ∙ ap (λ (rows : List ℕ). overwritten rows before) is))
     of-formula before after (Refused number place) (first, same) = (inr (short, carries before .first number place first), same)

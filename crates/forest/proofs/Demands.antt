@@ -9,7 +9,7 @@ use native.Mathlib.Omega.{arith}
 use borrow.Author.Tests.{eqb-true, not-true}
 use lib.Dec.{eqb}
 use lib.ListN.{length, getD}
-use lib.Seq.{sets}
+use Rattle.terms.specs.Answers.{InFront}
 use Rattle.terms.specs.Refusals.{None, NoneOf}
 use Rattle.terms.specs.declared.Filled.{Filled}
 use Rattle.terms.specs.declared.Filled.the-variants.{Count}
@@ -127,7 +127,7 @@ module _ (rule : ℕ) (f : Formula) (r : Rows) (x : ℕ) where
   module _ (forest : Forest (variablesOf read) (Shares (f .clauses)) (forestOf read r)) where
     -- What the set call writes where it is not refused is the dependency set by the scheme asked for.
     pub set-is-dependencies : (scheme : Scheme) (before after : List ℕ) (count : ℕ) → SetListed rule scheme f r x before after (Count count)
-        → (list : List ℕ) × Listed (DependsBy scheme read x) list × (count ≡ length list) × (after ≡ sets before 0 list)
+        → InFront (Listed (DependsBy scheme read x)) before after count
     set-is-dependencies scheme before after count (none, written) =
         let u = universal-alone (read .n) (read .prefix) x (not-refused (MembersBy scheme read r x) before none) in
         (written .0, listed-as (members-depend read r x forest scheme u) (written .1), written .2, written .3)

@@ -13,6 +13,7 @@ use Rattle.terms.specs.declared.Verdict.the-variants.{Accepted, Refused}
 use Rattle.terms.specs.declared.Filled.{Filled}
 use Rattle.terms.specs.declared.Scheme.{Scheme}
 use Rattle.terms.proofs.Listed.{listed-one}
+use Rattle.terms.proofs.Overwritten.{stored-overwritten}
 use Rattle.terms.proofs.Verdicts.{at0-first, at0-none, accepted-then}
 use Rattle.formula.specs.Lent.{Formula}
 use Rattle.forest_theory.specs.Tables.{row, lent, WellFormed}
@@ -37,7 +38,7 @@ picks-listing order {P} f n before after none listed (Filled.Count count) picks 
     let fits : TooLong P before → ⊥ =
     λ long. let q = ap length (listed-one (long .0) (picked f n) (long .1) listed) in let l = long .2 in let room = picks .1 in omega arith in
     let all = accepted-then order (At0 14 (TooLong P before) ∷ []) {v = Accepted} Accepted refl none (at0-none 14 fits, tt) in
-    (all, (picked f n, listed, picks .0, picks .2))
+    (all, (picked f n, listed, picks .0, picks .2 ∙ stored-overwritten (picked f n) before (picks .1)))
 picks-listing order {P} f n before after none listed (Filled.Refused number place) picks =
     let last : FirstOf (At0 14 (TooLong P before) ∷ []) 14 0 = inl (at0-first 14 (picked f n, listed, picks .2)) in
     let first = accepted-then order (At0 14 (TooLong P before) ∷ []) {v = Accepted} (Refused 14 0) refl none last in

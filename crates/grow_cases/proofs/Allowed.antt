@@ -8,11 +8,12 @@ use native.Mathlib.Omega.{arith}
 use lib.Dec.{leb}
 use lib.IntN.{ℤ}
 use lib.ListN.{length, getD, drop, length-append, length-drop, List·getD-append}
-use lib.Seq.{sets, sets-eq, getD-append-add, getD-drop}
+use lib.Seq.{getD-append-add, getD-drop}
 use Rattle.terms.specs.Literals.{variableOf}
 use Rattle.terms.specs.Refusals.{At0, None, NoneOf}
 use Rattle.terms.specs.declared.Filled.{Filled}
 use Rattle.terms.specs.declared.Filled.the-variants.{Count}
+use Rattle.terms.specs.Overwritten.{overwritten}
 use Rattle.terms.proofs.Common.{clash}
 use Rattle.terms.proofs.Verdicts.{at0-none}
 use Rattle.formula.specs.Causes.{PrefixLong, ClausesLong}
@@ -249,9 +250,9 @@ module _ (rule n : ℕ) (es : List ℕ) where
       module _ (x : ℕ) (u : universal n read x ≡ true) where
         -- The set call lists the computed set.
         pub set-only : {list : List ℕ} → set-of Y (joined ls) x ≡ list → (before : List ℕ) → length list ≤ length before → (answer : Filled) (after : List ℕ)
-            → SetListed rule Standard f (s .rows) x before after answer ↔ ((answer ≡ Count (length list)) × (after ≡ list ++ drop (length list) before))
+            → SetListed rule Standard f (s .rows) x before after answer ↔ ((answer ≡ Count (length list)) × (after ≡ overwritten list before))
         set-only {list} is before room answer after = (
-          λ a. list-settled rule f (s .rows) x (λ g. MembersBy Standard g (s .rows) x) before after (list ++ drop (length list) before) answer (Count (length list)) a stated,
+          λ a. list-settled rule f (s .rows) x (λ g. MembersBy Standard g (s .rows) x) before after (overwritten list before) answer (Count (length list)) a stated,
           λ q. subst₂ (λ r t. SetListed rule Standard f (s .rows) x before t r) (sym (q .0)) (sym (q .1)) stated,
         )
           where
@@ -265,10 +266,7 @@ module _ (rule n : ℕ) (es : List ℕ) where
               all = λ y m. set-of-depends law .1 (same y .1 m);
             })
 
-            front : list ++ drop (length list) before ≡ sets before 0 list
-            front = let q : 0 + length list ≡ length list = omega arith in sym (sets-eq list before 0 (omega arith) ∙ ap (λ (k : ℕ). list ++ drop k before) q)
-
-            stated : SetListed rule Standard f (s .rows) x before (list ++ drop (length list) before) (Count (length list))
+            stated : SetListed rule Standard f (s .rows) x before (overwritten list before) (Count (length list))
             stated = (
               (
                 accepted .0,
@@ -292,7 +290,7 @@ module _ (rule n : ℕ) (es : List ℕ) where
                   ),
                 ),
               ),
-              (list, listed, refl, front),
+              (list, listed, refl, refl),
             )
 
         -- The entry point call answers where the climb ends.

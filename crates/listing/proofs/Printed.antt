@@ -7,10 +7,12 @@ use mathlib.Core.List.{List, [], _∷_, List·Memᴰ, List·Memᴰ·head, List·
 use mathlib.Core.Logic.{_≢_}
 use native.Mathlib.Nat.{not-suc-le-zero, le-of-suc-le-suc}
 use native.Mathlib.Omega.{arith}
+use native.Mathlib.Nat.{zero-add}
 use lib.ListN.{length, getD, take, drop, replicate, length-replicate}
 use lib.Seq.{sets, sets-eq, length-sets, take-at}
 use Rattle.terms.specs.Listed.{Listed}
 use Rattle.terms.proofs.Listed.{listed-one}
+use Rattle.terms.proofs.Overwritten.{stored-overwritten}
 use Rattle.forest_members.specs.declared.Asked.the-variants.{Points}
 use Rattle.forest_members.specs.Picked.{pick, picked, NoneUpto}
 use Rattle.forest_members.proofs.Picked.{picked-most, picked-flag, picked-listed}
@@ -61,11 +63,11 @@ picked-front f n few {after} {end} counted stored =
 -- So do the bytes of a line, where there is room for them all.
 pub line-front : {P : List ℕ → Type 0} (bytes : List ℕ) {before after : List ℕ} {end : ℕ} → P bytes → lineBytes ≤ length before
     → Stored lineBytes bytes before after 0 end → LineIn P before after end
-line-front {P} bytes {before} {after} {end} p room s =
+line-front bytes {before} p room s =
     let size = s .wrote .end in
     let near = s .near in
-    let q : take end after ≡ bytes = front before {found = end} bytes (omega arith) (omega arith) (s .wrote .stored) in
-    record { says = subst P (sym q) p; stored = subst (λ b. Stored lineBytes b before after 0 end) (sym q) s }
+    let fits : length bytes ≤ length before = omega arith in
+    record { stands = (bytes, p, size ∙ zero-add (length bytes), s .wrote .stored ∙ stored-overwritten bytes before fits); near = near }
 
 -- A run of so many numbers, few and small, written into a table of 4,096 rows.
 module _ (links : List ℕ) (head size : ℕ) (own : (list : List ℕ) × Run links head list × (size ≡ length list) × Small list) {table : List ℕ}

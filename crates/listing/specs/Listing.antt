@@ -1,16 +1,17 @@
 -- What the lines of the listing program say (rule 16.2, rule 5.4). How they are spelt is in the definitions of `listing_lines`.
-use Prim.Native.Nat.{ℕ}
+use Prim.Native.Nat.{ℕ, _≤_}
 use mathlib.Core.Path.{_≡_}
 use mathlib.Core.List.{List}
 use lib.IntN.{ℤ}
-use lib.ListN.{length, take}
+use lib.ListN.{length}
 use Rattle.terms.specs.declared.Scheme.the-variants.{Strict}
+use Rattle.terms.specs.Answers.{InFront}
 use Rattle.terms.specs.Listed.{Listed}
 use Rattle.formula.specs.Lent.{Formula}
 use Rattle.formula.specs.Meaning.{blocks, clauses, level}
 use Rattle.forest_tables.specs.Lent.{Rows}
 use Rattle.forest.specs.Answers.{EntriesBy, MembersBy}
-use Rattle.listing_lines.specs.Lines.{headLine, universalLine, Stored}
+use Rattle.listing_lines.specs.Lines.{headLine, universalLine}
 
 -- the bytes of a buffer that has room for every line
 abbrev pub lineBytes : ℕ
@@ -29,8 +30,7 @@ pub record LineOf (f : Formula) (r : Rows) (x : ℕ) (bytes : List ℕ) : Type 0
   pub set-is : Listed (MembersBy Strict f r x) set
   pub is : bytes ≡ universalLine x (level (f .prefix) x) entries set
 
--- A line, of which P says what it is, was stored from the start of a buffer on: the bytes up to its end are the line, and those behind it are
--- as they were.
+-- A line, of which P says what it is, stands in front in a buffer, up to its end, and the bytes behind it are as they were; no line is longer than that.
 pub record LineIn (P : List ℕ → Type 0) (before after : List ℕ) (end : ℕ) : Type 0 where
-  pub says : P (take end after)
-  pub stored : Stored lineBytes (take end after) before after 0 end
+  pub stands : InFront P before after end
+  pub near : end ≤ lineBytes

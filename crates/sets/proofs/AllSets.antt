@@ -12,6 +12,7 @@ use lib.Seq.{sets, length-sets}
 use Rattle.terms.specs.Answers.{Filling}
 use Rattle.terms.specs.Refusals.{FirstOf, None, NoneOf}
 use Rattle.terms.specs.declared.Filled.{Filled}
+use Rattle.terms.proofs.Overwritten.{stored-overwritten}
 use Rattle.terms.proofs.Verdicts.{at0-first, at0-none}
 use Rattle.formula.specs.Causes.{ends-inside}
 use Rattle.formula.specs.Lent.{Formula, formulaOf}
@@ -147,7 +148,7 @@ fills-filling scheme f r before after none (Filled.Count count) (list, is, size,
     let q = ap length (records-one (universal (f .n) (f .prefix)) (MembersBy scheme f r) (f .n) (long .0) list (long .1) is) in
     let l = long .2 in
     omega arith in
-    ((none, (at0-none 14 fits, tt)), (list, is, size, stored))
+    ((none, (at0-none 14 fits, tt)), (list, is, size, stored ∙ stored-overwritten list before room))
 fills-filling scheme f r before after none (Filled.Refused number place) (k, p, long, same) =
     let first : FirstOf (behindSets scheme f r before) 14 0 = inr (none, inl (at0-first 14 (long .0, long .1, long .2))) in
     (subst₂ (FirstOf (behindSets scheme f r before)) (sym k) (sym p) first, same)

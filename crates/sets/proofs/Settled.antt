@@ -4,7 +4,7 @@ use Prim.Native.Nat.{ℕ}
 use mathlib.Core.Path.{_≡_, sym, ap, _∙_}
 use mathlib.Core.List.{List, _∷_, _++_}
 use lib.ListN.{length}
-use lib.Seq.{sets}
+use Rattle.terms.specs.Overwritten.{overwritten}
 use Rattle.terms.specs.declared.Filled.{Filled}
 use Rattle.terms.specs.declared.Filled.the-variants.{Count}
 use Rattle.terms.specs.declared.Scheme.{Scheme}
@@ -36,7 +36,7 @@ module _ (rule : ℕ) (scheme : Scheme) (f : Formula) (r : Rows) where
   -- The list of all sets by a scheme holds, for each universal x, its number and what the set call by it gives and writes for x.
   pub set-in-sets : (list : List ℕ) → AllSetsBy scheme read r list → (x : ℕ) (before after : List ℕ) (count : ℕ)
       → SetListed rule scheme f r x before after (Count count)
-      → (members : List ℕ) × (after ≡ sets before 0 members) × (front : List ℕ) × (back : List ℕ) × (list ≡ front ++ ((x ∷ count ∷ members) ++ back))
+      → (members : List ℕ) × (after ≡ overwritten members before) × (front : List ℕ) × (back : List ℕ) × (list ≡ front ++ ((x ∷ count ∷ members) ++ back))
   set-in-sets list all x before after count (none, written) =
       let u = not-refused rule f r x (MembersBy scheme read r x) before none in
       let (low, high, _) = universal-within (read .n) (read .prefix) x u in
@@ -44,7 +44,7 @@ module _ (rule : ℕ) (scheme : Scheme) (f : Formula) (r : Rows) where
       records-part (universal (read .n) (read .prefix)) (MembersBy scheme read r) (read .n) list all x low high u in
       let same : written .0 ≡ members = listed-one (written .0) members (written .1) listed in
       let size : length members ≡ count = ap length (sym same) ∙ sym (written .2) in
-      (members, written .3 ∙ ap (sets before 0) same, front, back, is ∙ ap (λ (k : ℕ). front ++ ((x ∷ k ∷ members) ++ back)) size)
+      (members, written .3 ∙ ap (λ (rows : List ℕ). overwritten rows before) same, front, back, is ∙ ap (λ (k : ℕ). front ++ ((x ∷ k ∷ members) ++ back)) size)
 
 -- Demand 2 for all sets: by the formula's own forest each is what depends on its universal, by the scheme asked for.
 pub sets-are-dependencies : (scheme : Scheme) (f : Formula) (r : Rows) → Forest (variablesOf f) (Shares (f .clauses)) (forestOf f r)

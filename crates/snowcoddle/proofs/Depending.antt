@@ -5,8 +5,7 @@ use mathlib.Core.Bool.{Bool}
 use mathlib.Core.List.{List, [], _∷_}
 use native.Mathlib.Omega.{arith}
 use lib.IntN.{ℤ}
-use lib.ListN.{length, take, length-append}
-use lib.Seq.{length-take-le}
+use lib.ListN.{length, length-append}
 use Rattle.terms.specs.Refusals.{NoneOf}
 use Rattle.text_lines.specs.declared.Stage.{Stage}
 use Rattle.text_words.specs.Words.{words}
@@ -14,7 +13,7 @@ use Rattle.text_lines.specs.Grammar.{placeAfter}
 use Rattle.text_write.specs.Texts.{Overlong, overlong}
 use Rattle.terms.specs.declared.ListedReading.{ListedReading}
 use Rattle.dqbf_text.specs.Grammar.{ListLine, d-line, ListedLine, a-line, a-list, ListedLines, no-line, one-more, ListedText, ListedFault, outside, unended, no-problem, many, few, ListedFaultIn}
-use Rattle.dqbf_text.specs.Reading.{Tables, NoRoom, no-room-prefix, no-room-clauses, no-room-lists, readOrder, FrontFilled, ReadInto, ReadIs}
+use Rattle.dqbf_text.specs.Reading.{Tables, NoRoom, no-room-prefix, no-room-clauses, no-room-lists, readOrder, ReadInto, ReadIs}
 use Rattle.c_answers.specs.Cells.{Fits, Laid}
 use Rattle.c_answers.specs.Formulas.{ThreeInCells, listedSaid}
 use Rattle.snowcoddle.specs.Told.{Told}
@@ -73,14 +72,11 @@ counts-few : (n entries literals rows : ℕ) (text : List ℕ) (before after : T
     → ReadInto n entries literals rows text before after → (entries ≤ 65536) × (literals ≤ 65536) × (rows ≤ 65536)
 counts-few n entries literals rows text before after clean r =
     let long : ¬ (65536 < length text) = λ l. clean .0 15 65536 (overlong l) in
-    let p = counted (r .prefix-filled) in
-    let q = counted (r .clauses-filled) in
-    let s = counted (r .lists-filled) in
+    let p = r .prefix-filled .counted in
+    let q = r .clauses-filled .counted in
+    let s = r .lists-filled .counted in
     let l = text-few (r .text-of) in
     (omega arith, omega arith, omega arith)
-  where
-    counted : {A : Type 0} {count : ℕ} {before′ after′ : List A} → FrontFilled count before′ after′ → length (take count after′) ≡ count
-    counted {count = count} {after′ = after′} f = let room = f .room in let size = f .same-length in length-take-le count after′ (omega arith)
 
 -- What reading gives is told: n and the counts, with the tables.
 module _ (text : List ℕ) (before after : Tables) where

@@ -40,7 +40,7 @@ module _ (r r′ : Rows) (cells : List ℕ) where
   module _ (order : List Causes) (X : Variables) (J : ℕ → ℕ → Type 0) (T : Standing → Type 0) (lent tally : Tally) where
     -- what is left, with the tally in these cells
     abbrev Leave : List ℕ → Type 0
-    Leave cells′ = Left (λ s. Grown X J (standing r lent) s × T s) r′ cells cells′
+    Leave cells′ = Left (λ s. Grown X J (standing r lent) s × T s) r′ cells′
 
     abbrev LeaveCounted : ℕ × List ℕ → Type 0
     LeaveCounted b = (b .0 ≡ X .count) × Leave (b .1)
@@ -49,21 +49,21 @@ module _ (r r′ : Rows) (cells : List ℕ) where
     stay q = (ap (λ (s : Standing). s .rows .classes) q, ap (λ (s : Standing). s .rows .parents) q, ap (λ (s : Standing). s .rows .counts) q)
 
     built-known : (answer : Filled) → Rewrites order X J T (standing r lent) (standing r′ tally) answer
-        → Known order LeaveCounted Stay (builtSaid (filledSaid answer) tally cells)
+        → Known order LeaveCounted Stay (builtSaid (filledSaid answer) tally)
     built-known (Count written) b = (b .judged, (b .leaves .0, (tally, (b .leaves .1, b .leaves .2), refl)))
     built-known (Refused number at) b = (b .judged, stay (b .leaves))
 
     added-known : (answer : Filled) → Rewrites order X J T (standing r lent) (standing r′ tally) answer
-        → Known order Leave Stay (addedSaid (builtSaid (filledSaid answer) tally cells))
+        → Known order Leave Stay (addedSaid (builtSaid (filledSaid answer) tally))
     added-known (Count written) b = (b .judged, (tally, (b .leaves .1, b .leaves .2), refl))
     added-known (Refused number at) b = (b .judged, stay (b .leaves))
 
   pub tell-built : (rule : ℕ) (f : Formula) (tally : Tally) (answer : Filled) {lent : Tally} {cells′ : List ℕ} {count count′ place place′ returned : ℕ}
-      → lent ≡ tallyIn cells → Laid (builtSaid (filledSaid answer) tally cells) (count, cells) (count′, cells′) place place′ returned
+      → lent ≡ tallyIn cells → Laid (builtSaid (filledSaid answer) tally) (count, cells) (count′, cells′) place place′ returned
       → Builds rule f (standing r lent) (standing r′ tally) answer
       → Told (buildOrder rule f (standing r (tallyIn cells)))
       ((count′ ≡ f .n) × Left (λ s. Grown (variablesOf (readBy rule f)) (Shares (f .clauses)) (standing r (tallyIn cells)) s
-      × TallyOf (variablesOf (readBy rule f)) (many (f .clauses)) s) r′ cells cells′)
+      × TallyOf (variablesOf (readBy rule f)) (many (f .clauses)) s) r′ cells′)
       ((count′ ≡ count) × ((r′ .classes ≡ r .classes) × (r′ .parents ≡ r .parents) × (r′ .counts ≡ r .counts) × (cells′ ≡ cells))) returned place place′
   tell-built rule f tally answer q laid builds =
       let X = variablesOf (readBy rule f) in
@@ -75,12 +75,12 @@ module _ (r r′ : Rows) (cells : List ℕ) where
       (λ c k. (ap (λ (p : ℕ × List ℕ). p .0) c, (k .0, k .1, k .2, ap (λ (p : ℕ × List ℕ). p .1) c)))
 
   pub tell-added : (rule n : ℕ) (es : List ℕ) (ls : List ℤ) (tally : Tally) (answer : Filled) {lent : Tally} {cells′ : List ℕ} {place place′ returned : ℕ}
-      → lent ≡ tallyIn cells → Laid (addedSaid (builtSaid (filledSaid answer) tally cells)) cells cells′ place place′ returned
+      → lent ≡ tallyIn cells → Laid (addedSaid (builtSaid (filledSaid answer) tally)) cells cells′ place place′ returned
       → Adds rule n es (standing r lent) ls (standing r′ tally) answer
       → Told (addOrder rule n es (standing r (tallyIn cells)) ls)
       (Left (λ s. Grown (variables n (readAs rule es))
       (Extended (variables n (readAs rule es)) (tableOf (variables n (readAs rule es)) (standing r (tallyIn cells))) ls) (standing r (tallyIn cells)) s
-      × Took (variables n (readAs rule es)) (standing r (tallyIn cells)) s) r′ cells cells′)
+      × Took (variables n (readAs rule es)) (standing r (tallyIn cells)) s) r′ cells′)
       ((r′ .classes ≡ r .classes) × (r′ .parents ≡ r .parents) × (r′ .counts ≡ r .counts) × (cells′ ≡ cells)) returned place place′
   tell-added rule n es ls tally answer q laid adds =
       let s = standing r (tallyIn cells) in

@@ -8,9 +8,9 @@ use Rattle.terms.specs.declared.Verdict.the-variants.{Accepted, Refused}
 use Rattle.terms.specs.Refusals.{Causes, FirstOf, NoneOf, Judged}
 use Rattle.terms.specs.declared.EntryAnswer.{EntryAnswer}
 use Rattle.terms.specs.declared.Scheme.{Scheme}
-use Rattle.terms.specs.Answers.{Answered, Numbered, Filling}
+use Rattle.terms.specs.Answers.{Answered, Numbered, InFront, Filling}
 use Rattle.c_answers.specs.Cells.{Said, gives, refuses, Fits, Any, Laid, given, placed, verdictSaid, filledSaid, entrySaid}
-use Rattle.snowcoddle.specs.Told.{Told, accepted, refused, Front}
+use Rattle.snowcoddle.specs.Told.{Told, accepted, refused}
 use Rattle.snowcoddle.proofs.Places.{Small}
 
 module _ (order : List Causes) {got kept : Type 0} {verdict : Verdict} (place : ℕ) where
@@ -63,26 +63,26 @@ module _ (order : List Causes) where
 
 -- A table filled with a list: with a count, the list is written; refused, the table and the count are kept.
 module _ (order : List Causes) (L : List ℕ → Type 0) (out out′ : List ℕ) where
-  filling-known : (answer : Filled) → Filling order L out out′ answer → Known order (Front L out out′) (out′ ≡ out) (filledSaid answer)
+  filling-known : (answer : Filled) → Filling order L out out′ answer → Known order (InFront L out out′) (out′ ≡ out) (filledSaid answer)
   filling-known (Filled.Count written) filling = filling
   filling-known (Filled.Refused number at) filling = filling
 
   pub fits-filling : (answer : Filled) → Small order → Filling order L out out′ answer → Fits Any (filledSaid answer)
   fits-filling answer small filling =
-      fits-known order (Front L out out′) (out′ ≡ out) Any (filledSaid answer) small (λ _ _ _. tt) (filling-known answer filling)
+      fits-known order (InFront L out out′) (out′ ≡ out) Any (filledSaid answer) small (λ _ _ _. tt) (filling-known answer filling)
 
   pub tell-filling : (answer : Filled) {count count′ place place′ returned : ℕ} → Laid (filledSaid answer) count count′ place place′ returned
       → Filling order L out out′ answer
-      → Told order (Front L out out′ count′) ((count′ ≡ count) × (out′ ≡ out)) returned place place′
-  tell-filling answer laid filling = tell-known order (Front L out out′) (out′ ≡ out) laid (filling-known answer filling) (λ q r. (q, r))
+      → Told order (InFront L out out′ count′) ((count′ ≡ count) × (out′ ≡ out)) returned place place′
+  tell-filling answer laid filling = tell-known order (InFront L out out′) (out′ ≡ out) laid (filling-known answer filling) (λ q r. (q, r))
 
 -- Where order and list go by a scheme, what is told by the scheme that was found is told by the one that is asked for.
 pub tell-filling-by : (order : Scheme → List Causes) (L : Scheme → List ℕ → Type 0) (out out′ : List ℕ) {found asked : Scheme} → found ≡ asked
     → (answer : Filled) {count count′ place place′ returned : ℕ} → Laid (filledSaid answer) count count′ place place′ returned
     → Filling (order found) (L found) out out′ answer
-    → Told (order asked) (Front (L asked) out out′ count′) ((count′ ≡ count) × (out′ ≡ out)) returned place place′
+    → Told (order asked) (InFront (L asked) out out′ count′) ((count′ ≡ count) × (out′ ≡ out)) returned place place′
 tell-filling-by order L out out′ {found} q answer {count} {count′} {place} {place′} {returned} laid filling =
-    subst (λ (s : Scheme). Told (order s) (Front (L s) out out′ count′) ((count′ ≡ count) × (out′ ≡ out)) returned place place′) q
+    subst (λ (s : Scheme). Told (order s) (InFront (L s) out out′ count′) ((count′ ≡ count) × (out′ ≡ out)) returned place place′) q
     (tell-filling (order found) (L found) out out′ answer laid filling)
 
 -- A number: given in its cell, of which P holds.

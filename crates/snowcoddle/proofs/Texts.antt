@@ -8,7 +8,6 @@ use native.Mathlib.Omega.{arith}
 use lib.Dec.{eqb}
 use lib.IntN.{ℤ}
 use lib.ListN.{length, length-append}
-use lib.Seq.{length-take-le}
 use Rattle.terms.specs.Refusals.{NoneOf}
 use Rattle.terms.specs.declared.Reading.{Reading}
 use Rattle.text_lines.specs.declared.Stage.{Stage}
@@ -112,12 +111,8 @@ counts-few : (n entries literals : ℕ) (text prefix prefix′ : List ℕ) (clau
     → ReadInto n entries literals text prefix prefix′ clauses clauses′ → (entries ≤ 65536) × (literals ≤ 65536)
 counts-few n entries literals text prefix prefix′ clauses clauses′ clean r =
     let long : ¬ (65536 < length text) = λ l. clean .0 15 65536 (overlong l) in
-    let room = r .prefix-room in
-    let space = r .clauses-room in
-    let size = r .prefix-length in
-    let extent = r .clauses-length in
-    let p = length-take-le entries prefix′ (omega arith) in
-    let q = length-take-le literals clauses′ (omega arith) in
+    let p = r .entries-counted in
+    let q = r .literals-counted in
     let l = text-few (r .text-of) in
     (omega arith, omega arith)
 

@@ -5,7 +5,8 @@ use mathlib.Core.Path.{_≡_, refl, sym, ap, _∙_}
 use mathlib.Core.List.{List}
 use lib.IntN.{ℤ}
 use lib.ListN.{length}
-use lib.Seq.{sets}
+use Rattle.terms.specs.Answers.{InFront}
+use Rattle.terms.specs.Overwritten.{overwritten}
 use Rattle.terms.specs.declared.Verdict.{Verdict}
 use Rattle.terms.specs.declared.Verdict.the-variants.{Accepted, Refused}
 use Rattle.terms.specs.declared.Filled.the-variants.{Count}
@@ -24,7 +25,7 @@ use Rattle.file_format.specs.Causes.{Lent, loadOrder}
 use Rattle.file_format.proofs.Unique.{file-unique}
 use Rattle.file_format.proofs.Settled.{load-settled}
 use Rattle.c_answers.specs.Codes.{cellsOf}
-use Rattle.snowcoddle.specs.Told.{Told, accepted, refused, Front, Left}
+use Rattle.snowcoddle.specs.Told.{Told, accepted, refused, Left}
 use Rattle.snowcoddle.specs.Filed.{Given}
 
 numberIn : Verdict → ℕ
@@ -46,20 +47,20 @@ told-tight order place {k} {p} {k′} {p′} (refused first _) (refused first′
     (ap numberIn same, ap placeIn same)
 
 -- Where S settles what is left, it settles the rows and the cells.
-left-tight : (S : Standing → Type 0) → ((a b : Standing) → S a → S b → a ≡ b) → {r r′ : Rows} (cells : List ℕ) {after after′ : List ℕ}
-    → Left S r cells after → Left S r′ cells after′ → (r ≡ r′) × (after ≡ after′)
-left-tight S one cells (t, f, q) (u, g, r) =
+left-tight : (S : Standing → Type 0) → ((a b : Standing) → S a → S b → a ≡ b) → {r r′ : Rows} {after after′ : List ℕ}
+    → Left S r after → Left S r′ after′ → (r ≡ r′) × (after ≡ after′)
+left-tight S one (t, f, q) (u, g, r) =
     let e = one _ _ f g in
-    (ap (λ (s : Standing). s .rows) e, q ∙ ap (λ (s : Standing). sets cells 0 (cellsOf (s .tally))) e ∙ sym r)
+    (ap (λ (s : Standing). s .rows) e, q ∙ ap (λ (s : Standing). cellsOf (s .tally)) e ∙ sym r)
 
 -- what build leaves
 module _ (rule : ℕ) (f : Formula) (s : Standing) where
   abbrev Built : Standing → Type 0
   Built a = Grown (variablesOf (readBy rule f)) (Shares (f .clauses)) s a × TallyOf (variablesOf (readBy rule f)) (many (f .clauses)) a
 
-  pub built-tight : {r r′ : Rows} (cells : List ℕ) {after after′ : List ℕ} → NoneOf (buildOrder rule f s)
-      → Left Built r cells after → Left Built r′ cells after′ → (r ≡ r′) × (after ≡ after′)
-  built-tight cells none = left-tight Built (λ a b g h. build-tight f (Count (f .n)) (Count (f .n)) (built a g) (built b h) .1) cells
+  pub built-tight : {r r′ : Rows} {after after′ : List ℕ} → NoneOf (buildOrder rule f s)
+      → Left Built r after → Left Built r′ after′ → (r ≡ r′) × (after ≡ after′)
+  built-tight none = left-tight Built (λ a b g h. build-tight f (Count (f .n)) (Count (f .n)) (built a g) (built b h) .1)
     where
       built : (a : Standing) → Built a → Builds rule f s a (Count (f .n))
       built a (grown, tally) = record { judged = none; leaves = (refl, grown, tally) }
@@ -69,19 +70,19 @@ module _ (rule n : ℕ) (es : List ℕ) (ls : List ℤ) (s : Standing) where
   abbrev Added : Standing → Type 0
   Added a = let X = variables n (readAs rule es) in Grown X (Extended X (tableOf X s) ls) s a × Took X s a
 
-  pub added-tight : {r r′ : Rows} (cells : List ℕ) {after after′ : List ℕ} → NoneOf (addOrder rule n es s ls)
-      → Left Added r cells after → Left Added r′ cells after′ → (r ≡ r′) × (after ≡ after′)
-  added-tight cells none = left-tight Added (λ a b g h. add-tight es (Count n) (Count n) (added a g) (added b h) .1) cells
+  pub added-tight : {r r′ : Rows} {after after′ : List ℕ} → NoneOf (addOrder rule n es s ls)
+      → Left Added r after → Left Added r′ after′ → (r ≡ r′) × (after ≡ after′)
+  added-tight none = left-tight Added (λ a b g h. add-tight es (Count n) (Count n) (added a g) (added b h) .1)
     where
       added : (a : Standing) → Added a → Adds rule n es s ls a (Count n)
       added a (grown, took) = record { judged = none; leaves = (refl, grown, took) }
 
 -- what store gives: the count and every byte
 pub stored-tight : (rule : ℕ) (f : Formula) (before : List ℕ) {after after′ : List ℕ} {count count′ : ℕ}
-    → Front (FileOf rule f) before after count → Front (FileOf rule f) before after′ count′ → (count ≡ count′) × (after ≡ after′)
+    → InFront (FileOf rule f) before after count → InFront (FileOf rule f) before after′ count′ → (count ≡ count′) × (after ≡ after′)
 stored-tight rule f before (file, g, q, r) (file′, h, q′, r′) =
     let same = file-unique f (readAs rule (f .prefix)) file file′ g h in
-    (q ∙ ap length same ∙ sym q′, r ∙ ap (sets before 0) same ∙ sym r′)
+    (q ∙ ap length same ∙ sym q′, r ∙ ap (λ (rows : List ℕ). overwritten rows before) same ∙ sym r′)
 
 -- what load gives: the cells and the tables
 pub loaded-tight : (rule : ℕ) (file : List ℕ) (lent a b : Lent) {n entries literals with-sets n′ entries′ literals′ with-sets′ : ℕ}

@@ -6,6 +6,7 @@ use mathlib.Core.List.{List}
 use lib.IntN.{ℤ}
 use denote.Ref.{RefT, now}
 use denote.Triple.Both.{Both}
+use Rattle.terms.specs.Answers.{InFront}
 use Rattle.terms.specs.Listed.{Listed}
 use Rattle.terms.specs.Refusals.{Causes}
 use Rattle.terms.specs.declared.Scheme.{Scheme}
@@ -33,7 +34,7 @@ use Rattle.dqbf_text.specs.Stored.{listedText, listedWritingOrder}
 use Rattle.file_format.specs.Layout.{FileOf}
 use Rattle.file_format.specs.Causes.{Lent, loadOrder, storeOrder}
 use Rattle.c_answers.specs.Codes.{schemeOf, tallyIn}
-use Rattle.snowcoddle.specs.Told.{Told, Clause, Front, Left}
+use Rattle.snowcoddle.specs.Told.{Told, Clause, Left}
 use Rattle.snowcoddle.specs.Filed.{Given}
 
 -- a cell, and a table, that a call may write: as it was lent, and as the call leaves it
@@ -56,7 +57,7 @@ Tells order given kept place returned = Told order given kept returned (now (pla
 
 -- a list of which L holds is written into `out`, with its length in the cell `count`
 abbrev pub TellsList : List Causes → (List ℕ → Type 0) → Table → Cell → Cell → ℕ → Type 0
-TellsList order L out count = Tells order (Front L (now (out .entry)) (now (out .exit)) (now (count .exit))) (Kept count × Kept out)
+TellsList order L out count = Tells order (InFront L (now (out .entry)) (now (out .exit)) (now (count .exit))) (Kept count × Kept out)
 
 -- check: nothing is given but the place of a refusal
 abbrev pub CheckTold : ℕ → Formula → Cell → ℕ → Type 0
@@ -93,7 +94,7 @@ lentStanding classes parents counts tally = standing (rowsIn classes parents cou
 
 -- what they leave, of which S holds; and that all is kept
 abbrev pub LeftTold : (Standing → Type 0) → Table → Table → Table → Table → Type 0
-LeftTold S classes parents counts tally = Left S (rowsOut classes parents counts) (now (tally .entry)) (now (tally .exit))
+LeftTold S classes parents counts tally = Left S (rowsOut classes parents counts) (now (tally .exit))
 
 abbrev pub RowsKept : Table → Table → Table → Table → Type 0
 RowsKept classes parents counts tally = Kept classes × Kept parents × Kept counts × Kept tally

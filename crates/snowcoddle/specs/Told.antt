@@ -4,7 +4,6 @@ use mathlib.Core.Path.{_≡_}
 use mathlib.Core.List.{List, []}
 use lib.IntN.{ℤ}
 use lib.ListN.{length, getD}
-use lib.Seq.{sets}
 use Rattle.terms.specs.Refusals.{Causes, FirstOf, NoneOf}
 use Rattle.formula.specs.Meaning.{clauses}
 use Rattle.formula.specs.Clause.{beginOf}
@@ -23,10 +22,6 @@ pub data Told (order : List Causes) (given kept : Type 0) (returned place place�
 abbrev pub Clause : List ℤ → ℕ → ℕ → ℕ → Type 0
 Clause ls asked start len = (start ≡ beginOf (clauses ls) asked) × (len ≡ length (getD (clauses ls) asked []))
 
--- a list of which L holds stands in front, with its length as the count, and nothing past it is changed
-abbrev pub Front : (List ℕ → Type 0) → List ℕ → List ℕ → ℕ → Type 0
-Front L out out′ count = (list : List ℕ) × L list × (count ≡ length list) × (out′ ≡ sets out 0 list)
-
 -- forest tables and a tally afterwards, of which S holds, with the tally in its cells
-abbrev pub Left : (Standing → Type 0) → Rows → List ℕ → List ℕ → Type 0
-Left S r cells cells′ = (tally : Tally) × S (standing r tally) × (cells′ ≡ sets cells 0 (cellsOf tally))
+abbrev pub Left : (Standing → Type 0) → Rows → List ℕ → Type 0
+Left S r cells′ = (tally : Tally) × S (standing r tally) × (cells′ ≡ cellsOf tally)

@@ -4,7 +4,6 @@ use mathlib.Core.Path.{_≡_, sym, ap, ap₂, _∙_}
 use mathlib.Core.List.{List}
 use mathlib.Core.Logic.{_↔_}
 use lib.ListN.{length}
-use lib.Seq.{sets}
 use Rattle.terms.specs.Refusals.{Causes, NoneOf}
 use Rattle.terms.specs.declared.Filled.{Filled}
 use Rattle.terms.specs.declared.Filled.the-variants.{Count}
@@ -12,6 +11,7 @@ use Rattle.terms.specs.declared.EntryAnswer.{EntryAnswer}
 use Rattle.terms.specs.declared.EntryAnswer.the-variants.{At}
 use Rattle.terms.specs.declared.Variable.{Variable}
 use Rattle.terms.specs.Listed.{Listed}
+use Rattle.terms.specs.Overwritten.{overwritten}
 use Rattle.terms.specs.Answers.{Answered, Numbered, Filling, Listing}
 use Rattle.terms.proofs.Verdicts.{firstOf-same, first-or-none}
 use Rattle.terms.proofs.Orders.{Carries}
@@ -27,7 +27,7 @@ pub filling-settled : (order : List Causes) (L : List ℕ → Type 0)
     (r r′ : Filled) → Filling order L before after r → Filling order L before after′ r′ → (r ≡ r′) × (after ≡ after′)
 filling-settled order L one before after after′ (Filled.Count k) (Filled.Count k′) (none, a) (none′, b) =
     let same = one (a .0) (b .0) (a .1) (b .1) in
-    (ap Count (a .2 ∙ ap length same ∙ sym (b .2)), a .3 ∙ ap (sets before 0) same ∙ sym (b .3))
+    (ap Count (a .2 ∙ ap length same ∙ sym (b .2)), a .3 ∙ ap (λ (list : List ℕ). overwritten list before) same ∙ sym (b .3))
 filling-settled order L one before after after′ (Filled.Count k) (Filled.Refused number place) (none, a) (first, b) = absurd (first-or-none order number place first none)
 filling-settled order L one before after after′ (Filled.Refused number place) (Filled.Count k) (first, a) (none, b) = absurd (first-or-none order number place first none)
 filling-settled order L one before after after′ (Filled.Refused number place) (Filled.Refused number′ place′) (first, a) (first′, b) =

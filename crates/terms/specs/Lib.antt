@@ -3,6 +3,7 @@ pub mod Limits
 pub mod Literals
 pub mod Refusals
 pub mod Listed
+pub mod Overwritten
 pub mod Answers
 -- Inner, which nobody needs to believe.
 pub mod LiteralRows

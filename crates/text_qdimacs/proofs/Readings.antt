@@ -1,14 +1,13 @@
 -- The laws of read's answers: what a scan finds is the first cause in read's order, or that there is none.
-use Prim.Native.Nat.{ℕ, _+_, _≤_}
-use mathlib.Core.Path.{sym, ap, _∙_, subst}
+use Prim.Native.Nat.{ℕ, _≤_}
+use mathlib.Core.Path.{ap, _∙_}
 use mathlib.Core.List.{List}
 use mathlib.Core.Logic.{inl, inr}
 use native.Mathlib.Omega.{arith}
-use native.Mathlib.Nat.{zero-add}
-use lib.ListN.{length, take, drop}
-use lib.Seq.{sets-eq, length-sets, take-at, drop-at}
+use lib.ListN.{length}
 use lib.IntN.{ℤ}
 use Rattle.terms.specs.Refusals.{FirstOf, None, NoneOf}
+use Rattle.terms.proofs.Overwritten.{stored-overwritten}
 pub use Rattle.text_write.proofs.Outputs.{first-overlong, not-overlong}
 use Rattle.terms.specs.declared.Reading.{Reading}
 use Rattle.terms.specs.declared.Reading.the-variants.{Read, Refused}
@@ -62,26 +61,16 @@ module _ (text prefix : List ℕ) (clauses : List ℤ) (short : length text ≤ 
         let same = text-same text-of (s .text-of) in
         let lp = ap length (same .prefix) in
         let lc = ap length (same .clauses) in
-        let e = s .entries-counted in
-        let l = s .literals-counted in
-        let P-stored = s .prefix-stored ∙ sets-eq (s .P) prefix 0 (omega arith) in
-        let C-stored = s .clauses-stored ∙ sets-eq (s .C) clauses 0 (omega arith) in (
+        let P-fits : length (s .P) ≤ length prefix = omega arith in
+        let C-fits : length (s .C) ≤ length clauses = omega arith in (
           none p c,
           record {
-            text-of =
-                subst (λ (x : List ℕ). TextOf n′ x (take literals clauses′) text)
-                (sym (ap (take entries) P-stored ∙ take-at (s .P) (drop (0 + length (s .P)) prefix) entries (sym e)))
-                (subst (λ (y : List ℤ). TextOf n′ (s .P) y text)
-                (sym (ap (take literals) C-stored ∙ take-at (s .C) (drop (0 + length (s .C)) clauses) literals (sym l))) (s .text-of));
-            prefix-room = omega arith;
-            clauses-room = omega arith;
-            prefix-length = ap length (s .prefix-stored) ∙ length-sets prefix 0 (s .P);
-            clauses-length = ap length (s .clauses-stored) ∙ length-sets clauses 0 (s .C);
-            prefix-kept =
-                ap (drop entries) P-stored ∙ drop-at (s .P) (drop (0 + length (s .P)) prefix) entries (sym e)
-                ∙ ap (λ (k : ℕ). drop k prefix) (zero-add (length (s .P)) ∙ sym e);
-            clauses-kept =
-                ap (drop literals) C-stored ∙ drop-at (s .C) (drop (0 + length (s .C)) clauses) literals (sym l)
-                ∙ ap (λ (k : ℕ). drop k clauses) (zero-add (length (s .C)) ∙ sym l);
+            P = s .P;
+            C = s .C;
+            text-of = s .text-of;
+            entries-counted = s .entries-counted;
+            literals-counted = s .literals-counted;
+            prefix-left = s .prefix-stored ∙ stored-overwritten (s .P) prefix P-fits;
+            clauses-left = s .clauses-stored ∙ stored-overwritten (s .C) clauses C-fits;
           },
         )

@@ -2,10 +2,9 @@
 use Prim.Native.Nat.{ℕ}
 use mathlib.Core.Path.{_≡_, sym, ap, ap₂, _∙_}
 use mathlib.Core.List.{List, _++_}
-use native.Mathlib.Omega.{arith}
-use lib.ListN.{length, take, drop, take-append-drop}
-use lib.Seq.{length-take-le}
+use lib.ListN.{length}
 use lib.IntN.{ℤ}
+use Rattle.terms.specs.Overwritten.{overwritten}
 use Rattle.terms.specs.Refusals.{Causes}
 use Rattle.terms.proofs.Verdicts.{firstOf-same, first-or-none}
 use Rattle.terms.specs.declared.Reading.{Reading}
@@ -14,10 +13,6 @@ use Rattle.text_qdimacs.specs.Reading.{readOrder, ReadInto, ReadIs}
 use Rattle.text_write.specs.Stored.{Stored}
 use Rattle.text_write.specs.InnerOrders.{writeOrder, WritesAfter}
 use Rattle.text_qdimacs.proofs.Unique.{text-same}
-
--- A table by its rows in front and those behind.
-pub rows-same : {A : Type 0} (k k′ : ℕ) (xs ys : List A) → take k xs ≡ take k′ ys → drop k xs ≡ drop k′ ys → xs ≡ ys
-rows-same k k′ xs ys t d = sym (take-append-drop k xs) ∙ ap₂ (λ (a b : List _). a ++ b) t d ∙ take-append-drop k′ ys
 
 -- What two answers of read have in common.
 pub record SameAnswer (r r′ : Reading) (prefix prefix′ : List ℕ) (clauses clauses′ : List ℤ) : Type 0 where
@@ -32,21 +27,13 @@ module _ (text prefix : List ℕ) (clauses : List ℤ) where
     into-same : SameAnswer (Reading.Read n e l) (Reading.Read n′ e′ l′) p p′ c c′
     into-same =
         let same = text-same (a .text-of) (b .text-of) in
-        let pl = a .prefix-length in
-        let cl = a .clauses-length in
-        let pl′ = b .prefix-length in
-        let cl′ = b .clauses-length in
-        let pr = a .prefix-room in
-        let cr = a .clauses-room in
-        let pr′ = b .prefix-room in
-        let cr′ = b .clauses-room in
-        let es : e ≡ e′ = sym (length-take-le e p (omega arith)) ∙ ap length (same .prefix) ∙ length-take-le e′ p′ (omega arith) in
-        let ls : l ≡ l′ = sym (length-take-le l c (omega arith)) ∙ ap length (same .clauses) ∙ length-take-le l′ c′ (omega arith) in
+        let es = a .entries-counted ∙ ap length (same .prefix) ∙ sym (b .entries-counted) in
+        let ls = a .literals-counted ∙ ap length (same .clauses) ∙ sym (b .literals-counted) in
         let number = same .number in
         record {
           answer = cc;
-          prefix-rows = rows-same e e′ p p′ (same .prefix) (a .prefix-kept ∙ ap (λ (k : ℕ). drop k prefix) es ∙ sym (b .prefix-kept));
-          clause-rows = rows-same l l′ c c′ (same .clauses) (a .clauses-kept ∙ ap (λ (k : ℕ). drop k clauses) ls ∙ sym (b .clauses-kept));
+          prefix-rows = a .prefix-left ∙ ap (λ (rows : List ℕ). overwritten rows prefix) (same .prefix) ∙ sym (b .prefix-left);
+          clause-rows = a .clauses-left ∙ ap (λ (rows : List ℤ). overwritten rows clauses) (same .clauses) ∙ sym (b .clauses-left);
         }
 
   pub read-settled : (p p′ : List ℕ) (c c′ : List ℤ) (r r′ : Reading) → ReadIs text prefix p clauses c r → ReadIs text prefix p′ clauses c′ r′
@@ -60,9 +47,7 @@ module _ (text prefix : List ℕ) (clauses : List ℤ) where
 
 -- the bytes that hold a text
 stored-same : {text out out₁ out₂ : List ℕ} {k k′ : ℕ} → Stored text out out₁ k → Stored text out out₂ k′ → (Filled.Count k ≡ Filled.Count k′) × (out₁ ≡ out₂)
-stored-same {out = out} {out₁ = out₁} {out₂ = out₂} {k = k} {k′ = k′} a b =
-    let count = a .counted ∙ sym (b .counted) in
-    (ap Filled.Count count, rows-same k k′ out₁ out₂ (a .written ∙ sym (b .written)) (a .kept ∙ ap (λ (i : ℕ). drop i out) count ∙ sym (b .kept)))
+stored-same a b = (ap Filled.Count (a .counted ∙ sym (b .counted)), a .left ∙ sym (b .left))
 
 -- Whatever stands in the order before 15 and 14, and whatever the text is.
 pub write-settled : (order : List Causes) (text out out₁ out₂ : List ℕ) (r r′ : Filled) → WritesAfter order text out out₁ r

@@ -1,10 +1,11 @@
 -- What reading a text promises (document 01, "Refusal numbers" and "Calls"): n and the tables of the text, or the first cause in the
 -- order 15, then 16 and 17 by the earliest line, 16 first at one line, then 14.
-use Prim.Native.Nat.{ℕ, _<_, _≤_}
+use Prim.Native.Nat.{ℕ, _<_}
 use mathlib.Core.Path.{_≡_}
 use mathlib.Core.List.{List, [], _∷_}
-use lib.ListN.{length, take, drop}
+use lib.ListN.{length}
 use lib.IntN.{ℤ}
+use Rattle.terms.specs.Overwritten.{overwritten}
 use Rattle.terms.specs.Refusals.{Causes, FirstOf, NoneOf}
 use Rattle.terms.specs.declared.Reading.{Reading}
 use Rattle.terms.specs.declared.Reading.the-variants.{Read, Refused}
@@ -19,15 +20,15 @@ pub data NoRoom (text prefix : List ℕ) (clauses : List ℤ) : ℕ → ℕ → 
 abbrev pub readOrder : List ℕ → List ℕ → List ℤ → List Causes
 readOrder text prefix clauses = Overlong text ∷ FaultIn text ∷ NoRoom text prefix clauses ∷ []
 
--- The text is that of n and of what now stands in front in the two tables, whose rows past the counts are as they were.
+-- The text is that of n and of two tables, which now stand in front in the lent ones, with nothing past them changed; the counts are their lengths.
 pub record ReadInto (n entries literals : ℕ) (text prefix prefix′ : List ℕ) (clauses clauses′ : List ℤ) : Type 0 where
-  pub text-of : TextOf n (take entries prefix′) (take literals clauses′) text
-  pub prefix-room : entries ≤ length prefix
-  pub clauses-room : literals ≤ length clauses
-  pub prefix-length : length prefix′ ≡ length prefix
-  pub clauses-length : length clauses′ ≡ length clauses
-  pub prefix-kept : drop entries prefix′ ≡ drop entries prefix
-  pub clauses-kept : drop literals clauses′ ≡ drop literals clauses
+  pub P : List ℕ
+  pub C : List ℤ
+  pub text-of : TextOf n P C text
+  pub entries-counted : entries ≡ length P
+  pub literals-counted : literals ≡ length C
+  pub prefix-left : prefix′ ≡ overwritten P prefix
+  pub clauses-left : clauses′ ≡ overwritten C clauses
 
 -- Each answer: accepted, with n and the two counts, or refused, with the tables as they were.
 abbrev pub ReadIs : List ℕ → List ℕ → List ℕ → List ℤ → List ℤ → Reading → Type 0

@@ -1,20 +1,20 @@
 -- The laws of writing's answers: what the writer of accepted tables finds is the first cause in its order, or that there is none.
-use Prim.Native.Nat.{ℕ, _+_, _<_, _≤_}
-use mathlib.Core.Path.{_≡_, refl, sym, ap, _∙_}
+use Prim.Native.Nat.{ℕ, _<_, _≤_}
+use mathlib.Core.Path.{_≡_, refl, ap, _∙_}
 use mathlib.Core.Logic.{inl, inr}
 use mathlib.Core.List.{List}
 use native.Mathlib.Omega.{arith}
 use native.Mathlib.Nat.{zero-add}
-use lib.ListN.{length, take, drop}
-use lib.Seq.{sets-eq, length-sets, take-at, drop-at}
+use lib.ListN.{length, take}
 use Rattle.terms.specs.declared.Verdict.{Verdict}
 use Rattle.terms.specs.Refusals.{Causes, First, FirstOf, None, NoneOf}
 use Rattle.terms.proofs.Verdicts.{accepted-then}
+use Rattle.terms.proofs.Overwritten.{stored-overwritten, overwritten-front}
 use Rattle.terms.specs.declared.Filled.{Filled}
 use Rattle.terms.specs.declared.Filled.the-variants.{Count, Refused}
 use Rattle.text_write.specs.Texts.{TEXT-MOST, Overlong, overlong}
 use Rattle.text_write.specs.Bytes.{Wrote}
-use Rattle.text_write.specs.Stored.{ShortOut, short-out}
+use Rattle.text_write.specs.Stored.{ShortOut, short-out, Stored}
 use Rattle.text_write.specs.InnerOrders.{writeOrder, WriteIs, WritesAfter}
 
 -- A text that is too long, read or to be written, and one that is not.
@@ -40,18 +40,14 @@ module _ (text out : List ℕ) (fits : length text ≤ TEXT-MOST) where
   pub stored-whole : length text ≤ length out → (out′ : List ℕ) (count : ℕ) → Wrote text out out′ 0 count → WriteIs text out out′ (Count count)
   stored-whole room out′ count w =
       let e : count ≡ length text = w .end ∙ zero-add (length text) in
-      let s = w .stored ∙ sets-eq text out 0 (omega arith) in (
-        (not-overlong text fits, (not-short, tt)),
-        record {
-          counted = e;
-          same-length = ap length (w .stored) ∙ length-sets out 0 text;
-          written = ap (take count) s ∙ take-at text (drop (0 + length text) out) count (sym e);
-          kept = ap (drop count) s ∙ drop-at text (drop (0 + length text) out) count (sym e) ∙ ap (λ (k : ℕ). drop k out) (zero-add (length text) ∙ sym e);
-        },
-      )
+      ((not-overlong text fits, (not-short, tt)), record { counted = e; left = w .stored ∙ stored-overwritten text out room })
     where
       not-short : None (ShortOut text out)
       not-short number place (short-out h) = omega arith
+
+-- The text stands in front.
+pub text-front : {text out out′ : List ℕ} {count : ℕ} → Stored text out out′ count → take count out′ ≡ text
+text-front {text} {out} {out′} s = ap (λ (k : ℕ). take k out′) (s .counted) ∙ ap (take (length text)) (s .left) ∙ overwritten-front text out
 
 -- Once the tables are accepted, the writer's answer is that of the call.
 pub writes-accepted : (order : List Causes) (text out out′ : List ℕ) (r : Filled) → NoneOf order → WriteIs text out out′ r → WritesAfter order text out out′ r

@@ -3,7 +3,8 @@
 use Prim.Native.Nat.{ℕ, _<_}
 use mathlib.Core.Path.{_≡_}
 use mathlib.Core.List.{List}
-use lib.ListN.{length, take, drop}
+use lib.ListN.{length}
+use Rattle.terms.specs.Overwritten.{overwritten}
 use Rattle.terms.specs.Refusals.{Causes, FirstOf, NoneOf}
 use Rattle.terms.specs.declared.Filled.{Filled}
 use Rattle.terms.specs.declared.Filled.the-variants.{Count, Refused}
@@ -15,9 +16,7 @@ pub data ShortOut (text out : List ℕ) : ℕ → ℕ → Type 0 where
 -- The text stands in front, and the bytes past it are as they were.
 pub record Stored (text out out′ : List ℕ) (count : ℕ) : Type 0 where
   pub counted : count ≡ length text
-  pub same-length : length out′ ≡ length out
-  pub written : take count out′ ≡ text
-  pub kept : drop count out′ ≡ drop count out
+  pub left : out′ ≡ overwritten text out
 
 -- What a call promises that writes a text, by its order of refusals: the text stands in front, or nothing is changed.
 abbrev pub WritesBy : List Causes → List ℕ → List ℕ → List ℕ → Filled → Type 0

@@ -1,8 +1,11 @@
 -- Both lengths are counted before anything is written, so that the refusals stand in their order; then the two writes leave the formula.
-use mathlib.Core.Path.{refl}
+use Prim.Native.Nat.{_<_}
+use mathlib.Core.Path.{refl, _∙_}
 use mathlib.Core.Logic.{inl, inr, ⊎-elim}
 use native.Mathlib.Omega.{arith}
 use borrow.Author.Needs.{needs}
+use lib.ListN.{length}
+use Rattle.terms.proofs.Overwritten.{stored-overwritten}
 use Rattle.terms.proofs.Verdicts.{at0-first, at0-none}
 use Rattle.formula.specs.Lent.{Formula, formulaOf}
 use Rattle.expand_clauses.specs.Copied.{tabled}
@@ -64,14 +67,19 @@ returns-5 : tie.Need-returns-5
 returns-5 c =
     let laid = c .before .before .before .before .before in
     let at-if4 = laid .before .before in
-    let at-if2 = at-if4 .before .before in (
+    let at-if2 = at-if4 .before .before in
+    let written = result (start at-if2) in
+    let lent = out (start at-if2) in
+    let short = roomy at-if4 in
+    let room : ¬ (length (lent .prefix) < length (written .prefix)) = λ l. short (inl l) in
+    let rooms : ¬ (length (lent .clauses) < length (written .clauses)) = λ l. short (inr l) in (
       (at0-none 2 (within at-if2), (at0-none 14 (roomy at-if4), tt)),
       record {
         count-is = refl;
         entries-is = at-if2 .before .before .before .prefix-entries .ensures;
         literals-is = at-if2 .before .clause-entries .ensures;
-        prefix-is = laid .lay .ensures .store;
-        clauses-is = c .before .copy-clauses .ensures .store;
+        prefix-is = laid .lay .ensures .store ∙ stored-overwritten (written .prefix) (lent .prefix) (omega arith);
+        clauses-is = c .before .copy-clauses .ensures .store ∙ stored-overwritten (written .clauses) (lent .clauses) (omega arith);
       },
     )
 

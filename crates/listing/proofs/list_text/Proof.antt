@@ -1,9 +1,9 @@
 -- What read refuses has a line, for its number and its place are short; what it reads stands in front of the two tables, which have room for it.
 use Prim.Native.Nat.{_≤_}
-use mathlib.Core.Path.{sym, subst}
+use mathlib.Core.Path.{sym, ap, _∙_, subst}
 use native.Mathlib.Omega.{arith}
 use lib.IntN.{pos}
-use lib.ListN.{length, replicate}
+use lib.ListN.{length, drop, replicate, length-append}
 use lib.Seq.{length-take-le}
 use Rattle.terms.specs.declared.Reading.{Reading}
 use Rattle.text_qdimacs.specs.Reading.{ReadIs}
@@ -23,11 +23,9 @@ room : (s : tie.After-n) → (s .n .given .0 .1 .0 ≤ length (s .before .before
 room s =
     let at-read = s .before .before .before .before in
     let r = subst (Told at-read) (s .n .given .1) (at-read .read .ensures) .1 in
-    let prefix-room = r .prefix-room in
-    let prefix-length = r .prefix-length in
-    let clauses-room = r .clauses-room in
-    let clauses-length = r .clauses-length in
-    (omega arith, omega arith)
+    let prefix = ap length (r .prefix-left) ∙ length-append (r .P) (drop (length (r .P)) (replicate 8192 0)) in
+    let clauses = ap length (r .clauses-left) ∙ length-append (r .C) (drop (length (r .C)) (replicate 16384 (pos 0))) in
+    (omega (arith, r .entries-counted), omega (arith, r .literals-counted))
 
 print-refusal-requires : tie.Need-print-refusal-requires
 print-refusal-requires c κs =

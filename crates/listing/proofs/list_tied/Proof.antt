@@ -92,7 +92,7 @@ array-share-prefix-line c =
     let tops : TopsOf (a .n) (a .prefix .now) (rows (a .classes .now) (a .parents .now) []) _ _ _ =
     record { formed = at-start .pre .formed; low = low .0; rows = floored .over .rows } in
     let line = c .before .line-of .ensures (a .prefix .now) (rows (a .classes .now) (a .parents .now) []) tops in
-    let near = line .stored .near in
+    let near = line .near in
     let long = c .before .line-of .kept .1 .1 .1 .1 .1 .1 .1 .1 .1 .0 ∙ at-loop .loop .inv .2 in
     omega arith
 

@@ -1,7 +1,6 @@
--- Three stores, one after the other from the first cell on, are the cells of the tally; without a count nothing is stored.
+-- The three cells are those of the tally; without a count nothing is stored.
 use mathlib.Core.Path.{refl, sym, subst}
 use borrow.Author.Needs.{needs}
-use lib.Seq.{sets}
 use Rattle.c_answers.specs.Cells.{TallyLaid, filledSaid}
 use Rattle.c_answers.specs.Codes.{cellsOf}
 use Rattle.c_answers.proofs.tallies.lay_tally.Statement.{statement}
@@ -9,10 +8,10 @@ use Rattle.c_answers.proofs.tallies.lay_tally.Tie as tie
 
 returns : tie.Need-returns
 returns c =
-    let at-start = c .before .before .before in
+    let at-start = c .before .before .before .before in
     let tally = at-start .args .told .tally in
     let cells = at-start .args .cells .now in
-    subst (λ r. TallyLaid (filledSaid r) tally cells (sets cells 0 (cellsOf tally))) (sym (c .before .enum-told .given .1)) refl
+    subst (λ r. TallyLaid (filledSaid r) tally cells (cellsOf tally)) (sym (c .before .before .enum-told .given .1)) refl
 
 returns-2 : tie.Need-returns-2
 returns-2 c =
@@ -23,5 +22,4 @@ returns-2 c =
 
 pub lay-tally-spec : {M : Type 1} → statement M
 lay-tally-spec =
-    tie.close (tie.spec (λ c. search needs) (λ c. search needs) (λ c. search needs) (λ c. search needs) (λ c. search needs) returns
-    returns-2)
+    tie.close (tie.spec (λ c. search needs) (λ c. search needs) returns returns-2)
