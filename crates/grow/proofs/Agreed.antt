@@ -11,7 +11,7 @@ use Rattle.formula.specs.Lent.{Formula}
 use Rattle.formula_rules.specs.Rules.{ruledPrefix}
 use Rattle.formula_rules.proofs.Agreement.{rules-agree}
 use Rattle.forest_tables.specs.Formula.{variables, Shares}
-use Rattle.grow.specs.Grown.{Standing, many, TooShort, TallyOf, Rewrites, AddsBehind, Builds, Adds}
+use Rattle.grow.specs.Grown.{Standing, TooShort, Tallies, Rewrites, AddsBehind, Builds, Adds}
 use Rattle.grow.specs.InnerOrders.{behindAdd}
 use Rattle.grow.proofs.Standings.{carry-rewrites}
 
@@ -19,7 +19,7 @@ pub build-agrees : (f : Formula) (s s′ : Standing) (a : Filled) → NoneOf (ru
     → Builds 1 f s s′ a ↔ Builds 2 f s s′ a
 build-agrees f s s′ a none =
     rules-agree
-    (λ order read. Rewrites order (variables (f .n) read) (Shares (f .clauses)) (TallyOf (variables (f .n) read) (many (f .clauses))) s s′ a)
+    (λ order read. Rewrites order (variables (f .n) read) (Shares (f .clauses)) (Tallies (variables (f .n) read) (f .clauses)) s s′ a)
     (λ order order′ read. carry-rewrites a order order′) (λ read. ClauseCause (f .n) (f .clauses) ∷ At0 14 (TooShort (f .n) s) ∷ [])
     (f .n) (f .prefix) (length (f .clauses)) none
 

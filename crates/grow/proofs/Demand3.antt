@@ -38,9 +38,11 @@ use Rattle.forest_theory.proofs.Fewer.{fewer-added, none-names}
 use Rattle.forest_theory.proofs.Sets.{set-members}
 use Rattle.forest_theory.proofs.Alone.{set-stays, entries-stay}
 use Rattle.grow_refusals.specs.Admitted.{AddedCause, WrongTally}
-use Rattle.grow.specs.Grown.{Standing, standing, tableOf, classNames, existentials, many, buildOrder, Grown, TallyOf, Builds, Adds, withLast}
+use Rattle.grow.specs.Grown.{Standing, standing, tableOf, classNames, existentials, buildOrder, Grown, Tallies, Builds, Adds, withLast}
+use Rattle.grow.specs.InnerTallies.{Fell}
 use Rattle.grow_passes.specs.Past.{Past}
 use Rattle.grow_passes.proofs.Passes.{many-most}
+use Rattle.grow.proofs.Taking.{took-fell, fell-took, none-added, tallies-sum, sum-tallies}
 use Rattle.grow.proofs.Tallies.{agrees-classes, agrees-sum}
 use Rattle.grow.proofs.Appended.{many-last, joined-last, no-clause-cause}
 use Rattle.grow.proofs.Tight.{build-tight, add-tight}
@@ -70,8 +72,9 @@ module _ (rule n : ℕ) (es : List ℕ) where
   -- Merges and classes left sum to the existentials: of no clause there are no merges and as many classes as existentials ...
   pub none-tally : {s s′ : Standing} {k : ℕ} → Builds rule (with []) s s′ (Count k) → (s′ .tally .clauses ≡ 0) × (s′ .tally .merges ≡ 0) × (s′ .tally .classes ≡ existentials X)
   unfolding joined clauses cut
-  none-tally built =
-      let (_, grown, t) = built .leaves in
+  none-tally {s′ = s′} built =
+      let (_, grown, tally) = built .leaves in
+      let t = tallies-sum law [] s′ (grown .forest) tally in
       let all : _ ≡ existentials X = t .classes ∙ none-names (grown .forest) n in
       (t .clauses, omega (arith, t .merges), all)
 
@@ -83,9 +86,15 @@ module _ (rule n : ℕ) (es : List ℕ) where
     formed : WellFormed X (tableOf X s)
     formed = none-formed (added .judged .1 .1 .1 .1 .1 .0)
 
+    pub adding-fell : Fell X s s′
+    adding-fell =
+        let (_, grown, took) = added .leaves in
+        took-fell law s s′ (none-added law (connected clause) formed (grown .forest)) took
+
     pub adding-sum : s′ .tally .merges + s′ .tally .classes ≡ existentials X
     adding-sum =
-        let (_, grown, took) = added .leaves in
+        let grown = added .leaves .1 in
+        let took = adding-fell in
         omega (arith, took .merges, took .classes, agrees-classes (s .tally) agrees, agrees-sum (s .tally) agrees, fewer-added (connected clause) law formed (grown .forest) n)
 
     -- A clause that is always true changes no row and no count, of any tables that are taken, and of the tally only the clauses (rule 1.7, rule 3.6).
@@ -96,7 +105,7 @@ module _ (rule n : ℕ) (es : List ℕ) where
           leaves = (
             refl,
             record { past = (stays (s .rows .classes), stays (s .rows .parents), stays (s .rows .counts)); forest = same; counted = none-counted (added .judged .1 .1 .1 .1 .1 .0) },
-            record { clauses = refl; merges = omega arith; classes = agrees-classes (s .tally) agrees },
+            fell-took law s (one-more s) (λ c n. n) (record { clauses = refl; merges = omega arith; classes = agrees-classes (s .tally) agrees }),
           );
         }) .1
       where
@@ -144,9 +153,12 @@ module _ (rule n : ℕ) (es : List ℕ) where
         let (d, e, f) = added .leaves .1 .past in
         record { past = (past-trans a d, past-trans b e, past-trans c f); forest = added-forest; counted = added .leaves .1 .counted }
 
-    added-tally : TallyOf X (many (withLast ls clause)) s″
-    added-tally = let took = added .leaves .2 in let t = built .leaves .2 in
-        record { clauses = took .clauses ∙ ap (λ (i : ℕ). i + 1) (t .clauses) ∙ sym (many-last accepted first); classes = took .classes; merges = adding-sum added }
+    added-tally : Tallies X (withLast ls clause) s″
+    added-tally =
+        let took = adding-fell added in
+        let t = tallies-sum law ls s′ (built .leaves .1 .forest) (built .leaves .2) in
+        let clauses = took .clauses ∙ ap (λ (i : ℕ). i + 1) (t .clauses) ∙ sym (many-last accepted first) in
+        sum-tallies law (withLast ls clause) s″ added-forest (record { clauses = clauses; classes = took .classes; merges = adding-sum added })
 
     -- Demand 3, first sentence: adding a clause to the built forest gives row by row, and in the tally, what build gives with the clause put last, if
     -- the longer list is within the limits.
@@ -209,6 +221,6 @@ module _ (rule n : ℕ) (es : List ℕ) where
       -- a list within the limits has fewer clauses than a tally may have
       right : WrongTally (s′ .tally) (classNames X s′) (existentials X) → ⊥
       right wrong =
-          let t = built .leaves .2 in
+          let t = tallies-sum law ls s′ (grown .forest) (built .leaves .2) in
           let small : ¬ (clauseEntries < length ls) = λ over. none .1 .1 .0 2 0 (refl, refl, inr over) in
           ⊎-elim (λ full. omega (arith, t .clauses, many-most ls)) (λ rest. ⊎-elim (λ d. d (t .classes)) (λ d. d (t .merges)) rest) wrong

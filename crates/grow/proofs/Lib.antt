@@ -1,4 +1,5 @@
 -- The laws of growth, in reading order.
+pub mod Taking
 pub mod Standings
 pub mod Tallies
 pub mod Accepted

@@ -16,7 +16,8 @@ use Rattle.forest_tables.proofs.Agreeing.{lawful}
 use Rattle.terms.specs.declared.Tally.{Tally}
 use Rattle.terms.proofs.Orders.{Carries, carry-judged}
 use Rattle.forest_tables.specs.Lent.{Rows, rows}
-use Rattle.grow.specs.Grown.{Standing, standing, Grown, TallyOf, Rewrites}
+use Rattle.grow.specs.Grown.{Standing, standing, Grown, Rewrites}
+use Rattle.grow.specs.InnerTallies.{SumsUp}
 use Rattle.grow_rows.specs.Rows.{Rowed, Recounted, CensusOf}
 
 module _ (n : ℕ) (es : List ℕ) {cs : List (List ℕ)} {classes parents classes′ parents′ : List ℕ}
@@ -30,9 +31,9 @@ module _ (n : ℕ) (es : List ℕ) {cs : List (List ℕ)} {classes parents class
       → Grown (variables n es) (Joined cs) (standing (rows classes parents counts) t) (standing (rows classes′ parents′ counts′) t′)
   rowed-grown t t′ c = record { past = (r .past .0, r .past .1, c .past); forest = r .forest; counted = c .counted }
 
-  -- The numbers of existentials and class names make the tally of a list.
+  -- The numbers of existentials and class names sum up to a tally.
   pub census-tally : {exs named taken all : ℕ} (counts : List ℕ) → CensusOf n classes′ n exs named → taken ≡ all
-      → TallyOf (variables n es) all (standing (rows classes′ parents′ counts)
+      → SumsUp (variables n es) all (standing (rows classes′ parents′ counts)
       (record { clauses = taken; merges = exs - named; classes = named }))
   census-tally {exs} {named} counts c is =
       let (e, k) = c .right es parents′ rowed-formed in

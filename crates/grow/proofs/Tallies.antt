@@ -11,7 +11,8 @@ use Rattle.terms.proofs.Verdicts.{at0-first, at0-none}
 use Rattle.forest_theory.specs.Reach.{Variables}
 use Rattle.terms.specs.declared.Tally.{Tally}
 use Rattle.grow_refusals.specs.Admitted.{tallyClauses, WrongTally}
-use Rattle.grow.specs.Grown.{Standing, classNames, existentials, TallyCause, Took}
+use Rattle.grow.specs.Grown.{Standing, classNames, existentials, TallyCause}
+use Rattle.grow.specs.InnerTallies.{Fell}
 
 -- A tally that is not wrong has few clauses, the class names, and the right sum.
 module _ (t : Tally) {named exs : ℕ} (agrees : WrongTally t named exs → ⊥) where
@@ -39,6 +40,6 @@ module _ (X : Variables) (s : Standing) {named exs : ℕ} (is : (exs ≡ existen
   tally-accepted agrees = (at0-none 18 (λ wrong. agrees (back-wrong wrong)), tt)
 
 -- The tally with a clause taken that left so many class names.
-pub took : (X : Variables) (s s′ : Standing) (left : ℕ) → s .tally .classes ≡ classNames X s → left ≡ classNames X s′
-    → (s′ .tally .clauses ≡ s .tally .clauses + 1) × (s′ .tally .merges ≡ s .tally .merges + (s .tally .classes - left)) × (s′ .tally .classes ≡ left) → Took X s s′
-took X s s′ left own is (clauses, merges, classes) = record { clauses = clauses; merges = omega arith; classes = classes ∙ is }
+pub fell : (X : Variables) (s s′ : Standing) (left : ℕ) → s .tally .classes ≡ classNames X s → left ≡ classNames X s′
+    → (s′ .tally .clauses ≡ s .tally .clauses + 1) × (s′ .tally .merges ≡ s .tally .merges + (s .tally .classes - left)) × (s′ .tally .classes ≡ left) → Fell X s s′
+fell X s s′ left own is (clauses, merges, classes) = record { clauses = clauses; merges = omega arith; classes = classes ∙ is }

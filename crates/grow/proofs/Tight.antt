@@ -1,5 +1,5 @@
 -- What build and add promise leaves nothing open (rule 18.1): for one input the answer, every row and the tally are settled.
-use Prim.Native.Nat.{ℕ, _+_}
+use Prim.Native.Nat.{ℕ}
 use mathlib.Core.Path.{_≡_, sym, _∙_, ap, ap₂, subst}
 use mathlib.Core.List.{List, [], _∷_, _++_}
 use native.Mathlib.Omega.{arith}
@@ -14,7 +14,7 @@ use Rattle.formula_rules.specs.Rules.{readAs, readBy}
 use Rattle.forest_tables.specs.Lent.{rows, variablesOf}
 use Rattle.formula.specs.Meaning.{connected}
 use Rattle.forest_theory.specs.Reach.{Variables, Joined}
-use Rattle.forest_theory.specs.Tables.{Table, row, lent, joins}
+use Rattle.forest_theory.specs.Tables.{Table, ClassName, row, lent, joins}
 use Rattle.forest_theory.specs.Counts.{Counted}
 use Rattle.forest_theory.proofs.Reach.{joined-sym}
 use Rattle.forest_theory.proofs.Rows.{rows-one, lent-one}
@@ -22,23 +22,17 @@ use Rattle.forest_theory.proofs.Growth.{forest-is}
 use Rattle.forest_theory.proofs.Counts.{counts-one}
 use Rattle.forest_tables.specs.Formula.{variables, joined}
 use Rattle.forest_tables.proofs.Agreeing.{lawful}
-use Rattle.terms.specs.declared.Tally.{Tally}
-use Rattle.grow.specs.Grown.{Standing, standing, tableOf, classNames, many, buildOrder, addOrder, Grown, TallyOf, Took, Leaves, Rewrites, Builds, Adds}
+use Rattle.forest_theory.proofs.Numbered.{numbered-one}
+use Rattle.grow.specs.Taken.{Taken}
+use Rattle.grow.specs.Grown.{Standing, standing, tableOf, buildOrder, addOrder, Grown, Tallies, Took, Leaves, Rewrites, Builds, Adds}
+use Rattle.grow.proofs.Taking.{tally-one, tally-of-one}
 
--- Tallies with the same numbers are one.
-tally-one : (t u : Tally) → t .clauses ≡ u .clauses → t .merges ≡ u .merges → t .classes ≡ u .classes → t ≡ u
-tally-one t u c m k i = record { clauses = c i; merges = m i; classes = k i }
-
--- The tally of a list, and that after an add, are settled by the class names of the tables.
-pub tally-of-one : (X : Variables) {taken : ℕ} (s s′ : Standing) → classNames X s ≡ classNames X s′
-    → TallyOf X taken s → TallyOf X taken s′ → s .tally ≡ s′ .tally
-tally-of-one X s s′ e t u =
-    let k : s .tally .classes ≡ s′ .tally .classes = t .classes ∙ e ∙ sym (u .classes) in
-    tally-one (s .tally) (s′ .tally) (t .clauses ∙ sym (u .clauses)) (omega (arith, t .merges, u .merges)) k
-
-pub took-one : (X : Variables) (s₀ s s′ : Standing) → classNames X s ≡ classNames X s′ → Took X s₀ s → Took X s₀ s′ → s .tally ≡ s′ .tally
+-- What an add makes of a tally is settled by the tables.
+took-one : (X : Variables) (s₀ s s′ : Standing) → tableOf X s ≡ tableOf X s′ → Took X s₀ s → Took X s₀ s′ → s .tally ≡ s′ .tally
 took-one X s₀ s s′ e t u =
-    tally-one (s .tally) (s′ .tally) (t .clauses ∙ sym (u .clauses)) (omega (arith, t .merges, u .merges)) (t .classes ∙ e ∙ sym (u .classes))
+    let t′ = subst (λ (W : Table). Taken (ClassName X (tableOf X s₀)) (ClassName X W) (s₀ .tally) (s .tally)) e t in
+    let gone = numbered-one (t′ .disappeared) (u .disappeared) in
+    tally-one (s .tally) (s′ .tally) (t .clauses ∙ sym (u .clauses)) (omega (arith, t′ .merges, u .merges)) (numbered-one (t′ .classes) (u .classes))
 
 module _ (n : ℕ) (es : List ℕ) where
   abbrev X : Variables
@@ -65,7 +59,7 @@ module _ (n : ℕ) (es : List ℕ) where
 
   -- Two outcomes that an order, a forest and what the tally is to be settle are equal.
   pub tight : (order : List Causes) (cs : List (List ℕ)) (T : Standing → Type 0)
-      → ((a b : Standing) → classNames X a ≡ classNames X b → T a → T b → a .tally ≡ b .tally) → {s a b : Standing} (x y : Filled)
+      → ((a b : Standing) → tableOf X a ≡ tableOf X b → T a → T b → a .tally ≡ b .tally) → {s a b : Standing} (x y : Filled)
       → Rewrites order X (Joined cs) T s a x → Rewrites order X (Joined cs) T s b y → (x ≡ y) × (a ≡ b)
   tight order cs T one {s} {a} {b} x y f g = go x y (f .judged) (g .judged) (f .leaves) (g .leaves)
     where
@@ -73,7 +67,7 @@ module _ (n : ℕ) (es : List ℕ) where
           → (x ≡ y) × (a ≡ b)
       go (Count k) (Count m) f g (is, left, t) (is′, left′, t′) =
           let (c, p, q) = rows-left s a b left left′ in
-          let tally = one a b (λ i. classNames X (standing (rows (c i) (p i) (q i)) (a .tally))) t t′ in
+          let tally = one a b (λ i. tableOf X (standing (rows (c i) (p i) (q i)) (a .tally))) t t′ in
           (ap Count (is ∙ sym is′), λ i. standing (rows (c i) (p i) (q i)) (tally i))
       go (Count k) (Refused m p) none first l r = absurd (first-or-none order m p first none)
       go (Refused k q) (Count m) first none l r = absurd (first-or-none order k q first none)
@@ -85,7 +79,8 @@ module _ (n : ℕ) (es : List ℕ) where
 pub build-tight : {rule : ℕ} (f : Formula) {s a b : Standing} (x y : Filled) → Builds rule f s a x → Builds rule f s b y → (x ≡ y) × (a ≡ b)
 build-tight {rule} f {s} x y =
     let X = variablesOf (readBy rule f) in
-    tight (f .n) (readAs rule (f .prefix)) (buildOrder rule f s) (joined (f .clauses)) (TallyOf X (many (f .clauses))) (tally-of-one X) x y
+    tight (f .n) (readAs rule (f .prefix)) (buildOrder rule f s) (joined (f .clauses)) (Tallies X (f .clauses))
+    (λ a b _. tally-of-one (lawful (f .n) (readAs rule (f .prefix)))) x y
 
 pub add-tight : {rule n : ℕ} (es : List ℕ) {ls : List ℤ} {s a b : Standing} (x y : Filled)
     → Adds rule n es s ls a x → Adds rule n es s ls b y → (x ≡ y) × (a ≡ b)

@@ -1,6 +1,6 @@
 -- What build and add promise: the order in which each looks for refusals (rule 8.2), and what it leaves in the lent rows and in the tally (demand 3;
 -- rule 3.5, rule 4.3, rule 4.4, rule 7.2, rule 7.5).
-use Prim.Native.Nat.{ℕ, _+_, _-_, _<_}
+use Prim.Native.Nat.{ℕ, _<_}
 use mathlib.Core.Path.{_≡_}
 use mathlib.Core.List.{List, [], _∷_, _++_}
 use mathlib.Core.Logic.{_⊎_}
@@ -18,14 +18,15 @@ use Rattle.formula_rules.specs.Rules.{readAs, readBy, RuleCause, PrefixCauseBy}
 use Rattle.formula.specs.Meaning.{clauses, connected}
 use Rattle.forest_tables.specs.Causes.{ForestCause}
 use Rattle.forest_tables.specs.Lent.{Rows, rowsIn, rowsOut, variablesOf}
-use Rattle.forest_tables.specs.Formula.{variables, Shares}
+use Rattle.forest_tables.specs.Formula.{variables, joined, Shares}
 use Rattle.forest_theory.specs.Reach.{Variables, Joined}
-use Rattle.forest_theory.specs.Tables.{Table, row, lent, joins}
+use Rattle.forest_theory.specs.Tables.{Table, ClassName, row, lent, joins}
 use Rattle.forest_theory.specs.Forest.{Forest}
 use Rattle.forest_theory.specs.Counts.{Counted, how-many, names}
 use Rattle.grow_passes.specs.Past.{Past}
 use Rattle.grow_refusals.specs.Admitted.{AddedCause, WrongTally}
 use Rattle.terms.specs.declared.Tally.{Tally}
+use Rattle.grow.specs.Taken.{Taken, TallyOf}
 
 -- What is lent to be rewritten: the rows of a forest, and the tally beside them.
 pub record Standing : Type 0 where
@@ -90,18 +91,13 @@ pub record Grown (X : Variables) (J : ℕ → ℕ → Type 0) (s s′ : Standing
   pub forest : Forest X J (tableOf X s′)
   pub counted : Counted X (tableOf X s′) (row (X .count) (s′ .rows .counts))
 
--- The tally of a list of so many clauses, beside its forest: all are taken, the classes left are the class names, and these and the merges sum to the
--- existentials.
-pub record TallyOf (X : Variables) (taken : ℕ) (s : Standing) : Type 0 where
-  pub clauses : s .tally .clauses ≡ taken
-  pub classes : s .tally .classes ≡ classNames X s
-  pub merges : s .tally .merges + s .tally .classes ≡ existentials X
+-- the tally that stands beside the rows is that of the list of clauses
+abbrev pub Tallies : Variables → List ℤ → Standing → Type 0
+Tallies X ls s = TallyOf X (joined ls) (s .tally)
 
--- What an add does to the tally: one clause more is taken, merges grow by the class names that disappeared, and the classes left are the class names.
-pub record Took (X : Variables) (s s′ : Standing) : Type 0 where
-  pub clauses : s′ .tally .clauses ≡ s .tally .clauses + 1
-  pub merges : s′ .tally .merges ≡ s .tally .merges + (classNames X s - classNames X s′)
-  pub classes : s′ .tally .classes ≡ classNames X s′
+-- what an add does to the tally: a clause is taken, by the class names of the tables before and after
+abbrev pub Took : Variables → Standing → Standing → Type 0
+Took X s s′ = Taken (ClassName X (tableOf X s)) (ClassName X (tableOf X s′)) (s .tally) (s′ .tally)
 
 -- What a call leaves: with the count n, the forest, and a tally as T says; where it refuses, all as it was.
 abbrev pub Leaves : Variables → (ℕ → ℕ → Type 0) → (Standing → Type 0) → Standing → Standing → Filled → Type 0
@@ -116,7 +112,7 @@ pub record Rewrites (order : List Causes) (X : Variables) (J : ℕ → ℕ → T
 -- What build promises: the forest of the clauses, by the prefix as the rule reads it, and the tally of their list.
 abbrev pub Builds : ℕ → Formula → Standing → Standing → Filled → Type 0
 Builds rule f s =
-    Rewrites (buildOrder rule f s) (variablesOf (readBy rule f)) (Shares (f .clauses)) (TallyOf (variablesOf (readBy rule f)) (many (f .clauses))) s
+    Rewrites (buildOrder rule f s) (variablesOf (readBy rule f)) (Shares (f .clauses)) (Tallies (variablesOf (readBy rule f)) (f .clauses)) s
 
 -- What add leaves by a prefix that is read: the forest of the joins which the lent tables stand for, with the clause added, and the tally with the
 -- clause taken.

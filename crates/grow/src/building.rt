@@ -14,7 +14,8 @@ ghost use Rattle.formula.specs.Lookup.{SoundClauses};
 ghost use Rattle.forest_tables.specs.Formula.{variables, Shares};
 ghost use Rattle.forest_tables.specs.Lent.{rowsOut};
 ghost use Rattle.forest_tables.specs.Rows.{Tells};
-ghost use Rattle.grow.specs.Grown.{standing, standingIn, standingOut, many, TooShort, TallyOf, Rewrites};
+ghost use Rattle.grow.specs.Grown.{standing, standingIn, standingOut, many, TooShort, Tallies, Rewrites};
+ghost use Rattle.grow.specs.InnerTallies.{SumsUp};
 ghost use Rattle.grow_rows.specs.Rows.{Rowed, Recounted};
 ghost use Rattle.grow.specs.Rows.{Room};
 
@@ -30,7 +31,7 @@ pub fn build_read(
 ) -> Tallied
     requires sound { ⌜ SoundPrefix n (now prefix) × SoundClauses (now clauses) ⌝ }
     ensures built { λ r. ⌜ Rewrites (At0 14 (TooShort n (standingIn classes parents counts tally)) ∷ []) (variables n (now (prefix .entry)))
-        (Shares (now (clauses .entry))) (TallyOf (variables n (now (prefix .entry))) (many (now (clauses .entry))))
+        (Shares (now (clauses .entry))) (Tallies (variables n (now (prefix .entry))) (now (clauses .entry)))
         (standingIn classes parents counts tally) (standingOut classes parents counts (r .tally)) (r .answer) ⌝ }
 {
     if !has_room(n, classes, parents, counts) {
@@ -70,7 +71,7 @@ pub fn build_sound(
     ensures rows { λ r. ⌜ Rowed (variables n (now (prefix .entry))) (Shares (now (clauses .entry))) (now (classes .entry)) (now (parents .entry))
         (now (classes .exit)) (now (parents .exit)) ⌝ }
     ensures counts { λ r. ⌜ Recounted n (now (prefix .entry)) (now (classes .exit)) (now (parents .exit)) (now (counts .entry)) (now (counts .exit)) ⌝ }
-    ensures tally { λ r. ⌜ TallyOf (variables n (now (prefix .entry))) (many (now (clauses .entry))) (standing (rowsOut classes parents counts) r) ⌝ }
+    ensures tally { λ r. ⌜ SumsUp (variables n (now (prefix .entry))) (many (now (clauses .entry))) (standing (rowsOut classes parents counts) r) ⌝ }
 {
     let taken = grow(n, prefix, clauses, classes, parents);
     recount(n, prefix, classes, parents, counts);

@@ -50,10 +50,12 @@ use Rattle.forest_tables.proofs.Agreeing.{lawful}
 use Rattle.forest.proofs.Demands.{universal-alone, own-forest-fine, list-settled, entry-settled}
 use Rattle.forest_tables.proofs.Readings.{flag-within}
 use Rattle.grow_refusals.specs.Admitted.{AddedCause, outside, WrongTally}
-use Rattle.grow.specs.Grown.{Standing, tableOf, classNames, existentials, many, Extended, Grown, TallyOf, Took, Builds, Adds, withLast}
+use Rattle.grow.specs.Grown.{Standing, tableOf, classNames, existentials, many, Extended, Grown, Took, Builds, Adds, withLast}
+use Rattle.grow.specs.InnerTallies.{SumsUp}
 use Rattle.grow_passes.specs.Past.{Past}
 use Rattle.grow_passes.proofs.Passes.{many-most}
 use Rattle.grow.proofs.Appended.{many-last, joined-last}
+use Rattle.grow.proofs.Taking.{fell-took, none-added as no-class-new, sum-tallies}
 use Rattle.grow.proofs.Tight.{build-tight, add-tight}
 use Rattle.grow_cases.specs.Cases.{longer}
 use Rattle.grow_cases.proofs.Computed.{ForestRows}
@@ -114,7 +116,7 @@ module _ (n : ℕ) (es : List ℕ) where
     pub long : (n ≤ length (s .rows .classes)) × (n ≤ length (s .rows .parents)) × (n ≤ length (s .rows .counts))
     pub forest : Forest X (Shares ls) (tableOf X s)
     pub counted : Counted X (tableOf X s) (row n (s .rows .counts))
-    pub tallied : TallyOf X (many ls) s
+    pub tallied : SumsUp X (many ls) s
 
   -- Computed rows do, whatever stands past them.
   pub rows-stand : {ls : List ℤ} {s : Standing} → ForestRows X ls s → (more more′ more″ : List ℕ) → Stands ls (longer s more more′ more″)
@@ -200,7 +202,7 @@ module _ (rule n : ℕ) (es : List ℕ) where
               ),
             ),
           );
-          leaves = (refl, grown n read g s long long′ long″ (stands .forest), stands .tallied);
+          leaves = (refl, grown n read g s long long′ long″ (stands .forest), sum-tallies law ls (left n read built s) (stands .forest) (stands .tallied));
         }
 
     -- so many clause entries beside the prefix are within the limits
@@ -235,11 +237,13 @@ module _ (rule n : ℕ) (es : List ℕ) where
 
           took : Took Y s (left n read built s)
           took = let t = stands .tallied in let u = after .tallied in
-              record {
+              let formed = forest-is law .0 (stands .forest) .formed in
+              fell-took law s (left n read built s) (no-class-new law (connected clause) formed forest)
+              (record {
                 clauses = u .clauses ∙ many-last (accepted .1 .1 .1 .1 .0) first ∙ ap (λ (k : ℕ). k + 1) (sym (t .clauses));
-                merges = omega (arith, t .merges, u .merges, t .classes, u .classes, fewer-added (connected clause) law (forest-is law .0 (stands .forest) .formed) forest n);
+                merges = omega (arith, t .merges, u .merges, t .classes, u .classes, fewer-added (connected clause) law formed forest n);
                 classes = u .classes;
-              }
+              })
 
           stated : Adds rule n es s clause (left n read built s) (Count n)
           stated = record {

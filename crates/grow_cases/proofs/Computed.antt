@@ -20,7 +20,8 @@ use Rattle.forest_theory.specs.Search.{has, meets, keep, put-back, find, see, s
 use Rattle.forest_theory.specs.Fusing.{fill, classes-up, marks, goes-before, under, fuse-class, fuse-parent, table-of, rows-by, fuse-marks, fuse, fuse-all, singles, forest-of, count-of, counts-of}
 use Rattle.forest_theory.specs.Counts.{how-many, names}
 use Rattle.forest_tables.specs.Formula.{variables, universal, joined}
-use Rattle.grow.specs.Grown.{Standing, standing, tableOf, many, TallyOf, withLast}
+use Rattle.grow.specs.Grown.{Standing, standing, tableOf, many, withLast}
+use Rattle.grow.specs.InnerTallies.{SumsUp}
 use Rattle.grow_cases.specs.FormulaA.{prefixA, clausesA, withClauses, tally, standA, stand79, stand12, stand-none, clause79, clause58, clause12}
 use Rattle.grow_cases.specs.Cases.{longer}
 
@@ -32,7 +33,7 @@ A = variables 9 prefixA
 pub record ForestRows (X : Variables) (ls : List ℤ) (s : Standing) : Type 0 where
   pub computed : forest-of X (joined ls) ≡ record { classes = s .rows .classes; parents = s .rows .parents }
   pub counted : counts-of X (tableOf X s) ≡ s .rows .counts
-  pub tallied : TallyOf X (many ls) s
+  pub tallied : SumsUp X (many ls) s
   pub long : (length (s .rows .classes) ≡ X .count) × (length (s .rows .parents) ≡ X .count) × (length (s .rows .counts) ≡ X .count)
 
 -- A with {5 8} added, of which rule 17.1 lists no rows.

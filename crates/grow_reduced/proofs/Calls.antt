@@ -22,7 +22,9 @@ use Rattle.forest.specs.Causes.{NotUniversal, askOrder, listOrder}
 use Rattle.forest.specs.InnerOrders.{behindCheck}
 use Rattle.forest.specs.Answers.{EntriesBy, MembersBy, EntriesListed, SetListed, Sized}
 use Rattle.forest.proofs.Demands.{list-settled, size-settled}
-use Rattle.grow.specs.Grown.{Standing, many, TooShort, TallyOf, Leaves, Builds}
+use Rattle.grow.specs.Grown.{Standing, TooShort, Tallies, Leaves, Builds}
+use Rattle.grow.proofs.Taking.{tallies-sum, sum-tallies}
+use Rattle.forest_tables.proofs.Agreeing.{lawful}
 use Rattle.grow.proofs.Tight.{build-tight}
 use Rattle.grow_reduced.specs.Reduced.{Reduction}
 use Rattle.grow_reduced.proofs.Clauses.{reduction-many}
@@ -93,13 +95,16 @@ module _ (rule n : ℕ) (es : List ℕ) {ls ls′ : List ℤ} (reduction : Reduc
         leaves = go a (built .leaves);
       }
     where
-      go : (a : Filled) → Leaves (variables n read) (Shares ls) (TallyOf (variables n read) (many ls)) s s′ a
-          → Leaves (variables n read) (Shares ls′) (TallyOf (variables n read) (many ls′)) s s′ a
-      go (Filled.Count k) (is, grown, tally) = (
-        is,
-        record { past = grown .past; forest = same-forest n read reduction .0 (grown .forest); counted = grown .counted },
-        record { clauses = tally .clauses ∙ reduction-many reduction; classes = tally .classes; merges = tally .merges },
-      )
+      go : (a : Filled) → Leaves (variables n read) (Shares ls) (Tallies (variables n read) ls) s s′ a
+          → Leaves (variables n read) (Shares ls′) (Tallies (variables n read) ls′) s s′ a
+      go (Filled.Count k) (is, grown, tally) =
+          let law = lawful n read in
+          let forest = same-forest n read reduction .0 (grown .forest) in
+          let t = tallies-sum law ls s′ (grown .forest) tally in (
+            is,
+            record { past = grown .past; forest = forest; counted = grown .counted },
+            sum-tallies law ls′ s′ forest (record { clauses = t .clauses ∙ reduction-many reduction; classes = t .classes; merges = t .merges }),
+          )
       go (Filled.Refused k p) stays = stays
 
   pub same-build : {s s′ s″ : Standing} (a b : Filled) → Builds rule f s s′ a → Builds rule f′ s s″ b → (a ≡ b) × (s′ ≡ s″)

@@ -13,7 +13,7 @@ use Rattle.terms.specs.declared.Tally.{Tally}
 use Rattle.formula.specs.Lent.{Formula}
 use Rattle.formula_rules.specs.Rules.{readAs, readBy}
 use Rattle.forest_tables.specs.Lent.{Rows, variablesOf}
-use Rattle.grow.specs.Grown.{Standing, standing, tableOf, many, buildOrder, addOrder, Extended, Grown, TallyOf, Took, Rewrites, Builds, Adds}
+use Rattle.grow.specs.Grown.{Standing, standing, tableOf, buildOrder, addOrder, Extended, Grown, Tallies, Took, Rewrites, Builds, Adds}
 use Rattle.c_answers.specs.Codes.{tallyIn}
 use Rattle.c_answers.specs.Cells.{Fits, Any, Laid, filledSaid, builtSaid, addedSaid}
 use Rattle.snowcoddle.specs.Told.{Told, Left}
@@ -63,11 +63,11 @@ module _ (r r′ : Rows) (cells : List ℕ) where
       → Builds rule f (standing r lent) (standing r′ tally) answer
       → Told (buildOrder rule f (standing r (tallyIn cells)))
       ((count′ ≡ f .n) × Left (λ s. Grown (variablesOf (readBy rule f)) (Shares (f .clauses)) (standing r (tallyIn cells)) s
-      × TallyOf (variablesOf (readBy rule f)) (many (f .clauses)) s) r′ cells′)
+      × Tallies (variablesOf (readBy rule f)) (f .clauses) s) r′ cells′)
       ((count′ ≡ count) × ((r′ .classes ≡ r .classes) × (r′ .parents ≡ r .parents) × (r′ .counts ≡ r .counts) × (cells′ ≡ cells))) returned place place′
   tell-built rule f tally answer q laid builds =
       let X = variablesOf (readBy rule f) in
-      let T = TallyOf X (many (f .clauses)) in
+      let T = Tallies X (f .clauses) in
       let order = buildOrder rule f (standing r (tallyIn cells)) in
       let b = subst (λ (t : Tally). Builds rule f (standing r t) (standing r′ tally) answer) q builds in
       tell-known order (LeaveCounted order X (Shares (f .clauses)) T (tallyIn cells) tally) Stay laid

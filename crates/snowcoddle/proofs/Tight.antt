@@ -17,7 +17,7 @@ use Rattle.formula.specs.Lent.{Formula}
 use Rattle.formula_rules.specs.Rules.{readAs, readBy}
 use Rattle.forest_tables.specs.Formula.{variables, Shares}
 use Rattle.forest_tables.specs.Lent.{Rows, variablesOf}
-use Rattle.grow.specs.Grown.{Standing, tableOf, many, buildOrder, addOrder, Extended, Grown, TallyOf, Took, Builds, Adds}
+use Rattle.grow.specs.Grown.{Standing, tableOf, buildOrder, addOrder, Extended, Grown, Tallies, Took, Builds, Adds}
 use Rattle.grow.proofs.Tight.{build-tight, add-tight}
 use Rattle.file_format.specs.Layout.{FileOf}
 use Rattle.file_format.specs.Places.{formulaHeld, hasSets}
@@ -56,7 +56,7 @@ left-tight S one (t, f, q) (u, g, r) =
 -- what build leaves
 module _ (rule : ℕ) (f : Formula) (s : Standing) where
   abbrev Built : Standing → Type 0
-  Built a = Grown (variablesOf (readBy rule f)) (Shares (f .clauses)) s a × TallyOf (variablesOf (readBy rule f)) (many (f .clauses)) a
+  Built a = Grown (variablesOf (readBy rule f)) (Shares (f .clauses)) s a × Tallies (variablesOf (readBy rule f)) (f .clauses) a
 
   pub built-tight : {r r′ : Rows} {after after′ : List ℕ} → NoneOf (buildOrder rule f s)
       → Left Built r after → Left Built r′ after′ → (r ≡ r′) × (after ≡ after′)

@@ -19,7 +19,7 @@ use Rattle.forest_tables.specs.Lent.{Rows, rowsIn, rowsOut, variablesOf}
 use Rattle.forest.specs.Causes.{entryOrder, askOrder, listOrder}
 use Rattle.forest.specs.Answers.{Entry, EntriesBy, MembersBy, SizeBy}
 use Rattle.sets.specs.Sets.{AllSetsBy, setsOrder}
-use Rattle.grow.specs.Grown.{Standing, standing, tableOf, many, buildOrder, addOrder, Extended, Grown, TallyOf, Took}
+use Rattle.grow.specs.Grown.{Standing, standing, tableOf, buildOrder, addOrder, Extended, Grown, Tallies, Took}
 use Rattle.text_write.specs.Stored.{Stored}
 use Rattle.text_qdimacs.specs.Reading.{readOrder, ReadInto}
 use Rattle.text_qdimacs.specs.Stored.{formulaText, writingOrder}
@@ -105,7 +105,7 @@ BuildTold rule f classes parents counts tally count =
     Tells (buildOrder rule f (lentStanding classes parents counts tally))
     ((now (count .exit) ≡ f .n)
     × LeftTold (λ s. Grown (variablesOf (readBy rule f)) (Shares (f .clauses)) (lentStanding classes parents counts tally) s
-    × TallyOf (variablesOf (readBy rule f)) (many (f .clauses)) s) classes parents counts tally) (Kept count × RowsKept classes parents counts tally)
+    × Tallies (variablesOf (readBy rule f)) (f .clauses) s) classes parents counts tally) (Kept count × RowsKept classes parents counts tally)
 
 -- add: the rows of the forest with the clause, and the tally with the clause taken
 abbrev pub AddTold : ℕ → ℕ → List ℕ → Table → Table → Table → Table → List ℤ → Cell → ℕ → Type 0

@@ -8,7 +8,7 @@ use Rattle.formula_rules.specs.Rules.{checkOrder, readAs}
 use Rattle.formula_rules.proofs.Reading.{refused-read, hand-read, sound-read, more-read, behind-read}
 use Rattle.forest_tables.specs.Formula.{variables, Shares}
 use Rattle.forest_tables.specs.Lent.{rows}
-use Rattle.grow.specs.Grown.{Standing, standing, many, TooShort, buildOrder, TallyOf, Rewrites}
+use Rattle.grow.specs.Grown.{Standing, standing, TooShort, buildOrder, Tallies, Rewrites}
 use Rattle.grow.proofs.Standings.{refusal, carry-rewrites}
 use Rattle.grow.proofs.build.Statement.{statement}
 use Rattle.grow.proofs.build.Tie as tie
@@ -48,7 +48,7 @@ returns c =
     let first =
     refused-read (checkOrder (a .rule) (formula at-start)) _ (a .rule) (a .n) (a .prefix .now) _ (At0 14 (TooShort (a .n) (lent at-start)) ∷ [])
     (c .before .before .number .given .1) (at-read .read-formula .ensures) in
-    refusal (buildOrder (a .rule) (formula at-start) (lent at-start)) X (Shares (a .clauses .now)) (TallyOf X (many (a .clauses .now))) (lent at-start .rows)
+    refusal (buildOrder (a .rule) (formula at-start) (lent at-start)) X (Shares (a .clauses .now)) (Tallies X (a .clauses .now)) (lent at-start .rows)
     _ _ first (c .refused .ensures)
 
 returns-2 : tie.Need-returns-2
@@ -63,7 +63,7 @@ returns-2 c =
     let left = standing (rows (done .last .1 .1 .1 .0) (done .last .1 .1 .1 .1 .0) (done .last .1 .1 .1 .1 .1 .0)) (done .result .tally) in
     behind-read (checkOrder (a .rule) (formula at-start)) _ (a .rule) (a .n) (a .prefix .now) _ (at-count .count .given .1) (at-read .read-formula .ensures)
     (λ order read.
-    Rewrites order (variables (a .n) read) (Shares (a .clauses .now)) (TallyOf (variables (a .n) read) (many (a .clauses .now))) (lent at-start) left
+    Rewrites order (variables (a .n) read) (Shares (a .clauses .now)) (Tallies (variables (a .n) read) (a .clauses .now)) (lent at-start) left
     (done .result .answer))
     (λ order order′ read. carry-rewrites (done .result .answer) order order′) (λ read. At0 14 (TooShort (a .n) (lent at-start)) ∷ [])
     (at-as-read .as-read .ensures) (done .ensures)

@@ -13,7 +13,8 @@ use Rattle.forest_tables.proofs.Readings.{told, told-not}
 use Rattle.grow_refusals.specs.Admitted.{WrongTally}
 use Rattle.grow.specs.Grown.{Standing, standing, tableOf, classNames, existentials, TallyCause, Extended, Took}
 use Rattle.grow.proofs.Standings.{rowed-grown, refusal, acceptance}
-use Rattle.grow.proofs.Tallies.{agrees-clauses, agrees-classes, agrees-sum, tally-refused, tally-accepted, took}
+use Rattle.grow.proofs.Tallies.{agrees-clauses, agrees-classes, agrees-sum, tally-refused, tally-accepted, fell}
+use Rattle.grow.proofs.Taking.{fell-took, none-added}
 use Rattle.grow.proofs.adding.add_formed.Statement.{statement}
 use Rattle.grow.proofs.adding.add_formed.Tie as tie
 
@@ -72,10 +73,14 @@ returns-2 c =
     let is = census (at-if1 .before) in
     let extended = at-extend .extend in
     let taken = c .before .take in
+    let law = lawful (a .n) (a .prefix .now) in
+    let last = extended .last .1 .1 in
+    let left = standing (rows (last .0) (last .1 .0) (last .1 .1 .0)) (taken .result) in
     acceptance (TallyCause (X at-start) s ∷ []) (X at-start) (Extended (X at-start) (tableOf (X at-start) s) (a .clause .now)) (Took (X at-start) s) (s .rows)
     (taken .result) (tally-accepted (X at-start) s is (agrees at-if1)) (c .counted .ensures)
     (rowed-grown (a .n) (a .prefix .now) (extended .ensures .0) _ _ (extended .ensures .1 .0))
-    (took (X at-start) s _ (extended .result) (agrees-classes (a .tally) (agrees at-if1) ∙ is .1) (extended .ensures .1 .1) (taken .ensures))
+    (fell-took law s left (none-added law (connected (a .clause .now)) (at-start .pre .1 .1) (extended .ensures .0 .forest))
+    (fell (X at-start) s left (extended .result) (agrees-classes (a .tally) (agrees at-if1) ∙ is .1) (extended .ensures .1 .1) (taken .ensures)))
 
 pub add-formed-spec : {M : Type 1} → statement M
 add-formed-spec =

@@ -6,7 +6,9 @@ use Rattle.terms.specs.Refusals.{At0}
 use Rattle.forest_tables.specs.Formula.{variables, Shares}
 use Rattle.forest_tables.specs.Lent.{rows}
 use Rattle.forest_tables.proofs.Readings.{told, told-not}
-use Rattle.grow.specs.Grown.{Standing, standing, many, TooShort, TallyOf}
+use Rattle.grow.specs.Grown.{Standing, standing, TooShort, Tallies}
+use Rattle.grow.proofs.Taking.{sum-tallies}
+use Rattle.forest_tables.proofs.Agreeing.{lawful}
 use Rattle.grow.specs.Rows.{Room}
 use Rattle.grow.proofs.Accepted.{build-short, build-accepted}
 use Rattle.grow.proofs.Standings.{rowed-grown, refusal, acceptance}
@@ -34,7 +36,7 @@ returns c =
     let X = variables (a .n) (a .prefix .now) in
     let room = at-has-room .has-room in
     let short = build-short (a .n) (lent at-start) (told-not (room .result) (not-true (room .result) (c .before .if1 .taken)) (room .ensures)) in
-    refusal (At0 14 (TooShort (a .n) (lent at-start)) ∷ []) X (Shares (a .clauses .now)) (TallyOf X (many (a .clauses .now))) (lent at-start .rows) 14 0 short
+    refusal (At0 14 (TooShort (a .n) (lent at-start)) ∷ []) X (Shares (a .clauses .now)) (Tallies X (a .clauses .now)) (lent at-start .rows) 14 0 short
     (c .refused .ensures)
 
 build-sound-requires : tie.Need-build-sound-requires
@@ -52,8 +54,9 @@ returns-2 c =
     let X = variables (a .n) (a .prefix .now) in
     let built = at-build .build-sound in
     let grown = rowed-grown (a .n) (a .prefix .now) (built .ensures .0) _ _ (built .ensures .1 .0) in
-    acceptance (At0 14 (TooShort (a .n) (lent at-start)) ∷ []) X (Shares (a .clauses .now)) (TallyOf X (many (a .clauses .now))) (lent at-start .rows)
-    (built .result) (build-accepted (a .n) (lent at-start) (enough at-if1)) (c .counted .ensures) grown (built .ensures .1 .1)
+    acceptance (At0 14 (TooShort (a .n) (lent at-start)) ∷ []) X (Shares (a .clauses .now)) (Tallies X (a .clauses .now)) (lent at-start .rows)
+    (built .result) (build-accepted (a .n) (lent at-start) (enough at-if1)) (c .counted .ensures) grown
+    (sum-tallies (lawful (a .n) (a .prefix .now)) (a .clauses .now) _ (grown .forest) (built .ensures .1 .1))
 
 pub build-read-spec : {M : Type 1} → statement M
 build-read-spec =
