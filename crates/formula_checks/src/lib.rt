@@ -33,7 +33,7 @@ pub fn clause_verdict(n: u32, clauses: &[i32], asked: u32) -> Verdict
 
 // The clause with the number `asked`, as the part of the lent table that holds its literals; an empty part where it is refused.
 pub fn clause(n: u32, clauses: &[i32], asked: u32) -> &[i32]
-    ensures part { λ r. ⌜ ClausePart n (now (clauses .entry)) asked (now r) ⌝ }
+    ensures part { λ r. ⌜ ClausePart n (clauses .entry) asked r ⌝ }
 {
     match clause_verdict(n, clauses, asked) {
         Verdict::Accepted => match find(clauses, asked) {

@@ -1,6 +1,12 @@
--- Where nothing is refused the clause is found, for 13 has no cause, and the part from its first entry to its 0 is the clause; else the part is empty.
-use mathlib.Core.Path.{refl, subst}
+-- Where nothing is refused the clause is found, for 13 has no cause, and the part from its first entry to its 0 is the clause, and stands there; else the
+-- part is empty.
+use Prim.Native.Nat.{ℕ, _+_, _*_}
+use mathlib.Core.Path.{_≡_, refl, ap, subst}
+use mathlib.Core.List.{List}
 use native.Mathlib.Omega.{arith}
+use lib.IntN.{ℤ}
+use denote.Ref.{RefT, ptr}
+use borrow.Rule.Slice.Shared.{bySize}
 use borrow.Author.Needs.{needs}
 use Rattle.terms.specs.Refusals.{Judged}
 use Rattle.formula.specs.Causes.{clauseOrder}
@@ -18,6 +24,13 @@ found c =
     let at-find = c .before .before .before in
     let a = at-find .before .before .before .before .args in
     subst (Stands (a .clauses .now) (a .asked)) (c .before .start .given .1) (at-find .find .ensures)
+
+-- the part from an entry on stands behind the entries before it
+abbrev place : RefT (List ℤ) → ℕ → ℕ × ℕ
+place table offset = (ptr table .0, offset)
+
+stands : (table : RefT (List ℤ)) (start : ℕ) {entry : ℕ} → start ≡ entry → place table (bySize 4 start (ptr table .1)) ≡ place table (ptr table .1 + 4 * entry)
+stands table start {entry} is = let q : bySize 4 start (ptr table .1) ≡ ptr table .1 + 4 * entry = omega (arith, is) in ap (place table) q
 
 mul-result : tie.Need-mul-result
 unfolding Stands
@@ -48,6 +61,7 @@ returns c =
     let a = at-clause-verdict .before .args in
     let order = clauseOrder (a .n) (a .clauses .now) (a .asked) in
     accepted (subst (Judged order) (at-enum-told .enum-told .given .1) (at-clause-verdict .clause-verdict .ensures)) (found (c .before) .3)
+    (stands (a .clauses) (c .before .before .start .given .0 .0) (found (c .before) .4))
 
 returns-2 : tie.Need-returns-2
 unfolding Stands
@@ -68,6 +82,7 @@ returns-3 c =
     let order = clauseOrder (a .n) (a .clauses .now) (a .asked) in
     let said = c .before .enum-told3 .given in
     refused (said .0 .0) (said .0 .1 .0) (subst (Judged order) (said .1) (at-clause-verdict .clause-verdict .ensures)) refl
+    (stands (a .clauses) 0 refl)
 
 pub clause-spec : {M : Type 1} → statement M
 clause-spec =
