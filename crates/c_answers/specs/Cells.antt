@@ -4,17 +4,10 @@ use mathlib.Core.Path.{_≡_}
 use mathlib.Core.List.{List}
 use denote.Ref.{RefT, now}
 use denote.Triple.Both.{Both}
-use Rattle.terms.specs.declared.Filled.{Filled}
-use Rattle.terms.specs.declared.Verdict.{Verdict}
-use Rattle.terms.specs.declared.EntryAnswer.{EntryAnswer}
+pub use Rattle.terms.specs.Says.{Said, gives, refuses, numberOf, saidBy, verdictSaid, filledSaid, entrySaid}
 use Rattle.terms.specs.declared.Tally.{Tally}
 use Rattle.terms.specs.declared.Tallied.{Tallied}
 use Rattle.c_answers.specs.Codes.{cellsOf}
-
--- What an answer says: what it gives in cells, or the number and the place of a refusal.
-pub data Said (C : Type 0) : Type 0 where
-  gives : C → Said C
-  refuses : ℕ → ℕ → Said C
 
 -- a number that a cell can hold
 abbrev pub InCell : ℕ → Type 0
@@ -63,19 +56,6 @@ abbrev pub FourLaid : Said (ℕ × ℕ × ℕ × ℕ) → Cell → Cell → Cell
 FourLaid said a b c d =
     LaidBy said (now (a .entry), now (b .entry), now (c .entry), now (d .entry)) (now (a .exit), now (b .exit), now (c .exit), now (d .exit))
 
--- What each answer says.
-abbrev pub verdictSaid : Verdict → Said (Unit {0})
-verdictSaid Verdict.Accepted = gives tt
-verdictSaid (Verdict.Refused number at) = refuses number at
-
-abbrev pub filledSaid : Filled → Said ℕ
-filledSaid (Filled.Count written) = gives written
-filledSaid (Filled.Refused number at) = refuses number at
-
-abbrev pub entrySaid : EntryAnswer → Said (ℕ × ℕ)
-entrySaid (EntryAnswer.At class rises) = gives (class .0, rises)
-entrySaid (EntryAnswer.Refused number at) = refuses number at
-
 -- Accepted, the tally stands in its cells; refused, these are kept.
 abbrev pub TallyLaid : Said ℕ → Tally → List ℕ → List ℕ → Type 0
 TallyLaid (gives count) tally cells cells′ = cells′ ≡ cellsOf tally
@@ -83,12 +63,10 @@ TallyLaid (refuses number at) tally cells cells′ = cells′ ≡ cells
 
 -- build gives a count and the cells of the tally, and add those cells alone
 abbrev pub builtSaid : Said ℕ → Tally → Said (ℕ × List ℕ)
-builtSaid (gives count) tally = gives (count, cellsOf tally)
-builtSaid (refuses number at) tally = refuses number at
+builtSaid said tally = saidBy (λ (count : ℕ). (count, cellsOf tally)) said
 
 abbrev pub addedSaid : Said (ℕ × List ℕ) → Said (List ℕ)
-addedSaid (gives parts) = gives (parts .1)
-addedSaid (refuses number at) = refuses number at
+addedSaid = saidBy (λ (parts : ℕ × List ℕ). parts .1)
 
 -- what build and add told stands in the cells of the tally, and a count beside them
 abbrev pub BuiltLaid : Tallied → TallyCells → Cell → Cell → ℕ → Type 0

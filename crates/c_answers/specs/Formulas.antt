@@ -1,28 +1,15 @@
--- What the answers say that give a formula: its variable count, the counts of the entries of its tables, and whether a file has sets; and that these
--- fit cells of 32 bits.
+-- What the answers say that give a formula, as cells of 32 bits have it: its variable count, the counts of the entries of its tables, and whether a
+-- file has sets; and which of these numbers fit.
 use Prim.Native.Nat.{ℕ}
-use Rattle.terms.specs.declared.Reading.{Reading}
-use Rattle.terms.specs.declared.ListedReading.{ListedReading}
-use Rattle.terms.specs.declared.Expanded.{Expanded}
+use mathlib.Core.Bool.{Bool}
 use Rattle.terms.specs.declared.Loaded.{Loaded}
+pub use Rattle.terms.specs.Says.{readingSaid, listedSaid, expandedSaid, loadedSaid}
 use Rattle.c_answers.specs.Codes.{tellsSets}
-use Rattle.c_answers.specs.Cells.{Said, gives, refuses, InCell}
+use Rattle.c_answers.specs.Cells.{Said, saidBy, InCell}
 
-abbrev pub readingSaid : Reading → Said (ℕ × ℕ × ℕ)
-readingSaid (Reading.Read n entries literals) = gives (n, entries, literals)
-readingSaid (Reading.Refused number at) = refuses number at
-
-abbrev pub listedSaid : ListedReading → Said (ℕ × ℕ × ℕ × ℕ)
-listedSaid (ListedReading.Read n entries literals rows) = gives (n, entries, literals, rows)
-listedSaid (ListedReading.Refused number at) = refuses number at
-
-abbrev pub expandedSaid : Expanded → Said (ℕ × ℕ × ℕ)
-expandedSaid (Expanded.Formula n entries literals) = gives (n, entries, literals)
-expandedSaid (Expanded.Refused number at) = refuses number at
-
-abbrev pub loadedSaid : Loaded → Said (ℕ × ℕ × ℕ × ℕ)
-loadedSaid (Loaded.Formula n entries literals there) = gives (n, entries, literals, tellsSets there)
-loadedSaid (Loaded.Refused number at) = refuses number at
+-- a file that was read, with whether sets were there as a cell has it
+abbrev pub loadedCells : Loaded → Said (ℕ × ℕ × ℕ × ℕ)
+loadedCells answer = saidBy (λ (held : ℕ × ℕ × ℕ × Bool). (held .0, held .1, held .2, tellsSets (held .3))) (loadedSaid answer)
 
 -- the counts of two tables, of three, and of the two of a file
 abbrev pub TwoInCells : ℕ × ℕ × ℕ → Type 0

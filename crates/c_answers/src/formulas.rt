@@ -8,7 +8,7 @@ ghost use mathlib.Core.Path.{_≡_};
 ghost use Rattle.c_answers.specs.Codes.{tellsSets};
 ghost use Rattle.c_answers.specs.Cells.{Fits, Any, ThreeLaid, FourLaid};
 ghost use Rattle.c_answers.specs.Formulas.{TwoInCells, ThreeInCells, LoadedInCells};
-ghost use Rattle.c_answers.specs.Formulas.{readingSaid, listedSaid, expandedSaid, loadedSaid};
+ghost use Rattle.c_answers.specs.Formulas.{readingSaid, listedSaid, expandedSaid, loadedCells};
 
 // What was read from a text.
 pub fn lay_reading(
@@ -112,8 +112,8 @@ pub fn lay_loaded(
     with_sets: &mut u32,
     place: &mut u32,
 ) -> u32
-    requires fits { ⌜ Fits LoadedInCells (loadedSaid answer) ⌝ }
-    ensures laid { λ r. ⌜ FourLaid (loadedSaid answer) n «prefix_count» «clauses_count» «with_sets» place r ⌝ }
+    requires fits { ⌜ Fits LoadedInCells (loadedCells answer) ⌝ }
+    ensures laid { λ r. ⌜ FourLaid (loadedCells answer) n «prefix_count» «clauses_count» «with_sets» place r ⌝ }
 {
     match answer {
         Loaded::Formula(variables, entries, literals, sets) => {

@@ -55,9 +55,9 @@ module _ (text : List ℕ) (before : Tables) where
       let same = firstOf-same (readOrder text before) k q k′ q′ (a .0) (b .0) in
       record {
         answer = ap₂ ListedReading.Refused (same .0) (same .1);
-        prefix-rows = a .1 ∙ sym (b .1);
-        clause-rows = a .2 ∙ sym (b .2);
-        list-rows = a .3 ∙ sym (b .3);
+        prefix-rows = a .1 .0 ∙ sym (b .1 .0);
+        clause-rows = a .1 .1 ∙ sym (b .1 .1);
+        list-rows = a .1 .2 ∙ sym (b .1 .2);
       }
 
 pub write-settled : (rule : ℕ) (f : Formula) (ds out out₁ out₂ : List ℕ) (r r′ : Filled) → WritesListed rule f ds out out₁ r

@@ -6,10 +6,11 @@ use mathlib.Core.List.{List, [], _∷_}
 use lib.ListN.{length}
 use lib.IntN.{ℤ}
 use Rattle.terms.specs.Overwritten.{overwritten}
-use Rattle.terms.specs.Refusals.{Causes, FirstOf, NoneOf}
+use Rattle.terms.specs.Says.{listedSaid}
+use Rattle.terms.specs.Answers.{Settles}
+use Rattle.terms.specs.Refusals.{Causes}
 use Rattle.text_write.specs.Texts.{Overlong}
 use Rattle.terms.specs.declared.ListedReading.{ListedReading}
-use Rattle.terms.specs.declared.ListedReading.the-variants.{Read, Refused}
 use Rattle.dqbf_text.specs.Grammar.{ListedText, ListedFaultIn}
 
 -- The tables that a text fills: the prefix table, the clause table and the table of lists.
@@ -42,6 +43,6 @@ pub record ReadInto (n entries literals rows : ℕ) (text : List ℕ) (before af
 
 -- Each answer: accepted, with n and the three counts, or refused, with the tables as they were.
 abbrev pub ReadIs : List ℕ → Tables → Tables → ListedReading → Type 0
-ReadIs text before after (Read n entries literals rows) = NoneOf (readOrder text before) × ReadInto n entries literals rows text before after
-ReadIs text before after (Refused number place) =
-    FirstOf (readOrder text before) number place × (after .0 ≡ before .0) × (after .1 ≡ before .1) × (after .2 ≡ before .2)
+ReadIs text before after answer =
+    Settles (readOrder text before) (λ (counts : ℕ × ℕ × ℕ × ℕ). ReadInto (counts .0) (counts .1) (counts .2) (counts .3) text before after)
+    ((after .0 ≡ before .0) × (after .1 ≡ before .1) × (after .2 ≡ before .2)) (listedSaid answer)

@@ -14,6 +14,8 @@ use Rattle.terms.specs.Refusals.{Causes, At0}
 use Rattle.terms.specs.declared.Expanded.{Expanded}
 use Rattle.terms.proofs.Listed.{listed-one, listed-most}
 use Rattle.terms.proofs.Overwritten.{stored-overwritten, overwritten-front}
+use Rattle.terms.specs.Says.{expandedSaid}
+use Rattle.terms.proofs.Answers.{carry-settles}
 use Rattle.terms.proofs.Orders.{Carries, one-more, same-order, carries-then, behind-none}
 use Rattle.terms.proofs.Verdicts.{at0-first, at0-none}
 use Rattle.formula.specs.Lent.{Formula}
@@ -22,7 +24,7 @@ use Rattle.forest_tables.proofs.Agreeing.{lawful}
 use Rattle.forest.specs.Wanted.{Lists}
 use Rattle.expand_clauses.specs.Expansion.{copyFrom, copyOf}
 use Rattle.expand_clauses.specs.Copied.{tabled, Copies}
-use Rattle.expand.specs.Promise.{ResultTables, SetOf, expandedBy, OfExpanded, ManyVariables, Long, Short, ExpandsBy}
+use Rattle.expand.specs.Promise.{ResultTables, Leaves, SetOf, expandedBy, OfExpanded, ManyVariables, Long, Short, ExpandsBy}
 use Rattle.expand.specs.InnerOrders.{resultOrder}
 use Rattle.expand.specs.Writing.{writeOrder, Fits}
 
@@ -69,8 +71,8 @@ module _ (f : Formula) (x : ℕ) (sound : SoundPrefix (f .n) (f .prefix)) {befor
 -- What is promised by one order is promised by another that says as much.
 pub carry-expands : (f : Formula) (x : ℕ) (out out′ : ResultTables) (r : Expanded) (order order′ : List Causes)
     → Carries order order′ → ExpandsBy order f x out out′ r → ExpandsBy order′ f x out out′ r
-carry-expands f x out out′ (Expanded.Formula count entries literals) order order′ c (none, leaves) = (c .none none, leaves)
-carry-expands f x out out′ (Expanded.Refused number place) order order′ c (first, same) = (c .first number place first, same)
+carry-expands f x out out′ r =
+    carry-settles (λ (counts : ℕ × ℕ × ℕ). OfExpanded f x (Leaves out out′ (counts .0) (counts .1) (counts .2))) (out′ ≡ out) (expandedSaid r)
 
 module _ (f : Formula) (x : ℕ) {members : List ℕ} (set : SetOf f x members) (out : ResultTables) where
   abbrev result : Formula

@@ -11,7 +11,9 @@ use denote.Triple.Both.{Both}
 use Rattle.terms.specs.Limits.{mostVariables, prefixEntries, clauseEntries}
 use Rattle.terms.specs.Listed.{Listed}
 use Rattle.terms.specs.Overwritten.{overwritten}
-use Rattle.terms.specs.Refusals.{Causes, At0, FirstOf, NoneOf}
+use Rattle.terms.specs.Says.{expandedSaid}
+use Rattle.terms.specs.Answers.{Settles}
+use Rattle.terms.specs.Refusals.{Causes, At0}
 use Rattle.terms.specs.declared.Expanded.{Expanded}
 use Rattle.terms.specs.declared.Scheme.the-variants.{Standard}
 use Rattle.formula.specs.Causes.{VariableCount, LengthCause, ClauseCause}
@@ -91,8 +93,8 @@ pub record Leaves (out out′ : ResultTables) (count entries literals : ℕ) (g 
 
 -- What the call answers by an order of refusals, and by the formula as it is read; a refusal leaves both tables.
 abbrev pub ExpandsBy : List Causes → Formula → ℕ → ResultTables → ResultTables → Expanded → Type 0
-ExpandsBy order f x out out′ (Expanded.Formula count entries literals) = NoneOf order × OfExpanded f x (Leaves out out′ count entries literals)
-ExpandsBy order f x out out′ (Expanded.Refused number place) = FirstOf order number place × (out′ ≡ out)
+ExpandsBy order f x out out′ answer =
+    Settles order (λ (counts : ℕ × ℕ × ℕ). OfExpanded f x (Leaves out out′ (counts .0) (counts .1) (counts .2))) (out′ ≡ out) (expandedSaid answer)
 
 -- What the call promises.
 abbrev pub Expands : ℕ → Formula → ℕ → ResultTables → ResultTables → Expanded → Type 0

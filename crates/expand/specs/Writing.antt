@@ -20,5 +20,5 @@ writeOrder out g = At0 2 (Long g) ∷ At0 14 (Short out g) ∷ []
 
 -- A formula is written and counted, or it passes a limit or is longer than a table.
 abbrev pub Fits : Formula → ResultTables → ResultTables → Expanded → Type 0
-Fits g out out′ (Expanded.Formula count entries literals) = NoneOf (writeOrder out g) × Leaves out out′ count entries literals g
-Fits g out out′ (Expanded.Refused number place) = FirstOf (writeOrder out g) number place × (out′ ≡ out)
+Fits g out out′ answer =
+    Settles (writeOrder out g) (λ (counts : ℕ × ℕ × ℕ). Leaves out out′ (counts .0) (counts .1) (counts .2) g) (out′ ≡ out) (expandedSaid answer)

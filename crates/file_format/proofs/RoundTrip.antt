@@ -213,7 +213,7 @@ module _ (rule : ℕ) (f : Formula) (sets-record file : List ℕ) (none : NoneOf
     -- So reading it gives the formula back, its rows, and whether sets are there.
     pub reads-back : (lent′ : Lent) (answer : Loaded) → Loads rule file lent lent′ answer
         → (answer ≡ Loaded.Formula (f .n) (length (f .prefix)) (length (f .clauses)) there) × (lent′ ≡ storedIn lent f (g .rows))
-    reads-back lent′ (Loaded.Formula m entries literals with-sets) (none′, count, prefix, clauses, told, filled) =
+    reads-back lent′ (Loaded.Formula m entries literals with-sets) (none′, (count, prefix, clauses, told, filled)) =
         let m-is = count ∙ count-is in
         let e-is = prefix ∙ ap length prefix-is in
         let l-is = clauses ∙ ap length clauses-is in

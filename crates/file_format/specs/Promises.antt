@@ -4,9 +4,10 @@ use mathlib.Core.Path.{_≡_}
 use mathlib.Core.Bool.{Bool, true, false}
 use mathlib.Core.List.{List, _++_}
 use lib.ListN.{length}
-use Rattle.terms.specs.Answers.{Filling}
+use Rattle.terms.specs.Says.{loadedSaid}
+use Rattle.terms.specs.Answers.{Settles, Filling}
 use Rattle.terms.specs.Overwritten.{overwritten}
-use Rattle.terms.specs.Refusals.{Causes, FirstOf, NoneOf}
+use Rattle.terms.specs.Refusals.{Causes}
 use Rattle.terms.specs.declared.Filled.{Filled}
 use Rattle.terms.specs.declared.Loaded.{Loaded}
 use Rattle.formula.specs.Lent.{Formula}
@@ -37,10 +38,9 @@ pub record FilledFrom (read : Formula) (file : List ℕ) (lent lent′ : Lent) :
 -- What a call answers that reads a file into lent tables: n, how many entries the prefix and the clause table of the file have, and whether sets were
 -- there; or nothing is changed.
 abbrev pub Loading : List Causes → Formula → List ℕ → Lent → Lent → Loaded → Type 0
-Loading order read file lent lent′ (Loaded.Formula n entries literals with-sets) =
-    NoneOf order × (n ≡ formulaHeld file .n) × (entries ≡ length (formulaHeld file .prefix)) × (literals ≡ length (formulaHeld file .clauses))
-    × (with-sets ≡ hasSets file) × FilledFrom read file lent lent′
-Loading order read file lent lent′ (Loaded.Refused number place) = FirstOf order number place × (lent′ ≡ lent)
+Loading order read file lent lent′ answer =
+    Settles order (λ (held : ℕ × ℕ × ℕ × Bool). (held .0 ≡ formulaHeld file .n) × (held .1 ≡ length (formulaHeld file .prefix))
+    × (held .2 ≡ length (formulaHeld file .clauses)) × (held .3 ≡ hasSets file) × FilledFrom read file lent lent′) (lent′ ≡ lent) (loadedSaid answer)
 
 -- What reading promises.
 abbrev pub Loads : ℕ → List ℕ → Lent → Lent → Loaded → Type 0

@@ -107,7 +107,7 @@ module _ (rule : ℕ) (file : List ℕ) (bytes : Bytes file) (lent lent′ : Len
   roomy short = none-later (tableOrder rule f) last held .1 .0 14 0 (refl, refl, short)
 
   without : (w : List ℕ) → FileOf rule f w → WithoutSets file (hasSets file) w
-  without = drops rule file bytes laid (sums rule file lent (loads .0)) (loads .5 .rows) (loads .5 .right)
+  without = drops rule file bytes laid (sums rule file lent (loads .0)) (loads .1 .4 .rows) (loads .1 .4 .right)
 
   -- the formula that was read, as it stands in front in the lent tables, is the one that the file holds
   abbrev pub back : Formula
@@ -115,11 +115,11 @@ module _ (rule : ℕ) (file : List ℕ) (bytes : Bytes file) (lent lent′ : Len
 
   held-back : back ≡ f
   held-back =
-      let prefix = ap (λ (l : Lent). take entries (l .prefix)) (loads .5 .left)
-      ∙ take-at (prefixIn file) (drop (length (prefixIn file)) (lent .prefix)) entries (sym (loads .2)) in
-      let clauses = ap (λ (l : Lent). take literals (l .clauses)) (loads .5 .left)
-      ∙ take-at (clausesIn file) (drop (length (clausesIn file)) (lent .clauses)) literals (sym (loads .3)) in
-      λ i. formulaOf (loads .1 i) (prefix i) (clauses i)
+      let prefix = ap (λ (l : Lent). take entries (l .prefix)) (loads .1 .4 .left)
+      ∙ take-at (prefixIn file) (drop (length (prefixIn file)) (lent .prefix)) entries (sym (loads .1 .1)) in
+      let clauses = ap (λ (l : Lent). take literals (l .clauses)) (loads .1 .4 .left)
+      ∙ take-at (clausesIn file) (drop (length (clausesIn file)) (lent .clauses)) literals (sym (loads .1 .2)) in
+      λ i. formulaOf (loads .1 .0 i) (prefix i) (clauses i)
 
   never-refused : (before : List ℕ) → length file ≤ length before → NoneOf (storeOrder rule f before)
   never-refused before room =
@@ -139,7 +139,7 @@ module _ (rule : ℕ) (file : List ℕ) (bytes : Bytes file) (lent lent′ : Len
           let (w, g, is) = in-front rule f before after count said in (
             count,
             refl,
-            subst (λ (b : Bool). WithoutSets file b (take count after)) (sym (loads .4))
+            subst (λ (b : Bool). WithoutSets file b (take count after)) (sym (loads .1 .3))
                 (subst (WithoutSets file (hasSets file)) (sym is) (without w g)),
           )
       go (Refused number place) said = absurd (first-or-none (storeOrder rule f before) number place (said .0) (never-refused before room))

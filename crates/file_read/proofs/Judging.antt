@@ -55,4 +55,4 @@ pub loads-filled : (file : List ℕ) (lent lent′ : Lent) (answer : Loaded) →
 loads-filled file lent lent′ answer room left is =
     subst (LoadsRight file lent lent′) (sym is) (λ read right.
     let clear = at0-none 14 (roomy-none (formulaHeld file) lent room) in
-    ((clear, tt), refl, refl, refl, refl, record { rows = rowsHeld file; right = right; left = left }))
+    ((clear, tt), (refl, refl, refl, refl, record { rows = rowsHeld file; right = right; left = left })))

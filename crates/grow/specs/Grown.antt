@@ -8,10 +8,10 @@ use lib.IntN.{ℤ, pos}
 use lib.ListN.{length}
 use denote.Ref.{RefT, now}
 use denote.Triple.Both.{Both}
-use Rattle.terms.specs.Answers.{verdictOf}
+use Rattle.terms.specs.Says.{filledSaid}
+use Rattle.terms.specs.Answers.{Then, verdictOf}
 use Rattle.terms.specs.Refusals.{Causes, At0, Judged}
 use Rattle.terms.specs.declared.Filled.{Filled}
-use Rattle.terms.specs.declared.Filled.the-variants.{Count, Refused}
 use Rattle.formula.specs.Causes.{VariableCount, LengthCause, ClauseCause}
 use Rattle.formula.specs.Lent.{Formula}
 use Rattle.formula_rules.specs.Rules.{readAs, readBy, RuleCause, PrefixCauseBy}
@@ -101,8 +101,7 @@ Took X s s′ = Taken (ClassName X (tableOf X s)) (ClassName X (tableOf X s′))
 
 -- What a call leaves: with the count n, the forest, and a tally as T says; where it refuses, all as it was.
 abbrev pub Leaves : Variables → (ℕ → ℕ → Type 0) → (Standing → Type 0) → Standing → Standing → Filled → Type 0
-Leaves X J T s s′ (Count written) = (written ≡ X .count) × Grown X J s s′ × T s′
-Leaves X J T s s′ (Refused number place) = s′ ≡ s
+Leaves X J T s s′ answer = Then (λ (written : ℕ). (written ≡ X .count) × Grown X J s s′ × T s′) (s′ ≡ s) (filledSaid answer)
 
 -- What a call promises that rewrites what stands: its refusals in their order, and what it leaves.
 pub record Rewrites (order : List Causes) (X : Variables) (J : ℕ → ℕ → Type 0) (T : Standing → Type 0) (s s′ : Standing) (answer : Filled) : Type 0 where

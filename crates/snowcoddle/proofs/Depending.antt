@@ -18,7 +18,7 @@ use Rattle.c_answers.specs.Cells.{Fits, Laid}
 use Rattle.c_answers.specs.Formulas.{ThreeInCells, listedSaid}
 use Rattle.snowcoddle.specs.Told.{Told}
 use Rattle.snowcoddle.proofs.Places.{Small, small-then, small-within}
-use Rattle.snowcoddle.proofs.Telling.{Known, fits-known, tell-known}
+use Rattle.snowcoddle.proofs.Telling.{fits-known, tell-known}
 use Rattle.text_lines.proofs.Places.{place-few}
 use Rattle.snowcoddle.proofs.Texts.{words-few, entries-few, line-few, overlong-place}
 
@@ -86,10 +86,6 @@ module _ (text : List ℕ) (before after : Tables) where
   abbrev Stay : Type 0
   Stay = (after .0 ≡ before .0) × (after .1 ≡ before .1) × (after .2 ≡ before .2)
 
-  read-known : (answer : ListedReading) → ReadIs text before after answer → Known (readOrder text before) Into Stay (listedSaid answer)
-  read-known (ListedReading.Read n entries literals rows) said = said
-  read-known (ListedReading.Refused number at) said = (said .0, (said .1, said .2, said .3))
-
   pub fits-read : (answer : ListedReading) → ReadIs text before after answer → Fits ThreeInCells (listedSaid answer)
   fits-read answer said =
       fits-known (readOrder text before) Into Stay ThreeInCells (listedSaid answer) (small-read text before)
@@ -99,7 +95,7 @@ module _ (text : List ℕ) (before after : Tables) where
       let b = few .1 in
       let c = few .2 in
       (omega arith, omega arith, omega arith))
-      (read-known answer said)
+      said
 
   pub tell-read : (answer : ListedReading) {n entries literals rows n′ entries′ literals′ rows′ place place′ returned : ℕ}
       → Laid (listedSaid answer) (n, entries, literals, rows) (n′, entries′, literals′, rows′) place place′ returned
@@ -107,5 +103,5 @@ module _ (text : List ℕ) (before after : Tables) where
       → Told (readOrder text before) (ReadInto n′ entries′ literals′ rows′ text before after)
       ((n′ ≡ n) × (entries′ ≡ entries) × (literals′ ≡ literals) × (rows′ ≡ rows) × (after .0 ≡ before .0) × (after .1 ≡ before .1) × (after .2 ≡ before .2)) returned place place′
   tell-read answer laid said =
-      tell-known (readOrder text before) Into Stay laid (read-known answer said)
+      tell-known (readOrder text before) Into Stay laid said
       (λ q k. (ap (λ (t : ℕ × ℕ × ℕ × ℕ). t .0) q, ap (λ (t : ℕ × ℕ × ℕ × ℕ). t .1) q, ap (λ (t : ℕ × ℕ × ℕ × ℕ). t .2) q, ap (λ (t : ℕ × ℕ × ℕ × ℕ). t .3) q, k .0, k .1, k .2))

@@ -15,7 +15,7 @@ use Rattle.c_answers.specs.Cells.{Fits, Any, Laid}
 use Rattle.c_answers.specs.Formulas.{expandedSaid}
 use Rattle.snowcoddle.specs.Told.{Told}
 use Rattle.snowcoddle.proofs.Places.{Small, small-then, small-none, small-zero, small-check}
-use Rattle.snowcoddle.proofs.Telling.{Known, fits-known, tell-known}
+use Rattle.snowcoddle.proofs.Telling.{fits-known, tell-known}
 
 module _ (rule : ℕ) (f : Lent) (x : ℕ) (out : ResultTables) where
   -- the formula as the rule reads it
@@ -36,20 +36,16 @@ module _ (rule : ℕ) (f : Lent) (x : ℕ) (out : ResultTables) where
     abbrev LeavesIn : ℕ × ℕ × ℕ → Type 0
     LeavesIn cells = OfExpanded read x (Leaves out out′ (cells .0) (cells .1) (cells .2))
 
-    expand-known : (answer : Expanded) → Expands rule f x out out′ answer → Known (expandOrder rule f x out) LeavesIn (out′ ≡ out) (expandedSaid answer)
-    expand-known (Formula count entries literals) said = said
-    expand-known (Refused number at) said = said
-
     pub fits-expand : (answer : Expanded) → Expands rule f x out out′ answer → Fits Any (expandedSaid answer)
     fits-expand answer said =
-        fits-known (expandOrder rule f x out) LeavesIn (out′ ≡ out) Any (expandedSaid answer) small-expand (λ _ _ _. tt) (expand-known answer said)
+        fits-known (expandOrder rule f x out) LeavesIn (out′ ≡ out) Any (expandedSaid answer) small-expand (λ _ _ _. tt) said
 
     pub tell-expand : (answer : Expanded) {count entries literals count′ entries′ literals′ place place′ returned : ℕ}
         → Laid (expandedSaid answer) (count, entries, literals) (count′, entries′, literals′) place place′ returned → Expands rule f x out out′ answer
         → Told (expandOrder rule f x out) (OfExpanded read x (Leaves out out′ count′ entries′ literals′))
         ((count′ ≡ count) × (entries′ ≡ entries) × (literals′ ≡ literals) × (out′ ≡ out)) returned place place′
     tell-expand answer laid said =
-        tell-known (expandOrder rule f x out) LeavesIn (out′ ≡ out) laid (expand-known answer said)
+        tell-known (expandOrder rule f x out) LeavesIn (out′ ≡ out) laid said
         (λ q k. (ap (λ (t : ℕ × ℕ × ℕ). t .0) q, ap (λ (t : ℕ × ℕ × ℕ). t .1) q, ap (λ (t : ℕ × ℕ × ℕ). t .2) q, k))
 
   -- what expanding gives: the cells and the tables

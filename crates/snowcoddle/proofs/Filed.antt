@@ -21,11 +21,11 @@ use Rattle.file_layout.proofs.Spans.{laid-ends}
 use Rattle.file_layout.proofs.Laying.{file-laid}
 use Rattle.c_answers.specs.Codes.{tellsSets}
 use Rattle.c_answers.specs.Cells.{Fits, Laid as InCells}
-use Rattle.c_answers.specs.Formulas.{LoadedInCells, loadedSaid}
+use Rattle.c_answers.specs.Formulas.{LoadedInCells, loadedCells}
 use Rattle.snowcoddle.specs.Told.{Told}
 use Rattle.snowcoddle.specs.Filed.{Given}
 use Rattle.snowcoddle.proofs.Places.{Small, small-then, small-within, small-at0, small-none, small-zero, small-check}
-use Rattle.snowcoddle.proofs.Telling.{Known, fits-known, tell-known}
+use Rattle.snowcoddle.proofs.Telling.{fits-known, tell-known}
 
 pub small-store : (rule : ℕ) (f : Formula) (before : List ℕ) → Small (storeOrder rule f before)
 small-store rule f before =
@@ -76,10 +76,10 @@ module _ (rule : ℕ) (file : List ℕ) (lent lent′ : Lent) where
   abbrev GivenIn : ℕ × ℕ × ℕ × ℕ → Type 0
   GivenIn cells = Given rule file lent lent′ (cells .0) (cells .1) (cells .2) (cells .3)
 
-  load-known : (answer : Loaded) → Loads rule file lent lent′ answer → Known (loadOrder rule file lent) GivenIn (lent′ ≡ lent) (loadedSaid answer)
+  load-known : (answer : Loaded) → Loads rule file lent lent′ answer → Settles (loadOrder rule file lent) GivenIn (lent′ ≡ lent) (loadedCells answer)
   load-known (Loaded.Formula n entries literals there) said = (
     said .0,
-    record { count = said .1; prefix-count = said .2; clauses-count = said .3; sets-told = ap tellsSets (said .4); filled = said .5 },
+    record { count = said .1 .0; prefix-count = said .1 .1; clauses-count = said .1 .2; sets-told = ap tellsSets (said .1 .3); filled = said .1 .4 },
   )
   load-known (Loaded.Refused number at) said = said
 
@@ -92,13 +92,13 @@ module _ (rule : ℕ) (file : List ℕ) (lent lent′ : Lent) where
       let more = g .clauses-count in
       (omega arith, omega arith)
 
-  pub fits-load : (answer : Loaded) → Loads rule file lent lent′ answer → Fits LoadedInCells (loadedSaid answer)
+  pub fits-load : (answer : Loaded) → Loads rule file lent lent′ answer → Fits LoadedInCells (loadedCells answer)
   fits-load answer said =
-      fits-known (loadOrder rule file lent) GivenIn (lent′ ≡ lent) LoadedInCells (loadedSaid answer) (small-load file rule lent) loaded-few
+      fits-known (loadOrder rule file lent) GivenIn (lent′ ≡ lent) LoadedInCells (loadedCells answer) (small-load file rule lent) loaded-few
       (load-known answer said)
 
   pub tell-load : (answer : Loaded) {n entries literals with-sets n′ entries′ literals′ with-sets′ place place′ returned : ℕ}
-      → InCells (loadedSaid answer) (n, entries, literals, with-sets) (n′, entries′, literals′, with-sets′) place place′ returned
+      → InCells (loadedCells answer) (n, entries, literals, with-sets) (n′, entries′, literals′, with-sets′) place place′ returned
       → Loads rule file lent lent′ answer
       → Told (loadOrder rule file lent) (Given rule file lent lent′ n′ entries′ literals′ with-sets′)
       ((n′ ≡ n) × (entries′ ≡ entries) × (literals′ ≡ literals) × (with-sets′ ≡ with-sets) × (lent′ ≡ lent)) returned place place′

@@ -18,7 +18,7 @@ use Rattle.c_answers.specs.Codes.{tallyIn}
 use Rattle.c_answers.specs.Cells.{Fits, Any, Laid, filledSaid, builtSaid, addedSaid}
 use Rattle.snowcoddle.specs.Told.{Told, Left}
 use Rattle.snowcoddle.proofs.Places.{Small, small-build, small-add}
-use Rattle.snowcoddle.proofs.Telling.{Known, tell-known}
+use Rattle.snowcoddle.proofs.Telling.{tell-known}
 
 -- the place of a verdict fits its cell, where those of all causes do
 fits-judged : (order : List Causes) (answer : Filled) → Small order → Judged order (verdictOf answer) → Fits Any (filledSaid answer)
@@ -49,12 +49,12 @@ module _ (r r′ : Rows) (cells : List ℕ) where
     stay q = (ap (λ (s : Standing). s .rows .classes) q, ap (λ (s : Standing). s .rows .parents) q, ap (λ (s : Standing). s .rows .counts) q)
 
     built-known : (answer : Filled) → Rewrites order X J T (standing r lent) (standing r′ tally) answer
-        → Known order LeaveCounted Stay (builtSaid (filledSaid answer) tally)
+        → Settles order LeaveCounted Stay (builtSaid (filledSaid answer) tally)
     built-known (Count written) b = (b .judged, (b .leaves .0, (tally, (b .leaves .1, b .leaves .2), refl)))
     built-known (Refused number at) b = (b .judged, stay (b .leaves))
 
     added-known : (answer : Filled) → Rewrites order X J T (standing r lent) (standing r′ tally) answer
-        → Known order Leave Stay (addedSaid (builtSaid (filledSaid answer) tally))
+        → Settles order Leave Stay (addedSaid (builtSaid (filledSaid answer) tally))
     added-known (Count written) b = (b .judged, (tally, (b .leaves .1, b .leaves .2), refl))
     added-known (Refused number at) b = (b .judged, stay (b .leaves))
 

@@ -8,7 +8,7 @@ use Rattle.terms.specs.declared.Verdict.the-variants.{Accepted, Refused}
 use Rattle.terms.specs.Refusals.{Causes, FirstOf, NoneOf, Judged}
 use Rattle.terms.specs.declared.EntryAnswer.{EntryAnswer}
 use Rattle.terms.specs.declared.Scheme.{Scheme}
-use Rattle.terms.specs.Answers.{Answered, Numbered, InFront, Filling}
+use Rattle.terms.specs.Answers.{Settles, Answered, Numbered, InFront, Filling}
 use Rattle.c_answers.specs.Cells.{Said, gives, refuses, Fits, Any, Laid, given, placed, verdictSaid, filledSaid, entrySaid}
 use Rattle.snowcoddle.specs.Told.{Told, accepted, refused}
 use Rattle.snowcoddle.proofs.Places.{Small}
@@ -26,25 +26,19 @@ module _ (order : List Causes) {got kept : Type 0} {verdict : Verdict} (place : 
 pub named : (order : List Causes) {verdict : Verdict} {number at : ℕ} → verdict ≡ Refused number at → Judged order verdict → FirstOf order number at
 named order q judged = subst (Judged order) q judged
 
--- What is known of an answer by what it says: where it gives something, no cause holds and G holds of that; where it refuses, its cause is the first,
--- and K holds.
-abbrev pub Known : {C : Type 0} → List Causes → (C → Type 0) → Type 0 → Said C → Type 0
-Known order G K (gives parts) = NoneOf order × G parts
-Known order G K (refuses number at) = FirstOf order number at × K
-
 module _ {C : Type 0} (order : List Causes) (G : C → Type 0) (K : Type 0) where
   -- it fits its cells, where the places of all causes do and G bounds what is given
   pub fits-known : (B : C → Type 0) (said : Said C) → Small order → ((parts : C) → NoneOf order → G parts → B parts)
-      → Known order G K said → Fits B said
+      → Settles order G K said → Fits B said
   fits-known B (gives parts) small bounds known = bounds parts (known .0) (known .1)
   fits-known B (refuses number at) small bounds known = small number at (known .0)
 
   -- and laid out it is what C is told
   pub tell-known : {said : Said C} {kept : Type 0} {cells cells′ : C} {place place′ returned : ℕ} → Laid said cells cells′ place place′ returned
-      → Known order G K said → (cells′ ≡ cells → K → kept) → Told order (G cells′) kept returned place place′
-  tell-known (given q c r p) known keeps = let k = subst (Known order G K) q known in accepted (k .0) (subst G (sym c) (k .1)) r p
+      → Settles order G K said → (cells′ ≡ cells → K → kept) → Told order (G cells′) kept returned place place′
+  tell-known (given q c r p) known keeps = let k = subst (Settles order G K) q known in accepted (k .0) (subst G (sym c) (k .1)) r p
   tell-known {place′ = place′} (placed {number = number} q c r p) known keeps =
-      let k = subst (Known order G K) q known in
+      let k = subst (Settles order G K) q known in
       refused (subst (λ v. FirstOf order v place′) (sym r) (subst (FirstOf order number) (sym p) (k .0))) (keeps c (k .1))
 
 -- A verdict alone.
@@ -53,7 +47,7 @@ module _ (order : List Causes) where
   fits-verdict Accepted small judged = tt
   fits-verdict (Refused number at) small judged = small number at judged
 
-  verdict-known : (verdict : Verdict) → Judged order verdict → Known order Any (Unit {0}) (verdictSaid verdict)
+  verdict-known : (verdict : Verdict) → Judged order verdict → Settles order Any (Unit {0}) (verdictSaid verdict)
   verdict-known Accepted judged = (judged, tt)
   verdict-known (Refused number at) judged = (judged, tt)
 
@@ -63,18 +57,14 @@ module _ (order : List Causes) where
 
 -- A table filled with a list: with a count, the list is written; refused, the table and the count are kept.
 module _ (order : List Causes) (L : List ℕ → Type 0) (out out′ : List ℕ) where
-  filling-known : (answer : Filled) → Filling order L out out′ answer → Known order (InFront L out out′) (out′ ≡ out) (filledSaid answer)
-  filling-known (Filled.Count written) filling = filling
-  filling-known (Filled.Refused number at) filling = filling
-
   pub fits-filling : (answer : Filled) → Small order → Filling order L out out′ answer → Fits Any (filledSaid answer)
   fits-filling answer small filling =
-      fits-known order (InFront L out out′) (out′ ≡ out) Any (filledSaid answer) small (λ _ _ _. tt) (filling-known answer filling)
+      fits-known order (InFront L out out′) (out′ ≡ out) Any (filledSaid answer) small (λ _ _ _. tt) filling
 
   pub tell-filling : (answer : Filled) {count count′ place place′ returned : ℕ} → Laid (filledSaid answer) count count′ place place′ returned
       → Filling order L out out′ answer
       → Told order (InFront L out out′ count′) ((count′ ≡ count) × (out′ ≡ out)) returned place place′
-  tell-filling answer laid filling = tell-known order (InFront L out out′) (out′ ≡ out) laid (filling-known answer filling) (λ q r. (q, r))
+  tell-filling answer laid filling = tell-known order (InFront L out out′) (out′ ≡ out) laid filling (λ q r. (q, r))
 
 -- Where order and list go by a scheme, what is told by the scheme that was found is told by the one that is asked for.
 pub tell-filling-by : (order : Scheme → List Causes) (L : Scheme → List ℕ → Type 0) (out out′ : List ℕ) {found asked : Scheme} → found ≡ asked
@@ -87,16 +77,12 @@ tell-filling-by order L out out′ {found} q answer {count} {count′} {place} {
 
 -- A number: given in its cell, of which P holds.
 module _ (order : List Causes) (P : ℕ → Type 0) where
-  numbered-known : (answer : Filled) → Numbered order P answer → Known order P (Unit {0}) (filledSaid answer)
-  numbered-known (Filled.Count size) said = said
-  numbered-known (Filled.Refused number at) said = (said, tt)
-
   pub fits-numbered : (answer : Filled) → Small order → Numbered order P answer → Fits Any (filledSaid answer)
-  fits-numbered answer small said = fits-known order P (Unit {0}) Any (filledSaid answer) small (λ _ _ _. tt) (numbered-known answer said)
+  fits-numbered answer small said = fits-known order P (Unit {0}) Any (filledSaid answer) small (λ _ _ _. tt) said
 
   pub tell-numbered : (answer : Filled) {cell cell′ place place′ returned : ℕ} → Laid (filledSaid answer) cell cell′ place place′ returned
       → Numbered order P answer → Told order (P cell′) (cell′ ≡ cell) returned place place′
-  tell-numbered answer laid said = tell-known order P (Unit {0}) laid (numbered-known answer said) (λ r _. r)
+  tell-numbered answer laid said = tell-known order P (Unit {0}) laid said (λ r _. r)
 
 pub tell-numbered-by : (order : List Causes) (P : Scheme → ℕ → Type 0) {found asked : Scheme} → found ≡ asked
     → (answer : Filled) {cell cell′ place place′ returned : ℕ} → Laid (filledSaid answer) cell cell′ place place′ returned
@@ -109,16 +95,12 @@ module _ (order : List Causes) (P : ℕ → ℕ → Type 0) where
   abbrev Point : ℕ × ℕ → Type 0
   Point cells = P (cells .0) (cells .1)
 
-  entry-known : (answer : EntryAnswer) → Answered order P answer → Known order Point (Unit {0}) (entrySaid answer)
-  entry-known (EntryAnswer.At class rises) said = said
-  entry-known (EntryAnswer.Refused number at) said = (said, tt)
-
   pub fits-entry : (answer : EntryAnswer) → Small order → Answered order P answer → Fits Any (entrySaid answer)
-  fits-entry answer small said = fits-known order Point (Unit {0}) Any (entrySaid answer) small (λ _ _ _. tt) (entry-known answer said)
+  fits-entry answer small said = fits-known order Point (Unit {0}) Any (entrySaid answer) small (λ _ _ _. tt) said
 
   pub tell-entry : (answer : EntryAnswer) {entry rises entry′ rises′ place place′ returned : ℕ}
       → Laid (entrySaid answer) (entry, rises) (entry′, rises′) place place′ returned → Answered order P answer
       → Told order (P entry′ rises′) ((entry′ ≡ entry) × (rises′ ≡ rises)) returned place place′
   tell-entry answer laid said =
-      tell-known order Point (Unit {0}) laid (entry-known answer said)
+      tell-known order Point (Unit {0}) laid said
       (λ q _. (ap (λ (cells : ℕ × ℕ). cells .0) q, ap (λ (cells : ℕ × ℕ). cells .1) q))

@@ -20,7 +20,7 @@ use Rattle.c_answers.specs.Cells.{Fits, Laid}
 use Rattle.c_answers.specs.Formulas.{TwoInCells, readingSaid}
 use Rattle.snowcoddle.specs.Told.{Told}
 use Rattle.snowcoddle.proofs.Places.{Small, small-then, small-within}
-use Rattle.snowcoddle.proofs.Telling.{Known, fits-known, tell-known}
+use Rattle.snowcoddle.proofs.Telling.{fits-known, tell-known}
 
 -- A line has at most one word more than bytes, and as many entries as words.
 filled-few : (cut : List (List ℕ)) → length (filled cut) ≤ placeAfter cut
@@ -121,15 +121,11 @@ module _ (text prefix prefix′ : List ℕ) (clauses clauses′ : List ℤ) wher
   abbrev Into : ℕ × ℕ × ℕ → Type 0
   Into cells = ReadInto (cells .0) (cells .1) (cells .2) text prefix prefix′ clauses clauses′
 
-  read-known : (answer : Reading) → ReadIs text prefix prefix′ clauses clauses′ answer → Known (readOrder text prefix clauses) Into ((prefix′ ≡ prefix) × (clauses′ ≡ clauses)) (readingSaid answer)
-  read-known (Reading.Read n entries literals) said = said
-  read-known (Reading.Refused number at) said = (said .0, (said .1, said .2))
-
   pub fits-read : (answer : Reading) → ReadIs text prefix prefix′ clauses clauses′ answer → Fits TwoInCells (readingSaid answer)
   fits-read answer said =
       fits-known (readOrder text prefix clauses) Into ((prefix′ ≡ prefix) × (clauses′ ≡ clauses)) TwoInCells (readingSaid answer) (small-read text prefix clauses)
       (λ cells clean r. let few = counts-few (cells .0) (cells .1) (cells .2) text prefix prefix′ clauses clauses′ clean r in let a = few .0 in
-      let b = few .1 in (omega arith, omega arith)) (read-known answer said)
+      let b = few .1 in (omega arith, omega arith)) said
 
   pub tell-read : (answer : Reading) {n entries literals n′ entries′ literals′ place place′ returned : ℕ}
       → Laid (readingSaid answer) (n, entries, literals) (n′, entries′, literals′) place place′ returned
@@ -137,5 +133,5 @@ module _ (text prefix prefix′ : List ℕ) (clauses clauses′ : List ℤ) wher
       → Told (readOrder text prefix clauses) (ReadInto n′ entries′ literals′ text prefix prefix′ clauses clauses′)
       ((n′ ≡ n) × (entries′ ≡ entries) × (literals′ ≡ literals) × (prefix′ ≡ prefix) × (clauses′ ≡ clauses)) returned place place′
   tell-read answer laid said =
-      tell-known (readOrder text prefix clauses) Into ((prefix′ ≡ prefix) × (clauses′ ≡ clauses)) laid (read-known answer said)
+      tell-known (readOrder text prefix clauses) Into ((prefix′ ≡ prefix) × (clauses′ ≡ clauses)) laid said
       (λ q k. (ap (λ (t : ℕ × ℕ × ℕ). t .0) q, ap (λ (t : ℕ × ℕ × ℕ). t .1) q, ap (λ (t : ℕ × ℕ × ℕ). t .2) q, k .0, k .1))

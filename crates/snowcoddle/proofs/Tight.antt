@@ -95,5 +95,5 @@ loaded-tight rule file lent a b none f g =
       f .prefix-count ∙ sym (g .prefix-count),
       f .clauses-count ∙ sym (g .clauses-count),
       f .sets-told ∙ sym (g .sets-told),
-      load-settled rule file lent a b said said (none, refl, refl, refl, refl, f .filled) (none, refl, refl, refl, refl, g .filled) .1,
+      load-settled rule file lent a b said said (none, (refl, refl, refl, refl, f .filled)) (none, (refl, refl, refl, refl, g .filled)) .1,
     )

@@ -11,7 +11,7 @@ use Rattle.text_write.specs.InnerOrders.{writeOrder, WritesAfter}
 use Rattle.c_answers.specs.Cells.{Fits, Any, Laid, filledSaid}
 use Rattle.snowcoddle.specs.Told.{Told}
 use Rattle.snowcoddle.proofs.Places.{Small, small-then, small-within}
-use Rattle.snowcoddle.proofs.Telling.{Known, fits-known, tell-known}
+use Rattle.snowcoddle.proofs.Telling.{fits-known, tell-known}
 use Rattle.snowcoddle.proofs.Texts.{overlong-place}
 
 short-place : {text out : List ℕ} {k p : ℕ} → ShortOut text out k p → p ≤ 0
@@ -24,15 +24,11 @@ small-write order text out small =
     (λ _. small-within (ShortOut text out) 0 (omega arith) (λ k p cause. short-place cause)))
 
 module _ (order : List Causes) (text out out′ : List ℕ) where
-  write-known : (answer : Filled) → WritesAfter order text out out′ answer → Known (order ++ writeOrder text out) (Stored text out out′) (out′ ≡ out) (filledSaid answer)
-  write-known (Filled.Count count) said = said
-  write-known (Filled.Refused number at) said = said
-
   pub fits-write : (answer : Filled) → Small order → WritesAfter order text out out′ answer → Fits Any (filledSaid answer)
   fits-write answer small said =
       fits-known (order ++ writeOrder text out) (Stored text out out′) (out′ ≡ out) Any (filledSaid answer) (small-write order text out small)
-      (λ _ _ _. tt) (write-known answer said)
+      (λ _ _ _. tt) said
 
   pub tell-write : (answer : Filled) {count count′ place place′ returned : ℕ} → Laid (filledSaid answer) count count′ place place′ returned → WritesAfter order text out out′ answer
       → Told (order ++ writeOrder text out) (Stored text out out′ count′) ((count′ ≡ count) × (out′ ≡ out)) returned place place′
-  tell-write answer laid said = tell-known (order ++ writeOrder text out) (Stored text out out′) (out′ ≡ out) laid (write-known answer said) (λ q k. (q, k))
+  tell-write answer laid said = tell-known (order ++ writeOrder text out) (Stored text out out′) (out′ ≡ out) laid said (λ q k. (q, k))

@@ -12,7 +12,8 @@ use Rattle.terms.specs.declared.EntryAnswer.the-variants.{At}
 use Rattle.terms.specs.declared.Variable.{Variable}
 use Rattle.terms.specs.Listed.{Listed}
 use Rattle.terms.specs.Overwritten.{overwritten}
-use Rattle.terms.specs.Answers.{Answered, Numbered, Filling, Listing}
+use Rattle.terms.specs.Says.{Said, gives, refuses, filledSaid, entrySaid}
+use Rattle.terms.specs.Answers.{Settles, Answered, Numbered, InFront, Filling, Listing}
 use Rattle.terms.proofs.Verdicts.{firstOf-same, first-or-none}
 use Rattle.terms.proofs.Orders.{Carries}
 use Rattle.terms.proofs.Listed.{listed-one}
@@ -43,9 +44,9 @@ listing-settled order P before after after′ r r′ l l′ = filling-settled or
 pub numbered-settled : (order : List Causes) (P : ℕ → Type 0) → ((k k′ : ℕ) → P k → P k′ → k ≡ k′)
     → (r r′ : Filled) → Numbered order P r → Numbered order P r′ → r ≡ r′
 numbered-settled order P one (Filled.Count k) (Filled.Count k′) (none, a) (none′, b) = ap Count (one k k′ a b)
-numbered-settled order P one (Filled.Count k) (Filled.Refused number place) (none, a) first = absurd (first-or-none order number place first none)
-numbered-settled order P one (Filled.Refused number place) (Filled.Count k) first (none, a) = absurd (first-or-none order number place first none)
-numbered-settled order P one (Filled.Refused number place) (Filled.Refused number′ place′) first first′ =
+numbered-settled order P one (Filled.Count k) (Filled.Refused number place) (none, a) (first, b) = absurd (first-or-none order number place first none)
+numbered-settled order P one (Filled.Refused number place) (Filled.Count k) (first, b) (none, a) = absurd (first-or-none order number place first none)
+numbered-settled order P one (Filled.Refused number place) (Filled.Refused number′ place′) (first, a) (first′, b) =
     let (k, p) = firstOf-same order number place number′ place′ first first′ in
     ap₂ Filled.Refused k p
 
@@ -58,22 +59,24 @@ pub answered-settled : (order : List Causes) (P : ℕ → ℕ → Type 0)
 answered-settled order P one (EntryAnswer.At c k) (EntryAnswer.At c′ k′) (none, a) (none′, b) =
     let (same, rises) = one none (c .0) (c′ .0) k k′ a b in
     ap₂ At (one-variable c c′ same) rises
-answered-settled order P one (EntryAnswer.At c k) (EntryAnswer.Refused number place) (none, a) first = absurd (first-or-none order number place first none)
-answered-settled order P one (EntryAnswer.Refused number place) (EntryAnswer.At c k) first (none, a) = absurd (first-or-none order number place first none)
-answered-settled order P one (EntryAnswer.Refused number place) (EntryAnswer.Refused number′ place′) first first′ =
+answered-settled order P one (EntryAnswer.At c k) (EntryAnswer.Refused number place) (none, a) (first, b) = absurd (first-or-none order number place first none)
+answered-settled order P one (EntryAnswer.Refused number place) (EntryAnswer.At c k) (first, b) (none, a) = absurd (first-or-none order number place first none)
+answered-settled order P one (EntryAnswer.Refused number place) (EntryAnswer.Refused number′ place′) (first, a) (first′, b) =
     let (k, p) = firstOf-same order number place number′ place′ first first′ in
     ap₂ EntryAnswer.Refused k p
 
--- What is answered by one order is answered by another that says the same.
+-- What is promised by one order is promised by another that says as much.
+pub carry-settles : {A : Type 0} (given : A → Type 0) (kept : Type 0) (said : Said A) (order order′ : List Causes)
+    → Carries order order′ → Settles order given kept said → Settles order′ given kept said
+carry-settles given kept (gives values) order order′ c (none, holds) = (c .none none, holds)
+carry-settles given kept (refuses number place) order order′ c (first, holds) = (c .first number place first, holds)
+
 pub carry-filling : (L : List ℕ → Type 0) (before after : List ℕ) (r : Filled) (order order′ : List Causes)
     → Carries order order′ → Filling order L before after r → Filling order′ L before after r
-carry-filling L before after (Filled.Count count) order order′ c (none, list) = (c .none none, list)
-carry-filling L before after (Filled.Refused number place) order order′ c (first, same) = (c .first number place first, same)
+carry-filling L before after r = carry-settles (InFront L before after) (after ≡ before) (filledSaid r)
 
 pub carry-numbered : (P : ℕ → Type 0) (r : Filled) (order order′ : List Causes) → Carries order order′ → Numbered order P r → Numbered order′ P r
-carry-numbered P (Filled.Count number) order order′ c (none, p) = (c .none none, p)
-carry-numbered P (Filled.Refused number place) order order′ c first = c .first number place first
+carry-numbered P r = carry-settles P (Unit {0}) (filledSaid r)
 
 pub carry-answered : (P : ℕ → ℕ → Type 0) (r : EntryAnswer) (order order′ : List Causes) → Carries order order′ → Answered order P r → Answered order′ P r
-carry-answered P (EntryAnswer.At class rises) order order′ c (none, p) = (c .none none, p)
-carry-answered P (EntryAnswer.Refused number place) order order′ c first = c .first number place first
+carry-answered P r = carry-settles (λ (point : ℕ × ℕ). P (point .0) (point .1)) (Unit {0}) (entrySaid r)

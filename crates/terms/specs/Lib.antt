@@ -1,6 +1,7 @@
 -- What to believe of the words of the library: limits, literals, refusals, ascending lists and answers.
 pub mod Limits
 pub mod Literals
+pub mod Says
 pub mod Refusals
 pub mod Listed
 pub mod Overwritten

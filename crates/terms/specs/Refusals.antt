@@ -4,7 +4,7 @@ use mathlib.Core.Path.{_≡_}
 use mathlib.Core.List.{List, [], _∷_}
 use mathlib.Core.Logic.{_⊎_}
 use Rattle.terms.specs.declared.Verdict.{Verdict}
-use Rattle.terms.specs.declared.Verdict.the-variants.{Accepted, Refused}
+use Rattle.terms.specs.Says.{Said, gives, refuses, verdictSaid}
 
 -- Causes that are looked for together: which refusal number has a cause at which place.
 abbrev pub Causes : Type 1
@@ -34,7 +34,11 @@ abbrev pub NoneOf : List Causes → Type 0
 NoneOf [] = Unit {0}
 NoneOf (causes ∷ later) = None causes × NoneOf later
 
--- What a verdict says: accepted if no cause holds, refused with the number and the place of the first one.
+-- What is said is right by an order: accepted if no cause holds, refused with the number and the place of the first one.
+abbrev pub Judges : {Values : Type 0} → List Causes → Said Values → Type 0
+Judges order (gives values) = NoneOf order
+Judges order (refuses number place) = FirstOf order number place
+
+-- so of a verdict
 abbrev pub Judged : List Causes → Verdict → Type 0
-Judged order Accepted = NoneOf order
-Judged order (Refused number place) = FirstOf order number place
+Judged order verdict = Judges order (verdictSaid verdict)

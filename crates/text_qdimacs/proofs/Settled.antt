@@ -43,7 +43,7 @@ module _ (text prefix : List ℕ) (clauses : List ℤ) where
   read-settled p p′ c c′ (Reading.Refused k q) (Reading.Read n e l) a b = absurd (first-or-none (readOrder text prefix clauses) k q (a .0) (b .0))
   read-settled p p′ c c′ (Reading.Refused k q) (Reading.Refused k′ q′) a b =
       let same = firstOf-same (readOrder text prefix clauses) k q k′ q′ (a .0) (b .0) in
-      record { answer = ap₂ Reading.Refused (same .0) (same .1); prefix-rows = a .1 ∙ sym (b .1); clause-rows = a .2 ∙ sym (b .2) }
+      record { answer = ap₂ Reading.Refused (same .0) (same .1); prefix-rows = a .1 .0 ∙ sym (b .1 .0); clause-rows = a .1 .1 ∙ sym (b .1 .1) }
 
 -- the bytes that hold a text
 stored-same : {text out out₁ out₂ : List ℕ} {k k′ : ℕ} → Stored text out out₁ k → Stored text out out₂ k′ → (Filled.Count k ≡ Filled.Count k′) × (out₁ ≡ out₂)

@@ -6,9 +6,10 @@ use mathlib.Core.List.{List, [], _∷_}
 use lib.ListN.{length}
 use lib.IntN.{ℤ}
 use Rattle.terms.specs.Overwritten.{overwritten}
-use Rattle.terms.specs.Refusals.{Causes, FirstOf, NoneOf}
+use Rattle.terms.specs.Says.{readingSaid}
+use Rattle.terms.specs.Answers.{Settles}
+use Rattle.terms.specs.Refusals.{Causes}
 use Rattle.terms.specs.declared.Reading.{Reading}
-use Rattle.terms.specs.declared.Reading.the-variants.{Read, Refused}
 use Rattle.text_lines.specs.Grammar.{TextOf, FaultIn}
 pub use Rattle.text_write.specs.Texts.{TEXT-MOST, Overlong, overlong}
 
@@ -32,7 +33,6 @@ pub record ReadInto (n entries literals : ℕ) (text prefix prefix′ : List ℕ
 
 -- Each answer: accepted, with n and the two counts, or refused, with the tables as they were.
 abbrev pub ReadIs : List ℕ → List ℕ → List ℕ → List ℤ → List ℤ → Reading → Type 0
-ReadIs text prefix prefix′ clauses clauses′ (Read n entries literals) =
-    NoneOf (readOrder text prefix clauses) × ReadInto n entries literals text prefix prefix′ clauses clauses′
-ReadIs text prefix prefix′ clauses clauses′ (Refused number place) =
-    FirstOf (readOrder text prefix clauses) number place × (prefix′ ≡ prefix) × (clauses′ ≡ clauses)
+ReadIs text prefix prefix′ clauses clauses′ answer =
+    Settles (readOrder text prefix clauses) (λ (counts : ℕ × ℕ × ℕ). ReadInto (counts .0) (counts .1) (counts .2) text prefix prefix′ clauses clauses′)
+    ((prefix′ ≡ prefix) × (clauses′ ≡ clauses)) (readingSaid answer)

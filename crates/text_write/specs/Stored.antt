@@ -5,9 +5,10 @@ use mathlib.Core.Path.{_≡_}
 use mathlib.Core.List.{List}
 use lib.ListN.{length}
 use Rattle.terms.specs.Overwritten.{overwritten}
-use Rattle.terms.specs.Refusals.{Causes, FirstOf, NoneOf}
+use Rattle.terms.specs.Says.{filledSaid}
+use Rattle.terms.specs.Answers.{Settles}
+use Rattle.terms.specs.Refusals.{Causes}
 use Rattle.terms.specs.declared.Filled.{Filled}
-use Rattle.terms.specs.declared.Filled.the-variants.{Count, Refused}
 
 -- 14: the buffer is shorter than the text.
 pub data ShortOut (text out : List ℕ) : ℕ → ℕ → Type 0 where
@@ -20,5 +21,4 @@ pub record Stored (text out out′ : List ℕ) (count : ℕ) : Type 0 where
 
 -- What a call promises that writes a text, by its order of refusals: the text stands in front, or nothing is changed.
 abbrev pub WritesBy : List Causes → List ℕ → List ℕ → List ℕ → Filled → Type 0
-WritesBy order text out out′ (Count count) = NoneOf order × Stored text out out′ count
-WritesBy order text out out′ (Refused number place) = FirstOf order number place × (out′ ≡ out)
+WritesBy order text out out′ answer = Settles order (Stored text out out′) (out′ ≡ out) (filledSaid answer)

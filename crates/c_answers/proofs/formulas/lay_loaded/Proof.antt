@@ -3,14 +3,14 @@ use mathlib.Core.Path.{refl, ap, subst}
 use borrow.Author.Needs.{needs}
 use Rattle.terms.specs.declared.Loaded.{Loaded}
 use Rattle.c_answers.specs.Cells.{Fits, given, placed}
-use Rattle.c_answers.specs.Formulas.{loadedSaid, LoadedInCells}
+use Rattle.c_answers.specs.Formulas.{loadedCells, LoadedInCells}
 use Rattle.c_answers.proofs.Laying.{fourth-is}
 use Rattle.c_answers.proofs.formulas.lay_loaded.Statement.{statement}
 use Rattle.c_answers.proofs.formulas.lay_loaded.Tie as tie
 
 -- what it holds fits its cells
 abbrev Fitting : Loaded → Type 0
-Fitting answer = Fits LoadedInCells (loadedSaid answer)
+Fitting answer = Fits LoadedInCells (loadedCells answer)
 
 cast-prefix-count : tie.Need-cast-prefix-count
 cast-prefix-count c =
@@ -30,10 +30,10 @@ cast-place c =
 returns : tie.Need-returns
 returns c =
     let at-answer = c .before .before in
-    given (ap loadedSaid (at-answer .answer .given .1)) (fourth-is (c .sets-told .ensures)) refl refl
+    given (ap loadedCells (at-answer .answer .given .1)) (fourth-is (c .sets-told .ensures)) refl refl
 
 returns-2 : tie.Need-returns-2
-returns-2 c = placed (ap loadedSaid (c .before .answer2 .given .1)) refl refl refl
+returns-2 c = placed (ap loadedCells (c .before .answer2 .given .1)) refl refl refl
 
 pub lay-loaded-spec : {M : Type 1} → statement M
 lay-loaded-spec =
