@@ -85,7 +85,7 @@ module _ (f : Formula) (sound : SoundPrefix (f .n) (f .prefix)) (x : ℕ) (u : u
       (λ d. record { by = λ sign. follows-as has-from (d .by sign) }, λ d. record { by = λ sign. follows-as from-has (d .by sign) })
 
 -- A prefix that nothing stands against is sound as its rule reads it.
-read-sound : (rule n : ℕ) (es : List ℕ) (entries : ℕ) → NoneOf (ruledPrefix rule n es entries) → SoundPrefix n (readAs rule es)
+pub read-sound : (rule n : ℕ) (es : List ℕ) (entries : ℕ) → NoneOf (ruledPrefix rule n es entries) → SoundPrefix n (readAs rule es)
 unfolding readAs
 read-sound rule n es entries none = by-cases (ℕ-discrete rule 1) one other
   where

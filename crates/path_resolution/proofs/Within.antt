@@ -28,7 +28,7 @@ module _ {ls : List ℤ} where
       → List·Memᴰ l (k .clause) → List·Memᴰ (variableOf l) (connected (k .clause))
   crosses-has k l m = subst (List·Memᴰ (variableOf l)) (sym (connected-all (k .clause) (k .takes-part))) (Memᴰ·map variableOf m)
 
-  crosses-shares : {enter leave : ℤ} → Crosses ls enter leave → Shares ls (variableOf enter) (variableOf leave)
+  pub crosses-shares : {enter leave : ℤ} → Crosses ls enter leave → Shares ls (variableOf enter) (variableOf leave)
   unfolding joined
   crosses-shares {enter} {leave} k =
       record {
@@ -38,7 +38,7 @@ module _ {ls : List ℤ} where
         right = crosses-has k leave (k .left);
       }
 
-  crosses-signed : (sign : Bool) (x : ℕ) {leave : ℤ} → Crosses ls (signed sign x) leave → SharesBy ls sign x (variableOf leave)
+  pub crosses-signed : (sign : Bool) (x : ℕ) {leave : ℤ} → Crosses ls (signed sign x) leave → SharesBy ls sign x (variableOf leave)
   crosses-signed sign x {leave} k =
       record { clause = k .clause; listed = k .listed; literal = k .entered; connects = crosses-has k leave (k .left) }
 
