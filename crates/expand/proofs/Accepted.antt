@@ -35,7 +35,7 @@ use Rattle.formula_rules.proofs.Accepted.{good-mark, both-true, joined-accepted
 use Rattle.formula_rules.proofs.Orders.{accepted-two}
 use Rattle.formula_rules.proofs.Agreement.{also-accepted, both-accept}
 use Rattle.expand_clauses.specs.Expansion.{copyFrom, copyOf, withCopy, expandedPrefix, without, renamed, named, hasCopy, copies, expandedList, clauseTable, expandedClauses}
-use Rattle.expand.specs.Promise.{ResultTables, expandedBy, ManyVariables, Long, Expands}
+use Rattle.expand.specs.Promise.{ResultTables, SetOf, expandedBy, ManyVariables, Long, expandOrder, Leaves, Expands}
 use Rattle.expand.specs.Writing.{beginning}
 use Rattle.expand.proofs.Blocking.{begin-none, begin-new}
 use Rattle.expand.proofs.Laying.{left, left-expanded}
@@ -71,7 +71,7 @@ from-one next (member ∷ members) v w some q = by (eqb member v) (eqb member w)
     by false true e f some q on = absurd (omega (arith, q, from-over (suc next) members v some))
     by false false e f some q on = on some q
 
-numbered : (n : ℕ) (members : List ℕ) → Distinct n (n + length members) (copyOf n members)
+pub numbered : (n : ℕ) (members : List ℕ) → Distinct n (n + length members) (copyOf n members)
 numbered n members =
     record {
       grown = omega arith;
@@ -393,7 +393,19 @@ other-rule g none =
 abbrev pub written : ResultTables → ℕ → ℕ → ℕ → Formula
 written out count entries literals = formulaOf count (take entries (out .prefix)) (take literals (out .clauses))
 
--- So what the call writes where it accepts is a formula that check accepts, under rule 1 as under rule 2.
+-- What the call leaves where it accepts is the formula with x expanded.
+pub result-is : (out out′ : ResultTables) (count entries literals : ℕ) (g : Formula) → Leaves out out′ count entries literals g
+    → g ≡ written out′ count entries literals
+result-is out out′ count entries literals g leaves =
+    let front : take entries (out′ .prefix) ≡ g .prefix =
+    ap (λ (k : ℕ). take k (out′ .prefix)) (leaves .entries-is) ∙ ap (take (length (g .prefix))) (leaves .prefix-is)
+    ∙ overwritten-front (g .prefix) (out .prefix) in
+    let fronts : take literals (out′ .clauses) ≡ g .clauses =
+    ap (λ (k : ℕ). take k (out′ .clauses)) (leaves .literals-is) ∙ ap (take (length (g .clauses))) (leaves .clauses-is)
+    ∙ overwritten-front (g .clauses) (out .clauses) in
+    λ i. formulaOf (sym (leaves .count-is) i) (sym front i) (sym fronts i)
+
+-- So it is a formula that check accepts, under rule 1 as under rule 2.
 pub result-accepted : (rule : ℕ) (f : Formula) (x : ℕ) (out out′ : ResultTables) (count entries literals : ℕ)
     → Expands rule f x out out′ (Expanded.Formula count entries literals)
     → NoneOf (checkOrder 1 (written out′ count entries literals)) × NoneOf (checkOrder 2 (written out′ count entries literals))
@@ -405,11 +417,5 @@ result-accepted rule f x out out′ count entries literals (none, (members, set,
     let few : ¬ ManyVariables g = λ over. behind .0 1 0 (refl, refl, (members, set, over)) in
     let short : ¬ Long g = λ over. behind .1 .0 2 0 (refl, refl, (members, set, over)) in
     let accepted = expanded-accepted read x members sound (none .1 .1 .1 .1 .0) few short in
-    let front : take entries (out′ .prefix) ≡ g .prefix =
-    ap (λ (k : ℕ). take k (out′ .prefix)) (leaves .entries-is) ∙ ap (take (length (g .prefix))) (leaves .prefix-is)
-    ∙ overwritten-front (g .prefix) (out .prefix) in
-    let fronts : take literals (out′ .clauses) ≡ g .clauses =
-    ap (λ (k : ℕ). take k (out′ .clauses)) (leaves .literals-is) ∙ ap (take (length (g .clauses))) (leaves .clauses-is)
-    ∙ overwritten-front (g .clauses) (out .clauses) in
-    let same : g ≡ written out′ count entries literals = λ i. formulaOf (sym (leaves .count-is) i) (sym front i) (sym fronts i) in
-    subst (λ (h : Formula). NoneOf (checkOrder 1 h) × NoneOf (checkOrder 2 h)) same (accepted, other-rule g accepted)
+    subst (λ (h : Formula). NoneOf (checkOrder 1 h) × NoneOf (checkOrder 2 h)) (result-is out out′ count entries literals g leaves)
+    (accepted, other-rule g accepted)

@@ -14,11 +14,11 @@ use Rattle.formula_rules.specs.Joined.{inFront, joinedBlocks, tableOf, j
 use Rattle.terms.proofs.Common.{by-test}
 
 -- no entry of a block is 0, and so of all blocks
-abbrev Whole : List ℕ → Type 0
+abbrev pub Whole : List ℕ → Type 0
 Whole [] = Unit {0}
 Whole (entry ∷ more) = (entry ≢ 0) × Whole more
 
-abbrev AllWhole : List (List ℕ) → Type 0
+abbrev pub AllWhole : List (List ℕ) → Type 0
 AllWhole [] = Unit {0}
 AllWhole (block ∷ later) = Whole block × AllWhole later
 
@@ -26,7 +26,7 @@ push-whole : (entry : ℕ) (bs : List (List ℕ)) → entry ≢ 0 → AllWhole b
 push-whole entry [] some all = tt
 push-whole entry (block ∷ later) some all = ((some, all .0), all .1)
 
-blocks-whole : (es : List ℕ) → AllWhole (blocks es)
+pub blocks-whole : (es : List ℕ) → AllWhole (blocks es)
 unfolding blocks cut
 blocks-whole [] = tt
 blocks-whole (entry ∷ more) = go (ℕ-discrete entry 0) (blocks-whole more)
@@ -56,7 +56,7 @@ front-whole (mark ∷ v ∷ variables) (next ∷ later) w all =
     ((w .0, (w .1 .0, append-whole variables (drop 1 next) (w .1 .1) (rest-whole next (all .0)))), all .1))
     (λ f. subst (λ (b : Bool). AllWhole (cond b ((mark ∷ v ∷ (variables ++ drop 1 next)) ∷ later) ((mark ∷ v ∷ variables) ∷ next ∷ later))) (sym f) (w, all))
 
-joined-whole : (bs : List (List ℕ)) → AllWhole bs → AllWhole (joinedBlocks bs)
+pub joined-whole : (bs : List (List ℕ)) → AllWhole bs → AllWhole (joinedBlocks bs)
 unfolding joinedBlocks
 joined-whole [] all = tt
 joined-whole (block ∷ later) all = front-whole block (joinedBlocks later) (all .0) (joined-whole later (all .1))
@@ -69,7 +69,7 @@ cut-block (entry ∷ more) table w =
     ap (λ b. cond b ([] ∷ cut isZero (more ++ (0 ∷ table))) (push entry (cut isZero (more ++ (0 ∷ table))))) (ne-eqb entry 0 (w .0))
     ∙ ap (push entry) (cut-block more table (w .1))
 
-cut-table : (bs : List (List ℕ)) → AllWhole bs → cut isZero (tableOf bs) ≡ bs
+pub cut-table : (bs : List (List ℕ)) → AllWhole bs → cut isZero (tableOf bs) ≡ bs
 unfolding cut tableOf
 cut-table [] all = refl
 cut-table (block ∷ later) all = cut-block block (tableOf later) (all .0) ∙ ap (λ (r : List (List ℕ)). block ∷ r) (cut-table later (all .1))
