@@ -9,7 +9,7 @@ use native.Mathlib.Omega.{arith}
 use lib.IntN.{ℤ}
 use Rattle.terms.proofs.Common.{by-test, clash}
 use Rattle.forest_tables.specs.Formula.{signed}
-use Rattle.truth.specs.Strategies.{Assignment, Satisfied, AllSatisfied, Strategy, played, Local, Wins, True}
+use Rattle.truth.specs.Strategies.{Assignment, AllSatisfied, Strategy, Local, Wins, True}
 use Rattle.truth.specs.Game.{put}
 use Rattle.truth.specs.Paths.{Way, InPaths, MayUse, PathSet}
 use Rattle.truth.specs.Narrowing.{NarrowedAt, NarrowedTo}

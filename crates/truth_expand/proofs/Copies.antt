@@ -15,6 +15,10 @@ use Rattle.forest_theory.proofs.Choice.{choice, either, neither, both, or-right
 use Rattle.expand_clauses.specs.Expansion.{madeTrue, satisfied, hasX, hasMember, without, renamed, named, hasCopy, copies}
 use Rattle.truth.specs.Strategies.{literalValue}
 
+-- the copy of a clause
+abbrev pub clauseCopy : Bool → ℕ → (ℕ → ℕ) → List ℤ → List ℤ
+clauseCopy value x copy c = map (named value copy) (without x c)
+
 -- A literal as a copy names it: itself, or its variable's copy with its sign.
 pub data Naming (copy : ℕ → ℕ) (value : Bool) (l m : ℤ) : Type 0 where
   same : m ≡ l → (value ≡ true → copy (variableOf l) ≡ 0) → Naming copy value l m
@@ -93,13 +97,9 @@ no-member copy {l = l} f (List·Memᴰ·head {x = k} {xs = c} q) =
 no-member copy f (List·Memᴰ·tail {x = k} {xs = c} m) = no-member copy (neither (not (eqb (copy (variableOf k)) 0)) (hasMember copy c) f .1) m
 
 module _ (value : Bool) (x : ℕ) (copy : ℕ → ℕ) where
-  -- the copy of a clause, by itself
-  abbrev pub copied : List ℤ → List ℤ
-  copied c = map (named value copy) (without x c)
-
   -- A copy is that of a clause that has one, and every clause that has one has it there.
   pub copies-member : (cs : List (List ℤ)) {d : List ℤ} → List·Memᴰ d (copies value x copy cs)
-      → (c : List ℤ) × List·Memᴰ c cs × (hasCopy value x copy c ≡ true) × (d ≡ map (named value copy) (without x c))
+      → (c : List ℤ) × List·Memᴰ c cs × (hasCopy value x copy c ≡ true) × (d ≡ clauseCopy value x copy c)
   unfolding copies
   copies-member [] m = absurd (List·Memᴰ·not-nil m)
   copies-member (c ∷ cs) {d} m =
@@ -108,18 +108,18 @@ module _ (value : Bool) (x : ℕ) (copy : ℕ → ℕ) where
       (λ f i. later (copies-member cs i)) m
     where
       Found : List (List ℤ) → Type 0
-      Found cs = (c : List ℤ) × List·Memᴰ c cs × (hasCopy value x copy c ≡ true) × (d ≡ map (named value copy) (without x c))
+      Found cs = (c : List ℤ) × List·Memᴰ c cs × (hasCopy value x copy c ≡ true) × (d ≡ clauseCopy value x copy c)
 
       later : Found cs → Found (c ∷ cs)
       later (a, i, t, q) = (a, List·Memᴰ·tail i, t, q)
 
   pub member-copies : {cs : List (List ℤ)} {c : List ℤ} → List·Memᴰ c cs → hasCopy value x copy c ≡ true
-      → List·Memᴰ (map (named value copy) (without x c)) (copies value x copy cs)
+      → List·Memᴰ (clauseCopy value x copy c) (copies value x copy cs)
   unfolding copies
   member-copies {c = c} (List·Memᴰ·head {x = a} q) t =
-      rw (sym (ap (hasCopy value x copy) q) ∙ t) (List·Memᴰ·head (ap (λ (e : List ℤ). map (named value copy) (without x e)) q))
+      rw (sym (ap (hasCopy value x copy) q) ∙ t) (List·Memᴰ·head (ap (λ (e : List ℤ). clauseCopy value x copy e) q))
   member-copies {c = c} (List·Memᴰ·tail {x = a} m) t =
-      choice (List·Memᴰ (map (named value copy) (without x c))) (hasCopy value x copy a) (λ h. List·Memᴰ·tail (member-copies m t))
+      choice (List·Memᴰ (clauseCopy value x copy c)) (hasCopy value x copy a) (λ h. List·Memᴰ·tail (member-copies m t))
       (λ h. member-copies m t)
 
   -- A clause with a copy is not satisfied.

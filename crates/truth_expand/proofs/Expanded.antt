@@ -1,13 +1,12 @@
 -- An accepted formula holds exactly if the one does that expanding a universal by members that serve leaves.
-use Prim.Native.Nat.{ℕ, zero, suc, _+_, _≤_, _<_}
-use mathlib.Core.Path.{_≡_, refl, sym, _∙_, ap, subst}
-use mathlib.Core.Bool.{Bool, true, false, not}
+use Prim.Native.Nat.{ℕ, suc, _+_, _≤_, _<_}
+use mathlib.Core.Path.{_≡_, sym, _∙_, ap, subst}
+use mathlib.Core.Bool.{true, false, not}
 use mathlib.Core.List.{List, map, List·Memᴰ}
 use mathlib.Core.Logic.{_⊎_, ⊎-elim, _≢_, _↔_, by-cases}
 use native.Mathlib.Decide.{ℕ-discrete, decLe}
 use native.Mathlib.Omega.{arith}
 use borrow.Author.Tests.{not-true}
-use lib.IntN.{ℤ}
 use lib.ListN.{length}
 use Rattle.terms.specs.Literals.{variableOf}
 use Rattle.terms.specs.Refusals.{None}
@@ -16,7 +15,6 @@ use Rattle.formula.specs.Causes.{ClauseCause}
 use Rattle.formula.specs.Lent.{Formula}
 use Rattle.formula.specs.Levels.{SoundPrefix}
 use Rattle.formula.specs.Meaning.{blocks, level, isUniversal, isExistential, clauses}
-use Rattle.formula_rules.specs.Joined.{joinedBlocks}
 use Rattle.forest_tables.specs.Formula.{universal}
 use Rattle.forest_tables.proofs.Readings.{flag-none, flag-over, flag-in, flag-within}
 use Rattle.forest_tables.proofs.Agreeing.{universal-within}
@@ -24,7 +22,6 @@ use Rattle.forest.proofs.Demands.{universal-alone}
 use Rattle.expand_clauses.specs.Expansion.{copyOf, withCopy, placed, expandedBlock, expandedPrefix}
 use Rattle.expand.specs.Promise.{expandedBy}
 use Rattle.expand.proofs.Accepted.{numbered}
-use Rattle.truth.specs.Strategies.{True}
 use Rattle.truth.specs.Game.{Earlier, Distinct}
 use Rattle.truth.specs.Paths.{MayUse}
 use Rattle.truth.specs.Narrowing.{NarrowedAt}
@@ -34,12 +31,12 @@ use Rattle.truth.proofs.Claims.{more-may-depend}
 use Rattle.truth_formula.specs.Holds.{MayDepend, TrueIf, Holds}
 use Rattle.truth_formula.proofs.Entries.{literal-within}
 use Rattle.truth_expand.specs.Serves.{Serves}
-use Rattle.truth_expand.proofs.Expanding.{expandedOf, Expanding, expanding-keeps}
+use Rattle.truth_expand.proofs.Expanding.{Expanding, expanding-keeps}
 use Rattle.truth_expand.proofs.Numbers.{member-copy, copy-member, originalOf, original-low, original-copy, copy-original, original-out}
 use Rattle.truth_expand.proofs.Order.{order, Marked, in-marked, order-joined, marked-joined}
 use Rattle.truth_expand.proofs.Levels.{earlier-level, level-earlier, marked-universal, unnamed-universal, universal-named, behind-named}
 use Rattle.truth_expand.proofs.Placing.{with-own, with-copy, with-cases, placed-cases, placed-earlier, placed-distinct, order-expanded, marked-expanded}
-use Rattle.truth_expand.proofs.Named.{NamedOnce, named-once}
+use Rattle.truth_expand.proofs.Named.{named-once}
 use Rattle.truth_expand.proofs.Tables.{blocks-expanded, clauses-expanded}
 
 module _ (f : Formula) (x : ℕ) (members : List ℕ) (u : universal (f .n) (f .prefix) x ≡ true) (serves : Serves f x members)

@@ -3,7 +3,7 @@
 use Prim.Native.Nat.{ℕ}
 use mathlib.Core.Path.{_≡_, refl, sym, _∙_, ap}
 use mathlib.Core.Bool.{Bool, true, false, cond, _||_, false≢true}
-use mathlib.Core.List.{List, _++_, map, List·Memᴰ, Memᴰ·map, Memᴰ·of-map, List·Memᴰ·append-cases, Memᴰ·append-left, Memᴰ·append-right}
+use mathlib.Core.List.{List, _++_, List·Memᴰ, Memᴰ·map, Memᴰ·of-map, List·Memᴰ·append-cases, Memᴰ·append-left, Memᴰ·append-right}
 use mathlib.Core.Logic.{_⊎_, inl, inr, ⊎-elim, _≢_, _↔_, by-cases}
 use native.Mathlib.Decide.{ℕ-discrete}
 use borrow.Author.Tests.{eq-eqb, ne-eqb}
@@ -20,7 +20,8 @@ use Rattle.truth.specs.Paths.{MayUse}
 use Rattle.truth.specs.Narrowing.{NarrowedAt}
 use Rattle.truth.proofs.Literals.{always-satisfied}
 use Rattle.truth.proofs.Values.{put-at, put-other, put-same}
-use Rattle.truth_expand.proofs.Copies.{Naming, same, new, naming, without-member, member-without, no-x, satisfied-by, by-satisfied, no-member, copies-member, member-copies, copy-open, first-copy, second-copy}
+use Rattle.truth_expand.proofs.Copies.{clauseCopy, Naming, same, new, naming, without-member, member-without}
+use Rattle.truth_expand.proofs.Copies.{no-x, satisfied-by, by-satisfied, no-member, copies-member, member-copies, copy-open, first-copy, second-copy}
 
 -- the clauses of the expansion
 abbrev pub expandedOf : ℕ → (ℕ → ℕ) → List (List ℤ) → List (List ℤ)
@@ -120,7 +121,7 @@ module _ {ex ex′ : ℕ → Bool} {may may′ : ℕ → ℕ → Type 0} {x : �
 
     -- So the copy of a clause is satisfied: the literal that is true is none of x, which would satisfy the clause.
     apart-satisfies : (u : Assignment) (b : Bool) (c : List ℤ) → List·Memᴰ c clauses → hasCopy b x copy c ≡ true
-        → Satisfied (played ex′ apart u) (map (named b copy) (without x c))
+        → Satisfied (played ex′ apart u) (clauseCopy b x copy c)
     apart-satisfies u b c m k =
         let w = t .wins (put x b u) c m in
         let n = other (w .literal) (w .member) (w .holds) in
@@ -195,7 +196,7 @@ module _ {ex ex′ : ℕ → Bool} {may may′ : ℕ → ℕ → Type 0} {x : �
 
     joint-satisfies : (u : Assignment) (b : Bool) (c : List ℤ) → List·Memᴰ c clauses
         → ((l : ℤ) → List·Memᴰ l c → u x ≡ true → (b ≡ true) ⊎ (copy (variableOf l) ≡ 0)) → (b ≡ true → u x ≡ true)
-        → Satisfied (played ex′ (t .strategy) u) (map (named b copy) (without x c)) → Satisfied (played ex joint u) c
+        → Satisfied (played ex′ (t .strategy) u) (clauseCopy b x copy c) → Satisfied (played ex joint u) c
     joint-satisfies u b c m right left s =
         let (l, i, q) = Memᴰ·of-map (named b copy) (without x c) (s .member) in
         let (j, n) = without-member x c i in
@@ -210,11 +211,11 @@ module _ {ex ex′ : ℕ → Bool} {may may′ : ℕ → ℕ → Type 0} {x : �
     joint-wins u c m = by-test (alwaysTrue c) (always-satisfied (played ex joint u) c)
         (λ a. by-test (satisfied (u x) x c) by-x (λ f. by-test (u x) (on-true a f) (on-false a f)))
       where
-        first : List·Memᴰ (map (named false copy) (without x c)) (copies false x copy clauses) → Satisfied (played ex′ (t .strategy) u) (map (named false copy) (without x c))
-        first i = t .wins u (map (named false copy) (without x c)) (Memᴰ·append-left (copies true x copy clauses) i)
+        first : List·Memᴰ (clauseCopy false x copy c) (copies false x copy clauses) → Satisfied (played ex′ (t .strategy) u) (clauseCopy false x copy c)
+        first i = t .wins u (clauseCopy false x copy c) (Memᴰ·append-left (copies true x copy clauses) i)
 
-        second : List·Memᴰ (map (named true copy) (without x c)) (copies true x copy clauses) → Satisfied (played ex′ (t .strategy) u) (map (named true copy) (without x c))
-        second i = t .wins u (map (named true copy) (without x c)) (Memᴰ·append-right (copies false x copy clauses) i)
+        second : List·Memᴰ (clauseCopy true x copy c) (copies true x copy clauses) → Satisfied (played ex′ (t .strategy) u) (clauseCopy true x copy c)
+        second i = t .wins u (clauseCopy true x copy c) (Memᴰ·append-right (copies false x copy clauses) i)
 
         by-x : satisfied (u x) x c ≡ true → Satisfied (played ex joint u) c
         by-x q =

@@ -2,7 +2,7 @@
 use Prim.Native.Nat.{ℕ}
 use mathlib.Core.Path.{_≡_}
 use mathlib.Core.Bool.{true}
-use mathlib.Core.List.{List, List·Memᴰ}
+use mathlib.Core.List.{List}
 use native.Mathlib.Omega.{arith}
 use Rattle.terms.specs.Listed.{Listed}
 use Rattle.terms.specs.declared.Scheme.{Scheme}
@@ -17,7 +17,6 @@ use Rattle.forest.specs.Answers.{DependsBy}
 use Rattle.forest.proofs.Demands.{universal-alone}
 use Rattle.path_resolution.specs.Paths.{DependsByPaths}
 use Rattle.truth.proofs.Claims.{more-may-depend}
-use Rattle.truth_formula.specs.Holds.{MayDepend}
 use Rattle.truth_formula.proofs.Narrowed.{paths-at, sets-at}
 use Rattle.truth_expand.specs.Serves.{Serves}
 

@@ -1,5 +1,5 @@
 -- The tables of the expanded formula hold its blocks and its clauses.
-use Prim.Native.Nat.{ℕ, _≤_}
+use Prim.Native.Nat.{ℕ}
 use mathlib.Core.Path.{_≡_, refl, sym, _∙_, ap}
 use mathlib.Core.Bool.{Bool, true, false}
 use mathlib.Core.List.{List, [], _∷_, _++_, map, List·Memᴰ, List·Memᴰ·head, List·Memᴰ·tail, Memᴰ·of-map, List·Memᴰ·append-cases}
@@ -18,8 +18,7 @@ use Rattle.expand_clauses.specs.Expansion.{expandedBlock, expandedPrefix, witho
 use Rattle.truth_formula.proofs.Entries.{literal-within}
 use Rattle.truth_expand.proofs.Copies.{Naming, same, new, naming, without-member, copies-member}
 use Rattle.truth_expand.proofs.Expanding.{expandedOf}
-use Rattle.truth_expand.proofs.Order.{order, Marked, order-joined, marked-joined}
-use Rattle.truth_expand.proofs.Placing.{order-expanded, expanded-whole}
+use Rattle.truth_expand.proofs.Placing.{expanded-whole}
 
 module _ (x : ℕ) (copy : ℕ → ℕ) where
   pub blocks-expanded : (es : List ℕ) → blocks (expandedPrefix x copy es) ≡ joinedBlocks (map (expandedBlock x copy) (blocks es))

@@ -3,8 +3,8 @@
 use Prim.Native.Nat.{ℕ, _+_}
 use mathlib.Core.Path.{_≡_}
 use mathlib.Core.Bool.{true}
-use mathlib.Core.List.{List, [], _∷_}
-use lib.IntN.{ℤ, pos, negsuc}
+use mathlib.Core.List.{[], _∷_}
+use lib.IntN.{pos, negsuc}
 use Rattle.formula.specs.Lent.{Formula, formulaOf}
 use Rattle.formula.specs.Meaning.{level, isExistential}
 use Rattle.forest_theory.specs.Reach.{From, Reach}

@@ -15,7 +15,7 @@ use Rattle.path_resolution.specs.Paths.{DependsByPaths}
 use Rattle.dqbf_sets.specs.Depends.{DependsOnBy}
 use Rattle.dqbf_sets.proofs.Agreement.{read-sound}
 use Rattle.truth.specs.Strategies.{Assignment}
-use Rattle.truth_formula.specs.Holds.{Holds, HoldsWithin, HoldsWithinAt, TurnsIn, GameOf}
+use Rattle.truth_formula.specs.Holds.{Holds, HoldsWithin, TurnsIn, GameOf}
 use Rattle.truth_formula.specs.Listed.{HoldsListed, HoldsListedWithin, ListedPaths}
 use Rattle.truth_formula.proofs.Turns.{game-holds}
 use Rattle.truth_formula.proofs.Narrowed.{sets-all, paths-all}

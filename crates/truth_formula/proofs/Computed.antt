@@ -1,5 +1,4 @@
 -- Whether a formula holds is computed by its game; two formulas with one clause list and two prefixes are settled so.
-use Prim.Native.Nat.{ℕ}
 use mathlib.Core.Path.{_≡_, refl}
 use mathlib.Core.Bool.{Bool, true, false}
 use mathlib.Core.List.{List, [], _∷_}

@@ -1,9 +1,9 @@
 -- Narrowing with dependency lists: whose list has x can be told, and the three sets have the resolution-path set in them.
-use Prim.Native.Nat.{ℕ, zero, suc, _≤_, _<_}
-use mathlib.Core.Path.{_≡_, refl, sym, _∙_, subst}
+use Prim.Native.Nat.{ℕ, zero, suc, _<_}
+use mathlib.Core.Path.{_≡_, sym, subst}
 use mathlib.Core.Bool.{Bool, true, false, not, Bool-discrete}
-use mathlib.Core.List.{List, List·Memᴰ}
-use mathlib.Core.Logic.{_⊎_, inl, inr, ⊎-elim, _↔_, _≢_, Dec·and, Dec·not, by-cases}
+use mathlib.Core.List.{List}
+use mathlib.Core.Logic.{_⊎_, inl, inr, ⊎-elim, _↔_, Dec·and, Dec·not, by-cases}
 use native.Mathlib.Decide.{ℕ-discrete, decLt, map-dec}
 use native.Mathlib.Omega.{arith}
 use lib.IntN.{ℤ}

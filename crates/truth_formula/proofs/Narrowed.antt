@@ -1,8 +1,8 @@
 -- Narrowing to the sets of a formula as lent. Every set of the three has the resolution-path set in it, so that one lemma serves them all.
 use Prim.Native.Nat.{ℕ}
-use mathlib.Core.Path.{_≡_, refl, sym, subst}
-use mathlib.Core.Bool.{Bool, true, false, not, Bool-discrete}
-use mathlib.Core.List.{List, List·Memᴰ}
+use mathlib.Core.Path.{_≡_, subst}
+use mathlib.Core.Bool.{true, false, Bool-discrete}
+use mathlib.Core.List.{List·Memᴰ}
 use mathlib.Core.Logic.{_↔_, Dec·and}
 use native.Mathlib.Decide.{decLt, map-dec}
 use lib.IntN.{ℤ}

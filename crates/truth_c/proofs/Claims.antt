@@ -1,0 +1,65 @@
+-- Where `snow_expand` returns 0, the formula that stands in front in its output tables holds exactly if the lent one does, as the rule reads it.
+use Prim.Native.Nat.{ℕ}
+use mathlib.Core.Path.{_≡_, subst}
+use mathlib.Core.Bool.{Bool, true, false}
+use mathlib.Core.List.{List}
+use mathlib.Core.Logic.{_↔_, inl, inr}
+use native.Mathlib.Omega.{arith}
+use denote.Ref.{now}
+use lib.Dec.{eqb}
+use lib.IntN.{ℤ}
+use Rattle.terms.specs.Refusals.{FirstOf}
+use Rattle.formula.specs.Causes.{PrefixCause, ClauseCause}
+use Rattle.formula.specs.Lent.{Formula}
+use Rattle.formula_rules.specs.Rules.{readBy, JoinedCause, causesIf}
+use Rattle.expand.specs.Promise.{ResultTables, resultIn, resultOut, expandOrder}
+use Rattle.expand.proofs.Accepted.{written}
+use Rattle.truth_formula.specs.Holds.{Holds}
+use Rattle.truth_expand.proofs.Claims.{written-keeps-truth}
+use Rattle.snowcoddle.specs.Told.{accepted, refused}
+use Rattle.snowcoddle.specs.Promises.{Cell, Table, Literals, ExpandTold}
+
+-- No cause of refusal has the number 0.
+prefix-some : {n : ℕ} {es : List ℕ} {e : ℕ} → PrefixCause n es 0 e → ⊥
+prefix-some (PrefixCause.ends-inside q _ _) = omega arith
+prefix-some (PrefixCause.no-mark q _ _ _) = omega arith
+prefix-some (PrefixCause.same-mark _ q _ _ _) = omega arith
+prefix-some (PrefixCause.too-many-blocks q _ _) = omega arith
+prefix-some (PrefixCause.outside q _ _) = omega arith
+prefix-some (PrefixCause.named-before _ q _ _ _ _) = omega arith
+prefix-some (PrefixCause.empty-block _ q _ _ _) = omega arith
+
+joined-some : {n : ℕ} {es : List ℕ} {e : ℕ} → JoinedCause n es 0 e → ⊥
+joined-some (JoinedCause.ends-inside q _ _) = omega arith
+joined-some (JoinedCause.no-mark q _ _ _) = omega arith
+joined-some (JoinedCause.too-many-blocks q _ _ _) = omega arith
+joined-some (JoinedCause.outside q _ _) = omega arith
+joined-some (JoinedCause.named-before _ q _ _ _ _) = omega arith
+
+causes-some : (joins : Bool) {n : ℕ} {es : List ℕ} {e : ℕ} → causesIf joins n es 0 e → ⊥
+causes-some false c = prefix-some c
+causes-some true c = joined-some c
+
+clause-some : {n : ℕ} {ls : List ℤ} {e : ℕ} → ClauseCause n ls 0 e → ⊥
+clause-some (ClauseCause.outside q _ _ _) = omega arith
+clause-some (ClauseCause.ends-inside q _ _) = omega arith
+
+refusal-some : (rule : ℕ) (f : Formula) (x : ℕ) (out : ResultTables) (place : ℕ) → FirstOf (expandOrder rule f x out) 0 place → ⊥
+refusal-some rule f x out place (inl c) = let q = c .holds .0 in omega arith
+refusal-some rule f x out place (inr (_, inl c)) = let q = c .holds .0 in omega arith
+refusal-some rule f x out place (inr (_, inr (_, inl c))) = let q = c .holds .0 in omega arith
+refusal-some rule f x out place (inr (_, inr (_, inr (_, inl c)))) = causes-some (eqb rule 2) (c .holds)
+refusal-some rule f x out place (inr (_, inr (_, inr (_, inr (_, inl c))))) = clause-some (c .holds)
+refusal-some rule f x out place (inr (_, inr (_, inr (_, inr (_, inr (_, inl c)))))) = let q = c .holds .0 in omega arith
+refusal-some rule f x out place (inr (_, inr (_, inr (_, inr (_, inr (_, inr (_, inl c))))))) = let q = c .holds .0 in omega arith
+refusal-some rule f x out place (inr (_, inr (_, inr (_, inr (_, inr (_, inr (_, inr (_, inl c)))))))) = let q = c .holds .0 in omega arith
+refusal-some rule f x out place (inr (_, inr (_, inr (_, inr (_, inr (_, inr (_, inr (_, inr (_, inl c))))))))) = let q = c .holds .0 in omega arith
+
+pub snow-expand-keeps-truth : (rule : ℕ) (f : Formula) (x : ℕ) (n : Cell) (prefix : Table) (entries : Cell) (clauses : Literals)
+    (literals place : Cell) (returned : ℕ) → ExpandTold rule f x n prefix entries clauses literals place returned → returned ≡ 0
+    → Holds (readBy rule f) ↔ Holds (written (resultOut prefix clauses) (now (n .exit)) (now (entries .exit)) (now (literals .exit)))
+snow-expand-keeps-truth rule f x n prefix entries clauses literals place returned (accepted none given _ _) zero =
+    written-keeps-truth rule f x (resultIn prefix clauses) (resultOut prefix clauses) (now (n .exit)) (now (entries .exit)) (now (literals .exit)) none given
+snow-expand-keeps-truth rule f x n prefix entries clauses literals place returned (refused first _) zero =
+    absurd (refusal-some rule f x (resultIn prefix clauses) (now (place .exit))
+    (subst (λ (k : ℕ). FirstOf (expandOrder rule f x (resultIn prefix clauses)) k (now (place .exit))) zero first))

@@ -1,0 +1,2 @@
+-- The theorem for C.
+pub mod Claims
