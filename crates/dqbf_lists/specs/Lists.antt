@@ -4,12 +4,16 @@ use mathlib.Core.Path.{_≡_}
 use mathlib.Core.Bool.{true, false}
 use mathlib.Core.List.{List}
 use mathlib.Core.Logic.{_⊎_}
-use Rattle.formula.specs.Tables.{at, opens, MarkAt, VariableAt}
-use Rattle.formula.specs.Meaning.{level, isExistential}
+use Rattle.formula.specs.Tables.{at, cut, opens, MarkAt, VariableAt}
+use Rattle.formula.specs.Meaning.{isZero, level, isExistential}
 
 -- the most entries of a table of lists
 abbrev pub listEntries : ℕ
 listEntries = 16384
+
+-- the lists of a table, each its existential and then its universals
+unfoldable pub lists : List ℕ → List (List ℕ)
+lists ds = cut isZero ds
 
 -- The places of a table of lists are those of a prefix: the entry that opens a list (MarkAt) is its existential, and any other that is no 0 one of its
 -- universals (VariableAt). Entry e stands behind entry b in one list if none opens behind b, up to e.

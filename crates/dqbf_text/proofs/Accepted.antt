@@ -18,16 +18,17 @@ use Rattle.formula_rules.specs.Rules.{checkOrder}
 use Rattle.formula_rules.proofs.Orders.{limits}
 use Rattle.terms.proofs.Common.{by-test}
 use Rattle.terms.specs.declared.Filled.the-variants.{Count}
-use Rattle.text_write.specs.Bytes.{SmallEntries}
+use Rattle.text_write.specs.InnerBytes.{SmallEntries}
 use Rattle.text_write.specs.Texts.{TEXT-MOST, overlong}
 use Rattle.text_write.proofs.Outputs.{text-front}
 use Rattle.text_qdimacs.proofs.Accepted.{groups-from, small, holdable}
 use Rattle.dqbf_lists.specs.Causes.{ListCause, checkListsOrder}
 use Rattle.terms.specs.declared.ListedReading.{ListedReading}
 use Rattle.dqbf_text.specs.Reading.{Tables, ReadIs}
-use Rattle.dqbf_text.specs.Writing.{WritableLists}
+use Rattle.dqbf_text.specs.InnerText.{listedByEntries, WritableLists}
 use Rattle.dqbf_text.specs.Stored.{listedText, WritesListed}
 use Rattle.dqbf_text.proofs.Holdable.{Lists, no-list, list, list-end, member}
+use Rattle.dqbf_text.proofs.Blockwise.{text-is}
 use Rattle.dqbf_text.proofs.RoundTrip.{ReadsBack, text-reads-back}
 
 module _ {n : ℕ} {es ds : List ℕ} (few : n ≤ 4096) (none : None (ListCause n es ds)) where
@@ -80,6 +81,10 @@ module _ (rule : ℕ) (f : Formula) (ds : List ℕ) (none : NoneOf (checkListsOr
 
   lists-held : Lists true ds
   lists-held = let (few, short, room) = limits rule f without in accepted-lists few (none .1 .1 .1 .1 .1 .0)
+
+  -- the text entry by entry is that of blocks, lists and clauses
+  pub written-text : listedByEntries (f .n) (f .prefix) (f .clauses) ds ≡ listedText f ds
+  written-text = text-is (f .n) (f .prefix) (f .clauses) ds (holdable rule f without) lists-held
 
 -- What write leaves in front in the buffer reads back as the tables that were lent.
 pub written-reads-back : (rule : ℕ) (f : Formula) (ds : List ℕ) (before after : Tables) → length (f .prefix) ≤ length (before .0)

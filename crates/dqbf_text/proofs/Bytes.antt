@@ -7,11 +7,13 @@ use native.Mathlib.Omega.{arith}
 use lib.Dec.{eqb}
 use lib.ListN.{length, getD, length-append}
 use Rattle.text_write.specs.Texts.{SPACE}
-use Rattle.text_write.specs.Writing.{decimal, spaced, ended}
-use Rattle.text_write.specs.Bytes.{SmallEntries, entryBytes}
+use Rattle.text_write.specs.Numbers.{decimal}
+use Rattle.text_write.specs.InnerText.{spaced, ended}
+use Rattle.text_write.specs.InnerBytes.{SmallEntries, entryBytes}
 use Rattle.text_write.proofs.Decimal.{digits-most}
 use Rattle.text_write.proofs.Stores.{ended-split, ended-most, Script, text-most}
-use Rattle.dqbf_text.specs.Writing.{LETTER-D, lettered, listText, listBytes}
+use Rattle.dqbf_text.specs.Format.{LETTER-D}
+use Rattle.dqbf_text.specs.InnerText.{lettered, listText, listBytes}
 
 pub list-split : (first : Bool) (entry : ℕ) (more : List ℕ)
     → listText first (entry ∷ more) ≡ listBytes first entry ++ listText (eqb entry 0) more

@@ -1,18 +1,24 @@
 -- Small texts by hand: one with a list, `d 0`, which is 16, and a quantifier line after a list line, which is 16.
 use Prim.Native.Nat.{ℕ}
-use mathlib.Core.Path.{_≡_, refl, sym}
-use mathlib.Core.Bool.{true, false, true≢false}
+use mathlib.Core.Path.{_≡_, refl}
+use mathlib.Core.Bool.{true, false}
 use mathlib.Core.List.{List, [], _∷_, _++_}
 use mathlib.Core.Option.{Option, some}
 use native.Mathlib.Omega.{arith}
 use lib.IntN.{pos, negℤ}
-use Rattle.text_lines.specs.declared.Stage.the-variants.{Opening, Body}
-use Rattle.text_words.specs.Words.{onto, pieces, filled, words, allDigits, spelt, isNumber, numberOf, plainItem, negatedItem, itemOf, prepend, closed, entry}
-use Rattle.text_words.specs.Words.{entriesOf}
-use Rattle.text_lines.specs.Grammar.{Line, p-cnf, QuantifierLine, literals-line, the-problem, a-block, a-clause}
+use Rattle.terms.specs.Refusals.{First}
+use Rattle.text_lines.specs.declared.Stage.the-variants.{Body}
+use Rattle.text_words.specs.Words.{onto, pieces, filled, words}
+use Rattle.text_words.specs.InnerNumbers.{allDigits, spelt, isNumber, numberOf, plainItem, negatedItem, itemOf, prepend, closed, entry, entriesOf}
+use Rattle.text_words.proofs.Spelled.{spells, read-variables, read-literals}
+use Rattle.text_lines.specs.Format.{ProblemLine, p-cnf, QuantifierLine, e-line, ClauseLine, literals-line, all-none, say-none, say-more, LineCause}
+use Rattle.text_lines.specs.InnerGrammar.{the-problem, a-block}
 use Rattle.text_qdimacs.proofs.Unique.{many-stuck}
-use Rattle.dqbf_text.specs.Grammar.{ListLine, d-line, a-line, a-list, no-line, one-more, ListedText, outside, ListedFaultIn}
-use Rattle.dqbf_text.proofs.Letters.{list-none, d-many}
+use Rattle.dqbf_text.specs.Format.{ListLine, ListedText, ListedFollow}
+use Rattle.dqbf_text.specs.InnerGrammar.{a-line, a-list, no-line, one-more, outside}
+use Rattle.dqbf_text.proofs.Letters as letters
+use Rattle.dqbf_text.proofs.Letters.{list-block, d-many}
+use Rattle.dqbf_text.proofs.Causes.{first-cause}
 use Rattle.dqbf_text.proofs.Faults.{no-listed, late-none}
 
 -- `p cnf 3 1`, `e 2 0`, `d 3 1 0`, `d 0`, `3 -1 0`
@@ -36,45 +42,44 @@ text [] = []
 text (line ∷ more) = line ++ (10 ∷ text more)
 
 -- each line by itself
-problem-line : Line Opening problem (Body 3 1 0) [] []
+problem-line : ProblemLine problem 3 1
 unfolding words filled pieces onto numberOf isNumber allDigits spelt
-problem-line = the-problem (p-cnf refl refl refl)
+problem-line = p-cnf refl (spells refl) (spells refl)
 
-block-line : Line (Body 3 1 0) block (Body 3 1 0) (1 ∷ 2 ∷ 0 ∷ []) []
+block-line : QuantifierLine block (1 ∷ 2 ∷ 0 ∷ [])
 unfolding words filled pieces onto entriesOf entry prepend closed itemOf plainItem numberOf isNumber allDigits spelt
-block-line = a-block refl (QuantifierLine.e-line refl refl)
+block-line = e-line refl (read-variables refl)
 
 list-line : ListLine list (3 ∷ 1 ∷ 0 ∷ [])
 unfolding words filled pieces onto entriesOf entry prepend closed itemOf plainItem numberOf isNumber allDigits spelt
-list-line = d-line refl refl
+list-line = letters.list-line refl refl
 
-clause-line : Line (Body 3 1 0) clause (Body 3 1 1) [] (pos 3 ∷ negℤ (pos 1) ∷ pos 0 ∷ [])
+clause-line : ClauseLine clause (pos 3 ∷ negℤ (pos 1) ∷ pos 0 ∷ [])
 unfolding words filled pieces onto entriesOf entry prepend closed itemOf plainItem negatedItem numberOf isNumber allDigits spelt
-clause-line = a-clause {n = 3} {m = 1} {k = 0} (omega arith) (literals-line refl)
+clause-line = literals-line (read-literals refl)
 
 -- the text of n 3, the block e 2, the list 3 1 and the clause {3 -1}
 pub with-list : ListedText 3 (1 ∷ 2 ∷ 0 ∷ []) (3 ∷ 1 ∷ 0 ∷ []) (pos 3 ∷ negℤ (pos 1) ∷ pos 0 ∷ []) (text (problem ∷ block ∷ list ∷ clause ∷ []))
 unfolding pieces onto
 with-list =
     record {
-      announced = 1;
-      listed = true;
-      lines = problem ∷ block ∷ list ∷ clause ∷ [];
-      cut = refl;
-      follow =
-          one-more (a-line (λ e. absurd (true≢false (sym e))) problem-line)
-          (one-more (a-line (λ e. absurd (true≢false (sym e))) block-line)
-          (one-more (a-list refl list-line) (one-more (a-line (λ e. refl) clause-line) no-line)));
+      quantifiers = block ∷ [];
+      list-lines = list ∷ [];
+      clauses = clause ∷ [];
+      lines = record { comments = []; problem = problem; cut = refl; are-comments = all-none; is-problem = problem-line };
+      quantifiers-say = say-more block-line say-none;
+      lists-say = say-more list-line say-none;
+      clauses-say = say-more clause-line say-none;
     }
 
 -- `d 0` is 16 at its first byte: one entry is not y and another
 one-entry : (y next : ℕ) (others : List ℕ) → _≡_ {A = Option (List ℕ)} (some (0 ∷ [])) (some (y ∷ next ∷ others)) → ⊥
 one-entry y next others e = let no : _≡_ {A = ℕ} 0 1 = cc in omega arith
 
-pub list-of-none : ListedFaultIn (text (problem ∷ bare ∷ [])) 16 10
+pub list-of-none : First (LineCause ListedFollow (text (problem ∷ bare ∷ []))) 16 10
 unfolding pieces onto words filled entriesOf entry prepend closed itemOf plainItem numberOf isNumber allDigits spelt
 list-of-none =
-    record {
+    first-cause (record {
       lines = problem ∷ [];
       left = bare ∷ [] ∷ [];
       listed = false;
@@ -83,16 +88,16 @@ list-of-none =
       lists = [];
       clauses = [];
       cut = refl;
-      follow = one-more (a-line (λ e. absurd (true≢false (sym e))) problem-line) no-line;
+      follow = one-more (a-line (λ e. refl) (the-problem problem-line)) no-line;
       fault = outside (λ then after p l c. no-listed 3 1 refl refl one-entry) (d-many refl);
       at = refl;
-    }
+    })
 
 -- a quantifier line after a list line is 16 at its first byte
-pub late-block : ListedFaultIn (text (problem ∷ list ∷ block ∷ [])) 16 18
+pub late-block : First (LineCause ListedFollow (text (problem ∷ list ∷ block ∷ []))) 16 18
 unfolding pieces onto
 late-block =
-    record {
+    first-cause (record {
       lines = problem ∷ list ∷ [];
       left = block ∷ [] ∷ [];
       listed = true;
@@ -101,9 +106,9 @@ late-block =
       lists = 3 ∷ 1 ∷ 0 ∷ [];
       clauses = [];
       cut = refl;
-      follow = one-more (a-line (λ e. absurd (true≢false (sym e))) problem-line) (one-more (a-list refl list-line) no-line);
+      follow = one-more (a-line (λ e. refl) (the-problem problem-line)) (one-more (a-list refl list-line) no-line);
       fault =
-          outside (λ then after p l c. late-none (λ n m l e x. list-none x block-line) refl block-line (λ e. let no : _≡_ {A = ℕ} 0 1 = cc in omega arith))
-          (λ t. many-stuck t block-line);
+          outside (λ then after p l c. late-none (λ n m l e x. list-block x block-line) refl (a-block {n = 3} {m = 1} {k = 0} refl block-line) (λ e. let no : _≡_ {A = ℕ} 0 1 = cc in omega arith))
+          (λ t. many-stuck t (a-block {n = 3} {m = 1} {k = 0} refl block-line));
       at = refl;
-    }
+    })

@@ -12,17 +12,18 @@ use Rattle.text_lines.specs.declared.Stage.{Stage}
 use Rattle.text_lines.specs.declared.Stage.the-variants.{Body}
 use Rattle.text_words.specs.declared.Spelt.{Spelt}
 use Rattle.text_words.specs.declared.Spelt.the-variants.{Missing, Spelled}
-use Rattle.text_words.specs.Words.{LF, pieces, filled, words, entriesOf}
-use Rattle.text_lines.specs.Grammar.{variables, Line, TooMany, Fault}
-use Rattle.text_words.specs.Places.{front, lineAt, afterAt, wordsAt, WholeRow, unread, endless-row}
-use Rattle.text_words.specs.Expected.{SpeltIs}
-use Rattle.text_lines.specs.Steps as plain
+use Rattle.text_words.specs.Words.{LF, pieces, filled, words}
+use Rattle.text_words.specs.InnerNumbers.{entriesOf, variables}
+use Rattle.text_lines.specs.InnerGrammar.{Line, TooMany, Fault}
+use Rattle.text_words.specs.InnerPlaces.{front, lineAt, afterAt, wordsAt, WholeRow, unread, endless-row}
+use Rattle.text_words.specs.InnerExpected.{SpeltIs}
+use Rattle.text_lines.specs.InnerSteps as plain
 use Rattle.text_lines.proofs.Bodies.{last-line, line-then, line-passed}
 use Rattle.text_qdimacs.proofs.Unique.{line-same, many-stuck}
-use Rattle.dqbf_text.specs.Writing.{LETTER-D}
-use Rattle.dqbf_text.specs.Grammar.{ListLine, d-line, ListedLine, a-line, a-list, ListedFault, outside, unended, no-problem, many, few}
-use Rattle.dqbf_text.specs.Steps.{WholeList, NoList, no-row, alone, Unlisted, ListMark, ListMarkIs, Late, LateIs, Adds, Few, Went}
-use Rattle.dqbf_text.proofs.Letters.{d-none, d-many}
+use Rattle.dqbf_text.specs.Format.{LETTER-D, ListLine}
+use Rattle.dqbf_text.specs.InnerGrammar.{ListedLine, a-line, a-list, ListedFault, outside, unended, no-problem, many, few}
+use Rattle.dqbf_text.specs.InnerSteps.{WholeList, NoList, no-row, alone, Unlisted, ListMark, ListMarkIs, Late, LateIs, Adds, Few, Went}
+use Rattle.dqbf_text.proofs.Letters.{list-line, list-words, d-none, d-many}
 
 module _ (listed : Bool) (stage : Stage) (text : List ℕ) (at : ℕ) (h : at < length text) where
   -- no LF
@@ -45,9 +46,11 @@ pub no-listed : {listed then : Bool} {s t : Stage} {line p l : List ℕ} {c : Li
     → words line ≡ (LETTER-D ∷ []) ∷ more
     → ((y next : ℕ) (others : List ℕ) → entriesOf variables more ≡ some (y ∷ next ∷ others) → ⊥) → ListedLine listed s line then t p l c → ⊥
 no-listed n m is begins none (a-line {next = next} {line = line} {p = p} {c = c} k x) = d-none begins (subst (λ (s : Stage). Line s line next p c) is x)
-no-listed {more = more} n m is begins none (a-list z (d-line {entries = entries} {y = y} {next = next} {more = words′} q r)) =
-    let same : words′ ≡ more = cc in
-    none y next entries (sym (ap (entriesOf variables) same) ∙ r)
+no-listed {more = more} n m is begins none (a-list z x) =
+    let w = list-words x in
+    let q = w .begins in
+    let same : w .more ≡ more = cc in
+    none (w .y) (w .next) (w .others) (sym (ap (entriesOf variables) same) ∙ w .read ∙ ap some (w .are))
 
 module _ {listed : Bool} {stage : Stage} {text : List ℕ} {at : ℕ} (h : at < length text) {i : ℕ} (mark : ListMark stage text at i) where
   list-fault : ((y next : ℕ) (others : List ℕ) → entriesOf variables (wordsAt text i) ≡ some (y ∷ next ∷ others) → ⊥)
@@ -68,7 +71,7 @@ pub list-mark : {stage : Stage} {n m : ℕ} (text : List ℕ) (at : ℕ) → sta
 list-mark text at is Missing missing = λ n′ m′ l e x. no-list x
   where
     no-list : {l : List ℕ} → ListLine (lineAt text at) l → ⊥
-    no-list (d-line {more = more} q r) = missing more q
+    no-list x = let w = list-words x in missing (w .more) (w .begins)
 list-mark {n = n} {m = m} text at is (Spelled next) goes = record { n = n; m = m; stands = is; goes = goes }
 
 -- A fault of QDIMACS is one here where no list line may stand, or none stands.
@@ -88,7 +91,7 @@ fault-plain listed none (Fault.few h) = few h
 
 pub empty-line : {l : List ℕ} → ListLine [] l → ⊥
 unfolding words filled pieces
-empty-line (d-line q r) = let no : _≡_ {A = ℕ} 0 1 = cc in omega arith
+empty-line x = let q = list-words x .begins in let no : _≡_ {A = ℕ} 0 1 = cc in omega arith
 
 pub end-fault : {number : ℕ} {stage : Stage} → Fault number stage ([] ∷ []) → (listed : Bool) → ListedFault number listed stage ([] ∷ [])
 unfolding front
@@ -174,7 +177,7 @@ went-list {listed} {stage} {text} {at} {i} {entries} {literals} {rows} {next} {c
       line =
           subst (λ (l : List ℕ). ListedLine listed stage (lineAt text at) true stage [] l []) (sym (list .are))
           (subst (λ (s : Stage). ListedLine listed s (lineAt text at) true s [] (list .y ∷ list .second ∷ list .others) []) (sym (mark .stands))
-          (a-list refl (d-line (mark .goes .first) (row .read ∙ ap some (list .are)))));
+          (a-list refl (list-line (mark .goes .first) (row .read ∙ ap some (list .are)))));
       passed =
           record {
             after = mark .goes .after ∙ row .passed .after;

@@ -7,16 +7,19 @@ use native.Mathlib.Omega.{arith}
 use native.Mathlib.Nat.{zero-add}
 use lib.ListN.{length}
 use lib.IntN.{ℤ}
-use Rattle.terms.specs.Refusals.{FirstOf, None, NoneOf}
+use Rattle.terms.specs.Refusals.{First, FirstOf, None, NoneOf}
 use Rattle.terms.proofs.Overwritten.{stored-overwritten}
 use Rattle.text_write.specs.Texts.{TEXT-MOST}
 use Rattle.text_write.proofs.Outputs.{not-overlong}
 use Rattle.terms.specs.declared.ListedReading.{ListedReading}
 use Rattle.terms.specs.declared.ListedReading.the-variants.{Read, Refused}
-use Rattle.dqbf_text.specs.Grammar.{ListedText, ListedFaultIn}
-use Rattle.dqbf_text.specs.Steps.{Adds, ScanIs}
+use Rattle.text_lines.specs.Format.{LineCause}
+use Rattle.dqbf_text.specs.Format.{ListedText, ListedFollow}
+use Rattle.dqbf_text.specs.InnerSteps.{Adds, ScanIs}
 use Rattle.dqbf_text.specs.Reading.{Tables, NoRoom, no-room-prefix, no-room-clauses, no-room-lists, readOrder, FrontFilled, ReadIs}
-use Rattle.dqbf_text.proofs.Unique.{fault-same, text-fault, text-same}
+use Rattle.dqbf_text.proofs.Scans.{adds-length}
+use Rattle.dqbf_text.proofs.Unique.{text-same}
+use Rattle.dqbf_text.proofs.Causes.{no-cause}
 
 -- A table that has room for what was added: that stands in front.
 module _ {A : Type 0} {P before after : List A} {count : ℕ} (adds : Adds P 0 count before after) (room : length P ≤ length before) where
@@ -25,27 +28,16 @@ module _ {A : Type 0} {P before after : List A} {count : ℕ} (adds : Adds P 0 c
 
 module _ (text : List ℕ) (before : Tables) (short : length text ≤ TEXT-MOST) where
   -- a fault
-  pub first-fault : (number place : ℕ) → ListedFaultIn text number place → FirstOf (readOrder text before) number place
-  first-fault number place f =
-      inr (
-        not-overlong text short,
-        inl (record {
-          holds = f;
-          leftmost = λ number′ place′ g. let same = fault-same f g .1 in omega arith;
-          lowest = λ number′ g. let same = fault-same f g .0 in omega arith;
-        }),
-      )
+  pub first-fault : (number place : ℕ) → First (LineCause ListedFollow text) number place → FirstOf (readOrder text before) number place
+  first-fault number place f = inr (not-overlong text short, inl f)
 
   module _ {n : ℕ} {P L : List ℕ} {C : List ℤ} (text-of : ListedText n P L C text) where
-    not-fault : None (ListedFaultIn text)
-    not-fault number place f = text-fault text-of f
-
     -- no room
     pub first-room : NoRoom text before 14 0 → FirstOf (readOrder text before) 14 0
     first-room room =
         inr (
           not-overlong text short,
-          inr (not-fault, inl (record { holds = room; leftmost = λ number place c. omega arith; lowest = λ number c. lowest c })),
+          inr (no-cause text-of, inl (record { holds = room; leftmost = λ number place c. omega arith; lowest = λ number c. lowest c })),
         )
       where
         lowest : {number place : ℕ} → NoRoom text before number place → 14 ≤ number
@@ -55,7 +47,7 @@ module _ (text : List ℕ) (before : Tables) (short : length text ≤ TEXT-MOST)
 
     -- nothing
     pub nothing-wrong : length P ≤ length (before .0) → length C ≤ length (before .1) → length L ≤ length (before .2) → NoneOf (readOrder text before)
-    nothing-wrong p c l = (not-overlong text short, (not-fault, (room, tt)))
+    nothing-wrong p c l = (not-overlong text short, (no-cause text-of, (room, tt)))
       where
         room : None (NoRoom text before)
         room number place (no-room-prefix t h) = let same = ap length (text-same text-of t .prefix) in omega arith
@@ -65,7 +57,7 @@ module _ (text : List ℕ) (before : Tables) (short : length text ≤ TEXT-MOST)
     -- the answer of the second scan, where the text is known to be within the rules and to fit
     pub read-all : length P ≤ length (before .0) → length C ≤ length (before .1) → length L ≤ length (before .2) → (after : Tables) (r : ListedReading)
         → ScanIs text before after r → ReadIs text before after r
-    read-all p c l after (Refused number place) f = absurd (text-fault text-of f)
+    read-all p c l after (Refused number place) f = absurd (no-cause text-of number place (f .holds))
     read-all p c l after (Read n′ entries literals rows) s =
         let same = text-same text-of (s .text-of) in
         let lp = ap length (same .prefix) in

@@ -12,7 +12,7 @@ use Rattle.text_qdimacs.proofs.Holdable.{Holdable}
 use Rattle.terms.specs.declared.ListedReading.{ListedReading}
 use Rattle.terms.specs.declared.ListedReading.the-variants.{Read, Refused}
 use Rattle.dqbf_text.specs.Reading.{Tables, readOrder, FrontFilled, ReadIs}
-use Rattle.dqbf_text.specs.Writing.{listedTextOf}
+use Rattle.dqbf_text.specs.Written.{listedTextOf}
 use Rattle.dqbf_text.proofs.Unique.{text-same}
 use Rattle.dqbf_text.proofs.Readings.{nothing-wrong}
 use Rattle.dqbf_text.proofs.Holdable.{Lists}

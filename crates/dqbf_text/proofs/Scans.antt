@@ -11,20 +11,24 @@ use lib.IntN.{ℤ}
 use Rattle.text_lines.specs.declared.Stage.{Stage}
 use Rattle.text_lines.specs.declared.Stage.the-variants.{Opening}
 use Rattle.text_words.specs.Words.{LF, pieces}
-use Rattle.text_lines.specs.Grammar.{placeAfter}
-use Rattle.text_words.specs.Places.{lineAt}
-use Rattle.text_lines.specs.Steps.{Sound, announcedAt}
+use Rattle.text_lines.specs.Format.{placeAfter, LineCause}
+use Rattle.text_words.specs.InnerPlaces.{lineAt}
+use Rattle.text_lines.specs.InnerSteps.{Sound, announcedAt}
 use Rattle.text_words.proofs.Lines.{line-length}
 use Rattle.text_lines.proofs.Bodies.{line-then}
 use Rattle.text_qdimacs.proofs.Scans.{line-sound, place-more, stored-more}
+use Rattle.terms.specs.Refusals.{First}
 use Rattle.terms.specs.declared.ListedReading.{ListedReading}
 use Rattle.terms.specs.declared.ListedReading.the-variants.{Read, Refused}
-use Rattle.dqbf_text.specs.Grammar.{ListedLine, a-line, a-list, ListedLines, no-line, one-more, ListedFault, ListedFaultIn}
+use Rattle.dqbf_text.specs.Format.{ListedFollow}
+use Rattle.dqbf_text.specs.InnerGrammar.{ListedLine, a-line, a-list, ListedLines, no-line, one-more, ListedFault}
 use Rattle.dqbf_text.specs.Reading.{Tables}
-use Rattle.dqbf_text.specs.Steps.{Counts, Few, Adds, Went, FinishIs, ScanIs}
+use Rattle.dqbf_text.specs.InnerSteps.{Counts, Few, Adds, Went, FinishIs, ScanIs}
+use Rattle.dqbf_text.proofs.Staged.{staged-text}
+use Rattle.dqbf_text.proofs.Causes.{first-cause}
 
 -- No line lets more clause lines stand than were announced.
-listed-sound : {b b′ : Bool} {s s′ : Stage} {l p d : List ℕ} {c : List ℤ} → ListedLine b s l b′ s′ p d c → Sound s → Sound s′
+pub listed-sound : {b b′ : Bool} {s s′ : Stage} {l p d : List ℕ} {c : List ℤ} → ListedLine b s l b′ s′ p d c → Sound s → Sound s′
 listed-sound (a-line k x) h = line-sound x h
 listed-sound (a-list z x) h = h
 
@@ -33,7 +37,7 @@ lines-sound no-line h = h
 lines-sound (one-more line lines) h = lines-sound lines (listed-sound line h)
 
 -- One more line at the end.
-lines-more : {a b b′ : Bool} {s t t′ : Stage} {ls : List (List ℕ)} {l P p L d : List ℕ} {C c : List ℤ} → ListedLines a s ls b t P L C
+pub lines-more : {a b b′ : Bool} {s t t′ : Stage} {ls : List (List ℕ)} {l P p L d : List ℕ} {C c : List ℤ} → ListedLines a s ls b t P L C
     → ListedLine b t l b′ t′ p d c → ListedLines a s (ls ++ (l ∷ [])) b′ t′ (P ++ p) (L ++ d) (C ++ c)
 lines-more {b = b} {b′ = b′} {t = t} {t′ = t′} {l = l} {p = p} {d = d} {c = c} no-line line =
     subst (λ (x : List ℕ). ListedLines b t (l ∷ []) b′ t′ x d c) (append-nil p)
@@ -126,10 +130,10 @@ module _ {text : List ℕ} {before : Tables} {at : ℕ} {listed : Bool} {stage :
         within = w .passed .within;
       }
 
-  -- a fault at this place
-  pub reached-fault : {number : ℕ} → ListedFault number listed stage (pieces LF (drop at text)) → ListedFaultIn text number at
+  -- a fault at this place is the first cause
+  pub reached-fault : {number : ℕ} → ListedFault number listed stage (pieces LF (drop at text)) → First (LineCause ListedFollow text) number at
   reached-fault fault =
-      record {
+      first-cause (record {
         lines = reached .lines;
         left = pieces LF (drop at text);
         listed = listed;
@@ -141,7 +145,7 @@ module _ {text : List ℕ} {before : Tables} {at : ℕ} {listed : Bool} {stage :
         follow = reached .follow;
         fault = fault;
         at = reached .place;
-      }
+      })
 
   -- the text's end
   pub reached-end : length text ≤ at → (r : ListedReading) → FinishIs stage at counts r → ScanIs text before now r
@@ -152,7 +156,7 @@ module _ {text : List ℕ} {before : Tables} {at : ℕ} {listed : Bool} {stage :
         C = reached .C;
         L = reached .L;
         text-of =
-            record {
+            staged-text (record {
               announced = announcedAt stage;
               listed = listed;
               lines = reached .lines;
@@ -160,11 +164,11 @@ module _ {text : List ℕ} {before : Tables} {at : ℕ} {listed : Bool} {stage :
               follow =
                   subst (λ (s : Stage). ListedLines false Opening (reached .lines) listed s (reached .P) (reached .L) (reached .C)) (f .0)
                   (reached .follow);
-            };
+            });
         prefix-adds = record { counted = f .1 ∙ reached .prefix-adds .counted; stored = reached .prefix-adds .stored };
         clauses-adds = record { counted = f .2 ∙ reached .clauses-adds .counted; stored = reached .clauses-adds .stored };
         lists-adds = record { counted = f .3 ∙ reached .lists-adds .counted; stored = reached .lists-adds .stored };
       }
   reached-end h (Refused number place) f =
-      subst (ListedFaultIn text number) (sym (f .1))
+      subst (First (LineCause ListedFollow text) number) (sym (f .1))
       (reached-fault (subst (λ (xs : List ℕ). ListedFault number listed stage (pieces LF xs)) (sym (drop-of-length-le text h)) (f .0 listed)))

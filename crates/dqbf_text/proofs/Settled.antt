@@ -12,7 +12,6 @@ use Rattle.formula.specs.Lent.{Formula}
 use Rattle.dqbf_lists.specs.Causes.{checkListsOrder}
 use Rattle.terms.specs.declared.ListedReading.{ListedReading}
 use Rattle.dqbf_text.specs.Reading.{Tables, readOrder, FrontFilled, ReadInto, ReadIs}
-use Rattle.dqbf_text.specs.Writing.{listedTextOf}
 use Rattle.dqbf_text.specs.Stored.{listedText, WritesListed}
 use Rattle.dqbf_text.proofs.Unique.{text-same}
 

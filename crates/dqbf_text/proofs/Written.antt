@@ -3,28 +3,27 @@ use Prim.Native.Nat.{ℕ, _<_}
 use mathlib.Core.Path.{_≡_, refl, sym, ap, _∙_, subst}
 use mathlib.Core.Bool.{Bool, true, false, true≢false}
 use mathlib.Core.List.{List, [], _∷_, _++_, append-assoc, append-nil}
-use mathlib.Core.Option.{some}
 use native.Mathlib.Omega.{arith}
-use borrow.Author.Tests.{ne-eqb}
 use lib.IntN.{ℤ}
 use Rattle.text_lines.specs.declared.Stage.{Stage}
 use Rattle.text_lines.specs.declared.Stage.the-variants.{Body}
-use Rattle.text_words.specs.Words.{LF, SPACE, ZERO, onto, pieces, words, entriesOf}
-use Rattle.text_lines.specs.Grammar.{variables, p-cnf, the-problem}
-use Rattle.text_write.specs.Writing.{decimal, digitsOf, spaced, ended, prefixText, clauseText, clauseCount}
-use Rattle.text_qdimacs.proofs.Decimal.{decimal-number}
+use Rattle.text_words.specs.Words.{LF, SPACE, ZERO, onto, pieces, words, Variables}
+use Rattle.text_words.proofs.Spelled.{decimal-spells, variables-read}
+use Rattle.text_lines.specs.Format.{p-cnf}
+use Rattle.text_lines.specs.InnerGrammar.{the-problem}
+use Rattle.text_write.specs.Numbers.{decimal, digitsOf}
+use Rattle.text_write.specs.InnerText.{spaced, ended, prefixText, clauseText, clauseCount}
 use Rattle.text_qdimacs.proofs.Holdable.{Holdable}
 use Rattle.text_qdimacs.proofs.Written.{pieces-front, pieces-spaced, decimal-without, zero-row, variable-taken, letter-words, BlockLines, blocks, ClauseLines}
 use Rattle.text_qdimacs.proofs.Written.{clauses, problem-bytes, problem-cut, problem-words}
-use Rattle.dqbf_text.specs.Grammar.{d-line, a-line, a-list, ListedLines, no-line, one-more, ListedText}
-use Rattle.dqbf_text.specs.Writing.{LETTER-D, lettered, listText, listedTextOf}
-use Rattle.dqbf_text.proofs.Agreement.{with-flag}
+use Rattle.dqbf_text.specs.Format.{LETTER-D, ListedText}
+use Rattle.dqbf_text.specs.Written.{listedTextOf}
+use Rattle.dqbf_text.specs.InnerGrammar.{a-line, a-list, ListedLines, no-line, one-more, ListedByStages}
+use Rattle.dqbf_text.specs.InnerText.{lettered, listText, listedByEntries}
+use Rattle.dqbf_text.proofs.Letters.{list-line}
+use Rattle.dqbf_text.proofs.Staged.{with-flag, staged-text}
 use Rattle.dqbf_text.proofs.Holdable.{Lists, no-list, list, list-end, member}
-
--- A number in its list: its text.
-member-text : (v : ℕ) (more : List ℕ) → (v ≡ 0 → ⊥) → listText false (v ∷ more) ≡ SPACE ∷ (decimal v ++ listText false more)
-unfolding listText lettered spaced ended
-member-text v more positive = rw (ne-eqb v 0 positive)
+use Rattle.dqbf_text.proofs.Blockwise.{member-text, text-is}
 
 -- The lists of a table, before a text that goes on.
 module _ (n m : ℕ) (rest : List ℕ) where
@@ -42,7 +41,7 @@ module _ (n m : ℕ) (rest : List ℕ) where
     lines : List (List ℕ)
     is : es ≡ first ∷ (others ++ after)
     cut : pieces LF (listText false es ++ rest) ≡ spaced false body ∷ (lines ++ pieces LF rest)
-    read : entriesOf variables (words body) ≡ some (first ∷ others)
+    read : Variables (words body) (first ∷ others)
     then : Bool → Bool
     follow : (b : Bool) → ListedLines b (Body n m 0) lines (then b) (Body n m 0) [] after []
 
@@ -61,10 +60,10 @@ module _ (n m : ℕ) (rest : List ℕ) where
       ap (λ (t : List ℕ). pieces LF (t ++ rest)) (member-text v more positive)
       ∙ ap (λ (t : List ℕ). pieces LF (SPACE ∷ t)) (append-assoc (decimal v) (listText false more) rest)
       ∙ pieces-spaced false (decimal v ++ (listText false more ++ rest)) (memberBody v r) (r .lines ++ pieces LF rest)
-      (pieces-front LF (listText false more ++ rest) (SPACE ∷ r .body) (r .lines ++ pieces LF rest) (decimal-without v small LF (omega arith)) (r .cut))
+      (pieces-front LF (listText false more ++ rest) (SPACE ∷ r .body) (r .lines ++ pieces LF rest) (decimal-without v LF (omega arith)) (r .cut))
 
   member-read : (v : ℕ) (more : List ℕ) → (v ≡ 0 → ⊥) → v < 100000 → (r : ListRest more)
-      → entriesOf variables (words (memberBody v r)) ≡ some (v ∷ r .first ∷ r .others)
+      → Variables (words (memberBody v r)) (v ∷ r .first ∷ r .others)
   member-read v more positive small r = variable-taken v (r .body) (r .first ∷ r .others) positive small (r .read)
 
   -- the letter in front of the first
@@ -85,7 +84,7 @@ module _ (n m : ℕ) (rest : List ℕ) where
         then = λ f. r .then true;
         follow =
             λ f. subst (λ (L : List ℕ). ListedLines f (Body n m 0) (line ∷ r .lines) (r .then true) (Body n m 0) [] (y ∷ L) []) (sym (r .is))
-            (one-more (a-list refl (d-line (letter-words LETTER-D (memberBody y r) refl) (member-read y more positive small r))) (r .follow true));
+            (one-more (a-list refl (list-line (letter-words LETTER-D (memberBody y r) refl) (variables-read (member-read y more positive small r)))) (r .follow true));
       }
   lists (list-end {more} b) =
       let r = lists b in
@@ -97,7 +96,7 @@ module _ (n m : ℕ) (rest : List ℕ) where
         lines = r .lines;
         is = refl;
         cut = rw (r .cut);
-        read = zero-row variables;
+        read = zero-row;
         then = r .then;
         follow = r .follow;
       }
@@ -127,11 +126,11 @@ lines-join {a = a} {c = c′} {s = s} {u = u} {ls = ls} {Q = Q} {L = L} {D = D}
     (subst (λ (e : List ℤ). ListedLines a s (k ∷ (ks ++ ls)) c′ u (p ++ (P ++ Q)) (l ++ (K ++ L)) e) (sym (append-assoc c C D))
     (one-more line (lines-join more x))))
 
--- The written text is the text of its tables.
-pub written : (n : ℕ) (prefix : List ℕ) (clauses′ : List ℤ) (lists′ : List ℕ) → Holdable n prefix clauses′ → Lists true lists′
-    → ListedText n prefix lists′ clauses′ (listedTextOf n prefix clauses′ lists′)
-unfolding listedTextOf
-written n prefix clauses′ lists′ h d =
+-- The text that is written entry by entry, by stages.
+staged : (n : ℕ) (prefix : List ℕ) (clauses′ : List ℤ) (lists′ : List ℕ) → Holdable n prefix clauses′ → Lists true lists′
+    → ListedByStages n prefix lists′ clauses′ (listedByEntries n prefix clauses′ lists′)
+unfolding listedByEntries
+staged n prefix clauses′ lists′ h d =
     let m = clauseCount clauses′ in
     let end = clauseText true clauses′ in
     let bs : BlockLines n m (listText true lists′ ++ end) prefix = blocks n m (listText true lists′ ++ end) (h .blocks) in
@@ -142,7 +141,7 @@ written n prefix clauses′ lists′ h d =
       listed = ds .then false;
       lines = problem-bytes n m ∷ (bs .lines ++ (ds .lines ++ cs .lines));
       cut =
-          problem-cut n m (h .number) (h .count) (prefixText true prefix ++ (listText true lists′ ++ end))
+          problem-cut n m (prefixText true prefix ++ (listText true lists′ ++ end))
           ∙ ap (λ (ls : List (List ℕ)). problem-bytes n m ∷ ls)
           (bs .cut
           ∙ ap (λ (ls : List (List ℕ)). bs .lines ++ ls)
@@ -151,7 +150,7 @@ written n prefix clauses′ lists′ h d =
       follow =
           one-more
           (a-line (λ e. refl)
-          (the-problem (p-cnf (problem-words n m (h .number) (h .count)) (decimal-number n (h .number)) (decimal-number m (h .count)))))
+          (the-problem (p-cnf (problem-words n m) (decimal-spells n (h .number)) (decimal-spells m (h .count)))))
           (subst (λ (P : List ℕ). ListedLines false (Body n m 0) (bs .lines ++ (ds .lines ++ cs .lines)) (ds .then false) (Body n m m) P lists′ clauses′)
           (append-nil prefix)
           (subst
@@ -161,3 +160,8 @@ written n prefix clauses′ lists′ h d =
           (lines-join (with-flag false (λ e. absurd (true≢false (sym e))) (bs .follow))
           (lines-join (ds .follow false) (with-flag (ds .then false) (λ e. refl) (cs .follow))))));
     }
+
+-- The written text is the text of its tables.
+pub written : (n : ℕ) (prefix : List ℕ) (table : List ℤ) (ds : List ℕ) → Holdable n prefix table → Lists true ds
+    → ListedText n prefix ds table (listedTextOf n prefix table ds)
+written n prefix table ds h d = subst (ListedText n prefix ds table) (text-is n prefix table ds h d) (staged-text (staged n prefix table ds h d))

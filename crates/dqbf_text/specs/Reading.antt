@@ -11,7 +11,8 @@ use Rattle.terms.specs.Answers.{Settles}
 use Rattle.terms.specs.Refusals.{Causes}
 use Rattle.text_write.specs.Texts.{Overlong}
 use Rattle.terms.specs.declared.ListedReading.{ListedReading}
-use Rattle.dqbf_text.specs.Grammar.{ListedText, ListedFaultIn}
+use Rattle.text_lines.specs.Format.{LineCause}
+use Rattle.dqbf_text.specs.Format.{ListedText, ListedFollow}
 
 -- The tables that a text fills: the prefix table, the clause table and the table of lists.
 abbrev pub Tables : Type 0
@@ -24,7 +25,7 @@ pub data NoRoom (text : List ℕ) (before : Tables) : ℕ → ℕ → Type 0 whe
   no-room-lists : {n : ℕ} {P L : List ℕ} {C : List ℤ} → ListedText n P L C text → length (before .2) < length L → NoRoom text before 14 0
 
 abbrev pub readOrder : List ℕ → Tables → List Causes
-readOrder text before = Overlong text ∷ ListedFaultIn text ∷ NoRoom text before ∷ []
+readOrder text before = Overlong text ∷ LineCause ListedFollow text ∷ NoRoom text before ∷ []
 
 -- so many rows stand in front in a table, with nothing past them changed
 pub record FrontFilled {A : Type 0} (rows : List A) (count : ℕ) (before after : List A) : Type 0 where

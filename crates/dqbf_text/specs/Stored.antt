@@ -11,7 +11,7 @@ use Rattle.formula_rules.specs.Rules.{readAs, RuleCause, PrefixCauseBy}
 use Rattle.text_write.specs.Texts.{Overlong}
 use Rattle.text_write.specs.Stored.{ShortOut, WritesBy}
 use Rattle.dqbf_lists.specs.Causes.{ListedLengthCause, ListCause}
-use Rattle.dqbf_text.specs.Writing.{listedTextOf}
+use Rattle.dqbf_text.specs.Written.{listedTextOf}
 
 -- the text of a formula with lists
 abbrev pub listedText : Formula → List ℕ → List ℕ

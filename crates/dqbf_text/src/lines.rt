@@ -10,8 +10,8 @@ use text_words::Spelt;
 use text_words::expected::letter_at;
 ghost use Prim.Native.Nat.{_<_};
 ghost use lib.ListN.{length};
-ghost use Rattle.text_lines.specs.Steps.{Sound};
-ghost use Rattle.dqbf_text.specs.Steps.{ListMarkIs, ListIs, Unlisted, LateIs, Few, PlainIs, OnwardIs};
+ghost use Rattle.text_lines.specs.InnerSteps.{Sound};
+ghost use Rattle.dqbf_text.specs.InnerSteps.{ListMarkIs, ListIs, Unlisted, LateIs, Few, PlainIs, OnwardIs};
 
 // The line at a place, at a stage: list lines stand only after the problem line and before the clause lines.
 pub fn line_at(

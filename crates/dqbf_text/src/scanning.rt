@@ -5,8 +5,8 @@ use crate::lines::line_at;
 use terms::ListedReading;
 use terms::Reading;
 use text_lines::Stage;
-ghost use Rattle.text_lines.specs.Steps.{Sound};
-ghost use Rattle.dqbf_text.specs.Steps.{FinishIs, ScanIs};
+ghost use Rattle.text_lines.specs.InnerSteps.{Sound};
+ghost use Rattle.dqbf_text.specs.InnerSteps.{FinishIs, ScanIs};
 
 // Scans a whole text line by line, and stores what its lines add as far as the tables have rows: a short table only learns the counts.
 pub fn scan(

@@ -12,10 +12,11 @@ ghost use mathlib.Core.List.{[]};
 ghost use mathlib.Core.Bool.{true};
 ghost use Prim.Native.Nat.{_<_, _≤_};
 ghost use lib.ListN.{length};
-ghost use Rattle.text_write.specs.Bytes.{Wrote, SmallEntries};
+ghost use Rattle.text_write.specs.Stored.{Wrote};
+ghost use Rattle.text_write.specs.InnerBytes.{SmallEntries};
 ghost use Rattle.text_write.specs.InnerOrders.{WriteIs};
 ghost use Rattle.dqbf_lists.specs.Lists.{listEntries};
-ghost use Rattle.dqbf_text.specs.Writing.{lettered, listText, listBytes, listedTextOf, WritableLists};
+ghost use Rattle.dqbf_text.specs.InnerText.{lettered, listText, listBytes, listedByEntries, WritableLists};
 
 // The letter that list lines begin with.
 pub const LETTER_D: u8 = 100;
@@ -30,7 +31,7 @@ pub fn write_accepted(
     out: &mut [u8],
 ) -> Filled
     requires writable { ⌜ WritableLists n (now prefix) (now clauses) (now lists) ⌝ }
-    ensures answered { λ r. ⌜ WriteIs (listedTextOf n (now (prefix .entry)) (now (clauses .entry)) (now (lists .entry)))
+    ensures answered { λ r. ⌜ WriteIs (listedByEntries n (now (prefix .entry)) (now (clauses .entry)) (now (lists .entry)))
         (now (out .entry)) (now (out .exit)) r ⌝ }
 {
     let mut unseen = [0u8; 1];
@@ -48,7 +49,7 @@ pub fn write_accepted(
 // The text of n and three tables.
 fn put_text(out: &mut [u8], n: u32, prefix: &[u32], clauses: &[i32], lists: &[u32]) -> usize
     requires writable { ⌜ WritableLists n (now prefix) (now clauses) (now lists) ⌝ }
-    ensures wrote { λ r. ⌜ Wrote (listedTextOf n (now (prefix .entry)) (now (clauses .entry)) (now (lists .entry)))
+    ensures wrote { λ r. ⌜ Wrote (listedByEntries n (now (prefix .entry)) (now (clauses .entry)) (now (lists .entry)))
         (now (out .entry)) (now (out .exit)) 0 r ⌝ }
 {
     let count = count_clauses(clauses);

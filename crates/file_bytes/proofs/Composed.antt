@@ -6,7 +6,7 @@ use native.Mathlib.Omega.{arith}
 use lib.IntN.{ℤ}
 use lib.ListN.{length, take, drop, length-append, length-map}
 use lib.Seq.{sets-eq, take-at, length-take-le}
-use Rattle.text_write.specs.Bytes.{Wrote}
+use Rattle.text_write.specs.Stored.{Wrote}
 use Rattle.text_write.proofs.Stores.{wrote-more}
 use Rattle.file_format.specs.Numbers.{numberBytes, bytesOf, literalNumber, wordSum}
 use Rattle.file_format.specs.Layout.{prefixKind, clausesKind, rowsKind, closingKind, recordBytes, prefixRecord, clausesRecord, rowsRecord, closingRecord}

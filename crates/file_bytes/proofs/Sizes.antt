@@ -4,7 +4,7 @@ use mathlib.Core.Path.{_≡_}
 use mathlib.Core.List.{List, [], _∷_}
 use native.Mathlib.Omega.{arith}
 use lib.ListN.{length, length-append}
-use Rattle.text_write.specs.Bytes.{Wrote}
+use Rattle.text_write.specs.Stored.{Wrote}
 use Rattle.file_format.specs.Numbers.{numberBytes, bytesOf}
 use Rattle.file_format.proofs.Lengths.{number-length, bytes-length}
 use Rattle.file_bytes.specs.Parts.{headBytes}

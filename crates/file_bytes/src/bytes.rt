@@ -7,7 +7,7 @@ ghost use Prim.Native.Nat.{_<_, _≤_};
 ghost use mathlib.Core.List.{map};
 ghost use lib.ListN.{length};
 ghost use Rattle.terms.specs.Limits.{prefixEntries, clauseEntries};
-ghost use Rattle.text_write.specs.Bytes.{Wrote};
+ghost use Rattle.text_write.specs.Stored.{Wrote};
 ghost use Rattle.file_format.specs.Numbers.{numberBytes, bytesOf, literalNumber};
 ghost use Rattle.file_bytes.specs.Parts.{headBytes};
 

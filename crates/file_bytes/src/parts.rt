@@ -11,7 +11,7 @@ ghost use mathlib.Core.Path.{_≡_};
 ghost use mathlib.Core.List.{_++_};
 ghost use lib.ListN.{length, take};
 ghost use Rattle.terms.specs.Limits.{mostVariables, prefixEntries, clauseEntries};
-ghost use Rattle.text_write.specs.Bytes.{Wrote};
+ghost use Rattle.text_write.specs.Stored.{Wrote};
 ghost use Rattle.file_format.specs.Numbers.{bytesOf};
 ghost use Rattle.file_format.specs.Layout.{prefixRecord, clausesRecord, rowsRecord, closingRecord};
 ghost use Rattle.file_bytes.specs.Parts.{closing};

@@ -6,7 +6,7 @@ use native.Mathlib.Omega.{arith}
 use lib.ListN.{length, take}
 use Rattle.formula.specs.Lent.{Formula}
 use Rattle.forest_tables.specs.Lent.{Rows}
-use Rattle.text_write.specs.Bytes.{Wrote}
+use Rattle.text_write.specs.Stored.{Wrote}
 use Rattle.text_write.proofs.Stores.{wrote-more}
 use Rattle.file_format.specs.Layout.{prefixRecord, clausesRecord, rowsRecord, closingRecord}
 use Rattle.file_bytes.specs.Parts.{closing}

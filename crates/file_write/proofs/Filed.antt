@@ -15,7 +15,7 @@ use Rattle.terms.proofs.Orders.{Carries, same-order, one-more}
 use Rattle.terms.proofs.Verdicts.{at0-first, at0-none}
 use Rattle.formula.specs.Lent.{Formula, formulaOf}
 use Rattle.forest_tables.specs.Lent.{Rows}
-use Rattle.text_write.specs.Bytes.{Wrote}
+use Rattle.text_write.specs.Stored.{Wrote}
 use Rattle.file_format.specs.Numbers.{numberBytes, wordSum}
 use Rattle.file_format.specs.Layout.{closingKind, prefixRecord, clausesRecord, rowsRecord, closingRecord, ForestRows, SumsToZero, FileWith}
 use Rattle.file_format.specs.Causes.{FileTooLarge, FileTooLong}

@@ -13,8 +13,8 @@ use Rattle.forest_members.specs.Picked.{pick, picked}
 use Rattle.sets_occurrences.specs.Threads.{Closed, EnteredBy}
 use Rattle.sets.proofs.AllSets.{set-picked, points-picked}
 use Rattle.listing_lines.specs.Lines.{universalLine, Stored}
-use Rattle.listing.specs.Listing.{lineBytes, LineOf, LineIn}
-use Rattle.listing.specs.Inner.{TopsOf, flaggedLine}
+use Rattle.listing.specs.Listing.{lineBytes, LineOf, LineIn, TopsOf}
+use Rattle.listing.specs.Inner.{flaggedLine}
 use Rattle.listing.proofs.Printed.{line-front}
 
 module _ {n : ℕ} (es : List ℕ) {ls : List ℤ} (r : Rows) {x floor : ℕ} {tops : List ℕ} {flags : List Bool} (few : n ≤ 4096) (closed : Closed ls)

@@ -11,9 +11,9 @@ use Rattle.formula.specs.Causes.{PrefixCause, ClauseCause}
 use Rattle.formula.specs.Lent.{Formula}
 use Rattle.formula.proofs.Places.{prefix-place, clause-place}
 use Rattle.grow.specs.Grown.{Standing, buildOrder}
-use Rattle.text_lines.specs.Grammar.{FaultIn}
-use Rattle.text_lines.proofs.Places.{fault-place}
-use Rattle.text_qdimacs.specs.Reading.{Overlong, overlong, NoRoom, no-room-prefix, no-room-clauses, readOrder}
+use Rattle.text_lines.specs.Format.{MayFollow, LineCause}
+use Rattle.text_lines.proofs.Places.{cause-place}
+use Rattle.text_qdimacs.specs.Reading.{TEXT-MOST, Overlong, overlong, NoRoom, no-room-prefix, no-room-clauses, readOrder}
 
 -- both have at most five digits
 abbrev pub Digits : ℕ → ℕ → Type 0
@@ -44,9 +44,9 @@ build-digits f s number place (inr (_, inr (_, inr (short, inr (_, inl c))))) =
 build-digits f s number place (inr (_, inr (_, inr (_, inr (_, inr (_, inl c)))))) = at0-digits 14 (omega arith) (c .holds)
 build-digits f s number place (inr (_, inr (_, inr (_, inr (_, inr (_, inr (_, none))))))) = absurd none
 
--- A fault stands within the text.
-fault-digits : (text : List ℕ) (number place : ℕ) → length text ≤ 65536 → FaultIn text number place → Digits number place
-fault-digits text number place short f = let (low, within) = fault-place text number place f in (omega arith, omega arith)
+-- A cause of 16 or 17 stands within the text.
+cause-digits : {text : List ℕ} {number place : ℕ} → length text ≤ TEXT-MOST → LineCause MayFollow text number place → Digits number place
+cause-digits short c = let (low, within) = cause-place c in (omega arith, omega arith)
 
 -- A text that is too long is refused at its limit, and tables that do not fit at 0.
 overlong-digits : {text : List ℕ} {number place : ℕ} → Overlong text number place → Digits number place
@@ -61,7 +61,7 @@ pub read-digits : (text prefix : List ℕ) (clauses : List ℤ) (number place : 
     → Digits number place
 read-digits text prefix clauses number place (inl f) = overlong-digits (f .holds)
 read-digits text prefix clauses number place (inr (short, inl f)) =
-    let long : ¬ (65536 < length text) = λ l. short 15 65536 (overlong l) in
-    fault-digits text number place (omega arith) (f .holds)
+    let long : ¬ (TEXT-MOST < length text) = λ l. short 15 TEXT-MOST (overlong l) in
+    cause-digits (omega arith) (f .holds)
 read-digits text prefix clauses number place (inr (_, inr (_, inl f))) = room-digits (f .holds)
 read-digits text prefix clauses number place (inr (_, inr (_, inr (_, none)))) = absurd none

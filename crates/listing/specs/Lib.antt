@@ -1,3 +1,3 @@
--- What the lines of the program say, which is what to believe; then what its inner functions find.
+-- What the program prints: Listing is what to believe, Inner is what inner functions find on the way.
 pub mod Listing
 pub mod Inner

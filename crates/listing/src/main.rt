@@ -43,8 +43,8 @@ ghost use Rattle.sets_occurrences.specs.Threads.{Closed, Tied, EnteredBy};
 ghost use Rattle.sets_subtrees.specs.Runs.{Run, Within, Led};
 ghost use Rattle.sets.specs.Passed.{Ready};
 ghost use Rattle.listing_lines.specs.Lines.{universalLine, Small, Stored};
-ghost use Rattle.listing.specs.Listing.{lineBytes, HeadOf, LineOf, LineIn};
-ghost use Rattle.listing.specs.Inner.{TopsOf, flaggedLine, soleList};
+ghost use Rattle.listing.specs.Listing.{lineBytes, HeadOf, LineOf, LineIn, TopsOf};
+ghost use Rattle.listing.specs.Inner.{flaggedLine, soleList};
 
 // The bytes that are read: one more than a text may have, so that a longer text is refused.
 const TEXT: usize = 65537;

@@ -6,7 +6,8 @@ use mathlib.Core.List.{List, [], _∷_, _++_}
 use native.Mathlib.Omega.{arith}
 use lib.IntN.{pos}
 use lib.ListN.{length, getD, length-append}
-use Rattle.text_write.specs.Writing.{decimal, literalWord}
+use Rattle.text_write.specs.Numbers.{decimal}
+use Rattle.text_write.specs.Written.{literalWord}
 use Rattle.text_write.proofs.Stores.{word-most, Script}
 use Rattle.listing_lines.specs.Lines.{numbers}
 

@@ -2,8 +2,8 @@
 use Prim.Native.Nat.{ℕ, _+_, _<_, _≤_}
 use mathlib.Core.List.{List, [], _∷_, _++_}
 use lib.ListN.{length, getD}
-use Rattle.text_write.specs.Writing.{decimal}
-use Rattle.text_write.specs.Bytes.{Wrote}
+use Rattle.text_write.specs.Numbers.{decimal}
+use Rattle.text_write.specs.Stored.{Wrote}
 
 -- the words between the numbers, each with the spaces around it
 abbrev pub VARS : List ℕ

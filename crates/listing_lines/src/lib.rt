@@ -5,8 +5,8 @@ use text_write::bytes::put_number;
 ghost use Prim.Native.Nat.{_<_};
 ghost use mathlib.Core.List.{_++_};
 ghost use lib.ListN.{length};
-ghost use Rattle.text_write.specs.Writing.{decimal};
-ghost use Rattle.text_write.specs.Bytes.{Wrote};
+ghost use Rattle.text_write.specs.Numbers.{decimal};
+ghost use Rattle.text_write.specs.Stored.{Wrote};
 ghost use Rattle.listing_lines.specs.Lines.{numbers, headLine, universalLine, refusedLine, Small, Stored};
 
 // `vars N blocks B clauses C strict`

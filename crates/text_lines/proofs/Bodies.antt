@@ -11,14 +11,17 @@ use Rattle.text_lines.specs.declared.Stage.{Stage}
 use Rattle.text_lines.specs.declared.Stage.the-variants.{Opening, Body}
 use Rattle.text_lines.specs.declared.Mark.the-variants.{Unmarked}
 use Rattle.text_words.specs.declared.Spelt.the-variants.{Missing}
-use Rattle.text_words.specs.Words.{LF, LETTER-A, LETTER-E, pieces, allDigits, isNumber, numberOf, plainItem, itemOf, entry, entriesOf}
-use Rattle.text_lines.specs.Grammar.{variables, literals, CommentLine, ProblemLine, QuantifierLine, e-line, a-line, ClauseLine, literals-line, Line}
-use Rattle.text_lines.specs.Grammar.{a-comment, the-problem, a-block, a-clause, TooMany, too-many, Fault, outside, unended, many}
-use Rattle.text_words.specs.Places.{past, isSpace, inLine, front, later, lineAt, afterAt, wordsAt, Passed, WholeRow, NoRow, unread, endless-row}
-use Rattle.text_words.specs.Expected.{Goes, SpeltIs}
-use Rattle.text_lines.specs.Steps.{NoOpening, no-opening, endless-line, MarkIs, MarkAt, e-mark, a-mark, WholeBlock, Went}
+use Rattle.text_words.specs.Words.{LF, LETTER-A, LETTER-E, pieces}
+use Rattle.text_words.specs.InnerNumbers.{entriesOf, variables, literals}
+use Rattle.text_lines.specs.Format.{CommentLine, ProblemLine, QuantifierLine, e-line, a-line, ClauseLine, literals-line}
+use Rattle.text_lines.specs.InnerGrammar.{Line, a-comment, the-problem, a-block, a-clause, TooMany, too-many, Fault, outside, unended, many}
+use Rattle.text_words.specs.InnerPlaces.{past, isSpace, inLine, front, later, lineAt, afterAt, wordsAt, Passed, WholeRow, NoRow, unread, endless-row}
+use Rattle.text_words.specs.InnerExpected.{Goes, SpeltIs}
+use Rattle.text_lines.specs.InnerSteps.{NoOpening, no-opening, endless-line, MarkIs, MarkAt, e-mark, a-mark, WholeBlock, Went}
 use Rattle.text_words.proofs.Lines.{Byte, byte, space, feed, letter, front-later, front-onto}
+use Rattle.text_words.proofs.Spelled.{variables-read, read-variables, literals-read, read-literals}
 use Rattle.text_words.proofs.Spelling.{spelt-unlike}
+use Rattle.text_lines.proofs.Apart.{lettered-clause}
 
 -- A last line without LF is not empty.
 record Filled (xs : List ℕ) : Type 0 where
@@ -127,19 +130,6 @@ module _ {text : List ℕ} {at entries literals′ : ℕ} {before : List ℕ × 
       → Went stage text at entries literals′ before before (Body n m 0) next entries literals′
   went-problem q o = went-bare q (the-problem (o .0)) (o .1)
 
--- The words `e` and `a` are no literals, so a line is not both a quantifier line and a clause line.
-e-clause : (more : List (List ℕ)) (es : List ℤ) → entriesOf literals ((LETTER-E ∷ []) ∷ more) ≡ some es → ⊥
-unfolding entriesOf entry itemOf plainItem numberOf isNumber allDigits
-e-clause more es q = let no : _≡_ {A = ℕ} 0 1 = cc in omega arith
-
-a-clause-no : (more : List (List ℕ)) (es : List ℤ) → entriesOf literals ((LETTER-A ∷ []) ∷ more) ≡ some es → ⊥
-unfolding entriesOf entry itemOf plainItem numberOf isNumber allDigits
-a-clause-no more es q = let no : _≡_ {A = ℕ} 0 1 = cc in omega arith
-
-pub exclusive : {line bs : List ℕ} {cs : List ℤ} → QuantifierLine line bs → ClauseLine line cs → ⊥
-exclusive {cs = cs} (e-line {line} {entries} {more} e r) (literals-line q) = e-clause more cs (sym (ap (entriesOf literals) e) ∙ q)
-exclusive {cs = cs} (a-line {line} {entries} {more} e r) (literals-line q) = a-clause-no more cs (sym (ap (entriesOf literals) e) ∙ q)
-
 -- A line that begins with a mark.
 module _ {text : List ℕ} {at mark i : ℕ} (marked : MarkAt text at mark i) where
   mark-goes : (R : Type 0) → ((word : List ℕ) → Goes word text at i → R) → R
@@ -165,15 +155,15 @@ module _ {text : List ℕ} {at mark i : ℕ} (marked : MarkAt text at mark i) wh
   marked-line es r = go marked
     where
       go : MarkAt text at mark i → QuantifierLine (lineAt text at) (mark ∷ es)
-      go (e-mark e g) = subst (λ (m : ℕ). QuantifierLine (lineAt text at) (m ∷ es)) (sym e) (e-line (g .first) r)
-      go (a-mark e g) = subst (λ (m : ℕ). QuantifierLine (lineAt text at) (m ∷ es)) (sym e) (a-line (g .first) r)
+      go (e-mark e g) = subst (λ (m : ℕ). QuantifierLine (lineAt text at) (m ∷ es)) (sym e) (e-line (g .first) (read-variables r))
+      go (a-mark e g) = subst (λ (m : ℕ). QuantifierLine (lineAt text at) (m ∷ es)) (sym e) (a-line (g .first) (read-variables r))
 
   marked-clause : (cs : List ℤ) → ClauseLine (lineAt text at) cs → ⊥
-  marked-clause cs (literals-line q) = go marked
+  marked-clause cs line = go marked
     where
       go : MarkAt text at mark i → ⊥
-      go (e-mark e g) = e-clause (wordsAt text i) cs (sym (ap (entriesOf literals) (g .first)) ∙ q)
-      go (a-mark e g) = a-clause-no (wordsAt text i) cs (sym (ap (entriesOf literals) (g .first)) ∙ q)
+      go (e-mark e g) = lettered-clause LETTER-E [] (wordsAt text i) (g .first) (omega arith) line
+      go (a-mark e g) = lettered-clause LETTER-A [] (wordsAt text i) (g .first) (omega arith) line
 
   marked-none : entriesOf variables (wordsAt text i) ≡ none → (bs : List ℕ) → QuantifierLine (lineAt text at) bs → ⊥
   marked-none r bs line = go line marked
@@ -191,10 +181,10 @@ module _ {text : List ℕ} {at mark i : ℕ} (marked : MarkAt text at mark i) wh
       other g q = let f = g .first in cc
 
       go : {bs : List ℕ} → QuantifierLine (lineAt text at) bs → MarkAt text at mark i → ⊥
-      go (e-line q s) (e-mark e g) = differ g q s
+      go (e-line q s) (e-mark e g) = differ g q (variables-read s)
       go (e-line q s) (a-mark e g) = let no : LETTER-A ≡ LETTER-E = other g q in omega arith
       go (a-line q s) (e-mark e g) = let no : LETTER-E ≡ LETTER-A = other g q in omega arith
-      go (a-line q s) (a-mark e g) = differ g q s
+      go (a-line q s) (a-mark e g) = differ g q (variables-read s)
 
 -- A line that does not.
 pub unmarked-none : (text : List ℕ) (at : ℕ) → SpeltIs (LETTER-E ∷ []) text at Missing → SpeltIs (LETTER-A ∷ []) text at Missing → (bs : List ℕ)
@@ -230,7 +220,7 @@ module _ {text : List ℕ} {at n m k : ℕ} (h : at < length text) where
       fault-outside (Body n m k) text at h (no-body-line (λ bs z x. blocks bs x) (no-clause r)) (no-many-line (no-clause r))
     where
       no-clause : entriesOf literals (wordsAt text at) ≡ none → (cs : List ℤ) → ClauseLine (lineAt text at) cs → ⊥
-      no-clause e cs (literals-line q) = let no : _≡_ {A = ℕ} 0 1 = cc in omega arith
+      no-clause e cs (literals-line q) = let r = literals-read q in let no : _≡_ {A = ℕ} 0 1 = cc in omega arith
   fault-clause blocks (endless-row e) = fault-endless (Body n m k) text at h e
 
   module _ {entries lits : ℕ} {before after : List ℕ × List ℤ} (few-e : entries ≤ at) (few-l : lits ≤ at) where
@@ -256,7 +246,7 @@ module _ {text : List ℕ} {at n m k : ℕ} (h : at < length text) where
         → Went (Body n m k) text at entries lits before after (Body n m k′) next entries count
     went-clause one more w same =
         let place = w .passed .place in
-        let line = a-clause more (literals-line (w .read)) in
+        let line = a-clause more (literals-line (read-literals (w .read))) in
         record {
           p = [];
           c = w .entries;

@@ -7,14 +7,14 @@ use native.Mathlib.Omega.{arith}
 use lib.Dec.{eqb}
 use lib.ListN.{length, getD, drop, length-drop}
 use lib.Seq.{drop-cons, drop-drop}
-use Rattle.text_words.specs.declared.Number.the-variants.{Is}
 use Rattle.text_words.specs.declared.Spelt.the-variants.{Missing}
 use Rattle.text_words.specs.declared.Counted.the-variants.{Uncounted}
-use Rattle.text_words.specs.Words.{LF, LETTER-C, LETTER-F, LETTER-N, LETTER-P, pieces, words, numberOf}
-use Rattle.text_lines.specs.Grammar.{CommentLine, comment, ProblemLine, p-cnf}
-use Rattle.text_words.specs.Places.{leading, past, inLine, front, later, lineAt, afterAt, wordsAt, Passed, Open, words-left, no-feed}
-use Rattle.text_words.specs.Expected.{Goes, SpeltIs, Counts, CountedIs}
-use Rattle.text_lines.specs.Steps.{NoOpening, no-opening, endless-line, NoComment}
+use Rattle.text_words.specs.Words.{LF, LETTER-C, LETTER-F, LETTER-N, LETTER-P, pieces, words, Spells}
+use Rattle.text_lines.specs.Format.{CommentLine, comment, ProblemLine, p-cnf}
+use Rattle.text_words.specs.InnerPlaces.{leading, past, inLine, front, later, lineAt, afterAt, wordsAt, Passed, Open, words-left, no-feed}
+use Rattle.text_words.specs.InnerExpected.{Goes, SpeltIs, Counts, CountedIs}
+use Rattle.text_lines.specs.InnerSteps.{NoOpening, no-opening, endless-line, NoComment}
+use Rattle.text_words.proofs.Spelled.{number-of, spells}
 use Rattle.text_words.proofs.Lines.{Byte, byte, space, feed, letter, front-onto, later-onto}
 
 -- The line at a place, by its first byte.
@@ -81,8 +81,8 @@ record ProblemWords (line : List ℕ) (n m : ℕ) : Type 0 where
   number : List ℕ
   count : List ℕ
   are : words line ≡ (LETTER-P ∷ []) ∷ (LETTER-C ∷ LETTER-N ∷ LETTER-F ∷ []) ∷ number ∷ count ∷ []
-  number-is : numberOf number ≡ Is n
-  count-is : numberOf count ≡ Is m
+  number-is : Spells number n
+  count-is : Spells count m
 
 problem-words : {line : List ℕ} {n m : ℕ} → ProblemLine line n m → ProblemWords line n m
 problem-words (p-cnf {line} {number} {count} e n-is m-is) = record { number = number; count = count; are = e; number-is = n-is; count-is = m-is }
@@ -120,7 +120,7 @@ module _ (text : List ℕ) (at : ℕ) (plain : NoComment text at) where
       no-number missing =
           no-opening plain (λ n m line.
           let q = problem-words line in
-          missing (q .number) (q .count ∷ []) n (after-cnf n m line) (q .number-is))
+          missing (q .number) (q .count ∷ []) n (after-cnf n m line) (number-of (q .number-is)))
 
       module _ {n k : ℕ} (number : Counts text j n k) where
         after-number : (n m : ℕ) → (line : ProblemLine (lineAt text at) n m) → wordsAt text k ≡ problem-words line .count ∷ []
@@ -133,7 +133,7 @@ module _ (text : List ℕ) (at : ℕ) (plain : NoComment text at) where
         no-count missing =
             no-opening plain (λ n m line.
             let q = problem-words line in
-            missing (q .count) [] m (after-number n m line) (q .count-is))
+            missing (q .count) [] m (after-number n m line) (number-of (q .count-is)))
 
         module _ {m l : ℕ} (count : Counts text k m l) where
           line-after : afterAt text at ≡ afterAt text l
@@ -157,7 +157,7 @@ module _ (text : List ℕ) (at : ℕ) (plain : NoComment text at) where
               let g = cnf .first in
               let x = number .goes .first in
               let y = count .goes .first in
-              p-cnf {line = lineAt text at} {number = number .word} {count = count .word} (cc) (number .is) (count .is)
+              p-cnf {line = lineAt text at} {number = number .word} {count = count .word} (cc) (spells (number .is)) (spells (count .is))
 
           pub problem-passed : (next : ℕ) → Passed text l next → Passed text at next
           problem-passed next z = record { after = line-after ∙ z .after; place = z .place ∙ sym (ap (λ (w : ℕ). w + 1) line-past); within = z .within }

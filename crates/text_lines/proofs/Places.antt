@@ -1,4 +1,4 @@
--- Where the lines of a text begin: what is before one is no longer than the text; and so a fault stands within the text.
+-- Where the lines of a text begin: what is before one is no longer than the text; and so a cause stands within the text.
 use Prim.Native.Nat.{ℕ, _+_, _≤_, _<_}
 use mathlib.Core.Path.{_≡_, refl, ap}
 use mathlib.Core.Bool.{Bool, true, false, cond}
@@ -7,8 +7,7 @@ use native.Mathlib.Omega.{arith}
 use lib.Dec.{eqb}
 use lib.ListN.{length}
 use Rattle.text_words.specs.Words.{LF, onto, pieces}
-use Rattle.text_lines.specs.declared.Stage.{Stage}
-use Rattle.text_lines.specs.Grammar.{Fault, outside, unended, no-problem, many, few, placeAfter, FaultIn}
+use Rattle.text_lines.specs.Format.{placeAfter, LineCause, unended-line, misplaced-line, no-problem-line, clause-too-many, clauses-too-few}
 
 -- Cut at a mark, bytes are as many as their pieces with a mark each, but for the last.
 onto-place : (byte : ℕ) (cut : List (List ℕ)) → 0 < placeAfter cut → placeAfter (onto byte cut) ≡ placeAfter cut + 1
@@ -26,7 +25,7 @@ pieces-place mark (byte ∷ bytes) = by-mark (eqb byte mark) (pieces-place mark 
     by-mark true q = omega arith
     by-mark false q = let r = onto-place byte (pieces mark bytes) (omega arith) in omega arith
 
-place-append : (lines more : List (List ℕ)) → placeAfter (lines ++ more) ≡ placeAfter lines + placeAfter more
+pub place-append : (lines more : List (List ℕ)) → placeAfter (lines ++ more) ≡ placeAfter lines + placeAfter more
 place-append [] more = omega arith
 place-append (line ∷ lines) more = let q = place-append lines more in omega arith
 
@@ -38,14 +37,10 @@ place-few text lines left cut some-left =
     let s = pieces-place LF text in
     omega arith
 
--- A fault stands in what is left of a text, which has a piece at least, and its number is 16 or 17.
-fault-some : {k : ℕ} {stage : Stage} {left : List (List ℕ)} → Fault k stage left → (k ≤ 17) × (0 < placeAfter left)
-fault-some (outside _ _) = (omega arith, omega arith)
-fault-some unended = (omega arith, omega arith)
-fault-some no-problem = (omega arith, omega arith)
-fault-some (many _) = (omega arith, omega arith)
-fault-some (few _) = (omega arith, omega arith)
-
-pub fault-place : (text : List ℕ) (k p : ℕ) → FaultIn text k p → (k ≤ 17) × (p ≤ length text)
-fault-place text k p f =
-    let (low, left) = fault-some (f .fault) in let m = place-few text (f .lines) (f .left) (f .cut) left in let at = f .at in (low, omega arith)
+-- A cause stands within the text, in any format, and its number is 16 or 17.
+pub cause-place : {Follows : List (List ℕ) → List ℕ → Type 0} {text : List ℕ} {k p : ℕ} → LineCause Follows text k p → (k ≤ 17) × (p ≤ length text)
+cause-place {text = text} (unended-line before line cut some) = (omega arith, place-few text before (line ∷ []) cut (omega arith))
+cause-place {text = text} (misplaced-line before line next after cut bad) = (omega arith, place-few text before (line ∷ next ∷ after) cut (omega arith))
+cause-place (no-problem-line none) = (omega arith, omega arith)
+cause-place {text = text} (clause-too-many before line after cut i a c) = (omega arith, place-few text before (line ∷ after) cut (omega arith))
+cause-place (clauses-too-few a c h) = (omega arith, omega arith)

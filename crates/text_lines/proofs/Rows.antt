@@ -15,11 +15,10 @@ use mir.Facts.{toZ-ofZ}
 use Rattle.terms.proofs.Common.{sets-append}
 use Rattle.text_words.specs.declared.Row.{Row}
 use Rattle.text_words.specs.declared.Row.the-variants.{Broken, Whole}
-use Rattle.text_lines.specs.Grammar.{variables}
-use Rattle.text_words.specs.Words.{Item, Kind, prepend, closed, entry, entriesOf}
-use Rattle.text_words.specs.Places.{past, inLine, wordsAt, afterAt, Taken, Unread, wordless, strange, early, endless, Closes, WholeRow, NoRow, unread}
-use Rattle.text_words.specs.Places.{endless-row, RowIs}
-use Rattle.text_lines.specs.Steps.{BlockIs}
+use Rattle.text_words.specs.InnerNumbers.{variables, Item, Kind, prepend, closed, entry, entriesOf}
+use Rattle.text_words.specs.InnerPlaces.{past, inLine, wordsAt, afterAt, Taken, Unread, wordless, strange, early, endless, Closes, WholeRow, NoRow, unread}
+use Rattle.text_words.specs.InnerPlaces.{endless-row, RowIs}
+use Rattle.text_lines.specs.InnerSteps.{BlockIs}
 
 module _ {A : Type 0} where
   -- entries in front of others, if those are entries

@@ -1,3 +1,4 @@
 -- QDIMACS text: first the format, then what the functions on one line promise, which only proofs rest on.
-pub mod Grammar
-pub mod Steps
+pub mod Format
+pub mod InnerGrammar
+pub mod InnerSteps

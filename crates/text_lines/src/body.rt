@@ -16,7 +16,7 @@ ghost use mathlib.Core.Bool.{false};
 ghost use Prim.Native.Nat.{_<_, _≤_};
 ghost use lib.ListN.{length};
 ghost use Rattle.text_lines.specs.declared.Mark.the-variants.{Unmarked};
-ghost use Rattle.text_lines.specs.Steps.{MarkIs, StepIs};
+ghost use Rattle.text_lines.specs.InnerSteps.{MarkIs, StepIs};
 
 // A line after the problem line: a quantifier line if no clause line has stood, or a clause line if not all that were announced have.
 pub fn body_at(

@@ -14,9 +14,9 @@ use text_write::LF;
 ghost use mathlib.Core.Path.{_≡_};
 ghost use Prim.Native.Nat.{_<_};
 ghost use lib.ListN.{length};
-ghost use Rattle.text_lines.specs.Grammar.{CommentLine};
-ghost use Rattle.text_lines.specs.Steps.{NoComment, OpenedIs};
-ghost use Rattle.text_words.specs.Places.{past, inLine, lineAt};
+ghost use Rattle.text_lines.specs.Format.{CommentLine};
+ghost use Rattle.text_lines.specs.InnerSteps.{NoComment, OpenedIs};
+ghost use Rattle.text_words.specs.InnerPlaces.{past, inLine, lineAt};
 
 // A line before or at the problem line.
 pub fn opening_at(text: &[u8], at: usize) -> Opened

@@ -9,9 +9,9 @@ ghost use mathlib.Core.Bool.{cond};
 ghost use Prim.Native.Nat.{_<_, _≤_};
 ghost use lib.ListN.{set};
 ghost use lib.IntN.{pos, negℤ};
-ghost use Rattle.text_lines.specs.Grammar.{variables, literals};
-ghost use Rattle.text_lines.specs.Steps.{BlockIs, SignedIs};
-ghost use Rattle.text_words.specs.Places.{RowIs};
+ghost use Rattle.text_words.specs.InnerNumbers.{variables, literals};
+ghost use Rattle.text_lines.specs.InnerSteps.{BlockIs, SignedIs};
+ghost use Rattle.text_words.specs.InnerPlaces.{RowIs};
 
 // The entries of a quantifier line, its mark first, stored in the prefix table from a row on. The place is the one after the mark.
 pub fn block_at(text: &[u8], at: usize, mark: u32, prefix: &mut [u32], from: usize) -> Row

@@ -22,7 +22,7 @@ use Rattle.formula_rules.proofs.Orders.{limits, by-rule}
 use Rattle.formula_rules.proofs.Passing.{Passes, no-more, begin, go-on, close-block, name, passes, mark-is as joined-mark}
 use Rattle.formula.proofs.Scanned.{open-end}
 use Rattle.formula.proofs.Literals.{no-variable}
-use Rattle.text_write.specs.Bytes.{SmallEntries, SmallLiterals}
+use Rattle.text_write.specs.InnerBytes.{SmallEntries, SmallLiterals}
 use Rattle.text_qdimacs.proofs.Holdable.{Blocks, no-block, block, block-end, variable, Clauses, no-clause, clause-end, literal, Holdable}
 use Rattle.text_write.proofs.Stores.{count-most}
 

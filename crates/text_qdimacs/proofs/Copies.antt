@@ -9,7 +9,7 @@ use lib.ListN.{length, take, drop, getD, set, length-set}
 use lib.Seq.{sets, sets-eq, length-sets, take-suc, take-at, length-take-le}
 use lib.IntN.{ℤ}
 use Rattle.terms.proofs.Common.{sets-append}
-use Rattle.text_qdimacs.specs.Scans.{Scanned, Held}
+use Rattle.text_qdimacs.specs.InnerScans.{Scanned, Held}
 
 -- The first rows of a table, of which there are to be so many, copied up to row i into a table that was `before`.
 pub record Copied {A : Type 0} (from : List A) (count : ℕ) (before : List A) (i : ℕ) (now : List A) : Type 0 where

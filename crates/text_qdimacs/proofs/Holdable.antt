@@ -5,7 +5,7 @@ use mathlib.Core.Logic.{_⊎_}
 use mathlib.Core.Bool.{Bool, true, false}
 use mathlib.Core.List.{List, [], _∷_}
 use lib.IntN.{ℤ, pos, natAbs}
-use Rattle.text_write.specs.Writing.{clauseCount}
+use Rattle.text_write.specs.InnerText.{clauseCount}
 
 -- Blocks of a mark, nonzero variables and 0; clauses of nonzero literals and 0; numbers of at most five digits.
 -- The flag says whether a block or a clause begins here.

@@ -15,7 +15,7 @@ use Rattle.terms.specs.declared.Reading.{Reading}
 use Rattle.terms.specs.declared.Reading.the-variants.{Read, Refused}
 use Rattle.text_qdimacs.specs.Reading.{TEXT-MOST, overlong, readOrder, ReadIs}
 use Rattle.text_qdimacs.specs.Stored.{formulaText, Writes}
-use Rattle.text_write.specs.Writing.{textOf}
+use Rattle.text_write.specs.Written.{textOf}
 use Rattle.text_write.proofs.Outputs.{text-front}
 use Rattle.text_qdimacs.proofs.Holdable.{Holdable}
 use Rattle.text_qdimacs.proofs.Unique.{text-same}

@@ -9,14 +9,18 @@ use lib.Seq.{sets, length-sets}
 use lib.IntN.{ℤ}
 use Rattle.text_lines.specs.declared.Stage.{Stage}
 use Rattle.text_lines.specs.declared.Stage.the-variants.{Opening}
+use Rattle.terms.specs.Refusals.{First}
 use Rattle.terms.specs.declared.Reading.{Reading}
 use Rattle.terms.specs.declared.Reading.the-variants.{Read, Refused}
 use Rattle.text_words.specs.Words.{LF, pieces}
-use Rattle.text_lines.specs.Grammar.{Line, a-comment, the-problem, a-block, a-clause, Lines, no-line, one-more, Fault, placeAfter, FaultIn}
-use Rattle.text_words.specs.Places.{lineAt}
-use Rattle.text_lines.specs.Steps.{Went, Sound, announcedAt}
-use Rattle.text_qdimacs.specs.Scans.{FinishIs, ScanIs}
+use Rattle.text_lines.specs.InnerGrammar.{Line, a-comment, the-problem, a-block, a-clause, Lines, no-line, one-more, Fault}
+use Rattle.text_lines.specs.Format.{MayFollow, placeAfter, LineCause}
+use Rattle.text_words.specs.InnerPlaces.{lineAt}
+use Rattle.text_lines.specs.InnerSteps.{Went, Sound, announcedAt}
+use Rattle.text_qdimacs.specs.InnerScans.{FinishIs, ScanIs}
 use Rattle.text_words.proofs.Lines.{front-later, line-length}
+use Rattle.text_qdimacs.proofs.Staged.{staged-text}
+use Rattle.text_qdimacs.proofs.Causes.{first-cause}
 use Rattle.terms.proofs.Common.{sets-append}
 
 -- No line lets more clause lines stand than were announced.
@@ -31,7 +35,7 @@ lines-sound no-line h = h
 lines-sound (one-more line lines) h = lines-sound lines (line-sound line h)
 
 -- One more line at the end.
-lines-more : {s t t′ : Stage} {ls : List (List ℕ)} {l P p : List ℕ} {C c : List ℤ} → Lines s ls t P C → Line t l t′ p c
+pub lines-more : {s t t′ : Stage} {ls : List (List ℕ)} {l P p : List ℕ} {C c : List ℤ} → Lines s ls t P C → Line t l t′ p c
     → Lines s (ls ++ (l ∷ [])) t′ (P ++ p) (C ++ c)
 lines-more {t = t} {t′ = t′} {l = l} {p = p} {c = c} no-line line =
     subst₂ (λ (x : List ℕ) (y : List ℤ). Lines t (l ∷ []) t′ x y) (append-nil p) (append-nil c) (one-more line no-line)
@@ -134,10 +138,10 @@ module _ {text : List ℕ} {before : List ℕ × List ℤ} {at : ℕ} {stage : S
         within = w .passed .within;
       }
 
-  -- a fault at this place
-  pub reached-fault : {number : ℕ} → Fault number stage (pieces LF (drop at text)) → FaultIn text number at
+  -- a fault at this place is the first cause
+  pub reached-fault : {number : ℕ} → Fault number stage (pieces LF (drop at text)) → First (LineCause MayFollow text) number at
   reached-fault fault =
-      record {
+      first-cause (record {
         lines = reached .lines;
         left = pieces LF (drop at text);
         stage = stage;
@@ -147,7 +151,7 @@ module _ {text : List ℕ} {before : List ℕ × List ℤ} {at : ℕ} {stage : S
         follow = reached .follow;
         fault = fault;
         at = reached .place;
-      }
+      })
 
   -- the text's end
   pub reached-end : length text ≤ at → (r : Reading) → FinishIs stage at entries literals r → ScanIs text before now r
@@ -157,17 +161,17 @@ module _ {text : List ℕ} {before : List ℕ × List ℤ} {at : ℕ} {stage : S
         P = reached .P;
         C = reached .C;
         text-of =
-            record {
+            staged-text (record {
               announced = announcedAt stage;
               lines = reached .lines;
               cut = reached .cut ∙ ap (λ (xs : List ℕ). reached .lines ++ pieces LF xs) (drop-of-length-le text h);
               follow = subst (λ (s : Stage). Lines Opening (reached .lines) s (reached .P) (reached .C)) (f .0) (reached .follow);
-            };
+            });
         entries-counted = f .1 ∙ reached .entries-counted;
         literals-counted = f .2 ∙ reached .literals-counted;
         prefix-stored = reached .prefix-stored;
         clauses-stored = reached .clauses-stored;
       }
   reached-end h (Refused number place) f =
-      subst (FaultIn text number) (sym (f .1))
+      subst (First (LineCause MayFollow text) number) (sym (f .1))
       (reached-fault (subst (λ (xs : List ℕ). Fault number stage (pieces LF xs)) (sym (drop-of-length-le text h)) (f .0)))

@@ -4,7 +4,6 @@ use mathlib.Core.Path.{_≡_, refl, sym, ap, _∙_, subst, subst₂}
 use mathlib.Core.Logic.{⊎-elim}
 use mathlib.Core.Bool.{Bool, true, false, _&&_}
 use mathlib.Core.List.{List, [], _∷_, _++_, append-assoc, append-nil}
-use mathlib.Core.Option.{Option, some}
 use native.Mathlib.Omega.{arith}
 use borrow.Author.Tests.{leb-true, ne-eqb}
 use lib.Dec.{eqb, leb}
@@ -12,15 +11,21 @@ use lib.ListN.{length}
 use lib.IntN.{ℤ, pos, negsuc, natAbs}
 use Rattle.text_lines.specs.declared.Stage.{Stage}
 use Rattle.text_lines.specs.declared.Stage.the-variants.{Body}
-use Rattle.text_words.specs.Words.{Plain, Negated, LF, SPACE, MINUS, ZERO, NINE, LETTER-A, LETTER-C, LETTER-E, LETTER-F, LETTER-N, LETTER-P, onto, pieces}
-use Rattle.text_words.specs.Words.{filled, words, allDigits, spelt, isNumber, numberOf, plainItem, negatedItem, itemOf, Kind, prepend, closed, entry, entriesOf}
-use Rattle.text_lines.specs.Grammar.{variables, literals, p-cnf, QuantifierLine, e-line, a-line, literals-line, the-problem, a-block, a-clause, Lines, no-line}
-use Rattle.text_lines.specs.Grammar.{one-more, TextOf}
-use Rattle.text_write.specs.Writing.{decimal, digitsOf, markWord, literalWord, spaced, ended, prefixText, clauseText, clauseCount, problemBytes, textOf}
-use Rattle.text_qdimacs.proofs.Holdable.{Blocks, no-block, block, block-end, variable, Clauses, no-clause, clause-end, literal, Holdable}
+use Rattle.text_words.specs.Words.{LF, SPACE, MINUS, ZERO, NINE, LETTER-A, LETTER-C, LETTER-E, LETTER-F, LETTER-N, LETTER-P, onto, pieces, filled, words}
+use Rattle.text_words.specs.Words.{variable-word, LiteralWord, literal-word, negated-word, Entries, closing, entry, Variables, Literals}
+use Rattle.text_words.specs.InnerNumbers.{allDigits}
+use Rattle.text_lines.specs.Format.{p-cnf, QuantifierLine, e-line, a-line, literals-line, TextOf}
+use Rattle.text_lines.specs.InnerGrammar.{the-problem, a-block, a-clause, Lines, no-line, one-more, TextByStages}
+use Rattle.text_write.specs.Numbers.{decimal, digitsOf}
+use Rattle.text_write.specs.Written.{markWord, literalWord, problemLine, textOf}
+use Rattle.text_write.specs.InnerText.{spaced, ended, prefixText, clauseText, clauseCount, textByEntries}
+use Rattle.text_write.proofs.Decimal.{decimal-is}
 use Rattle.text_words.proofs.Numbers.{both}
 use Rattle.text_words.proofs.Lines.{filled-some}
-use Rattle.text_qdimacs.proofs.Decimal.{Digits, digits, decimal-number}
+use Rattle.text_words.proofs.Spelled.{digits-read, decimal-spells}
+use Rattle.text_qdimacs.proofs.Holdable.{Blocks, no-block, block, block-end, variable, Clauses, no-clause, clause-end, literal, Holdable}
+use Rattle.text_qdimacs.proofs.Staged.{staged-text}
+use Rattle.text_qdimacs.proofs.Blockwise.{variable-text, literal-text, text-is}
 
 -- Bytes among which a mark does not stand.
 pub data Without (mark : ℕ) : List ℕ → Type 0 where
@@ -59,33 +64,13 @@ digits-without mark h (x ∷ xs) e =
     let low = leb-true ZERO x (both (leb ZERO x) (leb x NINE) digit .0) in
     without-more (ne-eqb x mark (λ z. omega arith)) (digits-without mark h xs more)
 
-module _ (value : ℕ) (h : value < 100000) where
-  decimal-digits : Digits value 5
-  decimal-digits = digits value 4 h
-
-  pub decimal-without : (mark : ℕ) → mark < ZERO → Without mark (decimal value)
-  decimal-without mark low = digits-without mark low (decimal value) (decimal-digits .all)
-
--- A number's word is its item.
-first-minus : (w : List ℕ) → 1 ≤ length w → Without MINUS w → itemOf w ≡ plainItem (numberOf w)
-unfolding itemOf
-first-minus [] h r = let no : ⊥ = omega arith in absurd no
-first-minus (b ∷ bs) h (without-more m r) = rw m
-
-plain-word : (value : ℕ) → value < 100000 → (value ≡ 0 → ⊥) → itemOf (decimal value) ≡ Plain value
-unfolding plainItem
-plain-word value h positive =
-    first-minus (decimal value) (decimal-digits value h .some) (decimal-without value h MINUS (omega arith)) ∙ ap plainItem (decimal-number value h)
-    ∙ rw (ne-eqb value 0 positive)
-
-negated-word : (value : ℕ) → value < 100000 → (value ≡ 0 → ⊥) → itemOf (MINUS ∷ decimal value) ≡ Negated value
-unfolding itemOf negatedItem
-negated-word value h positive = ap negatedItem (decimal-number value h) ∙ rw (ne-eqb value 0 positive)
+pub decimal-without : (value : ℕ) → (mark : ℕ) → mark < ZERO → Without mark (decimal value)
+decimal-without value mark low = digits-without mark low (decimal value) (digits-read (decimal-is value .digits) .0)
 
 -- The closing 0 alone.
-pub zero-row : {A : Type 0} (kind : Kind A) → entriesOf kind (words (ZERO ∷ [])) ≡ some (kind .positive 0 ∷ [])
-unfolding entriesOf entry closed itemOf plainItem numberOf isNumber allDigits spelt words filled pieces onto
-zero-row kind = refl
+pub zero-row : {A : Type 0} {Says : List ℕ → A → Type 0} {nought : A} → Entries Says nought (words (ZERO ∷ [])) (nought ∷ [])
+unfolding words filled pieces onto decimal digitsOf
+zero-row = closing (decimal-spells 0 (omega arith))
 
 -- A line in two parts, and a space or none in front.
 pub pieces-spaced : (first : Bool) (x l : List ℕ) (ps : List (List ℕ)) → pieces LF x ≡ l ∷ ps → pieces LF (spaced first x) ≡ spaced first l ∷ ps
@@ -93,17 +78,12 @@ unfolding spaced pieces onto
 pieces-spaced true x l ps e = e
 pieces-spaced false x l ps e = rw e
 
--- A variable in its line: its text, and what it adds to the entries.
-variable-text : (v : ℕ) (more : List ℕ) → (v ≡ 0 → ⊥) → prefixText false (v ∷ more) ≡ SPACE ∷ (decimal v ++ prefixText false more)
-unfolding prefixText spaced ended
-variable-text v more positive = rw (ne-eqb v 0 positive)
-
-pub variable-taken : (v : ℕ) (body vs : List ℕ) → (v ≡ 0 → ⊥) → v < 100000 → entriesOf variables (words body) ≡ some vs
-    → entriesOf variables (words (decimal v ++ (SPACE ∷ body))) ≡ some (v ∷ vs)
-unfolding entriesOf entry prepend
-variable-taken v body vs positive small e =
-    ap (entriesOf variables) (words-more body (decimal-without v small SPACE (omega arith)) (decimal-digits v small .some))
-    ∙ rw (plain-word v small positive, e)
+-- What a variable in its line adds to the entries.
+pub variable-taken : (v : ℕ) (body vs : List ℕ) → (v ≡ 0 → ⊥) → v < 100000 → Variables (words body) vs
+    → Variables (words (decimal v ++ (SPACE ∷ body))) (v ∷ vs)
+variable-taken v body vs some small r =
+    subst (λ (ws : List (List ℕ)). Variables ws (v ∷ vs)) (sym (words-more body (decimal-without v SPACE (omega arith)) (decimal-is v .some)))
+    (entry (variable-word (decimal-spells v small) some) r)
 
 -- A letter in front of a line.
 pub letter-words : (letter : ℕ) (body : List ℕ) → eqb letter SPACE ≡ false → words (letter ∷ spaced false body) ≡ (letter ∷ []) ∷ words body
@@ -124,7 +104,7 @@ module _ (n m : ℕ) (rest : List ℕ) where
     lines : List (List ℕ)
     is : es ≡ entries ++ after
     cut : pieces LF (prefixText false es ++ rest) ≡ spaced false body ∷ (lines ++ pieces LF rest)
-    read : entriesOf variables (words body) ≡ some entries
+    read : Variables (words body) entries
     follow : Lines (Body n m 0) lines (Body n m 0) after []
 
   abbrev pub BlocksAre : Bool → List ℕ → Type 0
@@ -160,7 +140,7 @@ module _ (n m : ℕ) (rest : List ℕ) where
       which
   blocks (block-end {more} b) =
       let r = blocks b in
-      record { body = ZERO ∷ []; entries = 0 ∷ []; after = more; lines = r .lines; is = refl; cut = rw (r .cut); read = zero-row variables; follow = r .follow }
+      record { body = ZERO ∷ []; entries = 0 ∷ []; after = more; lines = r .lines; is = refl; cut = rw (r .cut); read = zero-row; follow = r .follow }
   blocks (variable {entry = v} {more = more} positive small b) =
       let r = blocks b in
       let body = decimal v ++ (SPACE ∷ r .body) in
@@ -174,39 +154,33 @@ module _ (n m : ℕ) (rest : List ℕ) where
             ap (λ (t : List ℕ). pieces LF (t ++ rest)) (variable-text v more positive)
             ∙ ap (λ (t : List ℕ). pieces LF (SPACE ∷ t)) (append-assoc (decimal v) (prefixText false more) rest)
             ∙ pieces-spaced false (decimal v ++ (prefixText false more ++ rest)) body (r .lines ++ pieces LF rest)
-            (pieces-front LF (prefixText false more ++ rest) (SPACE ∷ r .body) (r .lines ++ pieces LF rest) (decimal-without v small LF (omega arith))
+            (pieces-front LF (prefixText false more ++ rest) (SPACE ∷ r .body) (r .lines ++ pieces LF rest) (decimal-without v LF (omega arith))
             (r .cut));
         read = variable-taken v (r .body) (r .entries) positive small (r .read);
         follow = r .follow;
       }
 
--- A literal in its line: its word, its text, and what it adds to the entries.
-literal-item : (z : ℤ) → natAbs z < 100000 → (natAbs z ≡ 0 → ⊥) → (more : List (List ℕ)) (later : Option (List ℤ))
-    → entry literals (itemOf (literalWord z)) more later ≡ prepend (some z) later
-unfolding literalWord entry
-literal-item (pos v) small positive more later = rw (plain-word v small positive)
-literal-item (negsuc v) small positive more later = rw (negated-word (suc v) small positive)
-
-literal-without : (z : ℤ) → natAbs z < 100000 → (mark : ℕ) → mark < MINUS → Without mark (literalWord z)
+-- A literal in its line: its word, and what it adds to the entries.
+literal-says : (z : ℤ) → natAbs z < 100000 → (natAbs z ≡ 0 → ⊥) → LiteralWord (literalWord z) z
 unfolding literalWord
-literal-without (pos v) small mark low = decimal-without v small mark (omega arith)
-literal-without (negsuc v) small mark low = without-more (ne-eqb MINUS mark (λ e. omega arith)) (decimal-without (suc v) small mark (omega arith))
+literal-says (pos v) small some = literal-word (decimal-spells v small) some
+literal-says (negsuc v) small some = negated-word (decimal-spells (suc v) small) some
 
-literal-some : (z : ℤ) → natAbs z < 100000 → 1 ≤ length (literalWord z)
+literal-without : (z : ℤ) → (mark : ℕ) → mark < MINUS → Without mark (literalWord z)
 unfolding literalWord
-literal-some (pos v) small = decimal-digits v small .some
-literal-some (negsuc v) small = omega arith
+literal-without (pos v) mark low = decimal-without v mark (omega arith)
+literal-without (negsuc v) mark low = without-more (ne-eqb MINUS mark (λ e. omega arith)) (decimal-without (suc v) mark (omega arith))
 
-literal-text : (first : Bool) (z : ℤ) (more : List ℤ) → (natAbs z ≡ 0 → ⊥) → clauseText first (z ∷ more) ≡ spaced first (literalWord z ++ clauseText false more)
-unfolding clauseText ended
-literal-text first z more positive = rw (ne-eqb (natAbs z) 0 positive)
+literal-some : (z : ℤ) → 1 ≤ length (literalWord z)
+unfolding literalWord
+literal-some (pos v) = decimal-is v .some
+literal-some (negsuc v) = omega arith
 
-literal-taken : (z : ℤ) (body : List ℕ) (zs : List ℤ) → (natAbs z ≡ 0 → ⊥) → natAbs z < 100000 → entriesOf literals (words body) ≡ some zs
-    → entriesOf literals (words (literalWord z ++ (SPACE ∷ body))) ≡ some (z ∷ zs)
-unfolding entriesOf prepend
-literal-taken z body zs positive small e =
-    ap (entriesOf literals) (words-more body (literal-without z small SPACE (omega arith)) (literal-some z small))
-    ∙ literal-item z small positive (words body) (entriesOf literals (words body)) ∙ rw e
+literal-taken : (z : ℤ) (body : List ℕ) (zs : List ℤ) → (natAbs z ≡ 0 → ⊥) → natAbs z < 100000 → Literals (words body) zs
+    → Literals (words (literalWord z ++ (SPACE ∷ body))) (z ∷ zs)
+literal-taken z body zs some small r =
+    subst (λ (ws : List (List ℕ)). Literals ws (z ∷ zs)) (sym (words-more body (literal-without z SPACE (omega arith)) (literal-some z)))
+    (entry (literal-says z small some) r)
 
 -- The clauses of a table, of which k have stood before.
 module _ (n m : ℕ) where
@@ -222,7 +196,7 @@ module _ (n m : ℕ) where
     lines : List (List ℕ)
     is : zs ≡ entries ++ after
     cut : pieces LF (clauseText first zs) ≡ spaced first body ∷ (lines ++ ([] ∷ []))
-    read : entriesOf literals (words body) ≡ some entries
+    read : Literals (words body) entries
     less : k < m
     follow : Lines (Body n m (suc k)) lines (Body n m m) [] after
 
@@ -257,7 +231,7 @@ module _ (n m : ℕ) where
         lines = r .lines;
         is = refl;
         cut = pieces-spaced first (ZERO ∷ LF ∷ clauseText true more) (ZERO ∷ []) (r .lines ++ ([] ∷ [])) (rw (r .cut));
-        read = zero-row literals;
+        read = zero-row;
         less = omega arith;
         follow = r .follow;
       })
@@ -274,7 +248,7 @@ module _ (n m : ℕ) where
         cut =
             ap (pieces LF) (literal-text first z more positive)
             ∙ pieces-spaced first (literalWord z ++ clauseText false more) body (r .lines ++ ([] ∷ []))
-            (pieces-front LF (clauseText false more) (SPACE ∷ r .body) (r .lines ++ ([] ∷ [])) (literal-without z small LF (omega arith)) (r .cut));
+            (pieces-front LF (clauseText false more) (SPACE ∷ r .body) (r .lines ++ ([] ∷ [])) (literal-without z LF (omega arith)) (r .cut));
         read = literal-taken z (r .body) (r .entries) positive small (r .read);
         less = r .less;
         follow = r .follow;
@@ -288,17 +262,17 @@ pub problem-bytes : ℕ → ℕ → List ℕ
 problem-bytes n m = LETTER-P ∷ SPACE ∷ LETTER-C ∷ LETTER-N ∷ LETTER-F ∷ SPACE ∷ (decimal n ++ (SPACE ∷ decimal m))
 
 problem-text : (n m : ℕ) (rest : List ℕ)
-    → problemBytes n m ++ rest ≡ LETTER-P ∷ SPACE ∷ LETTER-C ∷ LETTER-N ∷ LETTER-F ∷ SPACE ∷ (decimal n ++ (SPACE ∷ (decimal m ++ (LF ∷ rest))))
-unfolding problemBytes
+    → problemLine n m ++ rest ≡ LETTER-P ∷ SPACE ∷ LETTER-C ∷ LETTER-N ∷ LETTER-F ∷ SPACE ∷ (decimal n ++ (SPACE ∷ (decimal m ++ (LF ∷ rest))))
+unfolding problemLine
 problem-text n m rest = simp append-assoc
 
-module _ (n m : ℕ) (small-n : n < 100000) (small-m : m < 100000) where
-  pub problem-cut : (rest : List ℕ) → pieces LF (problemBytes n m ++ rest) ≡ problem-bytes n m ∷ pieces LF rest
+module _ (n m : ℕ) where
+  pub problem-cut : (rest : List ℕ) → pieces LF (problemLine n m ++ rest) ≡ problem-bytes n m ∷ pieces LF rest
   unfolding problem-bytes pieces onto
   problem-cut rest =
       ap (pieces LF) (problem-text n m rest)
-      ∙ rw (pieces-front LF (SPACE ∷ (decimal m ++ (LF ∷ rest))) (SPACE ∷ decimal m) (pieces LF rest) (decimal-without n small-n LF (omega arith))
-      (rw (pieces-mark LF rest refl (decimal-without m small-m LF (omega arith)))))
+      ∙ rw (pieces-front LF (SPACE ∷ (decimal m ++ (LF ∷ rest))) (SPACE ∷ decimal m) (pieces LF rest) (decimal-without n LF (omega arith))
+      (rw (pieces-mark LF rest refl (decimal-without m LF (omega arith)))))
 
   pub problem-words : words (problem-bytes n m) ≡ (LETTER-P ∷ []) ∷ (LETTER-C ∷ LETTER-N ∷ LETTER-F ∷ []) ∷ decimal n ∷ decimal m ∷ []
   unfolding problem-bytes
@@ -307,8 +281,8 @@ module _ (n m : ℕ) (small-n : n < 100000) (small-m : m < 100000) where
       ∙ ap (λ (ws : List (List ℕ)). (LETTER-P ∷ []) ∷ ws)
       (words-more {w = LETTER-C ∷ LETTER-N ∷ LETTER-F ∷ []} _ (without-more refl (without-more refl (without-more refl without-none))) (omega arith))
       ∙ ap (λ (ws : List (List ℕ)). (LETTER-P ∷ []) ∷ (LETTER-C ∷ LETTER-N ∷ LETTER-F ∷ []) ∷ ws)
-      (words-more (decimal m) (decimal-without n small-n SPACE (omega arith)) (decimal-digits n small-n .some)
-      ∙ ap (λ (ws : List (List ℕ)). decimal n ∷ ws) (words-last (decimal-without m small-m SPACE (omega arith)) (decimal-digits m small-m .some)))
+      (words-more (decimal m) (decimal-without n SPACE (omega arith)) (decimal-is n .some)
+      ∙ ap (λ (ws : List (List ℕ)). decimal n ∷ ws) (words-last (decimal-without m SPACE (omega arith)) (decimal-is m .some)))
 
 -- Lines that follow lines.
 lines-join : {s t u : Stage} {ks ls : List (List ℕ)} {P Q : List ℕ} {C D : List ℤ} → Lines s ks t P C → Lines t ls u Q D
@@ -318,10 +292,10 @@ lines-join {s = s} {u = u} {ls = ls} {Q = Q} {D = D} (one-more {line = l} {lines
     subst₂ (λ (x : List ℕ) (y : List ℤ). Lines s (l ∷ (ks ++ ls)) u x y) (sym (append-assoc p P Q)) (sym (append-assoc c C D))
     (one-more line (lines-join more b))
 
--- The written text is the text of its tables.
-pub written : (n : ℕ) (prefix : List ℕ) (clauses′ : List ℤ) → Holdable n prefix clauses′ → TextOf n prefix clauses′ (textOf n prefix clauses′)
-unfolding textOf
-written n prefix clauses′ h =
+-- The text that is written entry by entry, by stages.
+staged : (n : ℕ) (prefix : List ℕ) (clauses′ : List ℤ) → Holdable n prefix clauses′ → TextByStages n prefix clauses′ (textByEntries n prefix clauses′)
+unfolding textByEntries
+staged n prefix clauses′ h =
     let m = clauseCount clauses′ in
     let rest = clauseText true clauses′ in
     let bs = blocks n m rest (h .blocks) in
@@ -330,11 +304,15 @@ written n prefix clauses′ h =
       announced = m;
       lines = problem-bytes n m ∷ (bs .lines ++ cs .lines);
       cut =
-          problem-cut n m (h .number) (h .count) (prefixText true prefix ++ rest)
+          problem-cut n m (prefixText true prefix ++ rest)
           ∙ ap (λ (ls : List (List ℕ)). problem-bytes n m ∷ ls)
           (bs .cut ∙ ap (λ (ls : List (List ℕ)). bs .lines ++ ls) (cs .cut) ∙ sym (append-assoc (bs .lines) (cs .lines) ([] ∷ [])));
       follow =
-          one-more (the-problem (p-cnf (problem-words n m (h .number) (h .count)) (decimal-number n (h .number)) (decimal-number m (h .count))))
+          one-more (the-problem (p-cnf (problem-words n m) (decimal-spells n (h .number)) (decimal-spells m (h .count))))
           (subst (λ (P : List ℕ). Lines (Body n m 0) (bs .lines ++ cs .lines) (Body n m m) P clauses′) (append-nil prefix)
           (lines-join (bs .follow) (cs .follow)));
     }
+
+-- The written text is the text of its tables.
+pub written : (n : ℕ) (prefix : List ℕ) (table : List ℤ) → Holdable n prefix table → TextOf n prefix table (textOf n prefix table)
+written n prefix table h = subst (TextOf n prefix table) (text-is n prefix table h) (staged-text (staged n prefix table h))

@@ -1,4 +1,4 @@
--- QDIMACS text: first what read and write promise, of the format that `text_lines` has, then what their inner functions do, which only proofs rest on.
+-- QDIMACS text: first what read and write promise, of the format that `text_lines` has, then what the scan promises, which only proofs rest on.
 pub mod Reading
 pub mod Stored
-pub mod Scans
+pub mod InnerScans

@@ -10,7 +10,7 @@ use Rattle.terms.specs.Says.{readingSaid}
 use Rattle.terms.specs.Answers.{Settles}
 use Rattle.terms.specs.Refusals.{Causes}
 use Rattle.terms.specs.declared.Reading.{Reading}
-use Rattle.text_lines.specs.Grammar.{TextOf, FaultIn}
+use Rattle.text_lines.specs.Format.{TextOf, MayFollow, LineCause}
 pub use Rattle.text_write.specs.Texts.{TEXT-MOST, Overlong, overlong}
 
 -- 14: the text is that of tables of which one does not fit where it is to be stored.
@@ -19,7 +19,7 @@ pub data NoRoom (text prefix : List ℕ) (clauses : List ℤ) : ℕ → ℕ → 
   no-room-clauses : {n : ℕ} {P : List ℕ} {C : List ℤ} → TextOf n P C text → length clauses < length C → NoRoom text prefix clauses 14 0
 
 abbrev pub readOrder : List ℕ → List ℕ → List ℤ → List Causes
-readOrder text prefix clauses = Overlong text ∷ FaultIn text ∷ NoRoom text prefix clauses ∷ []
+readOrder text prefix clauses = Overlong text ∷ LineCause MayFollow text ∷ NoRoom text prefix clauses ∷ []
 
 -- The text is that of n and of two tables, which now stand in front in the lent ones, with nothing past them changed; the counts are their lengths.
 pub record ReadInto (n entries literals : ℕ) (text prefix prefix′ : List ℕ) (clauses clauses′ : List ℤ) : Type 0 where

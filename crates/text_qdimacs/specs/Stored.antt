@@ -10,7 +10,7 @@ use Rattle.formula.specs.Lent.{Formula}
 use Rattle.formula_rules.specs.Rules.{RuleCause, PrefixCauseBy}
 use Rattle.text_write.specs.Texts.{Overlong}
 use Rattle.text_write.specs.Stored.{ShortOut, WritesBy}
-use Rattle.text_write.specs.Writing.{textOf}
+use Rattle.text_write.specs.Written.{textOf}
 
 -- the text of a formula
 abbrev pub formulaText : Formula → List ℕ

@@ -8,8 +8,8 @@ use text_lines::body::body_at;
 use text_lines::opening::opening_at;
 ghost use Prim.Native.Nat.{_<_, _≤_};
 ghost use lib.ListN.{length};
-ghost use Rattle.text_lines.specs.Steps.{StepIs, Sound};
-ghost use Rattle.text_qdimacs.specs.Scans.{FinishIs, ScanIs};
+ghost use Rattle.text_lines.specs.InnerSteps.{StepIs, Sound};
+ghost use Rattle.text_qdimacs.specs.InnerScans.{FinishIs, ScanIs};
 
 // Scans a whole text line by line, and stores what its lines add as far as the tables have rows: a short table only learns the counts.
 pub fn scan(text: &[u8], prefix: &mut [u32], clauses: &mut [i32]) -> Reading

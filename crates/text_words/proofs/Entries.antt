@@ -14,8 +14,9 @@ use Rattle.text_words.specs.declared.Number.{Number}
 use Rattle.text_words.specs.declared.Number.the-variants.{Not}
 use Rattle.text_words.specs.declared.Entry.{Entry}
 use Rattle.text_words.specs.declared.Entry.the-variants.{Unfit, Close, Take, Negate}
-use Rattle.text_words.specs.Words.{Item, Closing, Plain, Negated, Other, MINUS, allDigits, isNumber, numberOf, plainItem, negatedItem, itemOf}
-use Rattle.text_words.specs.Places.{signed, bare, signedItem, wordAt, Passed, Taken, words-left, no-feed, CloseIs, ItemIs, early, endless, strange, EntryIs}
+use Rattle.text_words.specs.InnerNumbers.{Item, Closing, Plain, Negated, Other, allDigits, isNumber, numberOf, plainItem, negatedItem, itemOf}
+use Rattle.text_words.specs.Words.{MINUS}
+use Rattle.text_words.specs.InnerPlaces.{signed, bare, signedItem, wordAt, Passed, Taken, words-left, no-feed, CloseIs, ItemIs, early, endless, strange, EntryIs}
 use Rattle.text_words.proofs.Lines.{FoundIs, found-parts}
 
 -- a word as an item, by its sign and its number

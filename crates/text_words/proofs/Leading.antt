@@ -10,7 +10,7 @@ use lib.ListN.{length, drop, getD, drop-of-length-le, length-drop}
 use lib.Seq.{drop-cons}
 use borrow.Author.Tests.{lt-ltb, le-ltb}
 use Rattle.text_words.specs.declared.Word.the-variants.{End}
-use Rattle.text_words.specs.Places.{leading, past, isSpace, inWord, foundFrom, wordFrom, wordAt}
+use Rattle.text_words.specs.InnerPlaces.{leading, past, isSpace, inWord, foundFrom, wordFrom, wordAt}
 
 -- No more bytes pass a test than there are.
 pub leading-most : (test : ℕ → Bool) (xs : List ℕ) → leading test xs ≤ length xs

@@ -12,9 +12,10 @@ use lib.Seq.{slice, take-nil, drop-drop, length-take-le}
 use Rattle.text_words.specs.declared.Word.{Word}
 use Rattle.text_words.specs.declared.Word.the-variants.{Found, End}
 use Rattle.text_words.specs.declared.Number.{Number}
-use Rattle.text_words.specs.Words.{LF, SPACE, onto, pieces, filled, words, numberOf}
-use Rattle.text_words.specs.Places.{leading, isSpace, inWord, inLine, past, signed, bare, foundFrom, wordFrom, wordAt, front, later, lineAt, afterAt}
-use Rattle.text_words.specs.Places.{wordsAt, Passed}
+use Rattle.text_words.specs.Words.{LF, SPACE, onto, pieces, filled, words}
+use Rattle.text_words.specs.InnerNumbers.{numberOf}
+use Rattle.text_words.specs.InnerPlaces.{leading, isSpace, inWord, inLine, past, signed, bare, foundFrom, wordFrom, wordAt, front, later, lineAt, afterAt}
+use Rattle.text_words.specs.InnerPlaces.{wordsAt, Passed}
 use Rattle.text_words.proofs.Leading.{leading-most}
 
 -- A byte is a space, an LF or neither.

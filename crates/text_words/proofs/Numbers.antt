@@ -12,9 +12,9 @@ use lib.ListN.{length, getD}
 use lib.Seq.{slice, slice-cons, slice-empty}
 use Rattle.text_words.specs.declared.Number.{Number}
 use Rattle.text_words.specs.declared.Number.the-variants.{Is, Not}
-use Rattle.text_words.specs.Words.{Item, Closing, Plain, Negated, Other, MINUS, ZERO, NINE, allDigits, spelt, isNumber, numberOf, plainItem, negatedItem}
-use Rattle.text_words.specs.Words.{itemOf}
-use Rattle.text_words.specs.Places.{speltOf}
+use Rattle.text_words.specs.InnerNumbers.{Item, Closing, Plain, Negated, Other, allDigits, spelt, isNumber, numberOf, plainItem, negatedItem, itemOf}
+use Rattle.text_words.specs.Words.{MINUS, ZERO, NINE}
+use Rattle.text_words.specs.InnerPlaces.{speltOf}
 
 module _ (value i end : ℕ) (text : List ℕ) (h : i < end) (e : end ≤ length text) where
   -- the first byte of what is left is a digit: the number goes on

@@ -10,8 +10,8 @@ use lib.ListN.{length, getD, take}
 use lib.Seq.{slice, slice-empty, slice-cons, length-slice, getD-drop, getD-take}
 use Rattle.text_words.specs.declared.Spelt.the-variants.{Missing}
 use Rattle.text_words.specs.declared.Word.the-variants.{End}
-use Rattle.text_words.specs.Places.{wordsAt, past, isSpace, inWord, foundFrom, wordAt, wordFrom}
-use Rattle.text_words.specs.Expected.{Goes, SpeltIs}
+use Rattle.text_words.specs.InnerPlaces.{wordsAt, past, isSpace, inWord, foundFrom, wordAt, wordFrom}
+use Rattle.text_words.specs.InnerExpected.{Goes, SpeltIs}
 use Rattle.text_words.proofs.Lines.{FoundIs, EndIs, found-of, end-of}
 
 -- no word is left

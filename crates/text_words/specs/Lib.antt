@@ -1,4 +1,5 @@
--- The words of a line, which the grammars of the formats speak of; then what inner functions find at a place, which only proofs rest on.
+-- The words of a line, and what they say, which the formats speak of. The inner files say what inner functions find, which only proofs rest on.
 pub mod Words
-pub mod Places
-pub mod Expected
+pub mod InnerNumbers
+pub mod InnerPlaces
+pub mod InnerExpected

@@ -1,12 +1,12 @@
--- Lines, words and numbers of a QDIMACS text (document 01, "QDIMACS lines"). A text, a line and a word are lists of bytes.
-use Prim.Native.Nat.{ℕ, _+_, _-_, _*_}
-use mathlib.Core.Bool.{Bool, true, cond, _&&_}
+-- Lines, words and numbers of a text (document 01, "QDIMACS lines"; document 02, request 1). A text, a line and a word are lists of bytes.
+use Prim.Native.Nat.{ℕ, _≤_}
+use mathlib.Core.Bool.{cond}
 use mathlib.Core.List.{List, [], _∷_}
-use mathlib.Core.Option.{Option, none, some}
-use lib.Dec.{eqb, leb}
+use mathlib.Core.Logic.{_≢_}
+use lib.Dec.{eqb}
+use lib.IntN.{ℤ, pos, negℤ}
 use lib.ListN.{length}
-use Rattle.text_words.specs.declared.Number.{Number}
-use Rattle.text_words.specs.declared.Number.the-variants.{Is, Not}
+use Rattle.text_write.specs.Numbers.{Digits}
 pub use Rattle.text_write.specs.Texts.{LF, SPACE, MINUS, ZERO, NINE, LETTER-A, LETTER-C, LETTER-E, LETTER-F, LETTER-N, LETTER-P}
 
 -- A byte in front of the first piece.
@@ -30,62 +30,28 @@ filled ((byte ∷ bytes) ∷ more) = (byte ∷ bytes) ∷ filled more
 unfoldable pub words : List ℕ → List (List ℕ)
 words line = filled (pieces SPACE line)
 
--- Digits, and the number that they spell after the number `before`.
-unfoldable pub allDigits : List ℕ → Bool
-allDigits [] = true
-allDigits (byte ∷ bytes) = (leb ZERO byte && leb byte NINE) && allDigits bytes
+-- A word spells a number: one to five digits, leading zeros among them.
+pub record Spells (word : List ℕ) (v : ℕ) : Type 0 where
+  pub digits : Digits word v
+  pub some : 1 ≤ length word
+  pub few : length word ≤ 5
 
-unfoldable pub spelt : ℕ → List ℕ → ℕ
-spelt before [] = before
-spelt before (digit ∷ digits) = spelt (before * 10 + (digit - ZERO)) digits
+-- A word that says a variable or a literal: a number that is not 0; only that of a literal may carry `-`.
+pub data VariableWord : List ℕ → ℕ → Type 0 where
+  variable-word : {word : List ℕ} {v : ℕ} → Spells word v → v ≢ 0 → VariableWord word v
 
--- What a number word is, and which number it is: one to five digits, leading zeros among them (document 02, request 1).
-unfoldable pub isNumber : List ℕ → Bool
-isNumber word = (leb 1 (length word) && leb (length word) 5) && allDigits word
+pub data LiteralWord : List ℕ → ℤ → Type 0 where
+  literal-word : {word : List ℕ} {v : ℕ} → Spells word v → v ≢ 0 → LiteralWord word (pos v)
+  negated-word : {word : List ℕ} {v : ℕ} → Spells word v → v ≢ 0 → LiteralWord (MINUS ∷ word) (negℤ (pos v))
 
-unfoldable pub numberOf : List ℕ → Number
-numberOf word = cond (isNumber word) (Is (spelt 0 word)) Not
+-- Words that say the entries of a list as a table has it, closed by 0: the last number, and no other, is 0.
+pub data Entries {A : Type 0} (Says : List ℕ → A → Type 0) (nought : A) : List (List ℕ) → List A → Type 0 where
+  closing : {word : List ℕ} → Spells word 0 → Entries Says nought (word ∷ []) (nought ∷ [])
+  entry : {word : List ℕ} {more : List (List ℕ)} {a : A} {later : List A} → Says word a → Entries Says nought more later
+      → Entries Says nought (word ∷ more) (a ∷ later)
 
--- A word of a quantifier or clause line: the closing 0, a nonzero number, a nonzero number that carries `-`, or none of these.
-pub data Item : Type 0 where
-  Closing : Item
-  Plain : ℕ → Item
-  Negated : ℕ → Item
-  Other : Item
+abbrev pub Variables : List (List ℕ) → List ℕ → Type 0
+Variables = Entries VariableWord 0
 
-unfoldable pub plainItem : Number → Item
-plainItem (Is value) = cond (eqb value 0) Closing (Plain value)
-plainItem Not = Other
-
-unfoldable pub negatedItem : Number → Item
-negatedItem (Is value) = cond (eqb value 0) Other (Negated value)
-negatedItem Not = Other
-
-unfoldable pub itemOf : List ℕ → Item
-itemOf [] = Other
-itemOf (byte ∷ bytes) = cond (eqb byte MINUS) (negatedItem (numberOf bytes)) (plainItem (numberOf (byte ∷ bytes)))
-
--- How a kind of line takes its numbers: as which entry a number stands in the table, and one that carries `-`, if it may.
-pub record Kind (A : Type 0) : Type 0 where
-  pub positive : ℕ → A
-  pub negative : ℕ → Option A
-
--- The entries that the words of a line are: the last number, and no other, is 0.
-unfoldable pub prepend : {A : Type 0} → Option A → Option (List A) → Option (List A)
-prepend none later = none
-prepend (some entry) none = none
-prepend (some entry) (some later) = some (entry ∷ later)
-
-unfoldable pub closed : {A : Type 0} → A → List (List ℕ) → Option (List A)
-closed zero [] = some (zero ∷ [])
-closed zero (word ∷ more) = none
-
-unfoldable pub entry : {A : Type 0} → Kind A → Item → List (List ℕ) → Option (List A) → Option (List A)
-entry kind Closing more later = closed (kind .positive 0) more
-entry kind (Plain value) more later = prepend (some (kind .positive value)) later
-entry kind (Negated value) more later = prepend (kind .negative value) later
-entry kind Other more later = none
-
-unfoldable pub entriesOf : {A : Type 0} → Kind A → List (List ℕ) → Option (List A)
-entriesOf kind [] = none
-entriesOf kind (word ∷ more) = entry kind (itemOf word) more (entriesOf kind more)
+abbrev pub Literals : List (List ℕ) → List ℤ → Type 0
+Literals = Entries LiteralWord (pos 0)

@@ -11,8 +11,8 @@ use text_write::LETTER_F;
 use text_write::LETTER_N;
 ghost use mathlib.Core.List.{[], _∷_};
 ghost use Rattle.text_words.specs.Words.{LETTER-C, LETTER-F, LETTER-N};
-ghost use Rattle.text_words.specs.Expected.{SpeltIs, CountedIs};
-ghost use Rattle.text_words.specs.Places.{EndedIs};
+ghost use Rattle.text_words.specs.InnerExpected.{SpeltIs, CountedIs};
+ghost use Rattle.text_words.specs.InnerPlaces.{EndedIs};
 
 // Whether the next word of a line is one letter.
 pub fn letter_at(text: &[u8], at: usize, letter: u8) -> Spelt

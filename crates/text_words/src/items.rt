@@ -7,7 +7,7 @@ use crate::Word;
 use crate::expected::line_ended;
 use crate::words::word_in;
 ghost use Rattle.text_words.specs.declared.Number.the-variants.{Is};
-ghost use Rattle.text_words.specs.Places.{signedItem, ItemIs, CloseIs, EntryIs};
+ghost use Rattle.text_words.specs.InnerPlaces.{signedItem, ItemIs, CloseIs, EntryIs};
 
 // What stands next in a line of entries.
 pub fn entry_at(text: &[u8], at: usize) -> Entry

@@ -12,8 +12,8 @@ ghost use mathlib.Core.Path.{_≡_};
 ghost use Prim.Native.Nat.{_+_, _≤_};
 ghost use lib.ListN.{length};
 ghost use lib.Seq.{slice};
-ghost use Rattle.text_words.specs.Words.{numberOf};
-ghost use Rattle.text_words.specs.Places.{past, isSpace, inWord, wordFrom, wordAt, speltOf, SignIs, NumeralIs, StopIs};
+ghost use Rattle.text_words.specs.InnerNumbers.{numberOf};
+ghost use Rattle.text_words.specs.InnerPlaces.{past, isSpace, inWord, wordFrom, wordAt, speltOf, SignIs, NumeralIs, StopIs};
 
 // The word reader: the lent text and a place in it.
 pub struct Words<'a> {

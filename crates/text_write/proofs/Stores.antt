@@ -17,8 +17,11 @@ use mir.Val.{toZ, ofZ}
 use mir.Facts.{toZ-ofZ}
 use Rattle.terms.proofs.Common.{sets-append}
 use Rattle.text_write.specs.Texts.{LF, SPACE, MINUS, LETTER-A, LETTER-E}
-use Rattle.text_write.specs.Writing.{decimal, markWord, literalWord, spaced, ended, prefixText, clauseText, clauseCount, problemBytes}
-use Rattle.text_write.specs.Bytes.{Wrote, SmallEntries, entryBytes, literalBytes, nextFirst}
+use Rattle.text_write.specs.Numbers.{decimal}
+use Rattle.text_write.specs.Written.{markWord, literalWord, problemLine}
+use Rattle.text_write.specs.InnerText.{spaced, ended, prefixText, clauseText, clauseCount}
+use Rattle.text_write.specs.Stored.{Wrote}
+use Rattle.text_write.specs.InnerBytes.{SmallEntries, entryBytes, literalBytes, nextFirst}
 use Rattle.text_write.proofs.Decimal.{digits-most}
 
 -- Nothing stored, nothing past the end of the buffer, and one run behind another.
@@ -273,8 +276,8 @@ small-bits (pos n) h = toZ-ofZ {w = w32} {z = pos n} (record { sfits = omega ari
 small-bits (negsuc n) h = toZ-ofZ {w = w32} {z = negsuc n} (record { sfits = omega arith })
 
 -- How long the parts of a text are at most.
-pub problem-most : (n m : ℕ) → n < 100000 → m < 100000 → length (problemBytes n m) ≤ 18
-unfolding problemBytes
+pub problem-most : (n m : ℕ) → n < 100000 → m < 100000 → length (problemLine n m) ≤ 18
+unfolding problemLine
 problem-most n m hn hm =
     omega (arith, length-append (decimal n) (SPACE ∷ (decimal m ++ (LF ∷ []))), length-append (decimal m) (LF ∷ []), digits-most n 4 hn, digits-most m 4 hm)
 

@@ -1,6 +1,9 @@
--- The text that is written: first what it is and what writing promises, then what the inner functions do, which only proofs rest on.
+-- The text that is written. What to believe: its bytes, its numbers, its lines, and what writing promises. The inner files say what inner functions
+-- do, which only proofs rest on.
 pub mod Texts
-pub mod Writing
+pub mod Numbers
+pub mod Written
 pub mod Stored
-pub mod Bytes
+pub mod InnerText
+pub mod InnerBytes
 pub mod InnerOrders

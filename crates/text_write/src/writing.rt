@@ -20,17 +20,19 @@ ghost use Prim.Native.Nat.{_+_, _<_, _≤_};
 ghost use lib.ListN.{length};
 ghost use lib.Dec.{eqb};
 ghost use lib.IntN.{natAbs};
-ghost use Rattle.text_write.specs.Writing.{cnfBytes, problemBytes, literalWord, spaced, prefixText, clauseText, clauseCount, textOf};
+ghost use Rattle.text_write.specs.Written.{cnfBytes, problemLine, literalWord};
+ghost use Rattle.text_write.specs.InnerText.{spaced, prefixText, clauseText, clauseCount, textByEntries};
 ghost use Rattle.terms.specs.Limits.{prefixEntries, clauseEntries};
-ghost use Rattle.text_write.specs.Bytes.{nextFirst, entryBytes, literalBytes, Wrote, SmallEntries, SmallLiterals, Writable};
+ghost use Rattle.text_write.specs.InnerBytes.{nextFirst, entryBytes, literalBytes, SmallEntries, SmallLiterals, Writable};
 ghost use Rattle.text_write.specs.InnerOrders.{WriteIs};
+ghost use Rattle.text_write.specs.Stored.{Wrote};
 ghost use mathlib.Core.Bool.{true};
 
 // Writes the text of tables that were accepted into a lent buffer. The length is found first, in a buffer of its own that no one sees, so that
 // nothing is written where the text is too long or does not fit.
 pub fn write_accepted(n: u32, prefix: &[u32], clauses: &[i32], out: &mut [u8]) -> Filled
     requires writable { ⌜ Writable n (now prefix) (now clauses) ⌝ }
-    ensures answered { λ r. ⌜ WriteIs (textOf n (now (prefix .entry)) (now (clauses .entry))) (now (out .entry)) (now (out .exit)) r ⌝ }
+    ensures answered { λ r. ⌜ WriteIs (textByEntries n (now (prefix .entry)) (now (clauses .entry))) (now (out .entry)) (now (out .exit)) r ⌝ }
 {
     let mut unseen = [0u8; 1];
     let count = put_text(&mut unseen, n, prefix, clauses);
@@ -47,7 +49,7 @@ pub fn write_accepted(n: u32, prefix: &[u32], clauses: &[i32], out: &mut [u8]) -
 // The text of n and two tables.
 fn put_text(out: &mut [u8], n: u32, prefix: &[u32], clauses: &[i32]) -> usize
     requires writable { ⌜ Writable n (now prefix) (now clauses) ⌝ }
-    ensures wrote { λ r. ⌜ Wrote (textOf n (now (prefix .entry)) (now (clauses .entry))) (now (out .entry)) (now (out .exit)) 0 r ⌝ }
+    ensures wrote { λ r. ⌜ Wrote (textByEntries n (now (prefix .entry)) (now (clauses .entry))) (now (out .entry)) (now (out .exit)) 0 r ⌝ }
 {
     let count = count_clauses(clauses);
     let lines = put_problem(out, n, count);
@@ -58,7 +60,7 @@ fn put_text(out: &mut [u8], n: u32, prefix: &[u32], clauses: &[i32]) -> usize
 // The problem line.
 pub fn put_problem(out: &mut [u8], n: u32, count: u32) -> usize
     requires small { ⌜ (n < 100000) × (count < 100000) ⌝ }
-    ensures wrote { λ r. ⌜ Wrote (problemBytes n count) (now (out .entry)) (now (out .exit)) 0 r ⌝ }
+    ensures wrote { λ r. ⌜ Wrote (problemLine n count) (now (out .entry)) (now (out .exit)) 0 r ⌝ }
 {
     let start = put_cnf(out);
     let number = put_number(out, start, n);

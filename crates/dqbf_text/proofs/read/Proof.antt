@@ -5,7 +5,7 @@ use mathlib.Core.List.{[], _∷_}
 use native.Mathlib.Omega.{arith}
 use lib.IntN.{pos}
 use Rattle.text_write.proofs.Outputs.{first-overlong}
-use Rattle.dqbf_text.specs.Steps.{Scanned, ScanIs}
+use Rattle.dqbf_text.specs.InnerSteps.{Scanned, ScanIs}
 use Rattle.dqbf_text.specs.Reading.{Tables, no-room-prefix, no-room-clauses, no-room-lists}
 use Rattle.dqbf_text.proofs.Readings.{first-fault, first-room, read-all}
 use borrow.Author.Needs.{needs}

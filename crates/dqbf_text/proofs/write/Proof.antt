@@ -1,15 +1,18 @@
--- What the check of lists refuses is refused so, before 15 and 14; what it accepts can be written (fit), and the writer's answer is that of the call.
+-- What the check of lists refuses is refused so, before 15 and 14; what it accepts can be written (fit), and the writer's answer is that of the call,
+-- since the text entry by entry is that of blocks, lists and clauses (written-text).
+use Prim.Native.Nat.{ℕ}
 use mathlib.Core.Path.{refl, subst}
+use mathlib.Core.List.{List}
 use borrow.Author.Needs.{needs}
 use Rattle.terms.specs.Refusals.{NoneOf}
 use Rattle.terms.proofs.Verdicts.{refused-first}
 use Rattle.formula.specs.Lent.{Formula, formulaOf}
-use Rattle.text_write.specs.InnerOrders.{writeOrder}
+use Rattle.text_write.specs.InnerOrders.{writeOrder, WriteIs}
 use Rattle.text_write.proofs.Outputs.{writes-accepted}
 use Rattle.dqbf_lists.specs.Causes.{checkListsOrder}
 use Rattle.dqbf_lists.specs.Answers.{ListsChecked}
 use Rattle.dqbf_text.specs.Stored.{listedText}
-use Rattle.dqbf_text.proofs.Accepted.{fit}
+use Rattle.dqbf_text.proofs.Accepted.{fit, written-text}
 use Rattle.dqbf_text.proofs.write.Statement.{statement}
 use Rattle.dqbf_text.proofs.write.Tie as tie
 
@@ -44,8 +47,12 @@ returns-2 c =
     let at-start = start at-told in
     let a = at-start .args in
     let w = at-write .write-accepted in
-    let order = checkListsOrder (a .rule) (lent at-start) (a .lists .now) in
-    writes-accepted order (listedText (lent at-start) (a .lists .now)) (a .out .now) _ (w .result) (accepted at-told) (w .ensures)
+    let f = lent at-start in
+    let ds = a .lists .now in
+    let none = accepted at-told in
+    let out′ = w .last .1 .1 .1 .1 .0 in
+    writes-accepted (checkListsOrder (a .rule) f ds) (listedText f ds) (a .out .now) out′ (w .result) none
+    (subst (λ (text : List ℕ). WriteIs text (a .out .now) out′ (w .result)) (written-text (a .rule) f ds none) (w .ensures))
 
 pub write-spec : {M : Type 1} → statement M
 write-spec =

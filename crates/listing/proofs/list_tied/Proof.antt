@@ -16,8 +16,7 @@ use Rattle.formula.proofs.Ordered.{marks-within, level-most}
 use Rattle.sets_occurrences.specs.Threads.{Tied}
 use Rattle.sets_subtrees.specs.Runs.{Floored}
 use Rattle.sets_subtrees.proofs.Linked.{floored-none}
-use Rattle.listing.specs.Listing.{lineBytes}
-use Rattle.listing.specs.Inner.{TopsOf}
+use Rattle.listing.specs.Listing.{lineBytes, TopsOf}
 use borrow.Author.Needs.{needs}
 use Rattle.listing.proofs.list_tied.Statement.{statement}
 use Rattle.listing.proofs.list_tied.Tie as tie

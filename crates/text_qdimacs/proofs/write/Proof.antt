@@ -1,5 +1,8 @@
--- What check refuses is refused so, before 15 and 14; what it accepts has small numbers and short tables, and the writer's answer is that of the call.
+-- What check refuses is refused so, before 15 and 14; what it accepts has small numbers and short tables, and the writer's answer is that of the call,
+-- since the text entry by entry is that of blocks and clauses.
+use Prim.Native.Nat.{ℕ}
 use mathlib.Core.Path.{refl, subst}
+use mathlib.Core.List.{List}
 use native.Mathlib.Omega.{arith}
 use borrow.Author.Needs.{needs}
 use Rattle.terms.specs.Refusals.{NoneOf, Judged}
@@ -7,10 +10,11 @@ use Rattle.terms.proofs.Verdicts.{refused-first}
 use Rattle.formula.specs.Lent.{Formula, formulaOf}
 use Rattle.formula_rules.specs.Rules.{checkOrder}
 use Rattle.formula_rules.proofs.Orders.{limits}
-use Rattle.text_write.specs.InnerOrders.{writeOrder}
+use Rattle.text_write.specs.InnerOrders.{writeOrder, WriteIs}
 use Rattle.text_write.proofs.Outputs.{writes-accepted}
 use Rattle.text_qdimacs.specs.Stored.{formulaText}
-use Rattle.text_qdimacs.proofs.Accepted.{small}
+use Rattle.text_qdimacs.proofs.Accepted.{small, holdable}
+use Rattle.text_qdimacs.proofs.Blockwise.{text-is}
 use Rattle.text_qdimacs.proofs.write.Statement.{statement}
 use Rattle.text_qdimacs.proofs.write.Tie as tie
 
@@ -50,7 +54,12 @@ returns-2 c =
     let at-start = start at-told in
     let a = at-start .args in
     let w = at-write .write-accepted in
-    writes-accepted (checkOrder (a .rule) (lent at-start)) (formulaText (lent at-start)) (a .out .now) (w .last .1 .1 .1 .0) (w .result) (accepted at-told) (w .ensures)
+    let f = lent at-start in
+    let none = accepted at-told in
+    let out′ = w .last .1 .1 .1 .0 in
+    let same = text-is (f .n) (f .prefix) (f .clauses) (holdable (a .rule) f none) in
+    writes-accepted (checkOrder (a .rule) f) (formulaText f) (a .out .now) out′ (w .result) none
+    (subst (λ (text : List ℕ). WriteIs text (a .out .now) out′ (w .result)) same (w .ensures))
 
 pub write-spec : {M : Type 1} → statement M
 write-spec =

@@ -2,7 +2,7 @@
 -- (fault-list).
 use mathlib.Core.Path.{subst}
 use native.Mathlib.Omega.{arith}
-use Rattle.dqbf_text.specs.Steps.{ListMark, ListMarkIs, ListIs}
+use Rattle.dqbf_text.specs.InnerSteps.{ListMark, ListMarkIs, ListIs}
 use Rattle.dqbf_text.proofs.Faults.{fault-list, went-list}
 use borrow.Author.Needs.{needs}
 use Rattle.dqbf_text.proofs.lines.line_at.Statement.{statement}

@@ -1,8 +1,8 @@
 -- The numbers are a row as in a quantifier line (row-known); by their count they are the closing 0 alone, or y stands before it.
 use mathlib.Core.Path.{subst}
-use Rattle.text_lines.specs.Grammar.{variables}
-use Rattle.text_words.specs.Places.{WholeRow, RowIs}
-use Rattle.dqbf_text.specs.Steps.{no-row}
+use Rattle.text_words.specs.InnerNumbers.{variables}
+use Rattle.text_words.specs.InnerPlaces.{WholeRow, RowIs}
+use Rattle.dqbf_text.specs.InnerSteps.{no-row}
 use Rattle.dqbf_text.proofs.Faults.{row-alone, row-list}
 use borrow.Author.Needs.{needs}
 use Rattle.dqbf_text.proofs.lines.list_at.Statement.{statement}

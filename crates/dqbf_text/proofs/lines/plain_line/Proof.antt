@@ -1,7 +1,7 @@
 -- What QDIMACS makes of the line (stepped) is what is said here, but for a quantifier line after a list line, which is a fault (fault-late).
 use mathlib.Core.Path.{subst}
-use Rattle.text_lines.specs.Steps as plain
-use Rattle.dqbf_text.specs.Steps.{LateIs}
+use Rattle.text_lines.specs.InnerSteps as plain
+use Rattle.dqbf_text.specs.InnerSteps.{LateIs}
 use Rattle.dqbf_text.proofs.Faults.{fault-plain, fault-late, went-plain}
 use borrow.Author.Needs.{needs}
 use Rattle.dqbf_text.proofs.lines.plain_line.Statement.{statement}

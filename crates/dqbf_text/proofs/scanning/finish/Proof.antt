@@ -1,6 +1,6 @@
 -- What is missing at the end of a text is what QDIMACS misses there, whether list lines have stood or not (end-fault).
 use mathlib.Core.Path.{refl, subst}
-use Rattle.text_qdimacs.specs.Scans.{FinishIs}
+use Rattle.text_qdimacs.specs.InnerScans.{FinishIs}
 use Rattle.dqbf_text.proofs.Faults.{end-fault}
 use borrow.Author.Needs.{needs}
 use Rattle.dqbf_text.proofs.scanning.finish.Statement.{statement}

@@ -5,7 +5,7 @@ use mathlib.Core.Path.{_∙_, subst}
 use native.Mathlib.Omega.{arith}
 use lib.ListN.{length}
 use Rattle.dqbf_text.specs.Reading.{Tables}
-use Rattle.dqbf_text.specs.Steps.{Went, OnwardIs}
+use Rattle.dqbf_text.specs.InnerSteps.{Went, OnwardIs}
 use Rattle.dqbf_text.proofs.Scans.{Reached, reached-none, reached-sound, adds-length, reached-more, went-less, reached-fault, reached-end}
 use Rattle.dqbf_text.proofs.scanning.scan.Statement.{statement}
 use Rattle.dqbf_text.proofs.scanning.scan.Tie as tie

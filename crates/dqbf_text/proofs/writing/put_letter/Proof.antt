@@ -3,7 +3,7 @@ use mathlib.Core.Path.{ap}
 use mathlib.Core.Bool.{Bool}
 use mathlib.Core.List.{[]}
 use Rattle.text_write.proofs.Stores.{wrote-none, wrote-as}
-use Rattle.dqbf_text.specs.Writing.{lettered}
+use Rattle.dqbf_text.specs.InnerText.{lettered}
 use borrow.Author.Needs.{needs}
 use Rattle.dqbf_text.proofs.writing.put_letter.Statement.{statement}
 use Rattle.dqbf_text.proofs.writing.put_letter.Tie as tie

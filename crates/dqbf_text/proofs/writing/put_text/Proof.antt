@@ -3,9 +3,9 @@ use Prim.Native.Nat.{_+_, _*_, _≤_}
 use mathlib.Core.Path.{sym, ap}
 use mathlib.Core.Bool.{true}
 use native.Mathlib.Omega.{arith}
-use Rattle.text_write.specs.Writing.{problemBytes}
+use Rattle.text_write.specs.Written.{problemLine}
 use Rattle.text_write.proofs.Stores.{wrote-as, wrote-more, problem-most, prefix-most, count-most}
-use Rattle.dqbf_text.specs.Writing.{listedTextOf}
+use Rattle.dqbf_text.specs.InnerText.{listedByEntries}
 use Rattle.dqbf_text.proofs.Bytes.{lists-most}
 use borrow.Author.Needs.{needs}
 use Rattle.dqbf_text.proofs.writing.put_text.Statement.{statement}
@@ -62,7 +62,7 @@ put-clauses-requires c κs =
     (omega (arith, prefix-end at-put-prefix, at-put-lists .put-lists .ensures .end, pre .1), pre .0 .2, pre .0 .4)
 
 returns : tie.Need-returns
-unfolding listedTextOf
+unfolding listedByEntries
 returns c =
     let at-put-clauses = c .before .before in
     let at-put-lists = at-put-clauses .before .before .before .before in
@@ -70,7 +70,7 @@ returns c =
     let at-put-problem = at-put-prefix .before .before .before .before in
     let at-count-clauses = at-put-problem .before .before in
     let n = at-count-clauses .before .before .before .before .args .n in
-    let counted = ap (problemBytes n) (sym (at-count-clauses .count-clauses .ensures)) in
+    let counted = ap (problemLine n) (sym (at-count-clauses .count-clauses .ensures)) in
     let tables = wrote-more (at-put-lists .put-lists .ensures) (at-put-clauses .put-clauses .ensures) in
     wrote-more (wrote-as counted (at-put-problem .put-problem .ensures)) (wrote-more (at-put-prefix .put-prefix .ensures) tables)
 

@@ -3,9 +3,12 @@ use mathlib.Core.Path.{refl, subst}
 use native.Mathlib.Omega.{arith}
 use native.Mathlib.Numerals.{add-one}
 use Rattle.text_lines.specs.declared.Mark.the-variants.{Unmarked}
-use Rattle.text_lines.specs.Grammar.{literals, literals-line, too-many}
-use Rattle.text_words.specs.Places.{WholeRow, RowIs}
-use Rattle.text_lines.specs.Steps.{MarkAt, MarkIs, BlockIs}
+use Rattle.text_words.specs.InnerNumbers.{literals}
+use Rattle.text_lines.specs.Format.{literals-line}
+use Rattle.text_lines.specs.InnerGrammar.{too-many}
+use Rattle.text_words.specs.InnerPlaces.{WholeRow, RowIs}
+use Rattle.text_lines.specs.InnerSteps.{MarkAt, MarkIs, BlockIs}
+use Rattle.text_words.proofs.Spelled.{read-literals}
 use Rattle.text_lines.proofs.Bodies.{fault-many, mark-on, unmarked-none, fault-marked, fault-block, fault-clause, went-block, went-clause}
 use borrow.Author.Needs.{needs}
 use Rattle.text_lines.proofs.body.body_at.Statement.{statement}
@@ -50,7 +53,7 @@ returns-2 c =
     let at-next2 = c .before .before in
     let pre = at-next2 .before .before .before .before .before .before .before .before .before .before .pre in
     let r = row-known at-next2 in
-    fault-many (r .passed) (too-many (omega (arith, c .if2 .taken, pre .3)) (literals-line (r .read)))
+    fault-many (r .passed) (too-many (omega (arith, c .if2 .taken, pre .3)) (literals-line (read-literals (r .read))))
 
 returns-3 : tie.Need-returns-3
 returns-3 c =

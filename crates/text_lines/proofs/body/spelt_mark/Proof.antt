@@ -2,8 +2,8 @@
 use mathlib.Core.Path.{refl, subst}
 use mathlib.Core.List.{[], _∷_}
 use Rattle.text_words.specs.Words.{LETTER-A, LETTER-E}
-use Rattle.text_words.specs.Expected.{SpeltIs}
-use Rattle.text_lines.specs.Steps.{e-mark, a-mark}
+use Rattle.text_words.specs.InnerExpected.{SpeltIs}
+use Rattle.text_lines.specs.InnerSteps.{e-mark, a-mark}
 use borrow.Author.Needs.{needs}
 use Rattle.text_lines.proofs.body.spelt_mark.Statement.{statement}
 use Rattle.text_lines.proofs.body.spelt_mark.Tie as tie

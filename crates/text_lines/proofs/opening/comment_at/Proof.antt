@@ -2,8 +2,8 @@
 use Prim.Native.Nat.{ℕ, _+_}
 use mathlib.Core.Path.{sym, subst}
 use native.Mathlib.Omega.{arith}
-use Rattle.text_words.specs.Places.{Passed}
-use Rattle.text_lines.specs.Steps.{endless-line}
+use Rattle.text_words.specs.InnerPlaces.{Passed}
+use Rattle.text_lines.specs.InnerSteps.{endless-line}
 use Rattle.text_lines.proofs.Openings.{passed-line, unpassed-line}
 use borrow.Author.Needs.{needs}
 use Rattle.text_lines.proofs.opening.comment_at.Statement.{statement}

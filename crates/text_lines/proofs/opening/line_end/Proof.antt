@@ -4,7 +4,7 @@ use Prim.Native.Nat.{_-_}
 use lib.ListN.{length, getD}
 use borrow.Author.Tests.{eq-eqb, ne-eqb}
 use Rattle.text_words.specs.Words.{LF}
-use Rattle.text_words.specs.Places.{inLine}
+use Rattle.text_words.specs.InnerPlaces.{inLine}
 use Rattle.text_words.proofs.Leading.{Passing, passing-none, passing-more, passing-stop, passing-end}
 use Rattle.text_lines.proofs.opening.line_end.Statement.{statement}
 use Rattle.text_lines.proofs.opening.line_end.Tie as tie

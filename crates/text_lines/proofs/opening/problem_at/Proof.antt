@@ -1,7 +1,7 @@
 -- Word by word, what stands next in the line: where a word is missing no problem line has stood (no-p to no-end), and with all of them one has.
 use mathlib.Core.Path.{subst}
-use Rattle.text_words.specs.Places.{EndedIs}
-use Rattle.text_words.specs.Expected.{Goes, SpeltIs, Counts, CountedIs}
+use Rattle.text_words.specs.InnerPlaces.{EndedIs}
+use Rattle.text_words.specs.InnerExpected.{Goes, SpeltIs, Counts, CountedIs}
 use Rattle.text_lines.proofs.Openings.{p-word, cnf-word, no-p, no-cnf, no-number, no-count, no-end, problem-line, problem-passed}
 use borrow.Author.Needs.{needs}
 use Rattle.text_lines.proofs.opening.problem_at.Statement.{statement}

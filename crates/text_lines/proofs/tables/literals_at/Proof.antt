@@ -8,11 +8,10 @@ use borrow.Author.Needs.{needs}
 use native.Mathlib.Omega.{arith}
 use lib.ListN.{length}
 use lib.IntN.{ℤ, pos, negℤ}
-use Rattle.text_words.specs.Words.{Plain, Negated, prepend, entry, itemOf}
-use Rattle.text_words.specs.Places.{Taken, Closes}
+use Rattle.text_words.specs.InnerNumbers.{Plain, Negated, prepend, entry, itemOf, literals}
+use Rattle.text_words.specs.InnerPlaces.{Taken, Closes}
 use Rattle.text_words.proofs.Numbers.{plain-most, negated-most}
-use Rattle.text_lines.specs.Grammar.{literals}
-use Rattle.text_lines.specs.Steps.{SignedIs}
+use Rattle.text_lines.specs.InnerSteps.{SignedIs}
 use Rattle.text_lines.proofs.Rows.{literal-put, Partly, partly-none, partly-length, partly-more, partly-whole, partly-broken}
 use Rattle.text_lines.proofs.tables.literals_at.Statement.{statement}
 use Rattle.text_lines.proofs.tables.literals_at.Tie as tie

@@ -3,7 +3,7 @@ use Prim.Native.Nat.{ℕ}
 use mathlib.Core.Path.{_≡_, subst}
 use mathlib.Core.List.{List}
 use Rattle.text_words.specs.declared.Entry.{Entry}
-use Rattle.text_words.specs.Places.{EntryIs}
+use Rattle.text_words.specs.InnerPlaces.{EntryIs}
 use borrow.Author.Needs.{needs}
 use Rattle.text_lines.proofs.tables.signed_at.Statement.{statement}
 use Rattle.text_lines.proofs.tables.signed_at.Tie as tie

@@ -4,9 +4,8 @@ use borrow.Author.Needs.{needs}
 use Prim.Native.Nat.{_-_}
 use native.Mathlib.Omega.{arith}
 use lib.ListN.{length}
-use Rattle.text_words.specs.Words.{Plain, entry, prepend}
-use Rattle.text_lines.specs.Grammar.{variables}
-use Rattle.text_words.specs.Places.{Taken, Closes, EntryIs}
+use Rattle.text_words.specs.InnerNumbers.{Plain, entry, prepend, variables}
+use Rattle.text_words.specs.InnerPlaces.{Taken, Closes, EntryIs}
 use Rattle.text_lines.proofs.Rows.{Partly, partly-none, partly-length, partly-more, partly-barred, partly-whole, partly-broken}
 use Rattle.text_lines.proofs.tables.variables_at.Statement.{statement}
 use Rattle.text_lines.proofs.tables.variables_at.Tie as tie

@@ -1,7 +1,7 @@
 -- What the first scan found decides: a fault is the first cause, and so is a table without room for what was counted; else what was scanned is filled in.
 use mathlib.Core.Path.{refl, subst}
 use native.Mathlib.Omega.{arith}
-use Rattle.text_qdimacs.specs.Scans.{Scanned, ScanIs}
+use Rattle.text_qdimacs.specs.InnerScans.{Scanned, ScanIs}
 use Rattle.text_qdimacs.specs.Reading.{no-room-prefix, no-room-clauses}
 use Rattle.text_qdimacs.proofs.Readings.{first-fault, first-room, read-all}
 use borrow.Author.Needs.{needs}

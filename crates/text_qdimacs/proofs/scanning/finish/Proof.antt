@@ -5,9 +5,9 @@ use native.Mathlib.Omega.{arith}
 use Rattle.text_lines.specs.declared.Stage.{Stage}
 use Rattle.text_lines.specs.declared.Stage.the-variants.{Body}
 use Rattle.terms.specs.declared.Reading.the-variants.{Read, Refused}
-use Rattle.text_lines.specs.Grammar.{no-problem, few}
-use Rattle.text_lines.specs.Steps.{Sound}
-use Rattle.text_qdimacs.specs.Scans.{FinishIs}
+use Rattle.text_lines.specs.InnerGrammar.{no-problem, few}
+use Rattle.text_lines.specs.InnerSteps.{Sound}
+use Rattle.text_qdimacs.specs.InnerScans.{FinishIs}
 use borrow.Author.Needs.{needs}
 use Rattle.text_qdimacs.proofs.scanning.finish.Statement.{statement}
 use Rattle.text_qdimacs.proofs.scanning.finish.Tie as tie

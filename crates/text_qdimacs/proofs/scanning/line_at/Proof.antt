@@ -4,7 +4,7 @@ use mathlib.Core.Path.{sym, subst}
 use mathlib.Core.List.{List}
 use lib.IntN.{ℤ}
 use Rattle.text_lines.specs.declared.Stage.{Stage}
-use Rattle.text_lines.specs.Steps.{OpenedIs, StepIs, Sound}
+use Rattle.text_lines.specs.InnerSteps.{OpenedIs, StepIs, Sound}
 use Rattle.text_lines.proofs.Bodies.{fault-opening, went-comment, went-problem}
 use borrow.Author.Needs.{needs}
 use Rattle.text_qdimacs.proofs.scanning.line_at.Statement.{statement}

@@ -6,7 +6,7 @@ use native.Mathlib.Omega.{arith}
 use mathlib.Core.List.{List}
 use lib.IntN.{ℤ}
 use lib.ListN.{length}
-use Rattle.text_lines.specs.Steps.{Went, StepIs}
+use Rattle.text_lines.specs.InnerSteps.{Went, StepIs}
 use Rattle.text_qdimacs.proofs.Scans.{Reached, reached-none, reached-sound, reached-prefix, reached-clauses, reached-more, went-less, reached-fault}
 use Rattle.text_qdimacs.proofs.Scans.{reached-end}
 use Rattle.text_qdimacs.proofs.scanning.scan.Statement.{statement}

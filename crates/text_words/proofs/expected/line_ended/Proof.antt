@@ -1,5 +1,5 @@
 -- A word that was found is left of the line; the line's end is its LF where a byte stands there (fed), and the text's end where none does (over).
-use Rattle.text_words.specs.Places.{words-left, no-feed}
+use Rattle.text_words.specs.InnerPlaces.{words-left, no-feed}
 use Rattle.text_words.proofs.Lines.{found-of, end-of}
 use borrow.Author.Needs.{needs}
 use Rattle.text_words.proofs.expected.line_ended.Statement.{statement}

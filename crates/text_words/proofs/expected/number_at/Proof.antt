@@ -3,8 +3,8 @@ use Prim.Native.Nat.{ℕ}
 use mathlib.Core.Path.{_≡_, refl, sym, ap, _∙_}
 use native.Mathlib.Omega.{arith}
 use lib.Seq.{slice}
-use Rattle.text_words.specs.Words.{numberOf}
-use Rattle.text_words.specs.Places.{signed, bare}
+use Rattle.text_words.specs.InnerNumbers.{numberOf}
+use Rattle.text_words.specs.InnerPlaces.{signed, bare}
 use Rattle.text_words.proofs.Lines.{FoundIs, found-of, found-parts, end-of}
 use Rattle.text_words.proofs.Entries.{plain-number, signed-number}
 use Rattle.text_words.proofs.Spelling.{spelt-end, goes, only}

@@ -1,6 +1,6 @@
 -- What `line_ended` finds is what is said here, case by case.
 use mathlib.Core.Path.{subst}
-use Rattle.text_words.specs.Places.{EndedIs}
+use Rattle.text_words.specs.InnerPlaces.{EndedIs}
 use borrow.Author.Needs.{needs}
 use Rattle.text_words.proofs.items.close_at.Statement.{statement}
 use Rattle.text_words.proofs.items.close_at.Tie as tie

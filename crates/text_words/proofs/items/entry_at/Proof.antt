@@ -2,8 +2,8 @@
 use mathlib.Core.Path.{_≡_, ap, _∙_}
 use lib.Seq.{slice}
 use Rattle.text_words.specs.declared.Number.the-variants.{Is}
-use Rattle.text_words.specs.Words.{itemOf}
-use Rattle.text_words.specs.Places.{signedItem, wordless, strange}
+use Rattle.text_words.specs.InnerNumbers.{itemOf}
+use Rattle.text_words.specs.InnerPlaces.{signedItem, wordless, strange}
 use Rattle.text_words.proofs.Lines.{FoundIs, found-of, end-of}
 use Rattle.text_words.proofs.Entries.{found-item, not-item, found-entry}
 use borrow.Author.Needs.{needs}

@@ -1,8 +1,8 @@
 -- The item of a number by its sign, and by whether it is 0: each way through is one case of the definition.
 use mathlib.Core.Path.{refl}
 use borrow.Author.Tests.{eq-eqb, ne-eqb}
-use Rattle.text_words.specs.Words.{plainItem, negatedItem}
-use Rattle.text_words.specs.Places.{signedItem}
+use Rattle.text_words.specs.InnerNumbers.{plainItem, negatedItem}
+use Rattle.text_words.specs.InnerPlaces.{signedItem}
 use borrow.Author.Needs.{needs}
 use Rattle.text_words.proofs.items.numbered.Statement.{statement}
 use Rattle.text_words.proofs.items.numbered.Tie as tie

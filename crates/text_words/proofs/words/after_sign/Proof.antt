@@ -2,7 +2,7 @@
 use mathlib.Core.Path.{refl}
 use native.Mathlib.Omega.{arith}
 use lib.ListN.{List·getD-eq-default}
-use Rattle.text_words.specs.Places.{minus, unsigned}
+use Rattle.text_words.specs.InnerPlaces.{minus, unsigned}
 use borrow.Author.Needs.{needs}
 use Rattle.text_words.proofs.words.after_sign.Statement.{statement}
 use Rattle.text_words.proofs.words.after_sign.Tie as tie

@@ -1,7 +1,7 @@
 -- Where the bytes of a word end is where `run_end` stopped; past its `-` they are read as a number (signed-word), and with no byte it is the line's end.
 use mathlib.Core.Path.{sym}
 use native.Mathlib.Omega.{arith}
-use Rattle.text_words.specs.Places.{inWord}
+use Rattle.text_words.specs.InnerPlaces.{inWord}
 use Rattle.text_words.proofs.Leading.{past-within, from-none}
 use Rattle.text_words.proofs.Numerals.{sign-on, signed-word}
 use borrow.Author.Needs.{needs}

@@ -44,7 +44,7 @@ use denote.Triple.Table.{entered, cited}
 use denote.Triple.Walked.{says, Stays, stay-none, walkOf, goes-none, Walks, ends-at, walked, walk-meets}
 use denote.Exit.{yes}
 use denote.Triple.Clauses.{ensured, lasts}
-use Rattle.text_words.specs.Places.{wordAt}
+use Rattle.text_words.specs.InnerPlaces.{wordAt}
 use Rattle.text_words.specs.declared.words.Words.{Words}
 use Rattle.text_words.specs.declared.Word.{Word}
 use Rattle.text_words.proofs.words.Words as T

@@ -1,7 +1,7 @@
 -- A short number was read while its end was found, and is the word (numeral-word); whatever else stands there is left to `any_word`.
 use mathlib.Core.Path.{subst, _∙_}
 use Rattle.text_words.specs.declared.Counted.{Counted}
-use Rattle.text_words.specs.Places.{NumeralIs}
+use Rattle.text_words.specs.InnerPlaces.{NumeralIs}
 use Rattle.text_words.proofs.Leading.{from-word}
 use Rattle.text_words.proofs.Numerals.{numeral-word}
 use borrow.Author.Needs.{needs}

@@ -1,7 +1,7 @@
 -- Where the first digit has room the digits are put; where it has none, nothing is stored and the width says where they end (wrote-out).
 use native.Mathlib.Omega.{arith}
 use borrow.Author.Needs.{needs}
-use Rattle.text_write.specs.Writing.{decimal}
+use Rattle.text_write.specs.Numbers.{decimal}
 use Rattle.text_write.proofs.Decimal.{digits-most}
 use Rattle.text_write.proofs.Stores.{wrote-out}
 use Rattle.text_write.proofs.bytes.put_number.Statement.{statement}

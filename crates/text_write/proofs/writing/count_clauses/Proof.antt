@@ -7,7 +7,7 @@ use borrow.Author.Needs.{needs}
 use native.Mathlib.Omega.{arith}
 use native.Mathlib.Nat.{zero-add}
 use lib.ListN.{length, getD, drop}
-use Rattle.text_write.specs.Writing.{clauseCount}
+use Rattle.text_write.specs.InnerText.{clauseCount}
 use Rattle.text_write.proofs.Stores.{small-bits, count-one, count-more, count-all}
 use Rattle.text_write.proofs.writing.count_clauses.Statement.{statement}
 use Rattle.text_write.proofs.writing.count_clauses.Tie as tie

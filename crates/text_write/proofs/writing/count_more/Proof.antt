@@ -6,7 +6,7 @@ use lib.IntN.{ℤ}
 use mir.Syntax.{w32}
 use mir.Val.{toZ, ofZ}
 use mir.Facts.{toZ-ofZ}
-use Rattle.text_write.specs.Writing.{clauseCount}
+use Rattle.text_write.specs.InnerText.{clauseCount}
 use Rattle.text_write.proofs.Stores.{count-closes, count-goes-on}
 use borrow.Author.Needs.{needs}
 use Rattle.text_write.proofs.writing.count_more.Statement.{statement}

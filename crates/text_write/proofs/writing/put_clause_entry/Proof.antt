@@ -4,8 +4,8 @@ use native.Mathlib.Omega.{arith}
 use lib.ListN.{length}
 use lib.IntN.{ℤ, natAbs}
 use mir.Facts.{toZ-ofZ}
-use Rattle.text_write.specs.Writing.{literalWord}
-use Rattle.text_write.specs.Bytes.{literalBytes}
+use Rattle.text_write.specs.Written.{literalWord}
+use Rattle.text_write.specs.InnerBytes.{literalBytes}
 use Rattle.text_write.proofs.Stores.{wrote-as, wrote-more, space-most, word-most, clause-last, clause-more}
 use borrow.Author.Needs.{needs}
 use Rattle.text_write.proofs.writing.put_clause_entry.Statement.{statement}

@@ -6,7 +6,7 @@ use lib.ListN.{length, getD}
 use mathlib.Core.Path.{sym, ap, _∙_}
 use lib.Dec.{eqb}
 use lib.IntN.{ℤ, pos, natAbs}
-use Rattle.text_write.specs.Bytes.{literalBytes}
+use Rattle.text_write.specs.InnerBytes.{literalBytes}
 use Rattle.text_write.proofs.Stores.{small-bits, wrote-as, Upto, upto-none, upto-more, upto-all, upto-length, clauseScript, literal-most}
 use Rattle.text_write.proofs.writing.put_clauses.Statement.{statement}
 use Rattle.text_write.proofs.writing.put_clauses.Tie as tie

@@ -7,7 +7,7 @@ use lib.IntN.{ℤ, pos, natAbs}
 use lib.Signed.{ltZ}
 use mir.Facts.{toZ-ofZ}
 use Rattle.text_write.specs.Texts.{MINUS}
-use Rattle.text_write.specs.Writing.{decimal}
+use Rattle.text_write.specs.Numbers.{decimal}
 use Rattle.text_write.proofs.Stores.{wrote-as, wrote-more, literal-negative, literal-positive}
 use borrow.Author.Needs.{needs}
 use Rattle.text_write.proofs.writing.put_literal.Statement.{statement}

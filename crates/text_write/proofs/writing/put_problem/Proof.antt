@@ -1,7 +1,7 @@
 -- The five runs one behind another are the line's bytes; no run before the last begins past 18 bytes, so that each may be put.
 use Prim.Native.Nat.{_≤_}
 use native.Mathlib.Omega.{arith}
-use Rattle.text_write.specs.Writing.{problemBytes}
+use Rattle.text_write.specs.Written.{problemLine}
 use Rattle.text_write.proofs.Decimal.{digits-most}
 use Rattle.text_write.proofs.Stores.{wrote-more}
 use borrow.Author.Needs.{needs}
@@ -33,7 +33,7 @@ put-byte-requires-2 c κs =
     omega (arith, digits, at-put-number2 .put-number2 .ensures .end, at-put-byte .put-byte .ensures .end, number-end at-put-number)
 
 returns : tie.Need-returns
-unfolding problemBytes
+unfolding problemLine
 returns c =
     let at-put-byte2 = c .before .before in
     let at-put-number2 = at-put-byte2 .before .before .before .before in

@@ -2,7 +2,7 @@
 use mathlib.Core.Path.{ap}
 use mathlib.Core.Bool.{Bool}
 use mathlib.Core.List.{[]}
-use Rattle.text_write.specs.Writing.{spaced}
+use Rattle.text_write.specs.InnerText.{spaced}
 use Rattle.text_write.proofs.Stores.{wrote-none, wrote-as}
 use borrow.Author.Needs.{needs}
 use Rattle.text_write.proofs.writing.put_space.Statement.{statement}

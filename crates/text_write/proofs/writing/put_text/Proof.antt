@@ -3,7 +3,8 @@ use Prim.Native.Nat.{_≤_}
 use mathlib.Core.Path.{sym, ap}
 use mathlib.Core.Bool.{true}
 use native.Mathlib.Omega.{arith}
-use Rattle.text_write.specs.Writing.{problemBytes, textOf}
+use Rattle.text_write.specs.Written.{problemLine}
+use Rattle.text_write.specs.InnerText.{textByEntries}
 use Rattle.text_write.proofs.Stores.{wrote-as, wrote-more, problem-most, prefix-most, count-most}
 use borrow.Author.Needs.{needs}
 use Rattle.text_write.proofs.writing.put_text.Statement.{statement}
@@ -42,14 +43,14 @@ put-clauses-requires c κs =
     (omega (arith, problem-end at-put-problem, at-put-prefix .put-prefix .ensures .end, pre .1), pre .2, pre .4)
 
 returns : tie.Need-returns
-unfolding textOf
+unfolding textByEntries
 returns c =
     let at-put-clauses = c .before .before in
     let at-put-prefix = at-put-clauses .before .before .before .before in
     let at-put-problem = at-put-prefix .before .before .before .before in
     let at-count-clauses = at-put-problem .before .before in
     let n = at-count-clauses .before .before .before .args .n in
-    let counted = ap (problemBytes n) (sym (at-count-clauses .count-clauses .ensures)) in
+    let counted = ap (problemLine n) (sym (at-count-clauses .count-clauses .ensures)) in
     wrote-more (wrote-as counted (at-put-problem .put-problem .ensures))
     (wrote-more (at-put-prefix .put-prefix .ensures) (at-put-clauses .put-clauses .ensures))
 

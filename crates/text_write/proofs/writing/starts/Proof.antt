@@ -1,5 +1,5 @@
 -- By the flag, as the definition goes.
-use Rattle.text_write.specs.Bytes.{nextFirst}
+use Rattle.text_write.specs.InnerBytes.{nextFirst}
 use Rattle.text_write.proofs.writing.starts.Statement.{statement}
 use Rattle.text_write.proofs.writing.starts.Tie as tie
 

@@ -13,17 +13,19 @@ use Rattle.text_words.specs.declared.Spelt.{Spelt}
 use Rattle.text_words.specs.declared.Spelt.the-variants.{Missing, Spelled}
 use Rattle.text_words.specs.declared.Row.{Row}
 use Rattle.text_words.specs.declared.Row.the-variants.{Broken, Whole}
-use Rattle.text_words.specs.Words.{LF, pieces, entriesOf}
-use Rattle.text_lines.specs.Grammar.{variables}
-use Rattle.text_words.specs.Places.{lineAt, wordsAt, Passed, WholeRow, NoRow}
-use Rattle.text_words.specs.Expected.{Goes}
-use Rattle.text_lines.specs.Steps.{announcedAt}
+use Rattle.text_words.specs.Words.{LF, pieces}
+use Rattle.text_words.specs.InnerNumbers.{entriesOf, variables}
+use Rattle.text_words.specs.InnerPlaces.{lineAt, wordsAt, Passed, WholeRow, NoRow}
+use Rattle.text_words.specs.InnerExpected.{Goes}
+use Rattle.text_lines.specs.InnerSteps.{announcedAt}
+use Rattle.terms.specs.Refusals.{First}
+use Rattle.text_lines.specs.Format.{LineCause}
 use Rattle.terms.specs.declared.ListedReading.{ListedReading}
 use Rattle.terms.specs.declared.ListedReading.the-variants.{Read, Refused}
 use Rattle.dqbf_text.specs.declared.Onward.{Onward}
 use Rattle.dqbf_text.specs.declared.Onward.the-variants.{Wrong, On}
-use Rattle.dqbf_text.specs.Writing.{LETTER-D}
-use Rattle.dqbf_text.specs.Grammar.{ListLine, ListedLine, ListedText, ListedFault, ListedFaultIn}
+use Rattle.dqbf_text.specs.Format.{LETTER-D, ListLine, ListedText, ListedFollow}
+use Rattle.dqbf_text.specs.InnerGrammar.{ListedLine, ListedFault}
 use Rattle.dqbf_text.specs.Reading.{Tables}
 
 -- The numbers of a list line, from the place after its letter on: y, its universals and 0, stored in the table of lists from a row on.
@@ -104,7 +106,7 @@ abbrev pub PlainIs : Bool → Stage → List ℕ → ℕ → Counts → List ℕ
 PlainIs listed stage text at from before after r =
     (lists : List ℕ) → OnwardIs listed stage text at from (before .0, before .1, lists) (after .0, after .1, lists) r
 
--- What a scan of a whole text finds: a fault, or n and tables whose text it is, which are stored as far as there are rows.
+-- What a scan of a whole text finds: the first cause, or n and tables whose text it is, which are stored as far as there are rows.
 pub record Scanned (n : ℕ) (counts : Counts) (text : List ℕ) (before after : Tables) : Type 0 where
   pub P : List ℕ
   pub C : List ℤ
@@ -116,7 +118,7 @@ pub record Scanned (n : ℕ) (counts : Counts) (text : List ℕ) (before after :
 
 abbrev pub ScanIs : List ℕ → Tables → Tables → ListedReading → Type 0
 ScanIs text before after (Read n entries literals rows) = Scanned n (entries, literals, rows) text before after
-ScanIs text before after (Refused number place) = ListedFaultIn text number place
+ScanIs text before after (Refused number place) = First (LineCause ListedFollow text) number place
 
 -- What lies at the end of a text, after all its lines, at a stage: a fault, whether list lines have stood or not, or nothing.
 abbrev pub FinishIs : Stage → ℕ → Counts → ListedReading → Type 0

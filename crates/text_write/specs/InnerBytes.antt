@@ -1,20 +1,15 @@
 -- What the functions that store the text promise, byte by byte and entry by entry.
-use Prim.Native.Nat.{ℕ, _+_, _<_, _≤_}
-use mathlib.Core.Path.{_≡_}
+use Prim.Native.Nat.{ℕ, _<_, _≤_}
 use mathlib.Core.Bool.{Bool, true, false}
 use mathlib.Core.List.{List, [], _∷_, _++_}
 use lib.Dec.{eqb}
 use lib.ListN.{length, getD}
-use lib.Seq.{sets}
 use lib.IntN.{ℤ, pos, natAbs}
 use Rattle.terms.specs.Limits.{prefixEntries, clauseEntries}
 use Rattle.text_write.specs.Texts.{SPACE}
-use Rattle.text_write.specs.Writing.{decimal, markWord, literalWord, spaced, ended}
-
--- Bytes that were stored in a buffer from a place on, as far as it has room, and the place after them.
-pub record Wrote (bytes before after : List ℕ) (at next : ℕ) : Type 0 where
-  pub end : next ≡ at + length bytes
-  pub stored : after ≡ sets before at bytes
+use Rattle.text_write.specs.Numbers.{decimal}
+use Rattle.text_write.specs.Written.{markWord, literalWord}
+use Rattle.text_write.specs.InnerText.{spaced, ended}
 
 -- The bytes of one entry, at the beginning of a line or after it.
 unfoldable pub entryBytes : Bool → ℕ → List ℕ

@@ -20,10 +20,12 @@ use Rattle.text_words.specs.declared.Row.{Row}
 use Rattle.text_words.specs.declared.Row.the-variants.{Broken, Whole}
 use Rattle.text_lines.specs.declared.Step.{Step}
 use Rattle.text_lines.specs.declared.Step.the-variants.{Wrong, On}
-use Rattle.text_words.specs.Words.{Plain, Negated, LF, LETTER-A, LETTER-E, pieces, entriesOf}
-use Rattle.text_lines.specs.Grammar.{variables, CommentLine, ProblemLine, Line, Fault}
-use Rattle.text_words.specs.Places.{lineAt, afterAt, wordsAt, Passed, Taken, Unread, Closes, NoRow}
-use Rattle.text_words.specs.Expected.{Goes, SpeltIs}
+use Rattle.text_words.specs.InnerNumbers.{Plain, Negated, entriesOf, variables}
+use Rattle.text_words.specs.Words.{LF, LETTER-A, LETTER-E, pieces}
+use Rattle.text_lines.specs.Format.{CommentLine, ProblemLine}
+use Rattle.text_lines.specs.InnerGrammar.{Line, Fault}
+use Rattle.text_words.specs.InnerPlaces.{lineAt, afterAt, wordsAt, Passed, Taken, Unread, Closes, NoRow}
+use Rattle.text_words.specs.InnerExpected.{Goes, SpeltIs}
 
 -- The line at a place is no comment.
 abbrev pub NoComment : List ℕ → ℕ → Type 0

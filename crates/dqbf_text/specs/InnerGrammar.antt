@@ -1,22 +1,16 @@
--- The DQDIMACS format as a grammar (document 02, request 12): the lines of QDIMACS, and after the quantifier lines lines `d y x1 .. 0`, each with
--- the universals on which an existential may depend. How a text is read is no part of it.
+-- The DQDIMACS format by stages, as the scan passes a text: which line leads to which stage, and which fault it stops at. It says the same as Format
+-- (proofs/Staged and proofs/Decided).
 use Prim.Native.Nat.{ℕ, _<_}
 use mathlib.Core.Path.{_≡_}
 use mathlib.Core.Bool.{Bool, true, false}
 use mathlib.Core.List.{List, [], _∷_, _++_}
-use mathlib.Core.Option.{some}
 use lib.IntN.{ℤ}
 use Rattle.text_lines.specs.declared.Stage.{Stage}
 use Rattle.text_lines.specs.declared.Stage.the-variants.{Opening, Body}
-use Rattle.text_words.specs.Words.{LF, pieces, words, entriesOf}
-use Rattle.text_lines.specs.Grammar.{variables, Line, TooMany, placeAfter}
-use Rattle.dqbf_text.specs.Writing.{LETTER-D}
-
--- A list line `d y x1 .. 0`, and its entries in the table of lists: y, its universals or none, 0. The last number, and no other, is 0: so y is
--- a number before the closing one, and `d 0` is no list line.
-pub data ListLine : List ℕ → List ℕ → Type 0 where
-  d-line : {line entries : List ℕ} {y next : ℕ} {more : List (List ℕ)} → words line ≡ (LETTER-D ∷ []) ∷ more
-      → entriesOf variables more ≡ some (y ∷ next ∷ entries) → ListLine line (y ∷ next ∷ entries)
+use Rattle.text_words.specs.Words.{LF, pieces}
+use Rattle.text_lines.specs.Format.{placeAfter}
+use Rattle.text_lines.specs.InnerGrammar.{Line, TooMany}
+use Rattle.dqbf_text.specs.Format.{ListLine}
 
 -- Which line may stand where, to which stage it leads, and what it adds to the prefix table, to the table of lists and to the clause table.
 -- The flag says whether a list line has stood: a line of QDIMACS may stand where it may there, but no quantifier line, which would add to the
@@ -34,7 +28,7 @@ pub data ListedLines : Bool → Stage → List (List ℕ) → Bool → Stage →
       → ListedLines listed stage (line ∷ lines) done last (p ++ P) (l ++ L) (c ++ C)
 
 -- The text of n and three tables: lines from the opening to the last clause line announced, and nothing after the last LF.
-pub record ListedText (n : ℕ) (prefix lists : List ℕ) (clauses : List ℤ) (text : List ℕ) : Type 0 where
+pub record ListedByStages (n : ℕ) (prefix lists : List ℕ) (clauses : List ℤ) (text : List ℕ) : Type 0 where
   pub announced : ℕ
   pub listed : Bool
   pub lines : List (List ℕ)
@@ -52,8 +46,8 @@ pub data ListedFault : ℕ → Bool → Stage → List (List ℕ) → Type 0 whe
   many : {listed : Bool} {stage : Stage} {line next : List ℕ} {more : List (List ℕ)} → TooMany stage line → ListedFault 17 listed stage (line ∷ next ∷ more)
   few : {listed : Bool} {n m k : ℕ} → k < m → ListedFault 17 listed (Body n m k) ([] ∷ [])
 
--- The causes of 16 and 17 in a text: lines within the rules, and then one of the faults, at its first byte or at the text's end.
-pub record ListedFaultIn (text : List ℕ) (number place : ℕ) : Type 0 where
+-- The fault at which the stages of a text stop: lines within the rules, and then one of the faults, at its first byte or at the text's end.
+pub record ListedFaultByStages (text : List ℕ) (number place : ℕ) : Type 0 where
   pub lines : List (List ℕ)
   pub left : List (List ℕ)
   pub listed : Bool

@@ -1,4 +1,4 @@
--- What the scan of a whole text promises, in the grammar's words.
+-- What the scan of a whole text promises.
 use Prim.Native.Nat.{ℕ}
 use mathlib.Core.Path.{_≡_}
 use mathlib.Core.List.{List, [], _∷_}
@@ -7,12 +7,14 @@ use lib.Seq.{sets}
 use lib.IntN.{ℤ}
 use Rattle.text_lines.specs.declared.Stage.{Stage}
 use Rattle.text_lines.specs.declared.Stage.the-variants.{Body}
+use Rattle.terms.specs.Refusals.{First}
 use Rattle.terms.specs.declared.Reading.{Reading}
 use Rattle.terms.specs.declared.Reading.the-variants.{Read, Refused}
-use Rattle.text_lines.specs.Grammar.{TextOf, Fault, FaultIn}
-use Rattle.text_lines.specs.Steps.{announcedAt}
+use Rattle.text_lines.specs.Format.{TextOf, MayFollow, LineCause}
+use Rattle.text_lines.specs.InnerGrammar.{Fault}
+use Rattle.text_lines.specs.InnerSteps.{announcedAt}
 
--- What a scan of a whole text finds: a fault, or n and tables whose text it is, which are stored as far as there are rows.
+-- What a scan of a whole text finds: the first cause, or n and tables whose text it is, which are stored as far as there are rows.
 pub record Scanned (n entries literals : ℕ) (text : List ℕ) (before after : List ℕ × List ℤ) : Type 0 where
   pub P : List ℕ
   pub C : List ℤ
@@ -24,7 +26,7 @@ pub record Scanned (n entries literals : ℕ) (text : List ℕ) (before after : 
 
 abbrev pub ScanIs : List ℕ → List ℕ × List ℤ → List ℕ × List ℤ → Reading → Type 0
 ScanIs text before after (Read n entries literals) = Scanned n entries literals text before after
-ScanIs text before after (Refused number place) = FaultIn text number place
+ScanIs text before after (Refused number place) = First (LineCause MayFollow text) number place
 
 -- What a scan of the text found, in tables of any length that now hold it as far as they have rows.
 pub record Held (n entries literals : ℕ) (text prefix : List ℕ) (clauses : List ℤ) : Type 0 where

@@ -1,42 +1,13 @@
--- The QDIMACS format as a grammar (document 01, "QDIMACS lines"): the kinds of line, which lines may follow which, which text is the
--- text of which tables, and what is outside the rules where. How a text is read is no part of it.
-use Prim.Native.Nat.{ℕ, suc, _+_, _<_}
+-- The QDIMACS format by stages, as the scan passes a text: which line leads to which stage, and which fault it stops at. It says the same as Format
+-- (`text_qdimacs`, proofs/Staged and proofs/Decided).
+use Prim.Native.Nat.{ℕ, suc, _<_}
 use mathlib.Core.Path.{_≡_}
 use mathlib.Core.List.{List, [], _∷_, _++_}
-use mathlib.Core.Option.{none, some}
-use lib.ListN.{length}
-use lib.IntN.{ℤ, pos, negℤ}
-use Rattle.text_words.specs.declared.Number.the-variants.{Is}
+use lib.IntN.{ℤ}
 use Rattle.text_lines.specs.declared.Stage.{Stage}
 use Rattle.text_lines.specs.declared.Stage.the-variants.{Opening, Body}
-use Rattle.text_words.specs.Words.{LF, LETTER-A, LETTER-C, LETTER-E, LETTER-F, LETTER-N, LETTER-P, pieces, words, numberOf, Kind, entriesOf}
-
--- Quantifier lines hold variables, none of which carries `-`; clause lines hold literals.
-abbrev pub variables : Kind ℕ
-variables = record { positive = λ v. v; negative = λ v. none }
-
-abbrev pub literals : Kind ℤ
-literals = record { positive = pos; negative = λ v. some (negℤ (pos v)) }
-
--- A comment: begins with c; any bytes.
-pub data CommentLine : List ℕ → Type 0 where
-  comment : {line bytes : List ℕ} → line ≡ LETTER-C ∷ bytes → CommentLine line
-
--- The problem line `p cnf n m`.
-pub data ProblemLine : List ℕ → ℕ → ℕ → Type 0 where
-  p-cnf : {line number count : List ℕ} {n m : ℕ} → words line ≡ (LETTER-P ∷ []) ∷ (LETTER-C ∷ LETTER-N ∷ LETTER-F ∷ []) ∷ number ∷ count ∷ []
-      → numberOf number ≡ Is n → numberOf count ≡ Is m → ProblemLine line n m
-
--- A quantifier line, `e` or `a`, variables or none, `0`, and its entries in the prefix table: the mark, the variables, 0.
-pub data QuantifierLine : List ℕ → List ℕ → Type 0 where
-  e-line : {line entries : List ℕ} {more : List (List ℕ)} → words line ≡ (LETTER-E ∷ []) ∷ more → entriesOf variables more ≡ some entries
-      → QuantifierLine line (1 ∷ entries)
-  a-line : {line entries : List ℕ} {more : List (List ℕ)} → words line ≡ (LETTER-A ∷ []) ∷ more → entriesOf variables more ≡ some entries
-      → QuantifierLine line (2 ∷ entries)
-
--- A clause line, and its entries in the clause table: literals or none, 0.
-pub data ClauseLine : List ℕ → List ℤ → Type 0 where
-  literals-line : {line : List ℕ} {entries : List ℤ} → entriesOf literals (words line) ≡ some entries → ClauseLine line entries
+use Rattle.text_words.specs.Words.{LF, pieces}
+use Rattle.text_lines.specs.Format.{CommentLine, ProblemLine, QuantifierLine, ClauseLine, placeAfter}
 
 -- Which line may stand where, to which stage it leads, and what it adds to the prefix table and to the clause table. The stage is
 -- `Opening` before the problem line; `Body n m k` after it, where m clause lines are announced and k have stood so far.
@@ -53,7 +24,7 @@ pub data Lines : Stage → List (List ℕ) → Stage → List ℕ → List ℤ �
       → Line stage line next p c → Lines next lines last P C → Lines stage (line ∷ lines) last (p ++ P) (c ++ C)
 
 -- The text of n and two tables: lines from the opening to the last clause line announced, and nothing after the last LF.
-pub record TextOf (n : ℕ) (prefix : List ℕ) (clauses : List ℤ) (text : List ℕ) : Type 0 where
+pub record TextByStages (n : ℕ) (prefix : List ℕ) (clauses : List ℤ) (text : List ℕ) : Type 0 where
   pub announced : ℕ
   pub lines : List (List ℕ)
   pub cut : pieces LF text ≡ lines ++ ([] ∷ [])
@@ -72,13 +43,8 @@ pub data Fault : ℕ → Stage → List (List ℕ) → Type 0 where
   many : {stage : Stage} {line next : List ℕ} {more : List (List ℕ)} → TooMany stage line → Fault 17 stage (line ∷ next ∷ more)
   few : {n m k : ℕ} → k < m → Fault 17 (Body n m k) ([] ∷ [])
 
--- The place of the line after these: each counts its bytes and its LF.
-abbrev pub placeAfter : List (List ℕ) → ℕ
-placeAfter [] = 0
-placeAfter (line ∷ lines) = length line + 1 + placeAfter lines
-
--- The causes of 16 and 17 in a text: lines within the rules, and then one of the faults, at its first byte or at the text's end.
-pub record FaultIn (text : List ℕ) (number place : ℕ) : Type 0 where
+-- The fault at which the stages of a text stop: lines within the rules, and then one of the faults, at its first byte or at the text's end.
+pub record FaultByStages (text : List ℕ) (number place : ℕ) : Type 0 where
   pub lines : List (List ℕ)
   pub left : List (List ℕ)
   pub stage : Stage

@@ -20,8 +20,9 @@ use Rattle.text_words.specs.declared.Row.{Row}
 use Rattle.text_words.specs.declared.Row.the-variants.{Broken, Whole}
 use Rattle.text_words.specs.declared.Counted.{Counted}
 use Rattle.text_words.specs.declared.Counted.the-variants.{Uncounted, Count}
-use Rattle.text_words.specs.Words.{Item, Closing, Plain, Negated, Other, LF, SPACE, MINUS, pieces, words, allDigits, spelt, numberOf, plainItem}
-use Rattle.text_words.specs.Words.{negatedItem, itemOf, Kind, entriesOf}
+use Rattle.text_words.specs.InnerNumbers.{Item, Closing, Plain, Negated, Other, allDigits, spelt, numberOf, plainItem}
+use Rattle.text_words.specs.Words.{LF, SPACE, MINUS, pieces, words}
+use Rattle.text_words.specs.InnerNumbers.{negatedItem, itemOf, Kind, entriesOf}
 
 -- How many bytes that pass a test stand in front: spaces, the bytes of a word, the bytes of a line.
 unfoldable pub leading : (ℕ → Bool) → List ℕ → ℕ

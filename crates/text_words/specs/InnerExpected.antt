@@ -8,8 +8,8 @@ use Rattle.text_words.specs.declared.Spelt.{Spelt}
 use Rattle.text_words.specs.declared.Spelt.the-variants.{Missing, Spelled}
 use Rattle.text_words.specs.declared.Counted.{Counted}
 use Rattle.text_words.specs.declared.Counted.the-variants.{Uncounted, Count}
-use Rattle.text_words.specs.Words.{numberOf}
-use Rattle.text_words.specs.Places.{past, inLine, afterAt, wordsAt}
+use Rattle.text_words.specs.InnerNumbers.{numberOf}
+use Rattle.text_words.specs.InnerPlaces.{past, inLine, afterAt, wordsAt}
 
 -- The next word of a line is this one, and the line goes on at `next`.
 pub record Goes (word : List ℕ) (text : List ℕ) (at next : ℕ) : Type 0 where

@@ -1,5 +1,5 @@
--- The text that is written for n and three tables (document 02, request 12): that of QDIMACS, with a line `d y x1 .. 0` for each list between the
--- quantifier lines and the clause lines.
+-- The text of a formula with lists entry by entry, as the writer makes it: for tables that the check of lists accepts it is the text of Written
+-- (proofs/Blockwise).
 use Prim.Native.Nat.{ℕ, _≤_}
 use mathlib.Core.Bool.{Bool, true, false}
 use mathlib.Core.List.{List, [], _∷_, _++_}
@@ -7,12 +7,11 @@ use lib.Dec.{eqb}
 use lib.IntN.{ℤ}
 use lib.ListN.{length}
 use Rattle.dqbf_lists.specs.Lists.{listEntries}
-use Rattle.text_write.specs.Bytes.{SmallEntries, Writable}
-use Rattle.text_write.specs.Writing.{decimal, spaced, ended, prefixText, clauseText, clauseCount, problemBytes}
-
--- The letter that list lines begin with.
-abbrev pub LETTER-D : ℕ
-LETTER-D = 100
+use Rattle.text_write.specs.Numbers.{decimal}
+use Rattle.text_write.specs.Written.{problemLine}
+use Rattle.text_write.specs.InnerText.{spaced, ended, prefixText, clauseText, clauseCount}
+use Rattle.text_write.specs.InnerBytes.{SmallEntries, Writable}
+use Rattle.dqbf_text.specs.Format.{LETTER-D}
 
 -- The letter in front of the first number of a list.
 unfoldable pub lettered : Bool → List ℕ → List ℕ
@@ -25,8 +24,8 @@ listText first [] = []
 listText first (entry ∷ more) = lettered first (spaced false (decimal entry ++ ended (eqb entry 0) (listText (eqb entry 0) more)))
 
 -- The problem line, the prefix, the lists and the clauses.
-unfoldable pub listedTextOf : ℕ → List ℕ → List ℤ → List ℕ → List ℕ
-listedTextOf n prefix clauses lists = problemBytes n (clauseCount clauses) ++ (prefixText true prefix ++ (listText true lists ++ clauseText true clauses))
+unfoldable pub listedByEntries : ℕ → List ℕ → List ℤ → List ℕ → List ℕ
+listedByEntries n prefix clauses lists = problemLine n (clauseCount clauses) ++ (prefixText true prefix ++ (listText true lists ++ clauseText true clauses))
 
 -- What is asked of tables that are written: beside what a formula's are, that the lists are no longer than they may be, and their numbers have at most
 -- five digits.
