@@ -1,22 +1,20 @@
 -- What is in a block: the pass that flags it, and that every universal is.
-use Prim.Native.Nat.{ℕ, zero, suc, _≤_, _<_, _+_}
+use Prim.Native.Nat.{ℕ, _≤_, _<_, _+_}
 use mathlib.Core.Path.{_≡_, refl, sym, _∙_, subst}
 use mathlib.Core.Bool.{Bool, true, false}
 use mathlib.Core.List.{List}
-use mathlib.Core.Logic.{_≢_}
-use native.Mathlib.Decide.{ℕ-discrete}
+use mathlib.Core.Logic.{⊎-elim, _≢_}
 use native.Mathlib.Numerals.{add-one}
 use native.Mathlib.Omega.{arith}
 use borrow.Author.Tests.{eq-eqb, ne-eqb}
-use lib.Dec.{eqb}
-use lib.ListN.{length, getD, set, replicate, length-replicate, getD-replicate}
-use lib.Seq.{getD-set-other}
+use lib.ListN.{length, getD, set}
 use Rattle.terms.proofs.Common.{clash}
 use Rattle.formula.specs.Tables.{at, opens}
-use Rattle.formula.specs.Meaning.{isUniversal, freeLevel}
+use Rattle.formula.specs.Meaning.{isUniversal}
 use Rattle.formula.specs.Levels.{SoundPrefix}
-use Rattle.formula.proofs.Levelling.{Levelling, level-none, level-mark, level-close, level-variable, levelled, mark-there, variable-small}
-use Rattle.formula.proofs.Named.{Named, unnamed, named-skip, named-more}
+use Rattle.formula.proofs.InBlocks.{place-of, block-of}
+use Rattle.formula.proofs.Levelling.{mark-there, variable-small}
+use Rattle.formula.proofs.Named.{Named, named-skip, named-more}
 use Rattle.dqbf_lists.specs.Lists.{InBlock}
 use Rattle.dqbf_lists.specs.Inner.{Places}
 
@@ -73,55 +71,7 @@ place-all {placed = placed} s done =
           subst (λ (w : ℕ). getD placed w false ≡ true) q (s .naming .all e (omega arith) var);
     }
 
--- A universal is in a block: the pass over the prefix that fills the level table flags only what is named.
-module _ {n : ℕ} {es : List ℕ} (sound : SoundPrefix n es) where
-  record Flagging (i : ℕ) : Type 0 where
-    opening : Bool
-    mark : ℕ
-    block : ℕ
-    levels : List ℕ
-    universals : List Bool
-    so : Levelling es i opening mark block levels universals
-    named : (v : ℕ) → getD universals v false ≡ true → InBlock es v
-
-  module _ (i : ℕ) (more : i < length es) (p : Flagging i) where
-    by-place : (b : Bool) → p .opening ≡ b → Dec (at es i ≡ 0) → Flagging (i + 1)
-    by-place true open′ d =
-        record { opening = _; mark = _; block = _; levels = _; universals = _; so = level-mark sound (p .so) more open′; named = p .named }
-    by-place false shut (yes none) =
-        record { opening = _; mark = _; block = _; levels = _; universals = _; so = level-close sound (p .so) more shut none; named = p .named }
-    by-place false shut (no some) =
-        record {
-          opening = _;
-          mark = _;
-          block = _;
-          levels = _;
-          universals = _;
-          so = level-variable sound (p .so) more shut some;
-          named = λ v t. one v t (ℕ-discrete v (at es i));
-        }
-      where
-        one : (v : ℕ) → getD (set (p .universals) (at es i) (eqb (p .mark) 2)) v false ≡ true → Dec (v ≡ at es i) → InBlock es v
-        one v t (yes q) = (i, (more, sym (p .so .opening-is) ∙ shut, some), sym q)
-        one v t (no other) = p .named v (sym (getD-set-other (p .universals) (at es i) v (eqb (p .mark) 2) false other) ∙ t)
-
-  flagging : (i : ℕ) → i ≤ length es → Flagging i
-  flagging zero l =
-      record {
-        opening = _;
-        mark = _;
-        block = _;
-        levels = _;
-        universals = _;
-        so = level-none es (replicate 4097 (freeLevel es)) (replicate 4097 false) (length-replicate 4097 (freeLevel es), length-replicate 4097 false)
-            (λ v k. getD-replicate 4097 v (freeLevel es) 0 k) (λ v k. getD-replicate 4097 v false false k);
-        named = λ v t. absurd (clash t (unnamed 4097 v));
-      }
-  flagging (suc i) l =
-      let p = flagging i (omega arith) in
-      subst Flagging (add-one i) (by-place i l p (p .opening) refl (ℕ-discrete (at es i) 0))
-
-  pub universal-named : (v : ℕ) → v ≤ 4096 → isUniversal es v ≡ true → InBlock es v
-  universal-named v l u =
-      let p = flagging (length es) (omega arith) in
-      p .named v (levelled (p .so) (omega arith) .universal-is v l ∙ u)
+-- A universal is in a block, and so at a place of it.
+pub universal-named : (es : List ℕ) (v : ℕ) → isUniversal es v ≡ true → InBlock es v
+universal-named es v u =
+    ⊎-elim (λ b. let (e, there, is, marks) = place-of es (b .1) in (e, there, is)) (λ none. absurd (clash u (none .2))) (block-of es v)

@@ -217,9 +217,8 @@ module _ {n : ℕ} {es ds levels : List ℕ} {universals : List Bool} (sound : S
       let some : y ≢ 0 = λ z. listed 25 (g .begin) (outside refl there (inl (is ∙ z))) in
       let over : ¬ (n < at ds (g .begin)) = λ k. listed 25 (g .begin) (outside refl there (inr k)) in
       let low : y ≤ n = omega arith in
-      let few = sound .few in
       let blocked : InBlock es y → ⊥ = λ b. listed 25 (g .begin) (in-block refl there (subst (InBlock es) (sym is) b)) in
-      let free : isUniversal es y ≡ false = not-eq-not {b = false} .0 (λ t. blocked (universal-named sound y (omega arith) t)) in
+      let free : isUniversal es y ≡ false = not-eq-not {b = false} .0 (λ t. blocked (universal-named es y t)) in
       flag-in n y (not (isUniversal es y)) some low ∙ ap not free
 
   pub rows-open : (floor : ℕ) (old new : List ℕ) → floor ≡ getD levels x 0 → ToldRows (Over n levels universals floor) n old → WithGiven ds x n old new

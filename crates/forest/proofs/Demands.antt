@@ -1,6 +1,6 @@
 -- Demand 2, as theorems about what the calls ensure (rule 2.3, rule 3.6, rule 4.2, rule 5.2); that a block has one quantifier; and that what was lent
 -- settles every outcome (rule 18.1).
-use Prim.Native.Nat.{ℕ, suc, _+_, _≤_}
+use Prim.Native.Nat.{ℕ, _+_, _≤_}
 use mathlib.Core.Path.{_≡_, refl, sym, ap, _∙_}
 use mathlib.Core.Bool.{Bool, true, false, cond, not}
 use mathlib.Core.List.{List, [], _∷_}
@@ -17,7 +17,8 @@ use Rattle.terms.specs.declared.Variable.{Variable}
 use Rattle.terms.proofs.Common.{clash}
 use Rattle.terms.proofs.Answers.{listed-as, answered-settled, listing-settled, numbered-settled}
 use Rattle.formula.specs.Lent.{Formula}
-use Rattle.formula.specs.Meaning.{blocks, markOf, names, saidOf, firstMark, freeLevel, level, isUniversal, isExistential}
+use Rattle.formula.specs.Meaning.{blocks, markOf, firstMark, freeLevel, level, isUniversal, isExistential}
+use Rattle.formula.proofs.InBlocks.{Found, in-one, in-none, finds}
 use Rattle.forest_theory.specs.Reach.{Universal}
 use Rattle.forest_theory.specs.Tables.{row}
 use Rattle.forest_theory.specs.Forest.{Forest, EntryClass}
@@ -43,22 +44,6 @@ use Rattle.forest_tables.proofs.Formed.{forest-fine}
 use Rattle.forest_tables.proofs.Agreeing.{lawful, none-formed, none-counted, universal-within}
 use Rattle.forest.proofs.Schemes.{scheme-points}
 
--- What the blocks say of a variable, level and quantifier at once: nothing, or what the block at m says.
-data Said (bs : List (List ℕ)) (number free : ℕ) (un : Bool) (l : ℕ) (u : Bool) : Type 0 where
-  unnamed : l ≡ free → u ≡ un → Said bs number free un l u
-  named : (m : ℕ) → l ≡ number + m → u ≡ eqb (markOf (getD bs m [])) 2 → Said bs number free un l u
-
-said : (bs : List (List ℕ)) (number free : ℕ) (un : Bool) (v : ℕ)
-    → Said bs number free un (saidOf (λ k m. k) bs number free v) (saidOf (λ k m. eqb m 2) bs number un v)
-said [] number free un v = unnamed refl refl
-said (b ∷ bs) number free un v = go (names b v) (said bs (suc number) (cond (names b v) number free) (cond (names b v) (eqb (markOf b) 2) un) v)
-  where
-    go : {l : ℕ} {u : Bool} (t : Bool) → Said bs (suc number) (cond t number free) (cond t (eqb (markOf b) 2) un) l u → Said (b ∷ bs) number free un l u
-    go true (unnamed p q) = named 0 (let e : number ≡ number + 0 = omega arith in p ∙ e) q
-    go false (unnamed p q) = unnamed p q
-    go true (named m p q) = named (suc m) (let e : suc number + m ≡ number + suc m = omega arith in p ∙ e) q
-    go false (named m p q) = named (suc m) (let e : suc number + m ≡ number + suc m = omega arith in p ∙ e) q
-
 first-mark : (bs : List (List ℕ)) → firstMark bs ≡ markOf (getD bs 0 [])
 first-mark [] = refl
 first-mark (b ∷ bs) = refl
@@ -66,7 +51,7 @@ first-mark (b ∷ bs) = refl
 -- A block has one quantifier: no existential has the level of a universal.
 one-quantifier : (es : List ℕ) (x y : ℕ) → isUniversal es x ≡ true → isUniversal es y ≡ false → level es y ≢ level es x
 unfolding level isUniversal freeLevel
-one-quantifier es x y ux uy same = go (said (blocks es) 1 (freeLevel es) false x) (said (blocks es) 1 (freeLevel es) false y) ux uy same
+one-quantifier es x y ux uy same = go (finds (blocks es) 1 (freeLevel es) x) (finds (blocks es) 1 (freeLevel es) y) ux uy same
   where
     free-mark : (m : ℕ) → cond (eqb (firstMark (blocks es)) 1) 1 0 ≡ 1 + m → eqb (markOf (getD (blocks es) m [])) 2 ≡ true → ⊥
     free-mark m = by (eqb (firstMark (blocks es)) 1) refl
@@ -80,11 +65,11 @@ one-quantifier es x y ux uy same = go (said (blocks es) 1 (freeLevel es) false x
             omega arith
         by false one q two = omega arith
 
-    go : {lx ly : ℕ} {bx by : Bool} → Said (blocks es) 1 (freeLevel es) false lx bx → Said (blocks es) 1 (freeLevel es) false ly by
+    go : {lx ly : ℕ} {bx by : Bool} → Found (blocks es) 1 (freeLevel es) x lx bx → Found (blocks es) 1 (freeLevel es) y ly by
         → bx ≡ true → by ≡ false → ly ≡ lx → ⊥
-    go (unnamed _ q) s t f same = clash t q
-    go (named m p q) (unnamed p′ q′) t f same = free-mark m (sym p′ ∙ same ∙ p) (sym q ∙ t)
-    go (named m p q) (named k p′ q′) t f same =
+    go (in-none _ _ q) s t f same = clash t q
+    go (in-one m _ p q) (in-none _ p′ q′) t f same = free-mark m (sym p′ ∙ same ∙ p) (sym q ∙ t)
+    go (in-one m _ p q) (in-one k _ p′ q′) t f same =
         let e : k ≡ m = omega arith in
         clash (sym q ∙ t) (ap (λ i. eqb (markOf (getD (blocks es) i [])) 2) (sym e) ∙ sym q′ ∙ f)
 

@@ -6,4 +6,5 @@ pub mod Listings
 pub mod Demands
 pub mod Strict
 pub mod Sample
+pub mod ByBlocks
 pub mod Agreed

@@ -17,7 +17,8 @@ use Rattle.formula.specs.Causes.{outside}
 use Rattle.formula.specs.Meaning.{level}
 use Rattle.formula.specs.Levels.{SoundPrefix}
 use Rattle.formula.proofs.Levelling.{mark-there}
-use Rattle.formula.proofs.Ordered.{NamedFrom, named?, marks-rise, once, level-at, level-most, closed-end, deeper-named}
+use Rattle.formula.proofs.Blocked.{marks-rise}
+use Rattle.formula.proofs.Ordered.{NamedFrom, named?, once, level-at, level-most, closed-end, deeper-named}
 use Rattle.forest_theory.specs.Reach.{Variables, Lawful}
 use Rattle.forest_theory.specs.Tables.{Table, row, lent, WellFormed, Above, start, rise}
 use Rattle.forest_theory.proofs.Climb.{above-class}

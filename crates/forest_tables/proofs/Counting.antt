@@ -13,7 +13,8 @@ use lib.Seq.{getD-set-same, getD-set-other}
 use Rattle.formula.specs.Tables.{at, opens, VariableAt}
 use Rattle.formula.specs.Meaning.{level}
 use Rattle.formula.specs.Levels.{SoundPrefix}
-use Rattle.formula.proofs.Ordered.{NamedFrom, marks-rise, once, level-at, deeper-named}
+use Rattle.formula.proofs.Blocked.{marks-rise}
+use Rattle.formula.proofs.Ordered.{NamedFrom, once, level-at, deeper-named}
 use Rattle.forest_theory.specs.Reach.{Variables}
 use Rattle.forest_theory.specs.Tables.{Table, row, lent}
 use Rattle.forest_theory.specs.Passing.{Placed, WithinBy}

@@ -5,10 +5,14 @@ use mathlib.Core.Bool.{Bool, true, false, _&&_}
 use mathlib.Core.List.{List, map, List·Memᴰ}
 use lib.Dec.{leb}
 use lib.IntN.{ℤ, pos, negℤ}
-use Rattle.formula.specs.Meaning.{level, isUniversal, isExistential, clauses, connected}
+use Rattle.formula.specs.Meaning.{levelOf, existentialOf, level, isUniversal, isExistential, clauses, connected}
 use Rattle.forest_theory.specs.Reach.{Variables, Joined}
 
--- the variables of a formula: how many, the level of each, and which are existential
+-- the variables of a formula whose prefix has these blocks: how many, the level of each, and which are existential
+abbrev pub variablesIn : ℕ → List (List ℕ) → Variables
+variablesIn n bs = record { count = n; lev = levelOf bs; ex = existentialOf n bs }
+
+-- so by the blocks of a prefix
 abbrev pub variables : ℕ → List ℕ → Variables
 variables n es = record { count = n; lev = level es; ex = isExistential n es }
 

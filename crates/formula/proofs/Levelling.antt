@@ -12,10 +12,12 @@ use borrow.Author.Tests.{eq-eqb, ne-eqb}
 use lib.Dec.{eqb}
 use lib.ListN.{length, getD, set, drop, length-drop, drop-of-length-le, length-set}
 use lib.Seq.{drop-cons, getD-drop, getD-set-same, getD-set-other}
+use Rattle.terms.proofs.Common.{by-test}
 use Rattle.formula.specs.Tables.{at, opens, cut, push}
 use Rattle.formula.specs.Causes.{ends-inside, no-mark, outside}
-use Rattle.formula.specs.Meaning.{isZero, blocks, has, saidOf, firstMark, freeLevel, level, isUniversal}
+use Rattle.formula.specs.Meaning.{isZero, blocks, markOf, has, names, numberFrom, firstMark, freeLevelOf, universalOf, freeLevel, level, isUniversal}
 use Rattle.formula.specs.Levels.{SoundPrefix, LevelRows, Levelled}
+use Rattle.formula.proofs.Blocked.{Once, named-once}
 
 -- a list with a 0 in it holds a list that the 0 closes
 cut-some : (m : ℕ) (xs : List ℕ) → m < length xs → getD xs m 0 ≡ 0 → (list : List ℕ) × (lists : List (List ℕ)) × (cut isZero xs ≡ list ∷ lists)
@@ -28,6 +30,53 @@ cut-some (suc m) (x ∷ xs) l z = let (list, lists, q) = cut-some m xs (le-of-su
         → (list′ : List ℕ) × (lists′ : List (List ℕ)) × (cond b ([] ∷ cut isZero xs) (push x (cut isZero xs)) ≡ list′ ∷ lists′)
     front true list lists q = ([], cut isZero xs, refl)
     front false list lists q = (x ∷ list, lists, ap (push x) q)
+
+-- What the last block that names v says of it, by the block's number and its mark; `found` is what is said before, where no block names v.
+-- Blocks are numbered from `number` on.
+abbrev saidOf : {A : Type 0} → (ℕ → ℕ → A) → List (List ℕ) → ℕ → A → ℕ → A
+saidOf says [] number found v = found
+saidOf says (block ∷ rest) number found v = saidOf says rest (suc number) (cond (names block v) (says number (markOf block)) found) v
+
+-- what is said of a variable: the number of its block, and whether that is universal
+abbrev itsLevel : ℕ → ℕ → ℕ
+itsLevel number mark = number
+
+abbrev itsKind : ℕ → ℕ → Bool
+itsKind number mark = eqb mark 2
+
+-- Where blocks do not name v nothing more is said; where no two name it, what is said is its level, and whether it is universal.
+said-none : {A : Type 0} (says : ℕ → ℕ → A) (bs : List (List ℕ)) (number : ℕ) (found : A) (v : ℕ) → ((j : ℕ) → names (getD bs j []) v ≡ false)
+    → saidOf says bs number found v ≡ found
+said-none says [] number found v none = refl
+said-none says (block ∷ rest) number found v none =
+    ap (λ b. saidOf says rest (suc number) (cond b (says number (markOf block)) found) v) (none 0)
+    ∙ said-none says rest (suc number) found v (λ j. none (suc j))
+
+module _ (block : List ℕ) (rest : List (List ℕ)) (v : ℕ) (once : Once (block ∷ rest) v) where
+  once-later : Once rest v
+  once-later i j l = once (suc i) (suc j) (omega arith)
+
+  no-later : names block v ≡ true → (j : ℕ) → names (getD rest j []) v ≡ false
+  no-later t j = by-test (names (getD rest j []) v) (λ later. absurd (once 0 (suc j) (omega arith) t later)) (λ f. f)
+
+said-number : (bs : List (List ℕ)) (k free v : ℕ) → Once bs v → saidOf itsLevel bs k free v ≡ numberFrom k bs free v
+said-number [] k free v once = refl
+said-number (block ∷ rest) k free v once =
+    by-test (names block v)
+    (λ t. ap (λ b. saidOf itsLevel rest (suc k) (cond b k free) v) t ∙ said-none itsLevel rest (suc k) k v (no-later block rest v once t)
+    ∙ sym (ap (λ b. cond b k (numberFrom (suc k) rest free v)) t))
+    (λ f. ap (λ b. saidOf itsLevel rest (suc k) (cond b k free) v) f ∙ said-number rest (suc k) free v (once-later block rest v once)
+    ∙ sym (ap (λ b. cond b k (numberFrom (suc k) rest free v)) f))
+
+said-kind : (bs : List (List ℕ)) (k v : ℕ) → Once bs v → saidOf itsKind bs k false v ≡ universalOf bs v
+said-kind [] k v once = refl
+said-kind (block ∷ rest) k v once =
+    by-test (names block v)
+    (λ t. ap (λ b. saidOf itsKind rest (suc k) (cond b (eqb (markOf block) 2) false) v) t
+    ∙ said-none itsKind rest (suc k) (eqb (markOf block) 2) v (no-later block rest v once t)
+    ∙ sym (ap (λ b. cond b (eqb (markOf block) 2) (universalOf rest v)) t))
+    (λ f. ap (λ b. saidOf itsKind rest (suc k) (cond b (eqb (markOf block) 2) false) v) f ∙ said-kind rest (suc k) v (once-later block rest v once)
+    ∙ sym (ap (λ b. cond b (eqb (markOf block) 2) (universalOf rest v)) f))
 
 module _ {A : Type 0} (says : ℕ → ℕ → A) where
   -- What is said of v from inside a block with the number b and the mark m, where the lists cs are what is left: the first is the rest of the block.
@@ -131,13 +180,6 @@ free-of-first (e ∷ es) sound some =
     let (list, lists, q) = closed-after sound 0 (omega arith) nonzero in
     sym (ap (λ m. cond (eqb m 1) 1 0) (first-of e es list lists nonzero q))
 
--- what is said of a variable: the number of its block, and whether that is universal
-abbrev itsLevel : ℕ → ℕ → ℕ
-itsLevel number mark = number
-
-abbrev itsKind : ℕ → ℕ → Bool
-itsKind number mark = eqb mark 2
-
 -- The tables hold what the blocks before entry i say of each variable; that, with what the rest says, is what all blocks say.
 pub record Levelling (es : List ℕ) (i : ℕ) (opening : Bool) (mark block : ℕ) (levels : List ℕ) (universals : List Bool) : Type 0 where
   pub within : i ≤ length es
@@ -147,18 +189,19 @@ pub record Levelling (es : List ℕ) (i : ℕ) (opening : Bool) (mark block : �
   pub level-so : (v : ℕ) → v < 4097 → saidAt itsLevel es i opening block mark (getD levels v 0) v ≡ level es v
   pub universal-so : (v : ℕ) → v < 4097 → saidAt itsKind es i opening block mark (getD universals v false) v ≡ isUniversal es v
 
-pub level-none : (es levels : List ℕ) (universals : List Bool) → LevelRows levels universals
+pub level-none : {n : ℕ} {es : List ℕ} → SoundPrefix n es → (levels : List ℕ) (universals : List Bool) → LevelRows levels universals
     → ((v : ℕ) → v < 4097 → getD levels v 0 ≡ freeLevel es) → ((v : ℕ) → v < 4097 → getD universals v false ≡ false)
     → Levelling es 0 true 0 0 levels universals
-unfolding level isUniversal blocks
-level-none es levels universals sizes free none =
+unfolding level isUniversal freeLevel blocks
+level-none {es = es} sound levels universals sizes free none =
     record {
       within = omega arith;
       opening-is = refl;
       few = omega arith;
       sizes = sizes;
-      level-so = λ v l. ap (λ f. saidOf itsLevel (cut isZero es) 1 f v) (free v l);
-      universal-so = λ v l. ap (λ f. saidOf itsKind (cut isZero es) 1 f v) (none v l);
+      level-so = λ v l. ap (λ f. saidOf itsLevel (cut isZero es) 1 f v) (free v l)
+          ∙ said-number (cut isZero es) 1 (freeLevelOf (cut isZero es)) v (named-once sound v);
+      universal-so = λ v l. ap (λ f. saidOf itsKind (cut isZero es) 1 f v) (none v l) ∙ said-kind (cut isZero es) 1 v (named-once sound v);
     }
 
 module _ {n : ℕ} {es : List ℕ} (sound : SoundPrefix n es) {i : ℕ} {opening : Bool} {mark block : ℕ} {levels : List ℕ} {universals : List Bool}

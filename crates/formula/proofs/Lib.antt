@@ -10,7 +10,9 @@ pub mod Lookups
 pub mod Signs
 -- An accepted prefix, and its level table.
 pub mod Sound
+pub mod Blocked
 pub mod Levelling
+pub mod InBlocks
 pub mod Ordered
 -- Where refusals stand.
 pub mod Places

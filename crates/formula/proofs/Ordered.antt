@@ -15,25 +15,10 @@ use Rattle.formula.specs.Tables.{at, opens, cut, marksBefore, VariableAt
 use Rattle.formula.specs.Causes.{ends-inside, named-before}
 use Rattle.formula.specs.Meaning.{blocks, firstMark, level, freeLevel}
 use Rattle.formula.specs.Levels.{SoundPrefix}
+use Rattle.formula.proofs.Blocked.{marks-rise}
 use Rattle.formula.proofs.Levelling.{Levelling, level-none, level-mark, level-close, level-variable, levelled, variable-small}
 
--- marks only grow in number
-pub marks-rise : (es : List ℕ) (e f : ℕ) → e ≤ f → marksBefore es e ≤ marksBefore es f
-marks-rise es e zero l = let q : e ≡ 0 = omega arith in subst (λ (k : ℕ). marksBefore es k ≤ 0) (sym q) (omega arith)
-marks-rise es e (suc f) l = by (λ k. marks-rise es e f k) (ℕ-discrete e (suc f))
-  where
-    one : (b : Bool) (m : ℕ) → m ≤ cond b (suc m) m
-    one true m = omega arith
-    one false m = omega arith
-
-    by : (e ≤ f → marksBefore es e ≤ marksBefore es f) → Dec (e ≡ suc f) → marksBefore es e ≤ marksBefore es (suc f)
-    by on (yes q) = subst (λ (k : ℕ). marksBefore es e ≤ marksBefore es k) q (omega arith)
-    by on (no other) =
-        let before = on (omega arith) in
-        let here = one (opens es f) (marksBefore es f) in
-        omega arith
-
--- and are no more than the entries before
+-- marks are no more than the entries before
 pub marks-within : (es : List ℕ) (e : ℕ) → marksBefore es e ≤ e
 marks-within es zero = omega arith
 marks-within es (suc e) = one (opens es e) (marks-within es e)
@@ -175,7 +160,7 @@ module _ {n : ℕ} {es : List ℕ} (sound : SoundPrefix n es) where
         mark = 0;
         levels = replicate 4097 (freeLevel es);
         universals = replicate 4097 false;
-        so = level-none es (replicate 4097 (freeLevel es)) (replicate 4097 false) (length-replicate 4097 (freeLevel es), length-replicate 4097 false)
+        so = level-none sound (replicate 4097 (freeLevel es)) (replicate 4097 false) (length-replicate 4097 (freeLevel es), length-replicate 4097 false)
             (λ v k. getD-replicate 4097 v (freeLevel es) 0 k) (λ v k. getD-replicate 4097 v false false k);
         placed = λ e k. absurd (omega arith);
         free = λ v k unnamed. getD-replicate 4097 v (freeLevel es) 0 k;

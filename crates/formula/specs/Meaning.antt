@@ -1,6 +1,7 @@
 -- What a formula means: its blocks, the level and the quantifier of each variable, and its clauses (rule 1.2, rule 1.3, rule 1.4, rule 1.5,
 -- rule 1.7).
 use Prim.Native.Nat.{ℕ, suc}
+use mathlib.Core.Path.{_≡_}
 use mathlib.Core.Bool.{Bool, true, false, cond, not, _&&_, _||_}
 use mathlib.Core.List.{List, [], _∷_, map}
 use lib.ListN.{getD}
@@ -55,11 +56,21 @@ abbrev pub names : List ℕ → ℕ → Bool
 names [] v = false
 names (mark ∷ variables) v = has variables v
 
--- What the block that names v says of it, by the block's number and its mark; `found` is what is said before, where no block names v.
--- Blocks are numbered from `number` on. (A prefix that is accepted names a variable once.)
-abbrev pub saidOf : {A : Type 0} → (ℕ → ℕ → A) → List (List ℕ) → ℕ → A → ℕ → A
-saidOf says [] number found v = found
-saidOf says (block ∷ rest) number found v = saidOf says rest (suc number) (cond (names block v) (says number (markOf block)) found) v
+-- v is a variable of block k, counted from 1, which has the mark m
+pub record InBlock (bs : List (List ℕ)) (v k m : ℕ) : Type 0 where
+  -- so many blocks stand before it
+  pub before : ℕ
+  pub number : k ≡ suc before
+  pub variables : List ℕ
+  pub block : getD bs before [] ≡ m ∷ variables
+  pub named : has variables v ≡ true
+
+-- Levels and quantifiers are those of a list of blocks. (A prefix that is accepted names a variable once: proofs/InBlocks says both by InBlock.)
+
+-- the number of the block that names v, where blocks are numbered from k on; `free` if none names it
+abbrev pub numberFrom : ℕ → List (List ℕ) → ℕ → ℕ → ℕ
+numberFrom k [] free v = free
+numberFrom k (block ∷ later) free v = cond (names block v) k (numberFrom (suc k) later free v)
 
 -- the mark of the first block, 0 where there is none
 abbrev pub firstMark : List (List ℕ) → ℕ
@@ -67,17 +78,31 @@ firstMark [] = 0
 firstMark (block ∷ rest) = markOf block
 
 -- a free variable belongs to block 1 if that is existential, else to block 0
-unfoldable pub freeLevel : List ℕ → ℕ
-freeLevel es = cond (eqb (firstMark (blocks es)) 1) 1 0
+abbrev pub freeLevelOf : List (List ℕ) → ℕ
+freeLevelOf bs = cond (eqb (firstMark bs) 1) 1 0
 
 -- the level of a variable: the number of its block, counted from 1
-unfoldable pub level : List ℕ → ℕ → ℕ
-level es v = saidOf (λ number mark. number) (blocks es) 1 (freeLevel es) v
+abbrev pub levelOf : List (List ℕ) → ℕ → ℕ
+levelOf bs v = numberFrom 1 bs (freeLevelOf bs) v
 
 -- a universal variable is one of a block with mark 2
-unfoldable pub isUniversal : List ℕ → ℕ → Bool
-isUniversal es v = saidOf (λ number mark. eqb mark 2) (blocks es) 1 false v
+abbrev pub universalOf : List (List ℕ) → ℕ → Bool
+universalOf [] v = false
+universalOf (block ∷ later) v = cond (names block v) (eqb (markOf block) 2) (universalOf later v)
 
 -- every other variable from 1 to n is existential, the free ones among them
+abbrev pub existentialOf : ℕ → List (List ℕ) → ℕ → Bool
+existentialOf n bs v = leb 1 v && leb v n && not (universalOf bs v)
+
+-- so by the blocks of a prefix
+unfoldable pub freeLevel : List ℕ → ℕ
+freeLevel es = freeLevelOf (blocks es)
+
+unfoldable pub level : List ℕ → ℕ → ℕ
+level es v = levelOf (blocks es) v
+
+unfoldable pub isUniversal : List ℕ → ℕ → Bool
+isUniversal es v = universalOf (blocks es) v
+
 unfoldable pub isExistential : ℕ → List ℕ → ℕ → Bool
 isExistential n es v = leb 1 v && leb v n && not (isUniversal es v)

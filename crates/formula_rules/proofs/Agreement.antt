@@ -21,8 +21,10 @@ use Rattle.formula.specs.Scan.{IsMark, MarkFault}
 use Rattle.formula.specs.Tables.{at, opens, marksBefore}
 use Rattle.formula.proofs.Scanned as first
 use Rattle.formula_rules.specs.Joined.{joinedPrefix}
-use Rattle.formula_rules.specs.Rules.{readAs, emptyAt, beginsAfter, lastMark, begunBefore, JoinedCause, ruledPrefix, checkOrder}
+use Rattle.formula_rules.specs.Rules.{readAs, JoinedCause, ruledPrefix, checkOrder}
+use Rattle.formula_rules.specs.InnerScan.{emptyAt, beginsAfter, lastMark, begunBefore}
 use Rattle.formula_rules.specs.Writing.{closing}
+use Rattle.formula_rules.proofs.Begun.{begun-joined}
 use Rattle.formula_rules.proofs.Scanned.{mark-some}
 use Rattle.formula_rules.proofs.Passing.{startsZero, newMark, starts-empty, passes}
 use Rattle.formula_rules.proofs.Rest.{rest, rest-joined}
@@ -159,6 +161,9 @@ module _ {n : ℕ} {es : List ℕ} (few : n ≤ 4096) (none : None (PrefixCause 
       go true false l = omega arith
       go false b l = l
 
+  marks-some : {e : ℕ} → e < length es → (i : ℕ) → i < e → opens es i ≡ true → at es i ≢ 0
+  marks-some l i less open′ z = none 4 i (PrefixCause.no-mark refl (omega arith, open′) (λ q. omega arith) (λ q. omega arith))
+
   -- So rule 2 has nothing against a prefix that rule 1 accepts,
   pub also-accepted : None (JoinedCause n es)
   also-accepted k e (JoinedCause.ends-inside q p inside) = none 3 e (PrefixCause.ends-inside refl p inside)
@@ -166,6 +171,8 @@ module _ {n : ℕ} {es : List ℕ} (few : n ≤ 4096) (none : None (PrefixCause 
   also-accepted k e (JoinedCause.too-many-blocks q m new many) =
       let most = marks-most e (omega (arith, m .0)) in
       let least = begun-most e in
+      let within = m .0 in
+      let is = begun-joined es e (omega arith) (marks-some within) (m .1) in
       none 6 e (PrefixCause.too-many-blocks refl m (omega arith))
   also-accepted k e (JoinedCause.outside q v over) = none 7 e (PrefixCause.outside refl v over)
   also-accepted k e (JoinedCause.named-before b q v l w same) = none 8 e (PrefixCause.named-before b refl v l w same)

@@ -1,17 +1,22 @@
--- The blocks of the joined prefix are the joined blocks (rule 6.2): levels, which number the blocks of a table, number these.
+-- The blocks of the joined prefix are the joined blocks (rule 6.2). So a prefix as a rule reads it only carries the blocks by that rule: levels and
+-- quantifiers by the table are those of these blocks.
 use Prim.Native.Nat.{ℕ}
 use mathlib.Core.Path.{_≡_, refl, sym, ap, _∙_, subst}
-use mathlib.Core.Bool.{Bool, cond}
+use mathlib.Core.Bool.{Bool, cond, not, _&&_}
 use mathlib.Core.List.{List, [], _∷_, _++_}
 use mathlib.Core.Logic.{_≢_}
 use native.Mathlib.Decide.{ℕ-discrete}
 use borrow.Author.Tests.{eq-eqb, ne-eqb}
-use lib.Dec.{eqb}
+use lib.Dec.{eqb, leb}
 use lib.ListN.{drop}
-use Rattle.formula.specs.Meaning.{blocks, markOf, isZero}
+use Rattle.formula.specs.Levels.{SoundPrefix}
+use Rattle.formula.specs.Meaning.{blocks, isZero, InBlock, levelOf, universalOf, existentialOf, level, isUniversal, isExistential}
 use Rattle.formula.specs.Tables.{cut, push}
+use Rattle.formula.proofs.InBlocks.{of-block}
 use Rattle.formula_rules.specs.Joined.{inFront, joinedBlocks, tableOf, joinedPrefix}
+use Rattle.formula_rules.specs.Rules.{blocksBy, readAs}
 use Rattle.terms.proofs.Common.{by-test}
+use Rattle.formula_rules.proofs.Joining.{front-cases}
 
 -- no entry of a block is 0, and so of all blocks
 abbrev pub Whole : List ℕ → Type 0
@@ -51,10 +56,8 @@ front-whole [] later w all = all
 front-whole (mark ∷ []) later w all = all
 front-whole (mark ∷ v ∷ variables) [] w all = (w, tt)
 front-whole (mark ∷ v ∷ variables) (next ∷ later) w all =
-    by-test (eqb mark (markOf next))
-    (λ t. subst (λ (b : Bool). AllWhole (cond b ((mark ∷ v ∷ (variables ++ drop 1 next)) ∷ later) ((mark ∷ v ∷ variables) ∷ next ∷ later))) (sym t)
-    ((w .0, (w .1 .0, append-whole variables (drop 1 next) (w .1 .1) (rest-whole next (all .0)))), all .1))
-    (λ f. subst (λ (b : Bool). AllWhole (cond b ((mark ∷ v ∷ (variables ++ drop 1 next)) ∷ later) ((mark ∷ v ∷ variables) ∷ next ∷ later))) (sym f) (w, all))
+    front-cases mark v variables AllWhole next later
+    (λ same. ((w .0, (w .1 .0, append-whole variables (drop 1 next) (w .1 .1) (rest-whole next (all .0)))), all .1)) (λ other. (w, all))
 
 pub joined-whole : (bs : List (List ℕ)) → AllWhole bs → AllWhole (joinedBlocks bs)
 unfolding joinedBlocks
@@ -77,3 +80,28 @@ cut-table (block ∷ later) all = cut-block block (tableOf later) (all .0) ∙ a
 pub blocks-joined : (es : List ℕ) → blocks (joinedPrefix es) ≡ joinedBlocks (blocks es)
 unfolding blocks joinedPrefix
 blocks-joined es = cut-table (joinedBlocks (blocks es)) (joined-whole (blocks es) (blocks-whole es))
+
+pub blocks-read : (rule : ℕ) (es : List ℕ) → blocks (readAs rule es) ≡ blocksBy rule es
+unfolding readAs blocksBy
+blocks-read rule es =
+    by-test (eqb rule 2)
+    (λ t. ap (λ b. blocks (cond b (joinedPrefix es) es)) t ∙ blocks-joined es ∙ sym (ap (λ b. cond b (joinedBlocks (blocks es)) (blocks es)) t))
+    (λ f. ap (λ b. blocks (cond b (joinedPrefix es) es)) f ∙ sym (ap (λ b. cond b (joinedBlocks (blocks es)) (blocks es)) f))
+
+module _ (rule : ℕ) (es : List ℕ) (v : ℕ) where
+  pub level-read : level (readAs rule es) v ≡ levelOf (blocksBy rule es) v
+  unfolding level
+  level-read = ap (λ (bs : List (List ℕ)). levelOf bs v) (blocks-read rule es)
+
+  pub universal-read : isUniversal (readAs rule es) v ≡ universalOf (blocksBy rule es) v
+  unfolding isUniversal
+  universal-read = ap (λ (bs : List (List ℕ)). universalOf bs v) (blocks-read rule es)
+
+  pub existential-read : (n : ℕ) → isExistential n (readAs rule es) v ≡ existentialOf n (blocksBy rule es) v
+  unfolding isExistential
+  existential-read n = ap (λ (b : Bool). leb 1 v && leb v n && not b) universal-read
+
+-- So where a rule accepts a prefix, the level of a variable is the number of its block by that rule, and its quantifier that block's.
+pub block-read : {n : ℕ} (rule : ℕ) (es : List ℕ) → SoundPrefix n (readAs rule es) → {v k m : ℕ} → InBlock (blocksBy rule es) v k m
+    → (level (readAs rule es) v ≡ k) × (isUniversal (readAs rule es) v ≡ eqb m 2)
+block-read rule es sound {v} {k} {m} b = of-block sound v (subst (λ (bs : List (List ℕ)). InBlock bs v k m) (sym (blocks-read rule es)) b)

@@ -16,8 +16,10 @@ use Rattle.formula.specs.Meaning.{has}
 use Rattle.formula.specs.Scan.{IsMark}
 use Rattle.formula.specs.Tables.{at, opens, VariableAt}
 use Rattle.formula.proofs.Scanned.{open-end}
-use Rattle.formula_rules.specs.Rules.{emptyAt, beginsAfter, lastMark, begunBefore, JoinedCause}
-use Rattle.formula_rules.proofs.Scanned.{mark-some, last-next, last-stays, begins-open, begins-shut, begun-next}
+use Rattle.formula_rules.specs.Rules.{JoinedCause}
+use Rattle.formula_rules.specs.InnerScan.{emptyAt, beginsAfter, lastMark, begunBefore}
+use Rattle.formula_rules.proofs.Begun.{last-next, last-stays, begins-open, begins-shut, begun-next, begun-joined, scan-begins}
+use Rattle.formula_rules.proofs.Scanned.{mark-some}
 
 -- what is left of a prefix begins with 0
 unfoldable pub startsZero : List ℕ → Bool
@@ -88,6 +90,12 @@ module _ {n : ℕ} {es : List ℕ} (none : None (JoinedCause n es)) where
       new-is : newMark (at es i) (lastMark es i) (drop (suc i) es) ≡ beginsAfter es i (lastMark es i)
       new-is = ap (λ b. not b && not (eqb (at es i) (lastMark es i))) (starts-empty es i)
 
+      within : i ≤ length es
+      within = omega arith
+
+      marks-some : (e : ℕ) → e < i → opens es e ≡ true → at es e ≢ 0
+      marks-some e l opens-e = mark-some (at es e) (mark-is e (omega arith) opens-e)
+
       -- the next state by what the mark did
       next : (new : Bool) → beginsAfter es i (lastMark es i) ≡ new
           → Passes n false (cond new (at es i) (lastMark es i)) (cond new (suc (begunBefore es i)) (begunBefore es i)) names (drop (suc i) es)
@@ -101,7 +109,8 @@ module _ {n : ℕ} {es : List ℕ} (none : None (JoinedCause n es)) where
       begun : newMark (at es i) (lastMark es i) (drop (suc i) es) ≡ true → Passes n true (lastMark es i) (begunBefore es i) names (at es i ∷ drop (suc i) es)
       begun q =
           let new = sym new-is ∙ q in
-          begin (mark-is i more open′) q (λ many. none 6 i (JoinedCause.too-many-blocks refl (more, open′) (begins-open es i open′ ∙ new) many)) (next true new)
+          begin (mark-is i more open′) q (λ many. none 6 i (JoinedCause.too-many-blocks refl (more, open′) (scan-begins es i within marks-some open′ more new)
+          (sym (begun-joined es i within marks-some open′) ∙ many))) (next true new)
 
       going : newMark (at es i) (lastMark es i) (drop (suc i) es) ≡ false → Passes n true (lastMark es i) (begunBefore es i) names (at es i ∷ drop (suc i) es)
       going q = go-on (mark-is i more open′) q (next false (sym new-is ∙ q))

@@ -1,14 +1,12 @@
 -- What the scan of a prefix under rule 2 knows at entry i, how one entry more is scanned, and that a fault found there is the first.
 use Prim.Native.Nat.{ℕ, suc, _≤_, _<_, _+_}
 use mathlib.Core.Path.{_≡_, refl, sym, ap, _∙_, subst}
-use mathlib.Core.Bool.{Bool, true, false, cond, not, _&&_}
+use mathlib.Core.Bool.{Bool, true, false, cond}
 use mathlib.Core.List.{List}
 use mathlib.Core.Logic.{_⊎_, inl, inr, ⊎-elim, _≢_}
-use native.Mathlib.Decide.{ℕ-discrete}
 use native.Mathlib.Numerals.{add-one}
 use native.Mathlib.Omega.{arith}
 use borrow.Author.Tests.{eq-eqb, ne-eqb}
-use lib.Dec.{eqb}
 use lib.ListN.{length, getD, set, replicate}
 use Rattle.terms.specs.Refusals.{First, None}
 use Rattle.terms.proofs.Common.{below-suc, clash}
@@ -17,9 +15,11 @@ use Rattle.formula.specs.Tables.{at, opens, EndsInside}
 use Rattle.formula.specs.Scan.{IsMark, NameFault, NamedTo, no-name, one-name, NamesEnd, closed, faulty, unclosed}
 use Rattle.formula.proofs.Named.{Named, named-none, named-skip, named-more}
 use Rattle.formula.proofs.Scanned.{open-end, shut-end}
-use Rattle.formula_rules.specs.Rules.{emptyAt, beginsAfter, lastMark, begins, begunBefore, JoinedCause}
+use Rattle.formula_rules.specs.Rules.{JoinedCause}
+use Rattle.formula_rules.specs.InnerScan.{beginsAfter, lastMark, begins, begunBefore}
 use Rattle.formula_rules.specs.Rules.{ends-inside, no-mark, too-many-blocks, outside, named-before}
 use Rattle.formula_rules.specs.Writing.{MarkFault}
+use Rattle.formula_rules.proofs.Begun.{last-next, last-stays, begins-open, begins-shut, begun-next, begun-joined, scan-begins, begins-scan}
 
 -- no cause stands at entry e
 abbrev Clean : ℕ → List ℕ → ℕ → Type 0
@@ -45,43 +45,27 @@ pub mark-some : (entry : ℕ) → IsMark entry → entry ≢ 0
 mark-some entry (inl q) z = omega arith
 mark-some entry (inr q) z = omega arith
 
--- At an entry that opens a block the last mark and the count of blocks go on as the test says: a mark that begins no block is that of an empty block,
--- or equals the last mark.
-last-cases : (empty : Bool) (a l : ℕ) → cond (not empty) a l ≡ cond (not empty && not (eqb a l)) a l
-last-cases true a l = refl
-last-cases false a l = go (ℕ-discrete a l)
-  where
-    go : Dec (a ≡ l) → a ≡ cond (not (eqb a l)) a l
-    go (yes q) = q ∙ sym (ap (λ b. cond (not b) a l) (eq-eqb a l q))
-    go (no other) = sym (ap (λ b. cond (not b) a l) (ne-eqb a l other))
-
-pub last-next : (es : List ℕ) (i : ℕ) → opens es i ≡ true → lastMark es (suc i) ≡ cond (beginsAfter es i (lastMark es i)) (at es i) (lastMark es i)
-last-next es i open′ = ap (λ o. cond (o && not (emptyAt es i)) (at es i) (lastMark es i)) open′ ∙ last-cases (emptyAt es i) (at es i) (lastMark es i)
-
-pub last-stays : (es : List ℕ) (i : ℕ) → opens es i ≡ false → lastMark es (suc i) ≡ lastMark es i
-last-stays es i shut = ap (λ o. cond (o && not (emptyAt es i)) (at es i) (lastMark es i)) shut
-
-pub begins-open : (es : List ℕ) (i : ℕ) → opens es i ≡ true → begins es i ≡ beginsAfter es i (lastMark es i)
-begins-open es i open′ = ap (λ o. o && beginsAfter es i (lastMark es i)) open′
-
-pub begun-next : (es : List ℕ) (i : ℕ) (new : Bool) → begins es i ≡ new → begunBefore es (suc i) ≡ cond new (suc (begunBefore es i)) (begunBefore es i)
-begun-next es i new q = ap (λ b. cond b (suc (begunBefore es i)) (begunBefore es i)) q
-
-pub begins-shut : (es : List ℕ) (i : ℕ) → opens es i ≡ false → begins es i ≡ false
-begins-shut es i shut = ap (λ o. o && beginsAfter es i (lastMark es i)) shut
-
 module _ {n : ℕ} {es : List ℕ} {i : ℕ} {opening : Bool} {last count : ℕ} {named : List Bool} (s : Scanned n es i opening last count named)
     (more : i < length es) where
   -- the test of the code is that of the definition
   tested : {new : Bool} → opens es i ≡ true → new ≡ beginsAfter es i last → begins es i ≡ new
   tested open′ is = begins-open es i open′ ∙ sym (is ∙ ap (beginsAfter es i) (s .last-is))
 
+  -- no mark before is 0
+  marks-some : (e : ℕ) → e < i → opens es e ≡ true → at es e ≢ 0
+  marks-some e l open′ z = s .clean e l 4 (no-mark refl (omega arith, open′) (λ q. omega arith) (λ q. omega arith))
+
   -- What can be wrong at this entry, by the kind of its place, in the scan's own terms.
   at-mark : {new : Bool} → opens es i ≡ true → new ≡ beginsAfter es i last → (k : ℕ) → JoinedCause n es k i
       → ((k ≡ 4) × (at es i ≢ 1) × (at es i ≢ 2)) ⊎ ((k ≡ 6) × (new ≡ true) × (count ≡ 64))
   at-mark open′ is k (ends-inside _ q _) = absurd (omega arith)
   at-mark open′ is k (no-mark q _ a b) = inl (q, a, b)
-  at-mark open′ is k (too-many-blocks q _ new many) = inr (q, sym (tested open′ is) ∙ new, s .counted ∙ many)
+  at-mark open′ is k (too-many-blocks q _ new many) =
+      inr (
+        q,
+        sym (tested open′ is) ∙ begins-open es i open′ ∙ begins-scan es i (s .within) marks-some open′ new,
+        s .counted ∙ begun-joined es i (s .within) marks-some open′ ∙ many,
+      )
   at-mark open′ is k (outside _ v _) = absurd (clash open′ (v .1))
   at-mark open′ is k (named-before _ _ v _ _ _) = absurd (clash open′ (v .1))
 
@@ -168,7 +152,9 @@ module _ {n : ℕ} {es : List ℕ} {i : ℕ} {opening : Bool} {last count : ℕ}
       first-at (s .clean) (no-mark q (more, open′) a b)
       (λ k cause. ⊎-elim (λ w. let e = w .0 in omega arith) (λ w. let e = w .0 in omega arith) (at-mark open′ is k cause))
   fault-at-mark number open′ is (MarkFault.too-many q good new many) some =
-      first-at (s .clean) (too-many-blocks q (more, open′) (tested open′ is ∙ new) (sym (s .counted) ∙ many))
+      first-at (s .clean)
+      (too-many-blocks q (more, open′) (scan-begins es i (s .within) marks-some open′ more (sym (begins-open es i open′) ∙ tested open′ is ∙ new))
+      (sym (begun-joined es i (s .within) marks-some open′) ∙ sym (s .counted) ∙ many))
       (λ k cause. ⊎-elim (λ w. absurd (⊎-elim (w .1) (w .2) good)) (λ w. let e = w .0 in omega arith) (at-mark open′ is k cause))
 
   pub fault-at-variable : {named′ : List Bool} (number : ℕ) → opens es i ≡ false → at es i ≢ 0 → NameFault n (at es i) named named′ number

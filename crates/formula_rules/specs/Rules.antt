@@ -1,44 +1,44 @@
 -- The two reading rules for prefixes (rule 6.1, rule 6.2): the prefix as each reads it, its causes of refusal, with places in the prefix as lent
 -- (rule 6.4), and the order of a call that takes a rule number (rule 8.2).
-use Prim.Native.Nat.{ℕ, zero, suc, _<_}
+use Prim.Native.Nat.{ℕ, suc, _<_}
 use mathlib.Core.Path.{_≡_}
-use mathlib.Core.Bool.{Bool, true, false, cond, not, _&&_}
+use mathlib.Core.Bool.{Bool, true, false, cond}
 use mathlib.Core.List.{List, [], _∷_}
 use mathlib.Core.Logic.{_≢_}
-use lib.Dec.{eqb, ltb}
-use lib.ListN.{length}
+use lib.Dec.{eqb}
+use lib.ListN.{length, take}
 use Rattle.terms.specs.Limits.{mostBlocks}
 use Rattle.terms.specs.Refusals.{Causes, At0}
-use Rattle.formula.specs.Tables.{at, opens, MarkAt, VariableAt, EndsInside}
+use Rattle.formula.specs.Meaning.{blocks, markOf}
+use Rattle.formula.specs.Tables.{at, MarkAt, VariableAt, EndsInside}
 use Rattle.formula.specs.Causes.{VariableCount, LengthCause, PrefixCause, ClauseCause}
 use Rattle.formula.specs.Lent.{Formula, formulaOf}
-use Rattle.formula_rules.specs.Joined.{joinedPrefix}
+use Rattle.formula_rules.specs.Joined.{joinedBlocks, joinedPrefix}
 
--- how a rule reads a prefix: rule 2 drops and joins, rule 1 takes it as it stands
+-- The blocks of a prefix by a rule: rule 1 takes them as they are cut, rule 2 drops and joins. Levels and quantifiers are those of these blocks.
+unfoldable pub blocksBy : ℕ → List ℕ → List (List ℕ)
+blocksBy rule es = cond (eqb rule 2) (joinedBlocks (blocks es)) (blocks es)
+
+-- The table that carries them, for definitions and functions that take a prefix: its blocks are those by the rule, so that levels and quantifiers by
+-- this table are those of blocksBy (proofs/Blocks).
 unfoldable pub readAs : ℕ → List ℕ → List ℕ
 readAs rule es = cond (eqb rule 2) (joinedPrefix es) es
 
--- The block with its mark at entry e is empty: 0 directly follows the mark.
-abbrev pub emptyAt : List ℕ → ℕ → Bool
-emptyAt es e = ltb (suc e) (length es) && eqb (at es (suc e)) 0
+-- the blocks before entry e, dropped and joined
+abbrev pub joinedBefore : List ℕ → ℕ → List (List ℕ)
+joinedBefore es e = joinedBlocks (blocks (take e es))
 
--- The mark at entry e begins a block after one with the mark `last`: its own is not empty, and has another quantifier.
-abbrev pub beginsAfter : List ℕ → ℕ → ℕ → Bool
-beginsAfter es e last = not (emptyAt es e) && not (eqb (at es e) last)
+-- the mark of the last of some blocks, 0 where there is none
+abbrev pub endMark : List (List ℕ) → ℕ
+endMark [] = 0
+endMark (block ∷ []) = markOf block
+endMark (block ∷ next ∷ later) = endMark (next ∷ later)
 
--- the mark of the last block before entry e that is not empty, 0 if there is none
-abbrev pub lastMark : List ℕ → ℕ → ℕ
-lastMark es zero = 0
-lastMark es (suc e) = cond (opens es e && not (emptyAt es e)) (at es e) (lastMark es e)
-
--- entry e begins a block, once empty blocks are dropped and neighbours joined
-abbrev pub begins : List ℕ → ℕ → Bool
-begins es e = opens es e && beginsAfter es e (lastMark es e)
-
--- the number of blocks that begin before entry e
-abbrev pub begunBefore : List ℕ → ℕ → ℕ
-begunBefore es zero = 0
-begunBefore es (suc e) = cond (begins es e) (suc (begunBefore es e)) (begunBefore es e)
+-- The mark at entry e begins a block, once empty ones are dropped and neighbours joined: 0 does not directly follow it, and the last block before
+-- has another mark.
+pub record Begins (es : List ℕ) (e : ℕ) : Type 0 where
+  pub full : suc e < length es → at es (suc e) ≢ 0
+  pub another : endMark (joinedBefore es e) ≢ at es e
 
 -- 3 to 8 under rule 2, from the left; 5 and 9 are not given (rule 8.1)
 pub data JoinedCause (n : ℕ) (es : List ℕ) (number e : ℕ) : Type 0 where
@@ -47,7 +47,7 @@ pub data JoinedCause (n : ℕ) (es : List ℕ) (number e : ℕ) : Type 0 where
   -- 4: mark not 1 or 2
   no-mark : number ≡ 4 → MarkAt es e → at es e ≢ 1 → at es e ≢ 2 → JoinedCause n es number e
   -- 6: mark of a 65th block, counted after dropping and joining
-  too-many-blocks : number ≡ 6 → MarkAt es e → begins es e ≡ true → begunBefore es e ≡ mostBlocks → JoinedCause n es number e
+  too-many-blocks : number ≡ 6 → MarkAt es e → Begins es e → length (joinedBefore es e) ≡ mostBlocks → JoinedCause n es number e
   -- 7: prefix variable outside 1 to n
   outside : number ≡ 7 → VariableAt es e → n < at es e → JoinedCause n es number e
   -- 8: variable named before

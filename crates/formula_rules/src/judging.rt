@@ -10,7 +10,8 @@ ghost use mathlib.Core.List.{[], _∷_};
 ghost use lib.ListN.{length};
 ghost use Rattle.terms.specs.Limits.{mostVariables};
 ghost use Rattle.terms.specs.Refusals.{Judged};
-ghost use Rattle.formula_rules.specs.Rules.{beginsAfter, JoinedCause};
+ghost use Rattle.formula_rules.specs.Rules.{JoinedCause};
+ghost use Rattle.formula_rules.specs.InnerScan.{beginsAfter};
 ghost use Rattle.formula_rules.specs.Writing.{MarkFault};
 
 // The first cause of a refusal under rule 2 in the prefix of a formula with n variables, one block after another. `named` has a flag for each

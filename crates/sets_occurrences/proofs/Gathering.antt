@@ -16,7 +16,7 @@ use Rattle.terms.specs.Literals.{variableOf}
 use Rattle.terms.specs.Limits.{literalRows}
 use Rattle.terms.proofs.Common.{clash}
 use Rattle.formula.specs.Tables.{literalAt, cut, push}
-use Rattle.formula.specs.Meaning.{isZero, blocks, has, names, markOf, saidOf, isUniversal}
+use Rattle.formula.specs.Meaning.{isZero, blocks, has, names, markOf, universalOf, isUniversal}
 use Rattle.formula.specs.Levels.{Levelled}
 use Rattle.formula.specs.Lookup.{NextZero, Stamps, SoundClauses}
 use Rattle.formula.proofs.Signs.{stamps-more}
@@ -71,15 +71,13 @@ names-zero (mark ∷ variables) h = go (eqb mark 0) h
     go true q = absurd (clash refl q)
     go false q = q
 
-said-zero : (lists : List (List ℕ)) → NoZero lists → (number : ℕ) → saidOf (λ number mark. eqb mark 2) lists number false 0 ≡ false
-said-zero [] r number = refl
-said-zero (block ∷ rest) r number =
-    ap (λ b. saidOf (λ number mark. eqb mark 2) rest (suc number) (cond b (eqb (markOf block) 2) false) 0) (names-zero block (r .0))
-    ∙ said-zero rest (r .1) (suc number)
+said-zero : (lists : List (List ℕ)) → NoZero lists → universalOf lists 0 ≡ false
+said-zero [] r = refl
+said-zero (block ∷ rest) r = ap (λ b. cond b (eqb (markOf block) 2) (universalOf rest 0)) (names-zero block (r .0)) ∙ said-zero rest (r .1)
 
 universal-zero : (es : List ℕ) → isUniversal es 0 ≡ false
 unfolding isUniversal blocks
-universal-zero es = said-zero (cut isZero es) (cut-zero es) 1
+universal-zero es = said-zero (cut isZero es) (cut-zero es)
 
 -- The flags of a level table are for all variables of the clauses.
 pub levelled-covers : {es levels : List ℕ} {universals : List Bool} {ls : List ℤ} → Levelled es levels universals → SoundClauses ls → Covered ls universals

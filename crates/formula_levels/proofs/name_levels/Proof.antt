@@ -21,7 +21,7 @@ loop-holds : tie.Need-loop-holds Inv-loop μ-loop
 loop-holds c =
     let a = c .args in
     let (rows, free) = c .pre .1 in
-    level-none (a .prefix .now) (a .levels .now) (a .universals .now) rows (free .0) (free .1)
+    level-none (c .pre .0 .1) (a .levels .now) (a .universals .now) rows (free .0) (free .1)
 
 add-block : tie.Need-add-block Inv-loop μ-loop
 add-block c =

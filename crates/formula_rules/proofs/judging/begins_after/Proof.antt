@@ -10,7 +10,7 @@ use native.Mathlib.Omega.{arith}
 use lib.Dec.{eqb, ltb}
 use lib.ListN.{length}
 use Rattle.formula.specs.Tables.{at}
-use Rattle.formula_rules.specs.Rules.{beginsAfter}
+use Rattle.formula_rules.specs.InnerScan.{beginsAfter}
 use Rattle.formula_rules.proofs.judging.begins_after.Statement.{statement}
 use Rattle.formula_rules.proofs.judging.begins_after.Tie as tie
 
