@@ -22,11 +22,11 @@ Fits B (refuses number at) = InCell at
 abbrev pub Any : {C : Type 0} → C → Type 0
 Any cells = Unit {0}
 
--- Accepted, the cells hold what is given, 0 is returned, and `place` is kept; refused, the cells are kept, the number is returned, and the place
--- stands in its cell.
+-- What is returned is the number, which is 0 where it is accepted. Then the cells hold what is given, and `place` is kept; refused, the cells are kept, and
+-- the place stands in its cell.
 pub data Laid {C : Type 0} (said : Said C) (cells cells′ : C) (place place′ returned : ℕ) : Type 0 where
-  given : {parts : C} → said ≡ gives parts → cells′ ≡ parts → returned ≡ 0 → place′ ≡ place → Laid said cells cells′ place place′ returned
-  placed : {number at : ℕ} → said ≡ refuses number at → cells′ ≡ cells → returned ≡ number → place′ ≡ at
+  given : {parts : C} → said ≡ gives parts → cells′ ≡ parts → returned ≡ numberOf said → place′ ≡ place → Laid said cells cells′ place place′ returned
+  placed : {number at : ℕ} → said ≡ refuses number at → cells′ ≡ cells → returned ≡ numberOf said → place′ ≡ at
       → Laid said cells cells′ place place′ returned
 
 -- a cell that a function may write, and the cells of a tally: as they were lent, and as they are left

@@ -82,7 +82,7 @@ module _ (rule n : ℕ) (es : List ℕ) {ls ls′ : List ℤ} (reduction : Reduc
 
           go : (a : Filled) → Sized rule scheme f r x a → Sized rule scheme f′ r x a
           go (Filled.Count size) (none, is) = (over Accepted none, same-size n read reduction r scheme x size .0 is)
-          go (Filled.Refused k p) first = over (Refused k p) first
+          go (Filled.Refused k p) (first, none) = (over (Refused k p) first, none)
 
       pub same-size-told : (a b : Filled) → Sized rule scheme f r x a → Sized rule scheme f′ r x b → a ≡ b
       same-size-told a b told told′ = size-settled rule f′ r x scheme a b (sized-over a told) told′

@@ -1,6 +1,6 @@
 -- How the library's answers are told: by what an answer says, laid out in cells.
 use Prim.Native.Nat.{ℕ}
-use mathlib.Core.Path.{_≡_, refl, sym, ap, subst}
+use mathlib.Core.Path.{_≡_, refl, sym, ap, _∙_, subst}
 use mathlib.Core.List.{List}
 use Rattle.terms.specs.declared.Filled.{Filled}
 use Rattle.terms.specs.declared.Verdict.{Verdict}
@@ -9,7 +9,7 @@ use Rattle.terms.specs.Refusals.{Causes, FirstOf, NoneOf, Judged}
 use Rattle.terms.specs.declared.EntryAnswer.{EntryAnswer}
 use Rattle.terms.specs.declared.Scheme.{Scheme}
 use Rattle.terms.specs.Answers.{Settles, Answered, Numbered, InFront, Filling}
-use Rattle.c_answers.specs.Cells.{Said, gives, refuses, Fits, Any, Laid, given, placed, verdictSaid, filledSaid, entrySaid}
+use Rattle.c_answers.specs.Cells.{Said, gives, refuses, numberOf, Fits, Any, Laid, given, placed, verdictSaid, filledSaid, entrySaid}
 use Rattle.snowcoddle.specs.Told.{Told, accepted, refused}
 use Rattle.snowcoddle.proofs.Places.{Small}
 
@@ -36,10 +36,10 @@ module _ {C : Type 0} (order : List Causes) (G : C → Type 0) (K : Type 0) wher
   -- and laid out it is what C is told
   pub tell-known : {said : Said C} {kept : Type 0} {cells cells′ : C} {place place′ returned : ℕ} → Laid said cells cells′ place place′ returned
       → Settles order G K said → (cells′ ≡ cells → K → kept) → Told order (G cells′) kept returned place place′
-  tell-known (given q c r p) known keeps = let k = subst (Settles order G K) q known in accepted (k .0) (subst G (sym c) (k .1)) r p
+  tell-known (given q c r p) known keeps = let k = subst (Settles order G K) q known in accepted (k .0) (subst G (sym c) (k .1)) (r ∙ ap numberOf q) p
   tell-known {place′ = place′} (placed {number = number} q c r p) known keeps =
       let k = subst (Settles order G K) q known in
-      refused (subst (λ v. FirstOf order v place′) (sym r) (subst (FirstOf order number) (sym p) (k .0))) (keeps c (k .1))
+      refused (subst (λ v. FirstOf order v place′) (sym (r ∙ ap numberOf q)) (subst (FirstOf order number) (sym p) (k .0))) (keeps c (k .1))
 
 -- A verdict alone.
 module _ (order : List Causes) where

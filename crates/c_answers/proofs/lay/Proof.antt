@@ -2,7 +2,8 @@
 use mathlib.Core.Path.{refl, ap, subst}
 use borrow.Author.Needs.{needs}
 use Rattle.terms.specs.declared.Filled.{Filled}
-use Rattle.c_answers.specs.Cells.{Fits, given, placed, filledSaid, Any}
+use Rattle.c_answers.specs.Cells.{Fits, filledSaid, Any}
+use Rattle.c_answers.proofs.Laying.{laid-given, laid-refused}
 use Rattle.c_answers.proofs.lay.Statement.{statement}
 use Rattle.c_answers.proofs.lay.Tie as tie
 
@@ -12,10 +13,10 @@ cast-place c =
     record { fits = subst (λ (a : Filled). Fits Any (filledSaid a)) (c .before .answer2 .given .1) (at-start .pre) }
 
 returns : tie.Need-returns
-returns c = given (ap filledSaid (c .before .answer .given .1)) refl refl refl
+returns c = laid-given (ap filledSaid (c .before .answer .given .1)) refl refl
 
 returns-2 : tie.Need-returns-2
-returns-2 c = placed (ap filledSaid (c .before .answer2 .given .1)) refl refl refl
+returns-2 c = laid-refused (ap filledSaid (c .before .answer2 .given .1)) refl refl
 
 pub lay-spec : {M : Type 1} → statement M
 lay-spec =

@@ -2,7 +2,8 @@
 use mathlib.Core.Path.{refl, ap, subst}
 use borrow.Author.Needs.{needs}
 use Rattle.terms.specs.declared.EntryAnswer.{EntryAnswer}
-use Rattle.c_answers.specs.Cells.{Fits, given, placed, entrySaid, Any}
+use Rattle.c_answers.specs.Cells.{Fits, entrySaid, Any}
+use Rattle.c_answers.proofs.Laying.{laid-given, laid-refused}
 use Rattle.c_answers.proofs.lay_entry.Statement.{statement}
 use Rattle.c_answers.proofs.lay_entry.Tie as tie
 
@@ -12,10 +13,10 @@ cast-place c =
     record { fits = subst (λ (a : EntryAnswer). Fits Any (entrySaid a)) (c .before .answer2 .given .1) (at-start .pre) }
 
 returns : tie.Need-returns
-returns c = given (ap entrySaid (c .before .answer .given .1)) refl refl refl
+returns c = laid-given (ap entrySaid (c .before .answer .given .1)) refl refl
 
 returns-2 : tie.Need-returns-2
-returns-2 c = placed (ap entrySaid (c .before .answer2 .given .1)) refl refl refl
+returns-2 c = laid-refused (ap entrySaid (c .before .answer2 .given .1)) refl refl
 
 pub lay-entry-spec : {M : Type 1} → statement M
 lay-entry-spec =

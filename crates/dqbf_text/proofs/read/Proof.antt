@@ -28,7 +28,7 @@ scanned c =
     subst (ScanIs text unseen (o .last .1 .0, o .last .1 .1 .0, o .last .1 .1 .1 .0)) (c .entries .given .1) (o .ensures)
 
 returns : tie.Need-returns
-returns c = (inl (first-overlong (c .before .before .before .before .args .text .now) (c .if1 .taken)), refl, refl, refl)
+returns c = (inl (first-overlong (c .before .before .before .before .args .text .now) (c .if1 .taken)), (refl, refl, refl))
 
 returns-2 : tie.Need-returns-2
 returns-2 c =
@@ -39,9 +39,7 @@ returns-2 c =
     let count = s .prefix-adds .counted in (
       first-room (a .text .now) (a .prefix .now, a .clauses .now, a .lists .now) (at-if1 .if1 .left) (s .text-of)
           (no-room-prefix (s .text-of) (omega (arith, c .if2 .taken))),
-      refl,
-      refl,
-      refl,
+      (refl, refl, refl),
     )
 
 returns-3 : tie.Need-returns-3
@@ -53,9 +51,7 @@ returns-3 c =
     let count = s .clauses-adds .counted in (
       first-room (a .text .now) (a .prefix .now, a .clauses .now, a .lists .now) (at-if1 .if1 .left) (s .text-of)
           (no-room-clauses (s .text-of) (omega (arith, c .if3 .taken))),
-      refl,
-      refl,
-      refl,
+      (refl, refl, refl),
     )
 
 returns-4 : tie.Need-returns-4
@@ -67,9 +63,7 @@ returns-4 c =
     let count = s .lists-adds .counted in (
       first-room (a .text .now) (a .prefix .now, a .clauses .now, a .lists .now) (at-if1 .if1 .left) (s .text-of)
           (no-room-lists (s .text-of) (omega (arith, c .if4 .taken))),
-      refl,
-      refl,
-      refl,
+      (refl, refl, refl),
     )
 
 returns-5 : tie.Need-returns-5
@@ -80,7 +74,7 @@ returns-5 c =
     let o = at-scan .scan in
     let v = c .before .number .given in
     let fault = subst (ScanIs (a .text .now) unseen (o .last .1 .0, o .last .1 .1 .0, o .last .1 .1 .1 .0)) (v .1) (o .ensures) in
-    (first-fault (a .text .now) (a .prefix .now, a .clauses .now, a .lists .now) (at-if1 .if1 .left) (v .0 .0) (v .0 .1 .0) fault, refl, refl, refl)
+    (first-fault (a .text .now) (a .prefix .now, a .clauses .now, a .lists .now) (at-if1 .if1 .left) (v .0 .0) (v .0 .1 .0) fault, (refl, refl, refl))
 
 returns-6 : tie.Need-returns-6
 returns-6 c =

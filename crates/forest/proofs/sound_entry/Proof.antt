@@ -46,9 +46,9 @@ returns c =
     let at-check-forest = c .before .before .before in
     let at-start = start (at-check-forest .before .before .before .before .before) in
     let a = at-start .args in
-    refused-first (ForestCause (a .n) (a .prefix .now) (lent at-start) ∷ [])
-    (At0 13 (NotUniversal (a .n) (a .prefix .now) (a .x .0) ⊎ NotDeeper (a .n) (a .prefix .now) (a .x .0) (a .y .0)) ∷ [])
-    (c .before .number .given .1) (at-check-forest .check-forest .ensures)
+    let order = ForestCause (a .n) (a .prefix .now) (lent at-start) ∷ [] in
+    let later = At0 13 (NotUniversal (a .n) (a .prefix .now) (a .x .0) ⊎ NotDeeper (a .n) (a .prefix .now) (a .x .0) (a .y .0)) ∷ [] in
+    (refused-first order later (c .before .number .given .1) (at-check-forest .check-forest .ensures), tt)
 
 returns-2 : tie.Need-returns-2
 returns-2 c =
@@ -79,7 +79,7 @@ returns-3 c =
     let search = subst (Finds (tabled (a .n) (table .last .1 .0) (table .last .1 .1 .0)) (rowsOf (a .n) (a .classes .now) (a .parents .now)) (a .x .0) (a .y .0))
     (c .enum-told2 .given .1) (at-find-entry .find-entry .ensures) in
     let nowhere = sound-nowhere (at-start .pre) (table .ensures) (a .classes .now) (a .parents .now) (a .x .0) (a .y .0) (formed at-told) universal search in
-    inr (accepted at-told, inl (at0-first 13 (inr nowhere)))
+    (inr (accepted at-told, inl (at0-first 13 (inr nowhere))), tt)
 
 returns-4 : tie.Need-returns-4
 returns-4 c =
@@ -87,7 +87,7 @@ returns-4 c =
     let at-start = start (filled at-told) in
     let a = at-start .args in
     let known = sound-not-universal (at-start .pre) (filled at-told .fill-levels .ensures) (a .classes .now) (a .parents .now) (a .x .0) in
-    inr (accepted at-told, inl (at0-first 13 (inl (known (c .before .universal-at .ensures) (c .if1 .left)))))
+    (inr (accepted at-told, inl (at0-first 13 (inl (known (c .before .universal-at .ensures) (c .if1 .left))))), tt)
 
 pub sound-entry-spec : {M : Type 1} → statement M
 sound-entry-spec =

@@ -39,7 +39,7 @@ returns c =
     let at-enter = c .before .before .before .before .before in
     let at-start = at-enter .before .before .before .before .before .before .before in
     let a = at-start .args in
-    subst (Judged (behindCheck (a .n) (a .prefix .now) (lent at-start) (a .x .0))) (c .before .number .given .1) (at-enter .enter .ensures .0)
+    (subst (Judged (behindCheck (a .n) (a .prefix .now) (lent at-start) (a .x .0))) (c .before .number .given .1) (at-enter .enter .ensures .0), tt)
 
 returns-2 : tie.Need-returns-2
 returns-2 c =

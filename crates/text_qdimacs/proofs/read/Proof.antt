@@ -9,7 +9,7 @@ use Rattle.text_qdimacs.proofs.read.Tie as tie
 returns : tie.Need-returns
 returns c =
     let at-start = c .before .before .before in
-    (inl (first-overlong (at-start .args .text .now) (c .if1 .taken)), refl, refl)
+    (inl (first-overlong (at-start .args .text .now) (c .if1 .taken)), (refl, refl))
 
 pub read-spec : {M : Type 1} → statement M
 read-spec =

@@ -2,8 +2,9 @@
 use mathlib.Core.Path.{refl, ap, subst}
 use borrow.Author.Needs.{needs}
 use Rattle.terms.specs.declared.Expanded.{Expanded}
-use Rattle.c_answers.specs.Cells.{Fits, given, placed, Any}
+use Rattle.c_answers.specs.Cells.{Fits, Any}
 use Rattle.c_answers.specs.Formulas.{expandedSaid}
+use Rattle.c_answers.proofs.Laying.{laid-given, laid-refused}
 use Rattle.c_answers.proofs.formulas.lay_expanded.Statement.{statement}
 use Rattle.c_answers.proofs.formulas.lay_expanded.Tie as tie
 
@@ -13,10 +14,10 @@ cast-place c =
     record { fits = subst (λ (a : Expanded). Fits Any (expandedSaid a)) (c .before .answer2 .given .1) (at-start .pre) }
 
 returns : tie.Need-returns
-returns c = given (ap expandedSaid (c .before .answer .given .1)) refl refl refl
+returns c = laid-given (ap expandedSaid (c .before .answer .given .1)) refl refl
 
 returns-2 : tie.Need-returns-2
-returns-2 c = placed (ap expandedSaid (c .before .answer2 .given .1)) refl refl refl
+returns-2 c = laid-refused (ap expandedSaid (c .before .answer2 .given .1)) refl refl
 
 pub lay-expanded-spec : {M : Type 1} → statement M
 lay-expanded-spec =

@@ -2,8 +2,9 @@
 use mathlib.Core.Path.{refl, ap, subst}
 use borrow.Author.Needs.{needs}
 use Rattle.terms.specs.declared.ListedReading.{ListedReading}
-use Rattle.c_answers.specs.Cells.{Fits, given, placed}
+use Rattle.c_answers.specs.Cells.{Fits}
 use Rattle.c_answers.specs.Formulas.{listedSaid, ThreeInCells}
+use Rattle.c_answers.proofs.Laying.{laid-given, laid-refused}
 use Rattle.c_answers.proofs.formulas.lay_listed.Statement.{statement}
 use Rattle.c_answers.proofs.formulas.lay_listed.Tie as tie
 
@@ -32,10 +33,10 @@ cast-place c =
     record { fits = subst Fitting (c .before .answer2 .given .1) (at-start .pre) }
 
 returns : tie.Need-returns
-returns c = given (ap listedSaid (c .before .answer .given .1)) refl refl refl
+returns c = laid-given (ap listedSaid (c .before .answer .given .1)) refl refl
 
 returns-2 : tie.Need-returns-2
-returns-2 c = placed (ap listedSaid (c .before .answer2 .given .1)) refl refl refl
+returns-2 c = laid-refused (ap listedSaid (c .before .answer2 .given .1)) refl refl
 
 pub lay-listed-spec : {M : Type 1} → statement M
 lay-listed-spec =

@@ -2,8 +2,9 @@
 use mathlib.Core.Path.{refl, ap, subst}
 use borrow.Author.Needs.{needs}
 use Rattle.terms.specs.declared.Reading.{Reading}
-use Rattle.c_answers.specs.Cells.{Fits, given, placed}
+use Rattle.c_answers.specs.Cells.{Fits}
 use Rattle.c_answers.specs.Formulas.{readingSaid, TwoInCells}
+use Rattle.c_answers.proofs.Laying.{laid-given, laid-refused}
 use Rattle.c_answers.proofs.formulas.lay_reading.Statement.{statement}
 use Rattle.c_answers.proofs.formulas.lay_reading.Tie as tie
 
@@ -27,10 +28,10 @@ cast-place c =
     record { fits = subst Fitting (c .before .answer2 .given .1) (at-start .pre) }
 
 returns : tie.Need-returns
-returns c = given (ap readingSaid (c .before .answer .given .1)) refl refl refl
+returns c = laid-given (ap readingSaid (c .before .answer .given .1)) refl refl
 
 returns-2 : tie.Need-returns-2
-returns-2 c = placed (ap readingSaid (c .before .answer2 .given .1)) refl refl refl
+returns-2 c = laid-refused (ap readingSaid (c .before .answer2 .given .1)) refl refl
 
 pub lay-reading-spec : {M : Type 1} → statement M
 lay-reading-spec =

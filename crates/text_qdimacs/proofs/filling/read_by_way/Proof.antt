@@ -27,8 +27,7 @@ returns c =
     let counted = s .entries-counted in (
       first-room (a .text .now) (a .prefix .now) (a .clauses .now) (at-start .pre) (s .text-of)
           (no-room-prefix (s .text-of) (omega (arith, c .if1 .taken))),
-      refl,
-      refl,
+      (refl, refl),
     )
 
 returns-2 : tie.Need-returns-2
@@ -39,8 +38,7 @@ returns-2 c =
     let counted = s .literals-counted in (
       first-room (a .text .now) (a .prefix .now) (a .clauses .now) (at-start .pre) (s .text-of)
           (no-room-clauses (s .text-of) (omega (arith, c .if2 .taken))),
-      refl,
-      refl,
+      (refl, refl),
     )
 
 fill-requires : tie.Need-fill-requires
@@ -58,7 +56,7 @@ returns-3 c =
     let o = at-scan .scan in
     let v = c .before .number .given in
     let fault = subst (ScanIs (a .text .now) (a .own-prefix .now, a .own-clauses .now) (o .last .1 .0, o .last .1 .1 .0)) (v .1) (o .ensures) in
-    (first-fault (a .text .now) (a .prefix .now) (a .clauses .now) (at-start .pre) (v .0 .0) (v .0 .1 .0) fault, refl, refl)
+    (first-fault (a .text .now) (a .prefix .now) (a .clauses .now) (at-start .pre) (v .0 .0) (v .0 .1 .0) fault, (refl, refl))
 
 returns-4 : tie.Need-returns-4
 returns-4 c =
