@@ -21,7 +21,7 @@ use Rattle.forest_tables.proofs.Agreeing.{universal-within}
 use Rattle.forest_tables.proofs.Readings.{flag-within}
 use Rattle.dqbf_lists.specs.Lists.{InBlock}
 use Rattle.dqbf_lists.specs.Causes.{ListCause, outside, in-block, listed-before, no-universal, twice, ends-inside}
-use Rattle.dqbf_lists.specs.Inner.{Places, MayOpen, MayFollow, PassedTo, none-passed, one-passed, Passes}
+use Rattle.dqbf_lists.specs.Inner.{Places, MayOpen, PassedTo, none-passed, one-passed, Passes}
 
 -- Where no list opens, the last one that opened stays the last.
 pub last-stays : (ds : List ℕ) (m i : ℕ) → opens ds i ≡ false → NearestMark ds m i → NearestMark ds m (suc i)

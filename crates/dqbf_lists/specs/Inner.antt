@@ -11,11 +11,11 @@ use Rattle.terms.specs.declared.Filled.{Filled}
 use Rattle.formula.specs.Causes.{VariableCount, ClauseCause}
 use Rattle.formula.specs.Lent.{Formula}
 use Rattle.formula.specs.Lookup.{SoundClauses}
-use Rattle.formula.specs.Tables.{at}
+use Rattle.formula.specs.Tables.{at, MarkAt, VariableAt}
 use Rattle.forest_tables.specs.Tabled.{universalIn}
 use Rattle.formula_rules.specs.Reading.{Reads}
 use Rattle.formula_rules.specs.Rules.{RuleCause, PrefixCauseBy}
-use Rattle.dqbf_lists.specs.Lists.{listEntries, InBlock}
+use Rattle.dqbf_lists.specs.Lists.{listEntries, OneList, InBlock}
 use Rattle.dqbf_lists.specs.Causes.{ListedLengthCause}
 
 -- what is looked for before the lists, where so many entries of them are lent: 23, 1, 2, prefix from the left; and then clause literals from the left
@@ -34,6 +34,14 @@ ReadsListed rule f entries =
 -- the first number of a call whose lists are too long: 23, 1, and else 2
 abbrev pub LongRefused : ℕ → ℕ → ℕ → Type 0
 LongRefused rule n number = FirstOf (RuleCause rule ∷ VariableCount n ∷ At0 2 (Unit {0}) ∷ []) number 0
+
+-- y has a list of its own, and it has x, by places: for a table that does not end inside a list it is what Lists says (proofs/Listed)
+pub record GivenAt (ds : List ℕ) (x y : ℕ) : Type 0 where
+  pub begin : ℕ
+  pub place : ℕ
+  pub for-y : MarkAt ds begin × (at ds begin ≡ y)
+  pub has-x : VariableAt ds place × (at ds place ≡ x)
+  pub one : OneList ds begin place
 
 -- the flags tell which variables are in a block
 pub record Places (es : List ℕ) (placed : List Bool) : Type 0 where

@@ -3,7 +3,7 @@
 use Prim.Native.Nat.{ℕ, _<_}
 use mathlib.Core.Path.{_≡_, sym, subst}
 use mathlib.Core.Bool.{true}
-use mathlib.Core.List.{List, [], _∷_, _++_}
+use mathlib.Core.List.{List, [], _∷_, List·Memᴰ·not-nil}
 use mathlib.Core.Logic.{⊎-elim, inl, by-cases, _↔_, _≢_}
 use native.Mathlib.Decide.{ℕ-discrete}
 use native.Mathlib.Omega.{arith}
@@ -15,6 +15,7 @@ use Rattle.terms.specs.declared.Filled.{Filled}
 use Rattle.terms.specs.declared.Scheme.{Scheme}
 use Rattle.terms.specs.declared.Scheme.the-variants.{Standard, Strict}
 use Rattle.terms.proofs.Answers.{listing-settled, carry-filling}
+use Rattle.formula.specs.Tables.{cut}
 use Rattle.formula.specs.Causes.{ClauseCause}
 use Rattle.formula.specs.Lent.{Formula, formulaOf}
 use Rattle.formula.specs.Levels.{SoundPrefix}
@@ -23,7 +24,7 @@ use Rattle.formula.proofs.Ordered.{deeper-named}
 use Rattle.formula.proofs.Sound.{sound-prefix}
 use Rattle.forest_theory.specs.Reach.{From, Follows}
 use Rattle.forest_theory.proofs.Reach.{reach-mono, reach-ends, depends-follows}
-use Rattle.forest_tables.specs.Formula.{universal, Shares, SharesBy}
+use Rattle.forest_tables.specs.Formula.{universal, Shares}
 use Rattle.forest_tables.specs.Lent.{variablesOf}
 use Rattle.forest_tables.proofs.Agreeing.{lawful, universal-within}
 use Rattle.formula_rules.specs.Rules.{readAs, readBy, ruledPrefix}
@@ -33,7 +34,7 @@ use Rattle.formula_rules.proofs.Short.{joined-short}
 use Rattle.forest.specs.Answers.{DependsBy}
 use Rattle.forest.specs.Causes.{NotUniversal}
 use Rattle.forest.proofs.Demands.{universal-alone}
-use Rattle.dqbf_lists.specs.Lists.{Given, ListHas}
+use Rattle.dqbf_lists.specs.Lists.{lists, Given, ListHas}
 use Rattle.dqbf_lists.specs.Causes.{ListCause, checkListsOrder}
 use Rattle.dqbf_lists.specs.Inner.{listedPrefix}
 use Rattle.dqbf_lists.proofs.Agreement.{agreed}
@@ -42,7 +43,8 @@ use Rattle.dqbf_sets.specs.Answers.{setOrder, SetByLists}
 use Rattle.dqbf_sets.specs.Depends.{DependsOnBy}
 
 no-list : {x y : ℕ} → Given [] x y → ⊥
-no-list g = let l = g .for-y .0 .0 in omega arith
+unfolding lists cut
+no-list g = List·Memᴰ·not-nil (g .listed)
 
 -- A free existential, whose list is empty, is never deeper than a universal, and a block existential has in its list what is before it: so where no list
 -- is lent those whose list has x are those of deeper blocks.

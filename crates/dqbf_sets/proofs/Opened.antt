@@ -12,7 +12,7 @@ use lib.Dec.{eqb}
 use lib.ListN.{length, getD, set, length-set}
 use Rattle.terms.specs.Refusals.{None}
 use Rattle.terms.proofs.Common.{clash}
-use Rattle.formula.specs.Tables.{at, opens, MarkAt, VariableAt, NearestMark}
+use Rattle.formula.specs.Tables.{at, opens, MarkAt, VariableAt, NearestMark, EndsInside}
 use Rattle.formula.specs.Meaning.{level, isUniversal, isExistential}
 use Rattle.formula.specs.Levels.{SoundPrefix, Levelled}
 use Rattle.formula.proofs.Ordered.{deeper-named}
@@ -21,8 +21,10 @@ use Rattle.forest_tables.specs.Formula.{universal}
 use Rattle.forest_tables.specs.Tabled.{existentialIn}
 use Rattle.forest_tables.proofs.Readings.{row-none, row-over, flag-in, flag-within, row-stored, row-kept}
 use Rattle.forest_tables.proofs.Agreeing.{tables-agree, level-agrees, lawful, universal-within}
-use Rattle.dqbf_lists.specs.Lists.{InBlock, Given, ListHas}
-use Rattle.dqbf_lists.specs.Causes.{ListCause, outside, in-block}
+use Rattle.dqbf_lists.specs.Lists.{InBlock, ListHas}
+use Rattle.dqbf_lists.specs.Inner.{GivenAt}
+use Rattle.dqbf_lists.specs.Causes.{ListCause, outside, in-block, ends-inside}
+use Rattle.dqbf_lists.proofs.Listed.{given-at, given-by}
 use Rattle.dqbf_lists.proofs.Placed.{universal-named}
 use Rattle.dqbf_lists.proofs.Checked.{last-stays}
 use Rattle.dqbf_sets.specs.Inner.{Told, ToldRows, Over, WithGiven}
@@ -70,7 +72,7 @@ block-within n levels universals floor v p = let (a, b, t) = flag-within n v (no
 
 -- a list of v has x in an entry before i
 pub record GivenBefore (ds : List ℕ) (x i v : ℕ) : Type 0 where
-  pub given : Given ds x v
+  pub given : GivenAt ds x v
   pub before : given .place < i
 
 -- the row of v says that v has x by now, or it stays, and v has not
@@ -176,7 +178,7 @@ module _ {n : ℕ} {es ds : List ℕ} (sound : None (ListCause n es ds)) {x i : 
           }
 
       -- whoever gets x by this entry is the existential of the list that is open
-      owner : (v : ℕ) (g : Given ds x v) → g .place ≡ i → (m : ℕ) × NearestMark ds m i × (at ds m ≡ y) → v ≡ y
+      owner : (v : ℕ) (g : GivenAt ds x v) → g .place ≡ i → (m : ℕ) × NearestMark ds m i × (at ds m ≡ y) → v ≡ y
       owner v g q (m, mark, own) =
           by-cases (decLt (g .begin) m) (λ l. absurd (clash (mark .1) (g .one .1 m l (let k = mark .0 in omega arith))))
           (λ l.
@@ -209,7 +211,7 @@ open-all o done v =
 module _ {n : ℕ} {es ds levels : List ℕ} {universals : List Bool} (sound : SoundPrefix n es) (table : Levelled es levels universals)
     (listed : None (ListCause n es ds)) {x : ℕ} (u : universal n es x ≡ true) where
   -- one with a list of its own is in no block, and so existential
-  given-existential : (y : ℕ) → Given ds x y → isExistential n es y ≡ true
+  given-existential : (y : ℕ) → GivenAt ds x y → isExistential n es y ≡ true
   unfolding isExistential
   given-existential y g =
       let there = g .for-y .0 in
@@ -224,12 +226,15 @@ module _ {n : ℕ} {es ds levels : List ℕ} {universals : List Bool} (sound : S
   pub rows-open : (floor : ℕ) (old new : List ℕ) → floor ≡ getD levels x 0 → ToldRows (Over n levels universals floor) n old → WithGiven ds x n old new
       → ToldRows (ListHas n es ds x) n new
   rows-open floor old new is own given v =
-      ⊎-elim (λ h. inl (h .0, record { existential = given-existential v (h .1); listed = inr (h .1) }))
+      ⊎-elim (λ h. inl (h .0, record { existential = given-existential v (h .1); listed = inr (given-by closed (h .1)) }))
       (λ h.
       ⊎-elim (λ b. inl (h .0 ∙ b .0, in-blocks (b .1)))
-      (λ b. inr (h .0 ∙ b .0, λ l. ⊎-elim (λ d. b .1 (back (l .existential) (d .1))) (h .1) (l .listed))) (own v))
+      (λ b. inr (h .0 ∙ b .0, λ l. ⊎-elim (λ d. b .1 (back (l .existential) (d .1))) (λ g. h .1 (given-at g)) (l .listed))) (own v))
       (given v)
     where
+      closed : ¬ EndsInside 0 ds
+      closed inside = listed 11 (length ds) (ends-inside refl refl inside)
+
       same : (v : ℕ) → existentialIn n universals v ≡ isExistential n es v
       same = tables-agree sound table .ex
 

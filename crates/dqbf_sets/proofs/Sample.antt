@@ -1,17 +1,16 @@
 -- A small formula by hand: a 1 2, d 3 1, d 4 2, clauses {1 3} {3 4}. Of 1 the set has 3, whose list has 1, and not 4, whose list has not.
-use Prim.Native.Nat.{ℕ, zero, suc, _≤_, _<_}
-use mathlib.Core.Path.{_≡_, refl}
-use mathlib.Core.Bool.{false}
-use mathlib.Core.List.{List, [], _∷_, List·Memᴰ·head, List·Memᴰ·tail}
-use mathlib.Core.Logic.{inr, ⊎-elim}
+use Prim.Native.Nat.{ℕ, zero, suc}
+use mathlib.Core.Path.{_≡_, refl, subst}
+use mathlib.Core.List.{List, [], _∷_, List·Memᴰ, List·Memᴰ·head, List·Memᴰ·tail, List·Memᴰ·not-nil, List·Memᴰ·cases-cons, List·Memᴰ·eq-of-singleton}
+use mathlib.Core.Logic.{_⊎_, inl, inr, ⊎-elim}
 use native.Mathlib.Omega.{arith}
 use lib.IntN.{ℤ, pos}
 use Rattle.formula.specs.Lent.{Formula, formulaOf}
-use Rattle.formula.specs.Tables.{cut, opens, at}
+use Rattle.formula.specs.Tables.{cut, at}
 use Rattle.formula.specs.Meaning.{blocks, clauses, opposite, denied, alwaysTrue, connected, freeLevel, isUniversal, isExistential}
 use Rattle.forest_theory.specs.Reach.{here, step}
 use Rattle.forest_tables.specs.Formula.{joined, Shares}
-use Rattle.dqbf_lists.specs.Lists.{Given, ListHas}
+use Rattle.dqbf_lists.specs.Lists.{lists, Given, ListHas}
 use Rattle.dqbf_sets.specs.Depends.{DependsOn}
 
 abbrev es : List ℕ
@@ -26,22 +25,10 @@ ls = pos 1 ∷ pos 3 ∷ pos 0 ∷ pos 3 ∷ pos 4 ∷ pos 0 ∷ []
 abbrev formula : Formula
 formula = formulaOf 4 es ls
 
-shut : (c : ℕ) → 0 < c → c ≤ 1 → opens ds c ≡ false
-shut zero l k = absurd (omega arith)
-shut (suc zero) l k = refl
-shut (suc (suc c)) l k = absurd (omega arith)
-
 has-3 : ListHas 4 es ds 1 3
-unfolding blocks freeLevel isUniversal isExistential cut
+unfolding blocks freeLevel isUniversal isExistential lists cut
 has-3 =
-    let given : Given ds 1 3 =
-    record {
-      begin = 0;
-      place = 1;
-      for-y = ((omega arith, refl), refl);
-      has-x = ((omega arith, refl, λ z. absurd (omega arith)), refl);
-      one = (omega arith, shut);
-    } in
+    let given : Given ds 1 3 = record { universals = 1 ∷ []; listed = List·Memᴰ·head refl; has-x = List·Memᴰ·head refl } in
     record { existential = refl; listed = inr given }
 
 shares-3 : Shares ls 1 3
@@ -56,28 +43,17 @@ no-block (suc (suc zero)) q = omega arith
 no-block (suc (suc (suc zero))) q = omega arith
 no-block (suc (suc (suc (suc e)))) q = omega arith
 
--- the list of 4 opens behind the only entry with 1
-opens-4 : (b : ℕ) → at ds b ≡ 4 → 3 ≤ b
-opens-4 zero q = absurd (omega arith)
-opens-4 (suc zero) q = absurd (omega arith)
-opens-4 (suc (suc zero)) q = absurd (omega arith)
-opens-4 (suc (suc (suc b))) q = omega arith
-
-has-1 : (p : ℕ) → at ds p ≡ 1 → p ≤ 1
-has-1 zero q = absurd (omega arith)
-has-1 (suc zero) q = omega arith
-has-1 (suc (suc zero)) q = absurd (omega arith)
-has-1 (suc (suc (suc zero))) q = absurd (omega arith)
-has-1 (suc (suc (suc (suc zero)))) q = absurd (omega arith)
-has-1 (suc (suc (suc (suc (suc zero))))) q = absurd (omega arith)
-has-1 (suc (suc (suc (suc (suc (suc p)))))) q = absurd (omega arith)
-
+-- the list of 4 is 2
 not-given-4 : Given ds 1 4 → ⊥
-not-given-4 g =
-    let a = opens-4 (g .begin) (g .for-y .1) in
-    let b = has-1 (g .place) (g .has-x .1) in
-    let l = g .one .0 in
-    omega arith
+unfolding lists cut
+not-given-4 g = ⊎-elim (λ q. let no : _≡_ {A = ℕ} 4 3 = cc in omega arith) (λ m. second (List·Memᴰ·cases-cons m)) (List·Memᴰ·cases-cons (g .listed))
+  where
+    second : (4 ∷ g .universals ≡ 4 ∷ 2 ∷ []) ⊎ List·Memᴰ (4 ∷ g .universals) [] → ⊥
+    second (inl q) =
+        let us : g .universals ≡ 2 ∷ [] = cc in
+        let no : _≡_ {A = ℕ} 1 2 = List·Memᴰ·eq-of-singleton (subst (List·Memᴰ 1) us (g .has-x)) in
+        omega arith
+    second (inr m) = List·Memᴰ·not-nil m
 
 pub record Sampled : Type 0 where
   pub depends-3 : DependsOn formula ds 1 3

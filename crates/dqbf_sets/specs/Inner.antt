@@ -19,7 +19,8 @@ use Rattle.forest_theory.specs.Tables.{row}
 use Rattle.forest_tables.specs.Formula.{Shares}
 use Rattle.forest_tables.specs.Tabled.{existentialIn}
 use Rattle.forest.specs.Causes.{AskedCause, OutputCause}
-use Rattle.dqbf_lists.specs.Lists.{Given, ListHas}
+use Rattle.dqbf_lists.specs.Lists.{ListHas}
+use Rattle.dqbf_lists.specs.Inner.{GivenAt}
 use Rattle.dqbf_lists.specs.Causes.{ListCause}
 use Rattle.dqbf_sets.specs.Depends.{DependsOnBy}
 
@@ -45,7 +46,7 @@ Over n levels universals floor v = (existentialIn n universals v ≡ true) × (f
 
 -- rows to which the existentials are added whose own lists have x
 abbrev pub WithGiven : List ℕ → ℕ → ℕ → List ℕ → List ℕ → Type 0
-WithGiven ds x n old new = (v : ℕ) → ((row n new v ≡ 1) × Given ds x v) ⊎ ((row n new v ≡ row n old v) × (Given ds x v → ⊥))
+WithGiven ds x n old new = (v : ℕ) → ((row n new v ≡ 1) × GivenAt ds x v) ⊎ ((row n new v ≡ row n old v) × (GivenAt ds x v → ⊥))
 
 -- where nothing is refused the rows tell whose list has x
 abbrev pub OpensRows : ℕ → List ℕ → List ℕ → ℕ → List ℕ → Verdict → Type 0

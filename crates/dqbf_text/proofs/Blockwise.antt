@@ -13,19 +13,16 @@ use Rattle.text_write.specs.InnerText.{spaced, ended}
 use Rattle.text_qdimacs.proofs.Holdable.{Holdable}
 use Rattle.text_qdimacs.proofs.Blockwise.{count-is, prefix-lines, clause-lines}
 use Rattle.dqbf_lists.specs.Lists.{lists}
+use Rattle.dqbf_lists.proofs.Listed.{lists-push}
 use Rattle.dqbf_text.specs.Format.{LETTER-D}
 use Rattle.dqbf_text.specs.Written.{listLine, listedTextOf}
 use Rattle.dqbf_text.specs.InnerText.{lettered, listText, listedByEntries}
 use Rattle.dqbf_text.proofs.Holdable.{Lists, no-list, list, list-end, member}
 
--- A number in its list: its text, and where it stands in the lists.
+-- A number in its list.
 pub member-text : (v : ℕ) (more : List ℕ) → (v ≡ 0 → ⊥) → listText false (v ∷ more) ≡ SPACE ∷ (decimal v ++ listText false more)
 unfolding listText lettered spaced ended
 member-text v more some = rw (ne-eqb v 0 some)
-
-lists-push : (v : ℕ) (more vs : List ℕ) (ls : List (List ℕ)) → (v ≡ 0 → ⊥) → lists more ≡ vs ∷ ls → lists (v ∷ more) ≡ (v ∷ vs) ∷ ls
-unfolding lists cut
-lists-push v more vs ls some is = rw (ne-eqb v 0 some, is)
 
 -- The lines of lists, and the text of a table inside a list: the rest of its line, and the other lists.
 abbrev listLines : List (List ℕ) → List ℕ

@@ -19,7 +19,8 @@ use Rattle.forest_members.proofs.Picked.{picked-most, picked-flag, picked-liste
 use Rattle.sets_occurrences.specs.SoleTops.{Is}
 use Rattle.sets_subtrees.specs.Runs.{Run, only}
 use Rattle.sets_subtrees.proofs.Linked.{run-one, only-set, only-own}
-use Rattle.listing_lines.specs.Lines.{Small, Stored}
+use Rattle.listing_lines.specs.Inner.{Small}
+use Rattle.listing_lines.specs.Lines.{Stored}
 use Rattle.listing.specs.Listing.{lineBytes, LineIn}
 use Rattle.listing.specs.Inner.{soleList}
 

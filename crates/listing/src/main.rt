@@ -42,7 +42,8 @@ ghost use Rattle.forest_tables.specs.Lent.{Rows};
 ghost use Rattle.sets_occurrences.specs.Threads.{Closed, Tied, EnteredBy};
 ghost use Rattle.sets_subtrees.specs.Runs.{Run, Within, Led};
 ghost use Rattle.sets.specs.Passed.{Ready};
-ghost use Rattle.listing_lines.specs.Lines.{universalLine, Small, Stored};
+ghost use Rattle.listing_lines.specs.Lines.{universalLine, Stored};
+ghost use Rattle.listing_lines.specs.Inner.{Small};
 ghost use Rattle.listing.specs.Listing.{lineBytes, HeadOf, LineOf, LineIn, TopsOf};
 ghost use Rattle.listing.specs.Inner.{flaggedLine, soleList};
 

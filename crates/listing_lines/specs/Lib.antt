@@ -1,2 +1,3 @@
--- The bytes of each line that the program prints.
+-- The lines that are printed: Lines is what to believe, Inner is what inner functions ask for.
 pub mod Lines
+pub mod Inner

@@ -1,7 +1,6 @@
 -- The lines that the listing program prints, byte for byte (rule 16.2).
-use Prim.Native.Nat.{ℕ, _+_, _<_, _≤_}
+use Prim.Native.Nat.{ℕ, _+_, _≤_}
 use mathlib.Core.List.{List, [], _∷_, _++_}
-use lib.ListN.{length, getD}
 use Rattle.text_write.specs.Numbers.{decimal}
 use Rattle.text_write.specs.Stored.{Wrote}
 
@@ -57,8 +56,3 @@ refusedLine number place = (REFUSED ++ decimal number) ++ (AT ++ decimal place) 
 pub record Stored (most : ℕ) (bytes before after : List ℕ) (at next : ℕ) : Type 0 where
   pub wrote : Wrote bytes before after at next
   pub near : next ≤ at + most
-
--- a list of at most 4,096 numbers, each of at most five digits
-pub record Small (list : List ℕ) : Type 0 where
-  pub few : length list ≤ 4096
-  pub short : (i : ℕ) → i < length list → getD list i 0 < 100000

@@ -7,7 +7,8 @@ ghost use mathlib.Core.List.{_++_};
 ghost use lib.ListN.{length};
 ghost use Rattle.text_write.specs.Numbers.{decimal};
 ghost use Rattle.text_write.specs.Stored.{Wrote};
-ghost use Rattle.listing_lines.specs.Lines.{numbers, headLine, universalLine, refusedLine, Small, Stored};
+ghost use Rattle.listing_lines.specs.Lines.{numbers, headLine, universalLine, refusedLine, Stored};
+ghost use Rattle.listing_lines.specs.Inner.{Small};
 
 // `vars N blocks B clauses C strict`
 pub fn head_line(out: &mut [u8], n: u32, blocks: u32, clauses: u32) -> usize

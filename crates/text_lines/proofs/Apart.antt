@@ -7,9 +7,9 @@ use native.Mathlib.Omega.{arith}
 use borrow.Author.Tests.{leb-true}
 use lib.Dec.{leb}
 use lib.IntN.{ℤ}
-use Rattle.text_words.specs.Words.{SPACE, MINUS, ZERO, NINE, LETTER-A, LETTER-C, LETTER-E, LETTER-P, onto, pieces, filled, words, Spells, LiteralWord}
+use Rattle.text_words.specs.Words.{SPACE, MINUS, ZERO, LETTER-A, LETTER-C, LETTER-E, LETTER-P, onto, pieces, filled, words, Spells, LiteralWord}
+use Rattle.text_words.specs.InnerNumbers.{NINE, allDigits}
 use Rattle.text_words.specs.Words.{literal-word, negated-word, Literals, closing, entry}
-use Rattle.text_words.specs.InnerNumbers.{allDigits}
 use Rattle.text_words.specs.InnerPlaces.{front, later}
 use Rattle.text_words.proofs.Numbers.{both}
 use Rattle.text_words.proofs.Lines.{front-later}

@@ -11,9 +11,9 @@ use lib.ListN.{length}
 use lib.IntN.{ℤ, pos, negsuc, natAbs}
 use Rattle.text_lines.specs.declared.Stage.{Stage}
 use Rattle.text_lines.specs.declared.Stage.the-variants.{Body}
-use Rattle.text_words.specs.Words.{LF, SPACE, MINUS, ZERO, NINE, LETTER-A, LETTER-C, LETTER-E, LETTER-F, LETTER-N, LETTER-P, onto, pieces, filled, words}
+use Rattle.text_words.specs.Words.{LF, SPACE, MINUS, ZERO, LETTER-A, LETTER-C, LETTER-E, LETTER-F, LETTER-N, LETTER-P, onto, pieces, filled, words}
+use Rattle.text_words.specs.InnerNumbers.{NINE, allDigits}
 use Rattle.text_words.specs.Words.{variable-word, LiteralWord, literal-word, negated-word, Entries, closing, entry, Variables, Literals}
-use Rattle.text_words.specs.InnerNumbers.{allDigits}
 use Rattle.text_lines.specs.Format.{p-cnf, QuantifierLine, e-line, a-line, literals-line, TextOf}
 use Rattle.text_lines.specs.InnerGrammar.{the-problem, a-block, a-clause, Lines, no-line, one-more, TextByStages}
 use Rattle.text_write.specs.Numbers.{decimal, digitsOf}

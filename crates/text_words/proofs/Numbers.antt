@@ -13,7 +13,8 @@ use lib.Seq.{slice, slice-cons, slice-empty}
 use Rattle.text_words.specs.declared.Number.{Number}
 use Rattle.text_words.specs.declared.Number.the-variants.{Is, Not}
 use Rattle.text_words.specs.InnerNumbers.{Item, Closing, Plain, Negated, Other, allDigits, spelt, isNumber, numberOf, plainItem, negatedItem, itemOf}
-use Rattle.text_words.specs.Words.{MINUS, ZERO, NINE}
+use Rattle.text_words.specs.Words.{MINUS, ZERO}
+use Rattle.text_words.specs.InnerNumbers.{NINE}
 use Rattle.text_words.specs.InnerPlaces.{speltOf}
 
 module _ (value i end : ℕ) (text : List ℕ) (h : i < end) (e : end ≤ length text) where

@@ -15,8 +15,8 @@ use Rattle.text_words.specs.declared.Number.{Number}
 use Rattle.text_words.specs.declared.Number.the-variants.{Is}
 use Rattle.text_words.specs.declared.Counted.{Counted}
 use Rattle.text_words.specs.declared.Counted.the-variants.{Uncounted, Count}
-use Rattle.text_words.specs.Words.{LF, SPACE, MINUS, ZERO, NINE}
-use Rattle.text_words.specs.InnerNumbers.{numberOf}
+use Rattle.text_words.specs.Words.{LF, SPACE, MINUS, ZERO}
+use Rattle.text_words.specs.InnerNumbers.{NINE, numberOf}
 use Rattle.text_words.specs.InnerPlaces.{past, inWord, signed, bare, wordFrom, speltOf, SignIs, minus, unsigned, Numeral, NumeralIs, StopIs}
 use Rattle.text_words.proofs.Leading.{past-more, past-stop, from-found}
 use Rattle.text_words.proofs.Numbers.{spelt-digit, spelt-none, number-spelt, power-next}

@@ -14,7 +14,8 @@ use Rattle.text_write.specs.Numbers.{Digits, no-digit, digit, decimal}
 use Rattle.text_write.proofs.Decimal.{digits-most, decimal-is}
 use Rattle.text_words.specs.declared.Number.{Number}
 use Rattle.text_words.specs.declared.Number.the-variants.{Is, Not}
-use Rattle.text_words.specs.Words.{MINUS, ZERO, NINE, Spells, VariableWord, variable-word, LiteralWord, literal-word, negated-word, Entries, closing, Variables}
+use Rattle.text_words.specs.Words.{MINUS, ZERO, Spells, VariableWord, variable-word, LiteralWord, literal-word, negated-word, Entries, closing, Variables}
+use Rattle.text_words.specs.InnerNumbers.{NINE}
 use Rattle.text_words.specs.Words.{Literals}
 use Rattle.text_words.specs.Words as plain
 use Rattle.text_words.specs.InnerNumbers.{allDigits, spelt, isNumber, numberOf, Item, Closing, Plain, Negated, Other, plainItem, negatedItem, itemOf}

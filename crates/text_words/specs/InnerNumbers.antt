@@ -8,7 +8,11 @@ use lib.IntN.{ℤ, pos, negℤ}
 use lib.ListN.{length}
 use Rattle.text_words.specs.declared.Number.{Number}
 use Rattle.text_words.specs.declared.Number.the-variants.{Is, Not}
-use Rattle.text_words.specs.Words.{MINUS, ZERO, NINE}
+use Rattle.text_words.specs.Words.{MINUS, ZERO}
+
+-- The last of the digits.
+abbrev pub NINE : ℕ
+NINE = 57
 
 -- Digits, and the number that they spell after the number `before`.
 unfoldable pub allDigits : List ℕ → Bool

@@ -7,7 +7,7 @@ use lib.Dec.{eqb}
 use lib.IntN.{ℤ, pos, negℤ}
 use lib.ListN.{length}
 use Rattle.text_write.specs.Numbers.{Digits}
-pub use Rattle.text_write.specs.Texts.{LF, SPACE, MINUS, ZERO, NINE, LETTER-A, LETTER-C, LETTER-E, LETTER-F, LETTER-N, LETTER-P}
+pub use Rattle.text_write.specs.Texts.{LF, SPACE, MINUS, ZERO, LETTER-A, LETTER-C, LETTER-E, LETTER-F, LETTER-N, LETTER-P}
 
 -- A byte in front of the first piece.
 unfoldable pub onto : ℕ → List (List ℕ) → List (List ℕ)

@@ -3,7 +3,7 @@ use Prim.Native.Nat.{ℕ, _<_}
 use mathlib.Core.List.{List}
 use lib.ListN.{length}
 
--- The bytes that the format names: LF, a space, `-`, `0` and `9`, and the letters a, c, e, f, n, p.
+-- The bytes that the format names: LF, a space, `-`, `0`, from which the digits count, and the letters a, c, e, f, n, p.
 abbrev pub LF : ℕ
 LF = 10
 
@@ -15,9 +15,6 @@ MINUS = 45
 
 abbrev pub ZERO : ℕ
 ZERO = 48
-
-abbrev pub NINE : ℕ
-NINE = 57
 
 abbrev pub LETTER-A : ℕ
 LETTER-A = 97

@@ -8,7 +8,8 @@ use lib.Seq.{length-take-le}
 use Rattle.forest_members.specs.declared.Asked.{Asked}
 use Rattle.forest_members.specs.declared.Asked.the-variants.{Points, Set}
 use Rattle.forest_members.specs.Picked.{pick}
-use Rattle.listing_lines.specs.Lines.{universalLine, Small, Stored}
+use Rattle.listing_lines.specs.Lines.{universalLine, Stored}
+use Rattle.listing_lines.specs.Inner.{Small}
 use Rattle.listing.specs.Listing.{lineBytes}
 use Rattle.listing.proofs.Printed.{picked-small, picked-room, picked-front}
 use borrow.Author.Needs.{needs}

@@ -5,7 +5,8 @@ use Prim.Native.Nat.{ℕ, _≤_}
 use native.Mathlib.Omega.{arith}
 use lib.ListN.{length, length-replicate}
 use lib.Seq.{length-take-le}
-use Rattle.listing_lines.specs.Lines.{universalLine, Small, Stored}
+use Rattle.listing_lines.specs.Lines.{universalLine, Stored}
+use Rattle.listing_lines.specs.Inner.{Small}
 use Rattle.listing.specs.Listing.{lineBytes}
 use Rattle.listing.proofs.Printed.{run-room, run-front, run-small, sole-small}
 use borrow.Author.Needs.{needs}

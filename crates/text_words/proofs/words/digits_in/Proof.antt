@@ -7,7 +7,8 @@ use lib.Dec.{lit<}
 use lib.ListN.{getD}
 use lib.Seq.{slice}
 use borrow.Author.Tests.{le-leb, lt-leb}
-use Rattle.text_words.specs.Words.{ZERO, NINE}
+use Rattle.text_words.specs.Words.{ZERO}
+use Rattle.text_words.specs.InnerNumbers.{NINE}
 use Rattle.text_words.specs.InnerPlaces.{speltOf}
 use Rattle.text_words.proofs.Numbers.{spelt-digit, spelt-other, spelt-none, power-next, power-most}
 use Rattle.text_words.proofs.words.digits_in.Statement.{statement}
