@@ -160,18 +160,20 @@ module _ (rule n : ℕ) (es : List ℕ) where
         let clauses = took .clauses ∙ ap (λ (i : ℕ). i + 1) (t .clauses) ∙ sym (many-last accepted first) in
         sum-tallies law (withLast ls clause) s″ added-forest (record { clauses = clauses; classes = took .classes; merges = adding-sum added })
 
-    -- Demand 3, first sentence: adding a clause to the built forest gives row by row, and in the tally, what build gives with the clause put last, if
-    -- the longer list is within the limits.
-    pub adding-builds : {s‴ : Standing} (answer : Filled) → length (withLast ls clause) ≤ clauseEntries → Builds rule (with (withLast ls clause)) s s‴ answer → (answer ≡ Count n) × (s‴ ≡ s″)
-    adding-builds answer small again =
+    -- Demand 3, first sentence: what add leaves build may leave of the list with the clause put last, if that is within the limits ...
+    pub added-builds : length (withLast ls clause) ≤ clauseEntries → Builds rule (with (withLast ls clause)) s s″ (Count n)
+    added-builds small =
         let none = built .judged in
         let lengths : None (At0 2 (PrefixLong es ⊎ ClausesLong (length (withLast ls clause)))) =
         λ k p cause. ⊎-elim (λ long. none .1 .1 .0 k p (cause .0, cause .1, inl long)) (λ long. omega arith) (cause .2) in
-        build-tight (with (withLast ls clause)) answer (Count n) again
-        (record {
+        record {
           judged = (none .0, (none .1 .0, (lengths, (none .1 .1 .1 .0, (no-clause-cause accepted first, (none .1 .1 .1 .1 .1 .0, tt))))));
           leaves = (refl, added-grown, added-tally);
-        })
+        }
+
+    -- ... so that adding a clause to the built forest gives row by row, and in the tally, what build gives with the clause put last.
+    pub adding-builds : {s‴ : Standing} (answer : Filled) → length (withLast ls clause) ≤ clauseEntries → Builds rule (with (withLast ls clause)) s s‴ answer → (answer ≡ Count n) × (s‴ ≡ s″)
+    adding-builds answer small again = build-tight (with (withLast ls clause)) answer (Count n) again (added-builds small)
 
     -- Demand 3, second sentence: where the clause has neither x nor any variable of its set, what x depends on stays ...
     pub adding-depends : {x y : ℕ} → LeavesAlone X (Shares ls) (connected clause) x → Depends X (Shares ls) x y ↔ Depends X (Shares (withLast ls clause)) x y

@@ -1,0 +1,5 @@
+-- What the library is held to, in the order of docs/RULES.md: the words, and then one file for each demand. Each sentence is one statement, over the
+-- promises of the calls; its proof stands in `proofs/`, in the file of the same name.
+pub mod Words
+pub mod Demand2
+pub mod Demand3
