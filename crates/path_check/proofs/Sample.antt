@@ -25,7 +25,7 @@ use Rattle.formula_rules.specs.Rules.{readAs, checkOrder}
 use Rattle.forest_tables.specs.Formula.{variables, universal}
 use Rattle.path_check.specs.Causes.{Misnamed, NumberOver, PathCause, PathJudged}
 use Rattle.path_check.specs.InnerOrders.{pairOrder}
-use Rattle.path_check.proofs.Deciding.{hasVariable, isDeep, common, shares, joins, fails, scan, judge, judge-judged}
+use Rattle.path_check.proofs.Deciding.{hasVariable, isDeeper, common, shares, joins, fails, scan, judge, judge-judged}
 
 abbrev es : List ℕ
 es = 1 ∷ 1 ∷ 2 ∷ 0 ∷ 2 ∷ 3 ∷ 0 ∷ 1 ∷ 4 ∷ 5 ∷ 0 ∷ 2 ∷ 6 ∷ 0 ∷ 1 ∷ 7 ∷ 8 ∷ 9 ∷ 0 ∷ []
@@ -102,7 +102,7 @@ pub record Sampled : Type 0 where
   pub not-deeper : PathJudged 1 formula-A 6 5 (2 ∷ 3 ∷ []) (Refused 13 0)
 
 pub sampled : Sampled
-unfolding blocks clauses opposite denied alwaysTrue freeLevel level isUniversal isExistential cut has universal below hasVariable isDeep common shares joins fails scan judge
+unfolding blocks clauses opposite denied alwaysTrue freeLevel level isUniversal isExistential cut has universal below hasVariable isDeeper common shares joins fails scan judge
 sampled =
     record {
       path-3-8 = by-computing (0 ∷ 1 ∷ []) Accepted (record { of-universal = refl; of-existential = refl; deeper = refl; known = refl; judged = refl });

@@ -33,7 +33,7 @@ returns-2 c es sound table =
 
 returns-3 : tie.Need-returns-3
 returns-3 c es sound table =
-    let at-is-deep = c .before .before in
+    let at-is-deeper = c .before .before in
     let at-if1 = at-is-deeper .before in
     let at-universal-at = at-if1 .before in
     let at-start = at-universal-at .before .before .before .before in
