@@ -1,5 +1,5 @@
--- Resolution paths for any clauses and any rule of what a path may pass (`path_resolution` has them for the clauses of a table and the existentials
--- deeper than x), and what depends on x by them.
+-- Resolution paths (rule 14.1) for any clauses and any rule of what a path may pass, and what depends on x by them (rule 14.2); `path_resolution` has
+-- them for the clauses of a table and the existentials deeper than x.
 use Prim.Native.Nat.{ℕ}
 use mathlib.Core.Path.{_≡_}
 use mathlib.Core.Bool.{Bool, true, false, not}

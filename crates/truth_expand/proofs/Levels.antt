@@ -10,19 +10,12 @@ use borrow.Author.Tests.{eq-eqb, ne-eqb}
 use lib.Dec.{eqb}
 use lib.ListN.{drop}
 use Rattle.terms.proofs.Common.{clash}
-use Rattle.formula.specs.Meaning.{blocks, has, names, markOf, saidOf, firstMark, freeLevel, level, isUniversal}
+use Rattle.formula.specs.Meaning.{blocks, has, names, markOf, numberFrom, firstMark, universalOf, freeLevel, level, isUniversal}
 use Rattle.forest_theory.proofs.Choice.{choice}
 use Rattle.truth.specs.Game.{Earlier, Distinct}
 use Rattle.truth.proofs.Decisions.{member?}
 use Rattle.truth.proofs.Playing.{earlier-first, earlier-second, one-first}
 use Rattle.truth_expand.proofs.Order.{order, Marked, mine, further, marked-in, distinct-apart, distinct-right, Parts, left, across, right, parts}
-
--- What a list of blocks says of a variable, by its number and its mark.
-abbrev Level : List (List ℕ) → ℕ → ℕ → ℕ → ℕ
-Level bs number free v = saidOf (λ k m. k) bs number free v
-
-abbrev Quantifier : List (List ℕ) → ℕ → Bool → ℕ → Bool
-Quantifier bs number free v = saidOf (λ k m. eqb m 2) bs number free v
 
 -- Whether a block names v.
 has-in : {v : ℕ} {ws : List ℕ} → List·Memᴰ v ws → has ws v ≡ true
@@ -42,81 +35,83 @@ names-out : {v : ℕ} (b : List ℕ) → (List·Memᴰ v (drop 1 b) → ⊥) →
 names-out [] n = refl
 names-out (m ∷ b) n = has-out b n
 
--- What is said of a variable that no block names, of one that the first block names alone, and of one that it does not name.
-module _ {A : Type 0} (says : ℕ → ℕ → A) where
-  said-none : (bs : List (List ℕ)) (number : ℕ) (found : A) (v : ℕ) → (List·Memᴰ v (order bs) → ⊥) → saidOf says bs number found v ≡ found
-  unfolding order
-  said-none [] number found v n = refl
-  said-none (b ∷ bs) number found v n =
-      said-none bs (suc number) (cond (names b v) (says number (markOf b)) found) v (λ i. n (Memᴰ·append-right (drop 1 b) i))
-      ∙ ap (λ (t : Bool). cond t (says number (markOf b)) found) (names-out b (λ i. n (Memᴰ·append-left (order bs) i)))
+-- The number of a variable's block and its quantifier: for one that the first block names, for one that it does not name, and for one that none names.
+module _ (b : List ℕ) (bs : List (List ℕ)) (v : ℕ) where
+  number-here : (number free : ℕ) → List·Memᴰ v (drop 1 b) → numberFrom number (b ∷ bs) free v ≡ number
+  number-here number free i = ap (λ (t : Bool). cond t number (numberFrom (suc number) bs free v)) (names-in b i)
 
-  said-here : (b : List ℕ) (bs : List (List ℕ)) (number : ℕ) (found : A) (v : ℕ) → List·Memᴰ v (drop 1 b) → (List·Memᴰ v (order bs) → ⊥)
-      → saidOf says (b ∷ bs) number found v ≡ says number (markOf b)
-  said-here b bs number found v i n =
-      said-none bs (suc number) (cond (names b v) (says number (markOf b)) found) v n
-      ∙ ap (λ (t : Bool). cond t (says number (markOf b)) found) (names-in b i)
+  number-later : (number free : ℕ) → (List·Memᴰ v (drop 1 b) → ⊥) → numberFrom number (b ∷ bs) free v ≡ numberFrom (suc number) bs free v
+  number-later number free n = ap (λ (t : Bool). cond t number (numberFrom (suc number) bs free v)) (names-out b n)
 
-  said-later : (b : List ℕ) (bs : List (List ℕ)) (number : ℕ) (found : A) (v : ℕ) → (List·Memᴰ v (drop 1 b) → ⊥)
-      → saidOf says (b ∷ bs) number found v ≡ saidOf says bs (suc number) found v
-  said-later b bs number found v n =
-      ap (λ (t : Bool). saidOf says bs (suc number) (cond t (says number (markOf b)) found) v) (names-out b n)
+  quantifier-here : List·Memᴰ v (drop 1 b) → universalOf (b ∷ bs) v ≡ eqb (markOf b) 2
+  quantifier-here i = ap (λ (t : Bool). cond t (eqb (markOf b) 2) (universalOf bs v)) (names-in b i)
+
+  quantifier-later : (List·Memᴰ v (drop 1 b) → ⊥) → universalOf (b ∷ bs) v ≡ universalOf bs v
+  quantifier-later n = ap (λ (t : Bool). cond t (eqb (markOf b) 2) (universalOf bs v)) (names-out b n)
+
+number-none : (bs : List (List ℕ)) (number free v : ℕ) → (List·Memᴰ v (order bs) → ⊥) → numberFrom number bs free v ≡ free
+unfolding order
+number-none [] number free v n = refl
+number-none (b ∷ bs) number free v n =
+    number-later b bs v number free (λ i. n (Memᴰ·append-left (order bs) i))
+    ∙ number-none bs (suc number) free v (λ i. n (Memᴰ·append-right (drop 1 b) i))
+
+quantifier-none : (bs : List (List ℕ)) (v : ℕ) → (List·Memᴰ v (order bs) → ⊥) → universalOf bs v ≡ false
+unfolding order
+quantifier-none [] v n = refl
+quantifier-none (b ∷ bs) v n =
+    quantifier-later b bs v (λ i. n (Memᴰ·append-left (order bs) i)) ∙ quantifier-none bs v (λ i. n (Memᴰ·append-right (drop 1 b) i))
 
 -- A named variable has at least the number of the first block.
-level-least : (bs : List (List ℕ)) (number free v : ℕ) → Distinct (order bs) → List·Memᴰ v (order bs) → number ≤ Level bs number free v
+number-least : (bs : List (List ℕ)) (number free v : ℕ) → Distinct (order bs) → List·Memᴰ v (order bs) → number ≤ numberFrom number bs free v
 unfolding order
-level-least [] number free v d i = absurd (List·Memᴰ·not-nil i)
-level-least (b ∷ bs) number free v d i = ⊎-elim
-    (λ j. let here = said-here (λ k m. k) b bs number free v j (distinct-apart (drop 1 b) d j) in omega arith)
-    (λ j. let more = level-least bs (suc number) free v (distinct-right (drop 1 b) (order bs) d) j in
-    let same = said-later (λ k m. k) b bs number free v (λ h. distinct-apart (drop 1 b) d h j) in omega arith)
+number-least [] number free v d i = absurd (List·Memᴰ·not-nil i)
+number-least (b ∷ bs) number free v d i = ⊎-elim
+    (λ j. let here = number-here b bs v number free j in omega arith)
+    (λ j. let more = number-least bs (suc number) free v (distinct-right (drop 1 b) (order bs) d) j in
+    let same = number-later b bs v number free (λ h. distinct-apart (drop 1 b) d h j) in omega arith)
     (List·Memᴰ·append-cases (drop 1 b) i)
 
 -- Of two that are named in this order, with different quantifiers, the first is of a lesser level.
-earlier-less : {a c : ℕ} (bs : List (List ℕ)) (number free : ℕ) (u : Bool) → Distinct (order bs) → Earlier a c (order bs)
-    → Quantifier bs number u a ≢ Quantifier bs number u c → Level bs number free a < Level bs number free c
+earlier-less : {a c : ℕ} (bs : List (List ℕ)) (number free : ℕ) → Distinct (order bs) → Earlier a c (order bs)
+    → universalOf bs a ≢ universalOf bs c → numberFrom number bs free a < numberFrom number bs free c
 unfolding order
-earlier-less [] number free u d e n = absurd (List·Memᴰ·not-nil (earlier-second e))
-earlier-less {a} {c} (b ∷ bs) number free u d e n = go (parts (drop 1 b) e) (earlier-less bs (suc number) free u (distinct-right (drop 1 b) (order bs) d))
+earlier-less [] number free d e n = absurd (List·Memᴰ·not-nil (earlier-second e))
+earlier-less {a} {c} (b ∷ bs) number free d e n = go (parts (drop 1 b) e) (earlier-less bs (suc number) free (distinct-right (drop 1 b) (order bs) d))
   where
     here : {v : ℕ} → List·Memᴰ v (drop 1 b) → List·Memᴰ v (order bs) → ⊥
     here = distinct-apart (drop 1 b) d
 
     go : Parts a c (drop 1 b) (order bs)
-        → (Earlier a c (order bs) → Quantifier bs (suc number) u a ≢ Quantifier bs (suc number) u c → Level bs (suc number) free a < Level bs (suc number) free c)
-        → Level (b ∷ bs) number free a < Level (b ∷ bs) number free c
-    go (left i j) on =
-        absurd (n (said-here (λ k m. eqb m 2) b bs number u a i (here i) ∙ sym (said-here (λ k m. eqb m 2) b bs number u c j (here j))))
+        → (Earlier a c (order bs) → universalOf bs a ≢ universalOf bs c → numberFrom (suc number) bs free a < numberFrom (suc number) bs free c)
+        → numberFrom number (b ∷ bs) free a < numberFrom number (b ∷ bs) free c
+    go (left i j) on = absurd (n (quantifier-here b bs a i ∙ sym (quantifier-here b bs c j)))
     go (across i j) on =
-        let p = said-here (λ k m. k) b bs number free a i (here i) in
-        let q = said-later (λ k m. k) b bs number free c (λ h. here h j) in
-        let more = level-least bs (suc number) free c (distinct-right (drop 1 b) (order bs) d) j in
+        let p = number-here b bs a number free i in
+        let q = number-later b bs c number free (λ h. here h j) in
+        let more = number-least bs (suc number) free c (distinct-right (drop 1 b) (order bs) d) j in
         omega arith
     go (right r) on =
         let none-a : List·Memᴰ a (drop 1 b) → ⊥ = λ h. here h (earlier-first r) in
         let none-c : List·Memᴰ c (drop 1 b) → ⊥ = λ h. here h (earlier-second r) in
-        let p = said-later (λ k m. k) b bs number free a none-a in
-        let q = said-later (λ k m. k) b bs number free c none-c in
-        let s = said-later (λ k m. eqb m 2) b bs number u a none-a in
-        let t = said-later (λ k m. eqb m 2) b bs number u c none-c in
-        let less = on r (λ same. n (s ∙ same ∙ sym t)) in
+        let p = number-later b bs a number free none-a in
+        let q = number-later b bs c number free none-c in
+        let less = on r (λ same. n (quantifier-later b bs a none-a ∙ same ∙ sym (quantifier-later b bs c none-c))) in
         omega arith
 
 -- What is named with a mark has its quantifier.
-marked-said : {m v : ℕ} (bs : List (List ℕ)) (number : ℕ) (u : Bool) → Distinct (order bs) → Marked m v bs → Quantifier bs number u v ≡ eqb m 2
+marked-quantifier : {m v : ℕ} (bs : List (List ℕ)) → Distinct (order bs) → Marked m v bs → universalOf bs v ≡ eqb m 2
 unfolding order
-marked-said [] number u d k = absurd (List·Memᴰ·not-nil (marked-in k))
-marked-said {m} {v} (b ∷ bs) number u d (mine q i) =
-    said-here (λ k m. eqb m 2) b bs number u v i (distinct-apart (drop 1 b) d i) ∙ ap (λ (k : ℕ). eqb k 2) q
-marked-said {m} {v} (b ∷ bs) number u d (further k) =
-    said-later (λ k m. eqb m 2) b bs number u v (λ h. distinct-apart (drop 1 b) d h (marked-in k))
-    ∙ marked-said bs (suc number) u (distinct-right (drop 1 b) (order bs) d) k
+marked-quantifier [] d k = absurd (List·Memᴰ·not-nil (marked-in k))
+marked-quantifier {m} {v} (b ∷ bs) d (mine q i) = quantifier-here b bs v i ∙ ap (λ (k : ℕ). eqb k 2) q
+marked-quantifier {m} {v} (b ∷ bs) d (further k) =
+    quantifier-later b bs v (λ h. distinct-apart (drop 1 b) d h (marked-in k)) ∙ marked-quantifier bs (distinct-right (drop 1 b) (order bs) d) k
 
 -- The same of a prefix.
 module _ (es : List ℕ) (once : Distinct (order (blocks es))) where
   pub earlier-level : {a c : ℕ} → Earlier a c (order (blocks es)) → isUniversal es a ≢ isUniversal es c → level es a < level es c
-  unfolding level isUniversal
-  earlier-level e n = earlier-less (blocks es) 1 (freeLevel es) false once e n
+  unfolding level isUniversal freeLevel
+  earlier-level e n = earlier-less (blocks es) 1 (freeLevel es) once e n
 
   pub level-earlier : {a c : ℕ} → List·Memᴰ a (order (blocks es)) → List·Memᴰ c (order (blocks es)) → isUniversal es a ≢ isUniversal es c
       → level es a < level es c → Earlier a c (order (blocks es))
@@ -125,11 +120,11 @@ module _ (es : List ℕ) (once : Distinct (order (blocks es))) where
 
   pub marked-universal : {m v : ℕ} → Marked m v (blocks es) → isUniversal es v ≡ eqb m 2
   unfolding isUniversal
-  marked-universal k = marked-said (blocks es) 1 false once k
+  marked-universal k = marked-quantifier (blocks es) once k
 
   pub unnamed-universal : {v : ℕ} → (List·Memᴰ v (order (blocks es)) → ⊥) → isUniversal es v ≡ false
   unfolding isUniversal
-  unnamed-universal {v} n = said-none (λ k m. eqb m 2) (blocks es) 1 false v n
+  unnamed-universal {v} n = quantifier-none (blocks es) v n
 
   -- A universal is named, and so is what stands behind one.
   pub universal-named : {v : ℕ} → isUniversal es v ≡ true → List·Memᴰ v (order (blocks es))
@@ -138,8 +133,8 @@ module _ (es : List ℕ) (once : Distinct (order (blocks es))) where
   pub behind-named : (z : ℕ) {v : ℕ} → isUniversal es z ≡ true → level es z < level es v → List·Memᴰ v (order (blocks es))
   unfolding level freeLevel
   behind-named z {v} u l = by-cases (member? ℕ-discrete v (order (blocks es))) (λ i. i)
-      (λ n. let least = level-least (blocks es) 1 (freeLevel es) z once (universal-named u) in
-      let free = said-none (λ k m. k) (blocks es) 1 (freeLevel es) v n in
+      (λ n. let least = number-least (blocks es) 1 (freeLevel es) z once (universal-named u) in
+      let free = number-none (blocks es) 1 (freeLevel es) v n in
       let few = most (eqb (firstMark (blocks es)) 1) in absurd (omega arith))
     where
       most : (b : Bool) → cond b 1 0 ≤ 1

@@ -10,6 +10,7 @@ use Rattle.terms.specs.declared.Scheme.{Scheme}
 use Rattle.terms.specs.declared.Scheme.the-variants.{Standard, Strict}
 use Rattle.formula.specs.Lent.{Formula}
 use Rattle.formula.specs.Meaning.{level, isExistential, clauses}
+use Rattle.forest_theory.specs.Reach.{Deeper}
 use Rattle.forest_theory.proofs.Strict.{strict-within}
 use Rattle.forest_tables.specs.Formula.{universal}
 use Rattle.forest_tables.specs.Lent.{variablesOf}
@@ -17,7 +18,7 @@ use Rattle.forest_tables.proofs.Agreeing.{universal-within}
 use Rattle.forest_entries.proofs.Sides.{shares-some}
 use Rattle.forest.specs.Answers.{DependsBy}
 use Rattle.forest.proofs.Demands.{universal-alone}
-use Rattle.path_resolution.specs.Paths.{Deeper, Crosses, Path, enters, goes-on, DependsByPaths}
+use Rattle.path_resolution.specs.Paths.{Crosses, Path, enters, goes-on, DependsByPaths}
 use Rattle.path_resolution.proofs.Within.{paths-strict}
 use Rattle.truth.specs.Paths.{Crossing, Way, MayUse, PathSet}
 use Rattle.truth.specs.Narrowing.{NarrowedAt, NarrowedTo}
@@ -82,8 +83,8 @@ module _ (f : Formula) where
   pub sets-at : (scheme : Scheme) (x : ℕ) → Holds f ↔ HoldsWithinAt x (DependsBy scheme f x) f
   sets-at scheme x = within-at f depend? (λ z y d. d .universal) x (DependsBy scheme f x) (λ y d i. in-sets scheme x y (d .universal) i)
 
-  pub paths-all : Holds f ↔ HoldsWithin (DependsByPaths (variablesOf f) (f .clauses)) f
-  paths-all = within-all f depend? (λ z y d. d .universal) (DependsByPaths (variablesOf f) (f .clauses)) (λ x y d i. in-paths x y i)
+  pub wider-all : (Set : ℕ → ℕ → Type 0) → ((x y : ℕ) → DependsByPaths (variablesOf f) (f .clauses) x y → Set x y) → Holds f ↔ HoldsWithin Set f
+  wider-all Set wider = within-all f depend? (λ z y d. d .universal) Set (λ x y d i. wider x y (in-paths x y i))
 
   pub sets-all : (scheme : Scheme) → Holds f ↔ HoldsWithin (DependsBy scheme f) f
   sets-all scheme = within-all f depend? (λ z y d. d .universal) (DependsBy scheme f) (λ x y d i. in-sets scheme x y (d .universal) i)

@@ -1,4 +1,4 @@
--- When a formula is true that is lent with dependency lists (request 12).
+-- When a formula is true that is lent with dependency lists (rule 13.1).
 use Prim.Native.Nat.{ℕ}
 use mathlib.Core.Path.{_≡_}
 use mathlib.Core.Bool.{true}
