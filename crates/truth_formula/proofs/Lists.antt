@@ -1,43 +1,31 @@
 -- Narrowing with dependency lists: whose list has x can be told, and the three sets have the resolution-path set in them.
-use Prim.Native.Nat.{ℕ, zero, suc, _<_}
-use mathlib.Core.Path.{_≡_, sym, subst}
+use Prim.Native.Nat.{ℕ}
+use mathlib.Core.Path.{_≡_, refl, sym, subst}
 use mathlib.Core.Bool.{Bool, true, false, not, Bool-discrete}
-use mathlib.Core.List.{List}
-use mathlib.Core.Logic.{_⊎_, inl, inr, ⊎-elim, _↔_, Dec·and, Dec·not, by-cases}
+use mathlib.Core.List.{List, [], _∷_, List·Memᴰ}
+use mathlib.Core.Logic.{_⊎_, inl, inr, ⊎-elim, _↔_, Dec·and}
 use native.Mathlib.Decide.{ℕ-discrete, decLt, map-dec}
 use native.Mathlib.Omega.{arith}
 use lib.IntN.{ℤ}
-use lib.ListN.{length}
 use Rattle.terms.specs.Literals.{variableOf}
 use Rattle.terms.specs.declared.Scheme.{Scheme}
 use Rattle.terms.specs.declared.Scheme.the-variants.{Standard, Strict}
-use Rattle.terms.proofs.Common.{clash, by-test}
 use Rattle.formula.specs.Lent.{Formula}
 use Rattle.formula.specs.Meaning.{level, isExistential, clauses}
-use Rattle.formula.specs.Tables.{at, opens, MarkAt, VariableAt}
+use Rattle.formula.specs.Tables.{at}
 use Rattle.formula.proofs.Ordered.{named?}
 use Rattle.forest_theory.specs.Reach.{here, step, Follows}
 use Rattle.forest_theory.proofs.Reach.{reach-one, reach-trans}
 use Rattle.forest_tables.specs.Formula.{universal, signed, Shares, SharesBy}
 use Rattle.forest_entries.proofs.Sides.{signed-variable, shares-some}
-use Rattle.dqbf_lists.specs.Lists.{OneList, InBlock, Given, ListHas}
+use Rattle.dqbf_lists.specs.Lists.{lists, InBlock, Given, ListHas}
 use Rattle.dqbf_sets.specs.Depends.{DependsOnBy}
 use Rattle.path_resolution.proofs.Marks.{complement-variable}
 use Rattle.path_resolution.proofs.Within.{crosses-shares, crosses-signed}
 use Rattle.truth.specs.Paths.{Way, enters, goes-on, MayUse}
+use Rattle.truth.proofs.Decisions.{any, member?}
 use Rattle.truth_formula.specs.Listed.{MayDependBy, HoldsListed, HoldsListedWithin, ListedPaths}
 use Rattle.truth_formula.proofs.Narrowed.{InPathSet, crosses, within-all}
-
--- Something below n, or nothing.
-below? : (P : ℕ → Type 0) → ((i : ℕ) → Dec (P i)) → (n : ℕ) → Dec ((i : ℕ) × (i < n) × P i)
-below? P decide zero = no (λ t. let l = t .1 in omega arith)
-below? P decide (suc n) = go (decide n) (below? P decide n)
-  where
-    go : Dec (P n) → Dec ((i : ℕ) × (i < n) × P i) → Dec ((i : ℕ) × (i < suc n) × P i)
-    go (yes p) rest = yes (n, omega arith, p)
-    go (no m) (yes t) = yes (t .0, (let l = t .1 in omega arith), t .2)
-    go (no m) (no none) =
-        no (λ t. let l = t .1 in by-cases (ℕ-discrete (t .0) n) (λ q. m (rw q at (t .2))) (λ other. none (t .0, omega arith, t .2)))
 
 either? : {A B : Type 0} → Dec A → Dec B → Dec (A ⊎ B)
 either? (yes a) d = yes (inl a)
@@ -48,27 +36,22 @@ either? (no n) (no m) = no (⊎-elim n m)
 in-block? : (es : List ℕ) (v : ℕ) → Dec (InBlock es v)
 in-block? es v = ⊎-elim (λ k. let (e, _, there, is) = k in yes (e, there, is)) (λ n. no (λ k. let (e, there, is) = k in n (e, omega arith, there, is))) (named? es v)
 
-module _ (ds : List ℕ) where
-  opens-at? : (b y : ℕ) → Dec (MarkAt ds b × (at ds b ≡ y))
-  opens-at? b y = Dec·and (Dec·and (decLt b (length ds)) (Bool-discrete (opens ds b) true)) (ℕ-discrete (at ds b) y)
+-- a list is that of y, and has x
+abbrev ListFor : ℕ → ℕ → List ℕ → Type 0
+ListFor x y [] = ⊥
+ListFor x y (z ∷ universals) = (z ≡ y) × List·Memᴰ x universals
 
-  stands-at? : (e x : ℕ) → Dec (VariableAt ds e × (at ds e ≡ x))
-  stands-at? e x = map-dec (λ p. ((p .0 .0, p .0 .1 .0, p .0 .1 .1), p .1)) (λ p. ((p .0 .0, (p .0 .1, p .0 .2)), p .1))
-      (Dec·and (Dec·and (decLt e (length ds)) (Dec·and (Bool-discrete (opens ds e) false) (Dec·not (ℕ-discrete (at ds e) 0)))) (ℕ-discrete (at ds e) x))
+list-for? : (x y : ℕ) (list : List ℕ) → Dec (ListFor x y list)
+list-for? x y [] = no (λ n. n)
+list-for? x y (z ∷ universals) = Dec·and (ℕ-discrete z y) (member? ℕ-discrete x universals)
 
-  one-list? : (b e : ℕ) → Dec (OneList ds b e)
-  one-list? b e = map-dec
-      (λ p. (p .0, λ c l m. by-test (opens ds c) (λ t. absurd (p .1 (c, omega arith, (l, t)))) (λ f. f)))
-      (λ o. (o .0, λ t. let l = t .1 in clash (t .2 .1) (o .1 (t .0) (t .2 .0) (omega arith))))
-      (Dec·and (decLt b e) (Dec·not (below? (λ c. (b < c) × (opens ds c ≡ true)) (λ c. Dec·and (decLt b c) (Bool-discrete (opens ds c) true)) (suc e))))
-
-  given? : (x y : ℕ) → Dec (Given ds x y)
-  given? x y = map-dec
-      (λ t. let (b, _, (for-y, (e, _, (has-x, one)))) = t in record { begin = b; place = e; for-y = for-y; has-x = has-x; one = one })
-      (λ g. (g .begin, g .for-y .0 .0, (g .for-y, (g .place, g .has-x .0 .0, (g .has-x, g .one)))))
-      (below? (λ b. (MarkAt ds b × (at ds b ≡ y)) × ((e : ℕ) × (e < length ds) × ((VariableAt ds e × (at ds e ≡ x)) × OneList ds b e)))
-      (λ b. Dec·and (opens-at? b y)
-      (below? (λ e. (VariableAt ds e × (at ds e ≡ x)) × OneList ds b e) (λ e. Dec·and (stands-at? e x) (one-list? b e)) (length ds))) (length ds))
+given? : (ds : List ℕ) (x y : ℕ) → Dec (Given ds x y)
+given? ds x y = map-dec (λ t. to (t .0) (t .1) (t .2)) (λ g. (y ∷ g .universals, g .listed, (refl, g .has-x))) (any (ListFor x y) (list-for? x y) (lists ds))
+  where
+    to : (list : List ℕ) → List·Memᴰ list (lists ds) → ListFor x y list → Given ds x y
+    to [] m none = absurd none
+    to (z ∷ universals) m (q, i) =
+        record { universals = universals; listed = subst (λ (k : ℕ). List·Memᴰ (k ∷ universals) (lists ds)) q m; has-x = i }
 
 module _ (f : Formula) (ds : List ℕ) where
   listed? : (x y : ℕ) → Dec (MayDependBy f ds x y)
