@@ -4,7 +4,9 @@ use mathlib.Core.Path.{_≡_}
 use mathlib.Core.Bool.{cond}
 use mathlib.Core.List.{List, [], _∷_, _++_}
 use lib.Dec.{eqb}
-use Rattle.terms.specs.Refusals.{Causes, At0, FirstOf, NoneOf}
+use Rattle.terms.specs.Says.{expandedSaid}
+use Rattle.terms.specs.Answers.{Settles}
+use Rattle.terms.specs.Refusals.{Causes, At0}
 use Rattle.terms.specs.declared.Expanded.{Expanded}
 use Rattle.formula.specs.Lent.{Formula}
 use Rattle.formula_rules.specs.Writing.{closing}
