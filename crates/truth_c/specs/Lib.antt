@@ -1,1 +1,0 @@
--- Nothing is defined here: the theorem is about the promises of `snowcoddle` and the truth of `truth_formula`.
