@@ -1,4 +1,4 @@
--- When a formula is true, by the game of its prefix: the variables get their values one after the other, and the outer blocks come first.
+-- When a formula is true, by the game of its prefix (rule 19.2): the variables get their values one after the other, and the outer blocks come first.
 use Prim.Native.Nat.{ℕ, zero, suc, _≤_}
 use mathlib.Core.Bool.{Bool, true, false, cond}
 use mathlib.Core.Path.{_≡_}

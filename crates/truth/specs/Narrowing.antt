@@ -1,4 +1,4 @@
--- What may depend on what, narrowed to sets.
+-- What may depend on what, narrowed to sets (rule 19.3).
 use Prim.Native.Nat.{ℕ}
 use mathlib.Core.Path.{_≡_}
 

@@ -1,5 +1,5 @@
--- When a formula is true, by strategies. A formula is given by which variables are existential (all others are universal), by which existentials may
--- depend on which universals, and by its clauses; each of them may be any.
+-- When a formula is true, by strategies (rule 19.1). A formula is given by which variables are existential (all others are universal), by which
+-- existentials may depend on which universals, and by its clauses; each of them may be any.
 use Prim.Native.Nat.{ℕ}
 use mathlib.Core.Path.{_≡_}
 use mathlib.Core.Bool.{Bool, true, false, not, cond}

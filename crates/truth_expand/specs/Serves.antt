@@ -1,4 +1,4 @@
--- What is asked of a list of members for expanding x by it (rule 12.1) to keep a formula's truth.
+-- What is asked of a list of members for expanding x by it (rule 12.1) to keep a formula's truth (rule 19.4).
 use Prim.Native.Nat.{ℕ}
 use mathlib.Core.Path.{_≡_}
 use mathlib.Core.Bool.{true}

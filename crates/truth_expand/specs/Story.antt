@@ -1,5 +1,5 @@
--- The story of an error that looks right (rule 17.3): a search that starts one existential block too far in loses a member. The formula is the smallest on
--- which that changes truth with every variable in use and a member found: a 1, e 2, a 3, e 4, clauses {1 2 3} {-2 -4} {-1 4}.
+-- The story of an error that looks right (rule 17.3, rule 19.5): a search that starts one existential block too far in loses a member. The formula is
+-- the smallest on which that changes truth with every variable in use and a member found: a 1, e 2, a 3, e 4, clauses {1 2 3} {-2 -4} {-1 4}.
 use Prim.Native.Nat.{ℕ, _+_}
 use mathlib.Core.Path.{_≡_}
 use mathlib.Core.Bool.{true}

@@ -1,4 +1,4 @@
--- When a formula as lent is true. What is said of a formula is said under a reading rule of the formula as the rule reads it (readBy).
+-- When a formula as lent is true (rule 19.1). What is said of a formula is said under a reading rule of the formula as the rule reads it (readBy).
 use Prim.Native.Nat.{ℕ, _<_}
 use mathlib.Core.Path.{_≡_}
 use mathlib.Core.Bool.{true}

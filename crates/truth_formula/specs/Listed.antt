@@ -1,4 +1,4 @@
--- When a formula is true that is lent with dependency lists (rule 13.1).
+-- When a formula is true that is lent with dependency lists (rule 13.1, rule 19.1).
 use Prim.Native.Nat.{ℕ}
 use mathlib.Core.Path.{_≡_}
 use mathlib.Core.Bool.{true}
