@@ -15,6 +15,5 @@ none-first (causes ∷ later) more none = (none .0, none-first later more (none 
 
 pub carry-loading : (read : Formula) (file : List ℕ) (lent lent′ : Lent) (answer : Loaded) (order order′ : List Causes)
     → Carries order order′ → Loading order read file lent lent′ answer → Loading order′ read file lent lent′ answer
-carry-loading read file lent lent′ (Loaded.Formula n entries literals with-sets) order order′ c (none, n-is, e-is, l-is, told, filled) =
-    (c .none none, n-is, e-is, l-is, told, filled)
+carry-loading read file lent lent′ (Loaded.Formula n entries literals with-sets) order order′ c (none, held) = (c .none none, held)
 carry-loading read file lent lent′ (Loaded.Refused number place) order order′ c (first, kept) = (c .first number place first, kept)

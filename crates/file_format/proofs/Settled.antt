@@ -24,7 +24,7 @@ left-one {read} {file} {lent} f g = f .left ∙ ap (storedIn lent (formulaHeld f
 
 pub load-settled : (rule : ℕ) (file : List ℕ) (lent a b : Lent) (x y : Loaded) → Loads rule file lent a x → Loads rule file lent b y
     → (x ≡ y) × (a ≡ b)
-load-settled rule file lent a b (Loaded.Formula n e l s) (Loaded.Formula n′ e′ l′ s′) (none, q, qe, ql, qs, f) (none′, r, re, rl, rs, g) =
+load-settled rule file lent a b (Loaded.Formula n e l s) (Loaded.Formula n′ e′ l′ s′) (none, (q, qe, ql, qs, f)) (none′, (r, re, rl, rs, g)) =
     let n-is : n ≡ n′ = q ∙ sym r in
     let e-is : e ≡ e′ = qe ∙ sym re in
     let l-is : l ≡ l′ = ql ∙ sym rl in
