@@ -5,6 +5,7 @@ pub mod Naming
 -- The clauses: a clause tested and copied, and the literal total.
 pub mod Testing
 pub mod Copying
+pub mod Cutting
 pub mod Totals
 -- The numbers of the copies.
 pub mod Numbering

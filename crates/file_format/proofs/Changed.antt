@@ -62,15 +62,21 @@ same-sum (a ∷ b ∷ more) (suc (suc p)) low high before even within bytes l h 
 pub sums : (rule : ℕ) (file : List ℕ) (lent : Lent) → NoneOf (loadOrder rule file lent) → SumsToZero file
 sums rule file lent none = by-cases (ℕ-discrete (wordSum file % 65536) 0) (λ is. is) (λ other. absurd (none .1 .1 .1 .1 .0 21 0 (refl, refl, other)))
 
+-- A file whose words sum to zero is refused under every rule once one of them is changed ...
+pub other-word-refused : (rule : ℕ) (file : List ℕ) (p low high : ℕ) → Bytes file → SumsToZero file → p % 2 ≡ 0 → p + 1 < length file
+    → low < 256 → high < 256 → sets file p (low ∷ high ∷ []) ≢ file
+    → (lent lent′ : Lent) (answer : Loaded) → Loads rule (sets file p (low ∷ high ∷ [])) lent lent′ answer
+    → (number : ℕ) × (place : ℕ) × (answer ≡ Loaded.Refused number place)
+other-word-refused rule file p low high bytes a even within l h changed lent lent′ (Loaded.Formula n entries literals with-sets) loads =
+    let b = sums rule (sets file p (low ∷ high ∷ [])) lent (loads .0) in
+    absurd (changed (same-sum file p low high 0 even within bytes l h (omega arith)))
+other-word-refused rule file p low high bytes a even within l h changed lent lent′ (Loaded.Refused number place) loads = (number, place, refl)
+
+-- ... and so is a file that is accepted.
 pub changed-word-refused : (rule rule′ : ℕ) (file : List ℕ) (p low high : ℕ) → Bytes file → p % 2 ≡ 0 → p + 1 < length file
     → low < 256 → high < 256 → sets file p (low ∷ high ∷ []) ≢ file
     → (lent lent′ : Lent) {n entries literals : ℕ} {with-sets : Bool} → Loads rule file lent lent′ (Loaded.Formula n entries literals with-sets)
     → (other other′ : Lent) (answer : Loaded) → Loads rule′ (sets file p (low ∷ high ∷ [])) other other′ answer
     → (number : ℕ) × (place : ℕ) × (answer ≡ Loaded.Refused number place)
-changed-word-refused rule rule′ file p low high bytes even within l h changed lent lent′ accepted other other′
-    (Loaded.Formula n entries literals with-sets) loads =
-    let a = sums rule file lent (accepted .0) in
-    let b = sums rule′ (sets file p (low ∷ high ∷ [])) other (loads .0) in
-    absurd (changed (same-sum file p low high 0 even within bytes l h (omega arith)))
-changed-word-refused rule rule′ file p low high bytes even within l h changed lent lent′ accepted other other′ (Loaded.Refused number place) loads =
-    (number, place, refl)
+changed-word-refused rule rule′ file p low high bytes even within l h changed lent lent′ accepted =
+    other-word-refused rule′ file p low high bytes (sums rule file lent (accepted .0)) even within l h changed

@@ -10,6 +10,7 @@ pub mod Unique
 pub mod Settled
 pub mod Agreed
 pub mod Changed
+pub mod AllBytes
 pub mod Decoded
 pub mod Fits
 pub mod Walked
