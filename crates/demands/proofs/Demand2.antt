@@ -108,7 +108,7 @@ module _ {rule : ℕ} {f : Formula} {s : Standing} (built : Built rule f s) wher
         let many = numbered-same (members-depend read (s .rows) x built-forest scheme alone)
         (size-numbered formed built-counted (scheme-points read (s .rows) x scheme) listed) in
         (size, refl, subst (Numbered (DependsBy scheme read x)) (sym is) many)
-    size-is scheme (Refused number place) first = absurd (first-or-none (askOrder rule f (s .rows) x) number place first built-asked)
+    size-is scheme (Refused number place) (first, _) = absurd (first-or-none (askOrder rule f (s .rows) x) number place first built-asked)
 
     entry-is : (y : ℕ) → Deeper X x y → (answer : EntryAnswer)
         → EntryAnswered rule (formulaOf (f .n) (f .prefix) []) (s .rows) x y answer
@@ -116,7 +116,7 @@ module _ {rule : ℕ} {f : Formula} {s : Standing} (built : Built rule f s) wher
         × Above W (class .0) (W .cls y) rises
     entry-is y deeper (At class rises) told =
         (class, rises, refl, entry-is-class rule f (s .rows) x built-forest y class rises told, told .1 .0 .above)
-    entry-is y deeper (EntryAnswer.Refused number place) first = absurd (first-or-none (entryOrder rule f (s .rows) x y) number place first fine)
+    entry-is y deeper (EntryAnswer.Refused number place) (first, _) = absurd (first-or-none (entryOrder rule f (s .rows) x y) number place first fine)
       where
         fine : NoneOf (entryOrder rule f (s .rows) x y)
         fine = (
