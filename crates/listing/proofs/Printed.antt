@@ -7,21 +7,21 @@ use mathlib.Core.List.{List, [], _∷_, List·Memᴰ, List·Memᴰ·head, List·
 use mathlib.Core.Logic.{_≢_}
 use native.Mathlib.Nat.{not-suc-le-zero, le-of-suc-le-suc}
 use native.Mathlib.Omega.{arith}
-use native.Mathlib.Nat.{zero-add}
 use lib.ListN.{length, getD, take, drop, replicate, length-replicate}
 use lib.Seq.{sets, sets-eq, length-sets, take-at}
+use Rattle.terms.specs.Answers.{InFront}
 use Rattle.terms.specs.Listed.{Listed}
+use Rattle.terms.specs.Overwritten.{overwritten}
 use Rattle.terms.proofs.Listed.{listed-one}
-use Rattle.terms.proofs.Overwritten.{stored-overwritten}
+use Rattle.terms.proofs.Overwritten.{overwritten-room}
 use Rattle.forest_members.specs.declared.Asked.the-variants.{Points}
 use Rattle.forest_members.specs.Picked.{pick, picked, NoneUpto}
 use Rattle.forest_members.proofs.Picked.{picked-most, picked-flag, picked-listed}
 use Rattle.sets_occurrences.specs.SoleTops.{Is}
 use Rattle.sets_subtrees.specs.Runs.{Run, only}
 use Rattle.sets_subtrees.proofs.Linked.{run-one, only-set, only-own}
+use Rattle.listing_lines.specs.Lines.{LineIn}
 use Rattle.listing_lines.specs.Inner.{Small}
-use Rattle.listing_lines.specs.Lines.{Stored}
-use Rattle.listing.specs.Listing.{lineBytes, LineIn}
 use Rattle.listing.specs.Inner.{soleList}
 
 -- what stands at an index is in the list
@@ -61,14 +61,16 @@ picked-front f n few {after} {end} counted stored =
     let size = ap length stored ∙ length-sets (replicate 4096 0) 0 (picked f n) in
     (omega arith, front (replicate 4096 0) {found = end} (picked f n) (omega arith) (omega arith) stored)
 
--- So do the bytes of a line, where there is room for them all.
-pub line-front : {P : List ℕ → Type 0} (bytes : List ℕ) {before after : List ℕ} {end : ℕ} → P bytes → lineBytes ≤ length before
-    → Stored lineBytes bytes before after 0 end → LineIn P before after end
-line-front bytes {before} p room s =
-    let size = s .wrote .end in
-    let near = s .near in
-    let fits : length bytes ≤ length before = omega arith in
-    record { stands = (bytes, p, size ∙ zero-add (length bytes), s .wrote .stored ∙ stored-overwritten bytes before fits); near = near }
+-- So does a line of which something is said ...
+pub line-is : {P : List ℕ → Type 0} {line before after : List ℕ} {end : ℕ} → P line → LineIn line before after end → InFront P before after end
+line-is {P} p (bytes, is, size, left) = (bytes, subst P (sym is) p, size, left)
+
+-- ... and it ends within its buffer, which stays as long as it was.
+pub line-within : (line before : List ℕ) {after : List ℕ} {end : ℕ} → end ≡ length line → after ≡ overwritten line before → length after ≡ length before
+    → end ≤ length after
+line-within line before size left same =
+    let room = overwritten-room line before (sym (ap length left) ∙ same) in
+    omega arith
 
 -- A run of so many numbers, few and small, written into a table of 4,096 rows.
 module _ (links : List ℕ) (head size : ℕ) (own : (list : List ℕ) × Run links head list × (size ≡ length list) × Small list) {table : List ℕ}

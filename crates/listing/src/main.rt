@@ -33,19 +33,18 @@ ghost use mathlib.Core.Bool.{Bool};
 ghost use mathlib.Core.List.{List, [], _∷_};
 ghost use lib.ListN.{length, take};
 ghost use Rattle.terms.specs.declared.Scheme.the-variants.{Strict};
+ghost use Rattle.terms.specs.Answers.{InFront};
 ghost use Rattle.formula.specs.Lent.{formulaOf};
 ghost use Rattle.formula.specs.Levels.{SoundPrefix, Levelled};
 ghost use Rattle.formula.specs.Lookup.{SoundClauses};
 ghost use Rattle.formula.specs.Meaning.{blocks, clauses as Meaning·clauses};
-ghost use Rattle.forest_tables.specs.Counting.{FormedBy};
-ghost use Rattle.forest_tables.specs.Lent.{Rows};
 ghost use Rattle.sets_occurrences.specs.Threads.{Closed, Tied, EnteredBy};
 ghost use Rattle.sets_subtrees.specs.Runs.{Run, Within, Led};
 ghost use Rattle.sets.specs.Passed.{Ready};
-ghost use Rattle.listing_lines.specs.Lines.{universalLine, Stored};
-ghost use Rattle.listing_lines.specs.Inner.{Small};
-ghost use Rattle.listing.specs.Listing.{lineBytes, HeadOf, LineOf, LineIn, TopsOf};
-ghost use Rattle.listing.specs.Inner.{flaggedLine, soleList};
+ghost use Rattle.listing_lines.specs.Lines.{universalLine, LineIn};
+ghost use Rattle.listing_lines.specs.Inner.{lineBytes, Small};
+ghost use Rattle.listing.specs.Listing.{IsRead, Refuses, HeadOf, LineOf, Lists, Prints, AllPrinted};
+ghost use Rattle.listing.specs.Inner.{OwnForest, OwnTops, flaggedLine, soleList};
 
 // The bytes that are read: one more than a text may have, so that a longer text is refused.
 const TEXT: usize = 65537;
@@ -59,31 +58,41 @@ fn main() {
     list_text(&text[..got]);
 }
 
-// Lists the formula of a text. A table longer than the buffers is refused by read.
-fn list_text(text: &[u8]) {
+// Lists the formula of a text, and gives how many lines it printed, or 0 if one could not be written: every text has a line. A table longer than the
+// buffers is refused by read.
+fn list_text(text: &[u8]) -> usize
+    ensures printed { λ r. ⌜ AllPrinted (Prints (now (text .entry))) r ⌝ }
+{
     let mut prefix = [0u32; Level::ENTRIES];
     let mut clauses = [0i32; Literal::ENTRIES];
     match text_qdimacs::read(text, &mut prefix, &mut clauses) {
-        Reading::Refused(number, place) => print_refusal(number, place),
+        Reading::Refused(number, place) => print_refusal(text, number, place),
         Reading::Read {
             n,
             prefix: entries,
             clauses: literals,
-        } => list_formula(n, &prefix[..entries], &clauses[..literals]),
+        } => list_formula(text, n, &prefix[..entries], &clauses[..literals]),
     }
 }
 
-// Prints a refusal. Numbers and places have at most five digits.
-fn print_refusal(number: u32, place: usize)
-    requires short { ⌜ (number < 100000) × (place < 100000) ⌝ }
+// Prints the refusal of a text. Numbers and places have at most five digits.
+fn print_refusal(text: &[u8], number: u32, place: usize) -> usize
+    requires refused { ⌜ Refuses (now text) number place ⌝ }
+    ensures printed { λ r. ⌜ AllPrinted (Prints (now (text .entry))) r ⌝ }
 {
     let mut line = [0u8; LINE];
     let end = refused_line(&mut line, number, place as u32);
-    io::write_all(STDOUT_FILENO, &line[..end]);
+    if !io::write_all(STDOUT_FILENO, &line[..end]) {
+        return 0;
+    }
+    1
 }
 
-// Lists a formula under the first reading rule, or prints the refusal that `build` gives. The counts and the tally are not used.
-fn list_formula(n: u32, prefix: &[u32], clauses: &[i32]) {
+// Lists the formula of a text under the first reading rule, or prints the refusal that `build` gives. The counts and the tally are not used.
+fn list_formula(text: &[u8], n: u32, prefix: &[u32], clauses: &[i32]) -> usize
+    requires read { ⌜ IsRead (now text) (formulaOf n (now prefix) (now clauses)) ⌝ }
+    ensures printed { λ r. ⌜ AllPrinted (Prints (now (text .entry))) r ⌝ }
+{
     let mut classes = [0u32; Variable::MOST as usize];
     let mut parents = [0u32; Variable::MOST as usize];
     let mut counts = [0u32; Variable::MOST as usize];
@@ -104,36 +113,39 @@ fn list_formula(n: u32, prefix: &[u32], clauses: &[i32]) {
     );
     let answer = built.answer;
     match answer {
-        Filled::Refused(number, place) => print_refusal(number, place),
+        Filled::Refused(number, place) => print_refusal(text, number, place),
         Filled::Count(_) => list_forest(n, prefix, clauses, &classes, &parents),
     }
 }
 
-// The first line, and then the universals in ascending order. The levels are looked up once for all of them.
-fn list_forest(n: u32, prefix: &[u32], clauses: &[i32], classes: &[u32], parents: &[u32])
+// The first line, and then the universals in ascending order, by the formula's own forest. The levels are looked up once for all of them.
+fn list_forest(n: u32, prefix: &[u32], clauses: &[i32], classes: &[u32], parents: &[u32]) -> usize
     requires accepted { ⌜ SoundPrefix n (now prefix) × SoundClauses (now clauses) × Closed (now clauses)
-        × FormedBy n (now prefix) (now classes) (now parents) ⌝ }
+        × OwnForest (formulaOf n (now prefix) (now clauses)) (now classes) (now parents) ⌝ }
+    ensures printed { λ r. ⌜ AllPrinted (Lists (formulaOf n (now (prefix .entry)) (now (clauses .entry)))) r ⌝ }
 {
     let mut levels = [0u32; Variable::ROWS];
     let mut universals = [false; Variable::ROWS];
     fill_levels(prefix, &mut levels, &mut universals);
-    print_head(n, prefix, clauses);
-    list_universals(n, prefix, &levels, &universals, clauses, classes, parents);
+    if !print_head(n, prefix, clauses) {
+        return 0;
+    }
+    list_universals(n, prefix, &levels, &universals, clauses, classes, parents)
 }
 
-// Prints the first line.
-fn print_head(n: u32, prefix: &[u32], clauses: &[i32])
+// Prints the first line, and tells whether it could be written.
+fn print_head(n: u32, prefix: &[u32], clauses: &[i32]) -> bool
     requires small { ⌜ (n ≤ 4096) × (length (now prefix) < 100000) × (length (now clauses) < 100000) ⌝ }
 {
     let mut line = [0u8; LINE];
     let end = head_of(n, prefix, clauses, &mut line);
-    io::write_all(STDOUT_FILENO, &line[..end]);
+    io::write_all(STDOUT_FILENO, &line[..end])
 }
 
 // Stores the first line from the start of `line` on, and gives its length.
 fn head_of(n: u32, prefix: &[u32], clauses: &[i32], line: &mut [u8]) -> usize
     requires small { ⌜ (n ≤ 4096) × (length (now prefix) < 100000) × (length (now clauses) < 100000) × (lineBytes ≤ length (now line)) ⌝ }
-    ensures stored { λ r. ⌜ LineIn (HeadOf n (now (prefix .entry)) (now (clauses .entry))) (now (line .entry)) (now (line .exit)) r ⌝ }
+    ensures stored { λ r. ⌜ InFront (HeadOf (formulaOf n (now (prefix .entry)) (now (clauses .entry)))) (now (line .entry)) (now (line .exit)) r ⌝ }
 {
     let blocks = count_blocks(prefix);
     let clause_count = count_clauses(clauses);
@@ -174,7 +186,7 @@ fn count_clauses(clauses: &[i32]) -> usize
     count
 }
 
-// Prints a line for each universal, in ascending order. The occurrence list of each universal is made first.
+// Prints a line for each universal, in ascending order, behind the first line. The occurrence list of each universal is made first.
 fn list_universals(
     n: u32,
     prefix: &[u32],
@@ -183,9 +195,10 @@ fn list_universals(
     clauses: &[i32],
     classes: &[u32],
     parents: &[u32],
-)
+) -> usize
     requires accepted { ⌜ SoundPrefix n (now prefix) × Levelled (now prefix) (now levels) (now universals)
-        × SoundClauses (now clauses) × Closed (now clauses) × FormedBy n (now prefix) (now classes) (now parents) ⌝ }
+        × SoundClauses (now clauses) × Closed (now clauses) × OwnForest (formulaOf n (now prefix) (now clauses)) (now classes) (now parents) ⌝ }
+    ensures printed { λ r. ⌜ AllPrinted (Lists (formulaOf n (now (prefix .entry)) (now (clauses .entry)))) r ⌝ }
 {
     let mut first = [0u32; Variable::ROWS];
     let mut next = [0u32; Literal::ENTRIES];
@@ -200,11 +213,12 @@ fn list_universals(
         parents,
         &first,
         &next,
-    );
+    )
 }
 
 // Prints the lines, by the occurrence lists of the universals. Tops, the uppermost classes deeper than a level, and the runs of their members depend only
-// on the block of a universal; they are made anew where the block changes. At first there is no top. All lines are made in one buffer.
+// on the block of a universal; they are made anew where the block changes. At first there is no top. All lines are made in one buffer. The count begins
+// with the first line, which is printed before.
 fn list_tied(
     n: u32,
     prefix: &[u32],
@@ -215,8 +229,10 @@ fn list_tied(
     parents: &[u32],
     first: &[u32],
     next: &[u32],
-)
+) -> usize
     requires ready { ⌜ Ready n (now prefix) (now levels) (now universals) (now clauses) (now classes) (now parents) (now first) (now next) ⌝ }
+    requires own { ⌜ OwnForest (formulaOf n (now prefix) (now clauses)) (now classes) (now parents) ⌝ }
+    ensures printed { λ r. ⌜ AllPrinted (Lists (formulaOf n (now (prefix .entry)) (now (clauses .entry)))) r ⌝ }
 {
     let mut tops = [0u32; Variable::MOST as usize];
     let mut lead = [0u32; Variable::ROWS];
@@ -227,6 +243,7 @@ fn list_tied(
         place: 0,
         from: 0,
     };
+    let mut lines = 1;
     let mut passed = 0;
     while passed < n {
         passed += 1;
@@ -246,6 +263,7 @@ fn list_tied(
             );
             let end = line_of(
                 n,
+                prefix,
                 clauses,
                 first,
                 next,
@@ -256,15 +274,20 @@ fn list_tied(
                 &after,
                 &mut line,
             );
-            io::write_all(STDOUT_FILENO, &line[..end]);
+            if !io::write_all(STDOUT_FILENO, &line[..end]) {
+                return 0;
+            }
+            lines += 1;
         }
     }
+    lines
 }
 
-// Stores the line of one universal from the start of `line` on, and gives its length. It is the line of x by whatever prefix and rows the tops are of.
-// Where x has at most one strict entry point, its set is the run of that.
+// Stores the line of one universal from the start of `line` on, and gives its length. The prefix stands here for the contract. Where x has at most one
+// strict entry point, its set is the run of that.
 fn line_of(
     n: u32,
+    prefix: &[u32],
     clauses: &[i32],
     first: &[u32],
     next: &[u32],
@@ -277,8 +300,8 @@ fn line_of(
 ) -> usize
     requires tied { ⌜ (n ≤ 4096) × (x .0 ≤ n) × (level .0 < 100000) × Closed (now clauses) × Tied (now clauses) (now first) (now next) (x .0) ⌝ }
     requires led { ⌜ Within n (now tops) × Led n (now tops) (now lead) (now after) × (lineBytes ≤ length (now line)) ⌝ }
-    ensures stored { λ r. ⌜ ((es : List ℕ) (rows : Rows) → TopsOf n es rows (x .0) (level .0) (now (tops .entry))
-        → LineIn (LineOf (formulaOf n es (now (clauses .entry))) rows (x .0)) (now (line .entry)) (now (line .exit)) r) ⌝ }
+    requires own { ⌜ OwnTops (formulaOf n (now prefix) (now clauses)) (x .0) (level .0) (now tops) ⌝ }
+    ensures stored { λ r. ⌜ InFront (LineOf (formulaOf n (now (prefix .entry)) (now (clauses .entry))) (x .0)) (now (line .entry)) (now (line .exit)) r ⌝ }
 {
     match sole_point(Scheme::Strict, n, clauses, first, next, x, tops) {
         Sole::Several => flagged_line(n, clauses, first, next, x, level, tops, line),
@@ -296,9 +319,9 @@ fn run_line(
     line: &mut [u8],
 ) -> usize
     requires small { ⌜ ((list : List ℕ) × Run (now after) (run .low) list × (run .high ≡ length list) × Small list)
-        × (top .0 ≤ 4096) × (x .0 ≤ 4096) × (level .0 < 100000) ⌝ }
+        × (top .0 ≤ 4096) × (x .0 ≤ 4096) × (level .0 < 100000) × (lineBytes ≤ length (now line)) ⌝ }
     ensures stored { λ r. ⌜ ((list : List ℕ) → Run (now (after .entry)) (run .low) list
-        → Stored lineBytes (universalLine (x .0) (level .0) (soleList (top .0)) list) (now (line .entry)) (now (line .exit)) 0 r) ⌝ }
+        → LineIn (universalLine (x .0) (level .0) (soleList (top .0)) list) (now (line .entry)) (now (line .exit)) r) ⌝ }
 {
     let mut set = [0u32; Variable::MOST as usize];
     write_run(after, run.low, 0, &mut set);
@@ -330,9 +353,10 @@ fn flagged_line(
     tops: &[u32],
     line: &mut [u8],
 ) -> usize
-    requires tied { ⌜ (n ≤ 4096) × (x .0 ≤ 4096) × (level .0 < 100000) × Tied (now clauses) (now first) (now next) (x .0) ⌝ }
+    requires tied { ⌜ (n ≤ 4096) × (x .0 ≤ 4096) × (level .0 < 100000) × Tied (now clauses) (now first) (now next) (x .0)
+        × (lineBytes ≤ length (now line)) ⌝ }
     ensures stored { λ r. ⌜ ((flags : List Bool) × EnteredBy Strict n (now (tops .entry)) (now (clauses .entry)) (x .0) flags
-        × Stored lineBytes (flaggedLine n (now (tops .entry)) flags (x .0) (level .0)) (now (line .entry)) (now (line .exit)) 0 r) ⌝ }
+        × LineIn (flaggedLine n (now (tops .entry)) flags (x .0) (level .0)) (now (line .entry)) (now (line .exit)) r) ⌝ }
 {
     let mut entered = [false; Variable::ROWS];
     flag_points(
@@ -357,9 +381,9 @@ fn picked_line(
     tops: &[u32],
     line: &mut [u8],
 ) -> usize
-    requires small { ⌜ (n ≤ 4096) × (x .0 ≤ 4096) × (level .0 < 100000) ⌝ }
-    ensures stored { λ r. ⌜ Stored lineBytes (flaggedLine n (now (tops .entry)) (now (entered .entry)) (x .0) (level .0))
-        (now (line .entry)) (now (line .exit)) 0 r ⌝ }
+    requires small { ⌜ (n ≤ 4096) × (x .0 ≤ 4096) × (level .0 < 100000) × (lineBytes ≤ length (now line)) ⌝ }
+    ensures stored { λ r. ⌜ LineIn (flaggedLine n (now (tops .entry)) (now (entered .entry)) (x .0) (level .0))
+        (now (line .entry)) (now (line .exit)) r ⌝ }
 {
     let mut entries = [0u32; Variable::MOST as usize];
     let mut set = [0u32; Variable::MOST as usize];

@@ -1,15 +1,18 @@
--- The laws of the listing's words and numbers: how they are written, and how long they are at most.
+-- The laws of the listing's words and numbers: how they are written, and how long they are at most; and where a line stands.
 use Prim.Native.Nat.{ℕ, suc, _*_, _≤_, _<_}
-use mathlib.Core.Path.{_≡_, refl}
+use mathlib.Core.Path.{_≡_, refl, _∙_}
 use mathlib.Core.Bool.{Bool}
 use mathlib.Core.List.{List, [], _∷_, _++_}
+use native.Mathlib.Nat.{zero-add}
 use native.Mathlib.Omega.{arith}
 use lib.IntN.{pos}
 use lib.ListN.{length, getD, length-append}
+use Rattle.terms.proofs.Overwritten.{stored-overwritten}
 use Rattle.text_write.specs.Numbers.{decimal}
 use Rattle.text_write.specs.Written.{literalWord}
 use Rattle.text_write.proofs.Stores.{word-most, Script}
-use Rattle.listing_lines.specs.Lines.{numbers}
+use Rattle.listing_lines.specs.Lines.{numbers, LineIn}
+use Rattle.listing_lines.specs.Inner.{lineBytes, Stored}
 
 -- a number of at most five digits
 pub number-most : (v : ℕ) → v < 100000 → length (decimal v) ≤ 6
@@ -57,3 +60,12 @@ numbers-most (v ∷ vs) small =
     let most = number-most v (small 0 (omega arith)) in
     let parts = length-append (decimal v) (numbers vs) in
     omega arith
+
+-- What is stored from the start of a buffer that has room for it stands in front there.
+pub line-front : (line : List ℕ) {before after : List ℕ} {end : ℕ} → lineBytes ≤ length before → Stored lineBytes line before after 0 end
+    → LineIn line before after end
+line-front line {before} room s =
+    let size = s .wrote .end in
+    let near = s .near in
+    let fits : length line ≤ length before = omega arith in
+    (line, refl, size ∙ zero-add (length line), s .wrote .stored ∙ stored-overwritten line before fits)

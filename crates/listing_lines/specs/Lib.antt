@@ -1,3 +1,3 @@
--- The lines that are printed: Lines is what to believe, Inner is what inner functions ask for.
+-- The bytes of each line that the program prints, which is what to believe; then what the functions that store its parts find.
 pub mod Lines
 pub mod Inner

@@ -1,8 +1,9 @@
 -- The lines that the listing program prints, byte for byte (rule 16.2).
-use Prim.Native.Nat.{ℕ, _+_, _≤_}
+use Prim.Native.Nat.{ℕ}
+use mathlib.Core.Path.{_≡_}
 use mathlib.Core.List.{List, [], _∷_, _++_}
+use Rattle.terms.specs.Answers.{InFront}
 use Rattle.text_write.specs.Numbers.{decimal}
-use Rattle.text_write.specs.Stored.{Wrote}
 
 -- the words between the numbers, each with the spaces around it
 abbrev pub VARS : List ℕ
@@ -52,7 +53,6 @@ universalLine x level entries set = decimal x ++ (LEVEL ++ decimal level) ++ (EN
 unfoldable pub refusedLine : ℕ → ℕ → List ℕ
 refusedLine number place = (REFUSED ++ decimal number) ++ (AT ++ decimal place) ++ END
 
--- Bytes that were stored from a place on, and the place after them, at most so many bytes on.
-pub record Stored (most : ℕ) (bytes before after : List ℕ) (at next : ℕ) : Type 0 where
-  pub wrote : Wrote bytes before after at next
-  pub near : next ≤ at + most
+-- A line stands in front in a buffer: the bytes up to its end are the line, and those behind it are as they were.
+abbrev pub LineIn : List ℕ → List ℕ → List ℕ → ℕ → Type 0
+LineIn line = InFront (λ (bytes : List ℕ). bytes ≡ line)

@@ -2,18 +2,18 @@
 
 use text_write::bytes::put_byte;
 use text_write::bytes::put_number;
-ghost use Prim.Native.Nat.{_<_};
+ghost use Prim.Native.Nat.{_<_, _≤_};
 ghost use mathlib.Core.List.{_++_};
 ghost use lib.ListN.{length};
 ghost use Rattle.text_write.specs.Numbers.{decimal};
 ghost use Rattle.text_write.specs.Stored.{Wrote};
-ghost use Rattle.listing_lines.specs.Lines.{numbers, headLine, universalLine, refusedLine, Stored};
-ghost use Rattle.listing_lines.specs.Inner.{Small};
+ghost use Rattle.listing_lines.specs.Lines.{numbers, headLine, universalLine, refusedLine, LineIn};
+ghost use Rattle.listing_lines.specs.Inner.{lineBytes, Small, Stored};
 
 // `vars N blocks B clauses C strict`
 pub fn head_line(out: &mut [u8], n: u32, blocks: u32, clauses: u32) -> usize
-    requires small { ⌜ (n < 100000) × (blocks < 100000) × (clauses < 100000) ⌝ }
-    ensures stored { λ r. ⌜ Stored 65536 (headLine n blocks clauses) (now (out .entry)) (now (out .exit)) 0 r ⌝ }
+    requires small { ⌜ (n < 100000) × (blocks < 100000) × (clauses < 100000) × (lineBytes ≤ length (now out)) ⌝ }
+    ensures stored { λ r. ⌜ LineIn (headLine n blocks clauses) (now (out .entry)) (now (out .exit)) r ⌝ }
 {
     let a = put_named(out, 0, b"vars ", n);
     let b = put_named(out, a, b" blocks ", blocks);
@@ -23,8 +23,8 @@ pub fn head_line(out: &mut [u8], n: u32, blocks: u32, clauses: u32) -> usize
 
 // `X level L entries .. set ..`
 pub fn universal_line(out: &mut [u8], x: u32, level: u32, entries: &[u32], set: &[u32]) -> usize
-    requires small { ⌜ (x < 100000) × (level < 100000) × Small (now entries) × Small (now set) ⌝ }
-    ensures stored { λ r. ⌜ Stored 65536 (universalLine x level (now (entries .entry)) (now (set .entry))) (now (out .entry)) (now (out .exit)) 0 r ⌝ }
+    requires small { ⌜ (x < 100000) × (level < 100000) × Small (now entries) × Small (now set) × (lineBytes ≤ length (now out)) ⌝ }
+    ensures stored { λ r. ⌜ LineIn (universalLine x level (now (entries .entry)) (now (set .entry))) (now (out .entry)) (now (out .exit)) r ⌝ }
 {
     let a = put_named(out, 0, b"", x);
     let b = put_named(out, a, b" level ", level);
@@ -35,8 +35,8 @@ pub fn universal_line(out: &mut [u8], x: u32, level: u32, entries: &[u32], set: 
 
 // `refused R at P`
 pub fn refused_line(out: &mut [u8], number: u32, place: u32) -> usize
-    requires small { ⌜ (number < 100000) × (place < 100000) ⌝ }
-    ensures stored { λ r. ⌜ Stored 65536 (refusedLine number place) (now (out .entry)) (now (out .exit)) 0 r ⌝ }
+    requires small { ⌜ (number < 100000) × (place < 100000) × (lineBytes ≤ length (now out)) ⌝ }
+    ensures stored { λ r. ⌜ LineIn (refusedLine number place) (now (out .entry)) (now (out .exit)) r ⌝ }
 {
     let a = put_named(out, 0, b"refused ", number);
     let b = put_named(out, a, b" at ", place);

@@ -1,7 +1,7 @@
 -- The two counts are those of the blocks and of the clauses, so that the line of them is the first line of the formula.
 use mathlib.Core.Path.{ap₂}
 use Rattle.listing_lines.specs.Lines.{headLine}
-use Rattle.listing.proofs.Printed.{line-front}
+use Rattle.listing.proofs.Printed.{line-is}
 use borrow.Author.Needs.{needs}
 use Rattle.listing.proofs.head_of.Statement.{statement}
 use Rattle.listing.proofs.head_of.Tie as tie
@@ -15,8 +15,7 @@ returns c =
     let blocks = at-count-blocks .count-blocks in
     let clauses = at-count-clauses .count-clauses in
     let n = at-start .args .n in
-    line-front (headLine n (blocks .result) (clauses .result)) (ap₂ (headLine n) (blocks .ensures .0) (clauses .ensures .0))
-    (at-start .pre .3) (at-head-line .head-line .ensures)
+    line-is (ap₂ (headLine n) (blocks .ensures .0) (clauses .ensures .0)) (at-head-line .head-line .ensures)
 
 pub head-of-spec : {M : Type 1} → statement M
 head-of-spec =

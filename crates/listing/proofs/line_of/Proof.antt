@@ -16,8 +16,7 @@ use Rattle.sets_occurrences.specs.Threads.{Together, EnteredBy}
 use Rattle.sets_occurrences.specs.SoleTops.{Is, SoleOf}
 use Rattle.sets_subtrees.specs.Runs.{Run, only, having}
 use Rattle.sets_record.proofs.Soles.{sole-entering, sole-within}
-use Rattle.listing_lines.specs.Lines.{universalLine, Stored}
-use Rattle.listing.specs.Listing.{lineBytes}
+use Rattle.listing_lines.specs.Lines.{universalLine, LineIn}
 use Rattle.listing.proofs.Printed.{picked-small, sole-picked}
 use Rattle.listing.proofs.Flagged.{line-flagged}
 use borrow.Author.Needs.{needs}
@@ -26,7 +25,7 @@ use Rattle.listing.proofs.line_of.Tie as tie
 
 -- Where a top was found, the function's start, that top, and the variables that have it.
 abbrev start : tie.After-top → tie.Start
-start s = s .before .before .before .before .before .before .before .before .before
+start s = s .before .before .before .before .before .before .before .before .before .before
 
 abbrev top : tie.After-top → ℕ
 top s = s .top .given .0 .0 .0
@@ -47,14 +46,14 @@ sole s = subst (λ r. SoleOf r (Both s)) (s .top .given .1) (s .before .before .
 low : (s : tie.After-top) → top s ≤ start s .args .n
 low s =
     let a = start s .args in
-    sole-within Strict (a .n) (a .tops .now) (λ (sign : Bool). Together (a .clauses .now) sign (a .x .0)) (top s) (sole s) (start s .pre .1 .0)
+    sole-within Strict (a .n) (a .tops .now) (λ (sign : Bool). Together (a .clauses .now) sign (a .x .0)) (top s) (sole s) (start s .pre .1 .0 .0)
 
 -- ... whose row, unpacked, leads to all that have it.
 run : (s : tie.After-unpack) → Run (start (s .before .before .before) .args .after .now) (s .unpack .result .low) (members (s .before .before .before))
     × (s .unpack .result .high ≡ length (members (s .before .before .before)))
 run s =
     let t = s .before .before .before in
-    let (starts, counts) = start t .pre .1 .1 (top t) (low t) in
+    let (starts, counts) = start t .pre .1 .0 .1 (top t) (low t) in
     let row = s .before .row-at .ensures in
     let (head, size) = s .unpack .ensures in
     (subst (λ (v : ℕ). Run (start t .args .after .now) v (members t)) (sym (head ∙ ap lowOf row)) starts, size ∙ ap highOf row ∙ counts)
@@ -69,18 +68,18 @@ run-line-requires c κs =
     let within = low at-top in
     let most : top at-top ≤ 4096 = omega arith in
     let (leads, size) = run at-unpack in
-    ((members at-top, leads, size, small), most, omega arith, level)
+    ((members at-top, leads, size, small), most, omega arith, level, start at-top .pre .1 .0 .2)
 
 returns : tie.Need-returns
-returns c es rows tops =
+returns c =
     let at-flagged-line = c .before .before in
-    let at-start = at-flagged-line .before .before .before .before .before .before .before .before .before .before .before in
+    let at-start = at-flagged-line .before .before .before .before .before .before .before .before .before .before .before .before in
     let (few, _, _, closed, _) = at-start .pre .0 in
     let (flags, entered, stored) = at-flagged-line .flagged-line .ensures in
-    line-flagged es rows few closed tops entered (at-start .pre .1 .2) stored
+    line-flagged few closed (at-start .pre .1 .1) entered stored
 
 returns-2 : tie.Need-returns-2
-returns-2 c es rows tops =
+returns-2 c =
     let at-run-line = c .before .before in
     let at-unpack = at-run-line .before .before in
     let at-top = at-unpack .before .before .before in
@@ -89,9 +88,9 @@ returns-2 c es rows tops =
     let call = at-run-line .run-line in
     let entered : EnteredBy Strict (a .n) (a .tops .now) (a .clauses .now) (a .x .0) (only (top at-top)) = sole-entering (top at-top) (sole at-top) in
     let listed = sole-picked (a .n) (a .tops .now) (top at-top) few (low at-top) in
-    line-flagged es rows few closed tops entered (start at-top .pre .1 .2)
+    line-flagged few closed (start at-top .pre .1 .1) entered
     (subst
-    (λ (e : List ℕ). Stored lineBytes (universalLine (a .x .0) (a .level .0) e (members at-top)) (a .line .now) (call .last .1 .1 .1 .1 .1 .0) 0 (call .result))
+    (λ (e : List ℕ). LineIn (universalLine (a .x .0) (a .level .0) e (members at-top)) (a .line .now) (call .last .1 .1 .1 .1 .1 .0) (call .result))
     listed (call .ensures (members at-top) (run at-unpack .0)))
 
 pub line-of-spec : {M : Type 1} → statement M

@@ -1,13 +1,16 @@
--- What read refuses has a line, for its number and its place are short; what it reads stands in front of the two tables, which have room for it.
-use Prim.Native.Nat.{_≤_}
-use mathlib.Core.Path.{sym, ap, _∙_, subst}
+-- What read refuses is the refusal of the text; what it reads stands in front of the two tables, which have room for it, and is the formula of the text.
+use Prim.Native.Nat.{ℕ, _≤_}
+use mathlib.Core.Path.{sym, ap, ap₂, _∙_, subst, subst₂}
+use mathlib.Core.List.{List}
 use native.Mathlib.Omega.{arith}
-use lib.IntN.{pos}
-use lib.ListN.{length, drop, replicate, length-append}
+use lib.IntN.{ℤ, pos}
+use lib.ListN.{length, take, drop, replicate, length-append}
 use lib.Seq.{length-take-le}
 use Rattle.terms.specs.declared.Reading.{Reading}
+use Rattle.terms.proofs.Overwritten.{overwritten-front}
+use Rattle.text_lines.specs.Format.{TextOf}
 use Rattle.text_qdimacs.specs.Reading.{ReadIs}
-use Rattle.listing.proofs.Refusals.{read-digits}
+use Rattle.listing.specs.Listing.{not-read}
 use borrow.Author.Needs.{needs}
 use Rattle.listing.proofs.list_text.Statement.{statement}
 use Rattle.listing.proofs.list_text.Tie as tie
@@ -30,9 +33,7 @@ room s =
 print-refusal-requires : tie.Need-print-refusal-requires
 print-refusal-requires c κs =
     let at-read = c .before .before .before .before .before in
-    let text = at-read .before .before .before .before .args .text .now in
-    let (variant, is) = c .before .number .given in
-    read-digits text (replicate 8192 0) (replicate 16384 (pos 0)) (variant .0) (variant .1 .0) (subst (Told at-read) is (at-read .read .ensures) .0)
+    not-read (subst (Told at-read) (c .before .number .given .1) (at-read .read .ensures) .0)
 
 array-share-prefix-prefix : tie.Need-array-share-prefix-prefix
 array-share-prefix-prefix c = room (c .before) .0
@@ -43,15 +44,26 @@ slice-aggregate-list-formula c =
     sym (length-take-le (at-n .n .given .0 .1 .0) (at-n .before .before .before .before .read .last .1 .0) (room at-n .0))
 
 array-share-prefix-clauses : tie.Need-array-share-prefix-clauses
-array-share-prefix-clauses c = room (c .before .before) .1
+array-share-prefix-clauses c =
+    let fits = room (c .before .before) .1 in
+    omega arith
 
 slice-aggregate-list-formula-2 : tie.Need-slice-aggregate-list-formula-2
-slice-aggregate-list-formula-2 c =
+slice-aggregate-list-formula-2 c = sym (length-take-le _ _ (array-share-prefix-clauses (c .before)))
+
+list-formula-requires : tie.Need-list-formula-requires
+list-formula-requires c κs =
     let at-n = c .before .before .before in
-    sym (length-take-le (at-n .n .given .0 .1 .1 .0) (at-n .before .before .before .before .read .last .1 .1 .0) (room at-n .1))
+    let at-read = at-n .before .before .before .before in
+    let text = at-read .before .before .before .before .args .text .now in
+    let (none, r) = subst (Told at-read) (at-n .n .given .1) (at-read .read .ensures) in
+    let prefix = ap₂ take (r .entries-counted) (r .prefix-left) ∙ overwritten-front (r .P) (replicate 8192 0) in
+    let clauses = ap₂ take (r .literals-counted) (r .clauses-left) ∙ overwritten-front (r .C) (replicate 16384 (pos 0)) in
+    let is = subst₂ (λ (es : List ℕ) (ls : List ℤ). TextOf (at-n .n .given .0 .0) es ls text) (sym prefix) (sym clauses) (r .text-of) in
+    record { none = none; text-of = is }
 
 pub list-text-spec : {M : Type 1} → statement M
 list-text-spec =
     tie.close (tie.spec (λ c. search needs) (λ c. search needs) (λ c κs. search needs) (λ c. search needs) print-refusal-requires
     (λ c. search needs) array-share-prefix-prefix slice-aggregate-list-formula array-share-prefix-clauses slice-aggregate-list-formula-2
-    (λ c κs. search needs) (λ c. search needs) (λ c. search needs))
+    list-formula-requires (λ c. c .print-refusal .ensures) (λ c. c .list-formula .ensures))

@@ -8,9 +8,8 @@ use lib.Seq.{length-take-le}
 use Rattle.forest_members.specs.declared.Asked.{Asked}
 use Rattle.forest_members.specs.declared.Asked.the-variants.{Points, Set}
 use Rattle.forest_members.specs.Picked.{pick}
-use Rattle.listing_lines.specs.Lines.{universalLine, Stored}
+use Rattle.listing_lines.specs.Lines.{universalLine, LineIn}
 use Rattle.listing_lines.specs.Inner.{Small}
-use Rattle.listing.specs.Listing.{lineBytes}
 use Rattle.listing.proofs.Printed.{picked-small, picked-room, picked-front}
 use borrow.Author.Needs.{needs}
 use Rattle.listing.proofs.picked_line.Statement.{statement}
@@ -62,14 +61,14 @@ universal-line-requires c κs =
     let at-write-picked = at-write-picked2 .before .before .before in
     let at-start = at-write-picked .before .before .before .before .before in
     let n = at-start .args .n in
-    let (few, x, level) = at-start .pre in
+    let (few, x, level, long) = at-start .pre in
     let points = at-write-picked .write-picked .ensures in
     let set = at-write-picked2 .write-picked2 .ensures in
     let f = listed at-start Points in
     let g = listed at-start Set in
     let entries-small = subst Small (sym (picked-front f n few (points .0) (points .1) .1)) (picked-small f n few) in
     let set-small = subst Small (sym (picked-front g n few (set .0) (set .1) .1)) (picked-small g n few) in
-    (omega arith, level, entries-small, set-small)
+    (omega arith, level, entries-small, set-small, long)
 
 returns : tie.Need-returns
 returns c =
@@ -82,7 +81,7 @@ returns c =
     let points = at-write-picked .write-picked .ensures in
     let set = at-write-picked2 .write-picked2 .ensures in
     let call = at-universal-line .universal-line in
-    subst₂ (λ (e m : List ℕ). Stored lineBytes (universalLine (a .x .0) (a .level .0) e m) (a .line .now) (call .last .0) 0 (call .result))
+    subst₂ (λ (e m : List ℕ). LineIn (universalLine (a .x .0) (a .level .0) e m) (a .line .now) (call .last .0) (call .result))
     (picked-front (listed at-start Points) (a .n) few (points .0) (points .1) .1)
     (picked-front (listed at-start Set) (a .n) few (set .0) (set .1) .1) (call .ensures)
 

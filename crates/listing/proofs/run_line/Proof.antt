@@ -5,9 +5,8 @@ use Prim.Native.Nat.{ℕ, _≤_}
 use native.Mathlib.Omega.{arith}
 use lib.ListN.{length, length-replicate}
 use lib.Seq.{length-take-le}
-use Rattle.listing_lines.specs.Lines.{universalLine, Stored}
+use Rattle.listing_lines.specs.Lines.{universalLine, LineIn}
 use Rattle.listing_lines.specs.Inner.{Small}
-use Rattle.listing.specs.Listing.{lineBytes}
 use Rattle.listing.proofs.Printed.{run-room, run-front, run-small, sole-small}
 use borrow.Author.Needs.{needs}
 use Rattle.listing.proofs.run_line.Statement.{statement}
@@ -55,9 +54,9 @@ universal-line-requires c κs =
     let at-write-run = at-sole-count .before .before .before in
     let at-start = at-write-run .before .before .before .before in
     let a = at-start .args in
-    let (own, low, x, level) = at-start .pre in
+    let (own, low, x, level, long) = at-start .pre in
     let points-small = subst Small (sym (at-sole-count .sole-count .ensures .1)) (sole-small (a .top .0) low) in
-    (omega arith, level, points-small, run-small (a .after .now) (a .run .low) (a .run .high) own (at-write-run .write-run .ensures))
+    (omega arith, level, points-small, run-small (a .after .now) (a .run .low) (a .run .high) own (at-write-run .write-run .ensures), long)
 
 returns : tie.Need-returns
 returns c list run =
@@ -68,7 +67,7 @@ returns c list run =
     let a = at-start .args in
     let call = at-universal-line .universal-line in
     let set = run-front (a .after .now) (a .run .low) (a .run .high) (at-start .pre .0) (at-write-run .write-run .ensures) list run in
-    subst₂ (λ (e m : List ℕ). Stored lineBytes (universalLine (a .x .0) (a .level .0) e m) (a .line .now) (call .last .0) 0 (call .result))
+    subst₂ (λ (e m : List ℕ). LineIn (universalLine (a .x .0) (a .level .0) e m) (a .line .now) (call .last .0) (call .result))
     (at-sole-count .sole-count .ensures .1) set (call .ensures)
 
 pub run-line-spec : {M : Type 1} → statement M

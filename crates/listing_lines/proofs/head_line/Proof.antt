@@ -2,6 +2,7 @@
 use native.Mathlib.Omega.{arith}
 use Rattle.text_write.proofs.Stores.{wrote-more}
 use Rattle.listing_lines.specs.Lines.{headLine}
+use Rattle.listing_lines.proofs.Spelt.{line-front}
 use borrow.Author.Needs.{needs}
 use Rattle.listing_lines.proofs.head_line.Statement.{statement}
 use Rattle.listing_lines.proofs.head_line.Tie as tie
@@ -13,6 +14,7 @@ returns c =
     let at-put-named3 = at-put-word .before .before .before .before .before in
     let at-put-named2 = at-put-named3 .before .before .before .before .before in
     let at-put-named = at-put-named2 .before .before .before .before .before in
+    let at-start = at-put-named .before .before .before .before in
     let s0 = at-put-named .put-named .ensures in
     let n0 = s0 .near in
     let s1 = at-put-named2 .put-named2 .ensures in
@@ -21,7 +23,8 @@ returns c =
     let n2 = s2 .near in
     let last = at-put-word .put-word .ensures in
     let end = last .end in
-    record { wrote = wrote-more (wrote-more (wrote-more (s0 .wrote) (s1 .wrote)) (s2 .wrote)) last; near = omega arith }
+    let a = at-start .args in
+    line-front (headLine (a .n) (a .blocks) (a .clauses)) (at-start .pre .3) (record { wrote = wrote-more (wrote-more (wrote-more (s0 .wrote) (s1 .wrote)) (s2 .wrote)) last; near = omega arith })
 
 pub head-line-spec : {M : Type 1} → statement M
 head-line-spec =

@@ -2,6 +2,7 @@
 use native.Mathlib.Omega.{arith}
 use Rattle.text_write.proofs.Stores.{wrote-more}
 use Rattle.listing_lines.specs.Lines.{universalLine}
+use Rattle.listing_lines.proofs.Spelt.{line-front}
 use borrow.Author.Needs.{needs}
 use Rattle.listing_lines.proofs.universal_line.Statement.{statement}
 use Rattle.listing_lines.proofs.universal_line.Tie as tie
@@ -14,6 +15,7 @@ returns c =
     let at-put-list = at-put-list2 .before .before .before .before .before in
     let at-put-named2 = at-put-list .before .before .before .before .before in
     let at-put-named = at-put-named2 .before .before .before .before .before in
+    let at-start = at-put-named .before .before .before .before .before .before in
     let s0 = at-put-named .put-named .ensures in
     let n0 = s0 .near in
     let s1 = at-put-named2 .put-named2 .ensures in
@@ -25,7 +27,8 @@ returns c =
     let last = at-put-byte .put-byte .ensures in
     let end = last .end in
     let lists = wrote-more (wrote-more (wrote-more (s0 .wrote) (s1 .wrote)) (s2 .wrote)) (s3 .wrote) in
-    record { wrote = wrote-more lists last; near = omega arith }
+    let a = at-start .args in
+    line-front (universalLine (a .x) (a .level) (a .entries .now) (a .set .now)) (at-start .pre .4) (record { wrote = wrote-more lists last; near = omega arith })
 
 pub universal-line-spec : {M : Type 1} → statement M
 universal-line-spec =
