@@ -1,6 +1,6 @@
 # Finds the Rattle kit as its command `rt` does; compiles, links and runs C programs with it: the kit's own clang, ld.lld and C library, with
-# no install; and makes the archive of the calls for C, proved or with no proof. Programs are for x86-64; on another processor they run under
-# the kit's emulator. To be sourced by bash; works in any folder.
+# no install; and makes the archive of the calls for C, proved or with no proof, and the program of the main command with no proof. Programs are
+# for x86-64; on another processor they run under the kit's emulator. To be sourced by bash; works in any folder.
 
 # The folder of the repository.
 root=$(cd "$(dirname "${BASH_SOURCE[0]}")/.." && pwd -P)
@@ -39,13 +39,14 @@ kit_find() {
     fi
 }
 
-# kit_libs CRATE: a word NAME:std,DEP..=FILE for each crate that one stands on, itself left out, by the lines `name: names` of crates.txt.
+# kit_libs CRATE: a word NAME:std,DEP..=FILE for each crate that one stands on, itself left out, by the lines `name: names` of crates.txt, or of
+# the kit's own list for its libraries.
 kit_libs() {
-    local name deps left=$1
+    local name deps file left=$1
     local -A listed=() seen=()
     while read -r name deps; do
         [[ $name != *: ]] || listed[${name%:}]=$deps
-    done <"$root/crates.txt"
+    done < <(cat "$home/libs/libs.txt" "$root/crates.txt")
     [ -n "${listed[$1]+is}" ] || { echo "crates.txt has no $1" >&2; return 1; }
     while [ -n "$left" ]; do
         read -r name left <<<"$left"
@@ -56,19 +57,36 @@ kit_libs() {
             left="$left $name"
             deps="std ${listed[$name]}"
             deps=${deps% }
-            echo "$name:${deps// /,}=$root/crates/$name/src/lib.rt"
+            file=$root/crates/$name/src/lib.rt
+            [ -f "$file" ] || file=$home/libs/$name/src/lib.rt
+            echo "$name:${deps// /,}=$file"
         done
     done
 }
 
-# kit_unproved_archive OUT.a: the archive of the calls for C straight from the sources, with no proof.
-kit_unproved_archive() {
-    local out=$1 compiler=${tools%/*}/bin/rattle-cases word words libs=()
+# kit_unproved OUT.a CRATE FILE: the archive of a crate straight from the sources, its own first file the one that is named, with no proof.
+kit_unproved() {
+    local compiler=${tools%/*}/bin/rattle-cases word words libs=()
     [ -x "$compiler" ] || { echo "the Rattle kit has no $compiler" >&2; return 1; }
-    words=$(kit_libs "$archive_crate") || return 1
+    words=$(kit_libs "$2") || return 1
     for word in $words; do libs+=(--lib "$word"); done
-    "$compiler" --toolchain "$tools" --staticlib "$out" "$root/crates/$archive_crate/src/lib.rt" --crate-name "$archive_crate" \
-        --lib "std:=$home/libs/std/src/lib.rt" "${libs[@]}"
+    "$compiler" --toolchain "$tools" --staticlib "$1" "$3" --crate-name "$2" --lib "std:=$home/libs/std/src/lib.rt" "${libs[@]}"
+}
+
+# kit_unproved_archive OUT.a: the archive of the calls for C with no proof.
+kit_unproved_archive() {
+    kit_unproved "$1" "$archive_crate" "$root/crates/$archive_crate/src/lib.rt"
+}
+
+# kit_unproved_program OUT: the program of the main command with no proof. Only a library can be compiled so: `main` is made the one call of a
+# library, and a C program makes that call.
+kit_unproved_program() {
+    local out=$1 source=$1.sources/lib.rt
+    mkdir "$out.sources"
+    sed 's/^fn main() {$/#[no_mangle]\npub extern "C" fn program_main() {/' "$root/crates/$program_crate/src/main.rt" >"$source"
+    grep -q program_main "$source" || { echo "crates/$program_crate/src/main.rt has no main" >&2; return 1; }
+    printf '%s\n' 'void program_main(void);' 'int main(void)' '{' '    program_main();' '    return 0;' '}' >"$out.c"
+    kit_unproved "$out.a" "$program_crate" "$source" && kit_compile "$out.o" "$out.c" && kit_link "$out" "$out.o" "$out.a"
 }
 
 # Proves the archive of the calls for C, which then is $proved_archive. The crates that it stands on come first, several at a time: the command
