@@ -75,17 +75,26 @@ fn list_text(text: &[u8]) -> usize
     }
 }
 
-// Prints the refusal of a text. Numbers and places have at most five digits.
+// Prints the refusal of a text.
 fn print_refusal(text: &[u8], number: u32, place: usize) -> usize
     requires refused { ⌜ Refuses (now text) number place ⌝ }
     ensures printed { λ r. ⌜ AllPrinted (Prints (now (text .entry))) r ⌝ }
 {
     let mut line = [0u8; LINE];
-    let end = refused_line(&mut line, number, place as u32);
+    let end = refusal_of(text, number, place, &mut line);
     if !io::write_all(STDOUT_FILENO, &line[..end]) {
         return 0;
     }
     1
+}
+
+// Stores the line of a refusal from the start of `line` on, and gives its length. The text stands here for the contract. Numbers and places have at most
+// five digits.
+fn refusal_of(text: &[u8], number: u32, place: usize, line: &mut [u8]) -> usize
+    requires refused { ⌜ Refuses (now text) number place × (lineBytes ≤ length (now line)) ⌝ }
+    ensures stored { λ r. ⌜ InFront (λ (bytes : List ℕ). Prints (now (text .entry)) (bytes ∷ [])) (now (line .entry)) (now (line .exit)) r ⌝ }
+{
+    refused_line(line, number, place as u32)
 }
 
 // Lists the formula of a text under the first reading rule, or prints the refusal that `build` gives. The counts and the tally are not used.
