@@ -1,6 +1,7 @@
 -- Where rule 1 accepts a prefix, writing and reading a file promise the same under both reading rules (rule 6.3).
 use Prim.Native.Nat.{ℕ}
 use mathlib.Core.Path.{_≡_, sym, subst}
+use mathlib.Core.Bool.{false}
 use mathlib.Core.List.{List, [], _∷_, _++_}
 use mathlib.Core.Logic.{_↔_}
 use lib.ListN.{length}
@@ -24,9 +25,9 @@ use Rattle.file_format.proofs.Orders.{carry-loading}
 pub store-agrees : (f : Formula) → NoneOf (ruledPrefix 1 (f .n) (f .prefix) (length (f .clauses))) → (before after : List ℕ) (r : Filled)
     → Stores 1 f before after r ↔ Stores 2 f before after r
 store-agrees f none before after r =
-    let S : List Causes → List ℕ → Type 0 = λ order read. Filling order (FileWith f read []) before after r in
+    let S : List Causes → List ℕ → Type 0 = λ order read. Filling order (FileWith false f read) before after r in
     let carry : (order order′ : List Causes) (read : List ℕ) → Carries order order′ → S order read → S order′ read =
-    λ order order′ read. carry-filling (FileWith f read []) before after r order order′ in
+    λ order order′ read. carry-filling (FileWith false f read) before after r order order′ in
     let later : List ℕ → List Causes = λ read. ClauseCause (f .n) (f .clauses) ∷ behindStore f read before in
     (one-to-two S carry later (f .n) (f .prefix) (length (f .clauses)) none, two-to-one S carry later (f .n) (f .prefix) (length (f .clauses)) none)
 

@@ -13,5 +13,6 @@ pub mod Changed
 pub mod AllBytes
 pub mod Decoded
 pub mod Fits
+pub mod Passing
 pub mod Walked
 pub mod RoundTrip

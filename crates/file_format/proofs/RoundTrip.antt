@@ -42,8 +42,8 @@ stands-holds {p = p} width numbers stands fit =
       values = numbers-at width numbers (stands .front) (stands .back) (p + 6) (stands .is) (stands .at) fit;
     }
 
-module _ (rule : ℕ) (f : Formula) (sets-record file : List ℕ) (none : NoneOf (checkOrder rule f))
-    (g : FileWith f (readAs rule (f .prefix)) sets-record file) (fits : length file ≤ fileBytes) where
+module _ (rule : ℕ) (f : Formula) (there : Bool) (file : List ℕ) (none : NoneOf (checkOrder rule f))
+    (g : FileWith there f (readAs rule (f .prefix)) file) (fits : length file ≤ fileBytes) where
   abbrev n : ℕ
   n = f .n
 
@@ -61,7 +61,7 @@ module _ (rule : ℕ) (f : Formula) (sets-record file : List ℕ) (none : NoneOf
   record3 = rowsRecord (g .rows .classes) (g .rows .parents) (g .rows .counts)
 
   abbrev rest : List ℕ
-  rest = sets-record ++ closingRecord (g .word)
+  rest = g .sets-record ++ closingRecord (g .word)
 
   -- the records of kinds 1 to 3, and the one behind them
   first : StandsAt file 0 prefixKind (bytesOf 2 (n ∷ es))
@@ -168,7 +168,7 @@ module _ (rule : ℕ) (f : Formula) (sets-record file : List ℕ) (none : NoneOf
   closing-name : closingKind ≡ setsKind → ⊥
   closing-name q = omega arith
 
-  sets-told : (there : Bool) → SetsRecord there (readBy rule f) sets-record → (hasSets file ≡ there) × (there ≡ true → RightSets read file)
+  sets-told : (b : Bool) → SetsRecord b (readBy rule f) (g .sets-record) → (hasSets file ≡ b) × (b ≡ true → RightSets read file)
   unfolding hasSets closingRecord
   sets-told true (list, are, is) =
       let stands = fourth setsKind (bytesOf 2 list) (closingRecord (g .word)) (ap (λ (xs : List ℕ). xs ++ closingRecord (g .word)) is) (omega arith) in (
@@ -181,7 +181,10 @@ module _ (rule : ℕ) (f : Formula) (sets-record file : List ℕ) (none : NoneOf
       (ne-eqb (kindAt file (fourthAt file)) setsKind (λ q. closing-name (sym (stands .kind-is) ∙ q)), λ on. absurd (false≢true on))
 
   -- No cause of reading it is there, with its sets or without, where the lent tables have room.
-  module _ (there : Bool) (are : SetsRecord there (readBy rule f) sets-record) (lent : Lent) (room : Roomy f lent) where
+  module _ (lent : Lent) (room : Roomy f lent) where
+    abbrev told-sets : (hasSets file ≡ there) × (there ≡ true → RightSets read file)
+    told-sets = sets-told there (g .sets-are)
+
     roomy : NoRoom (formulaHeld file) lent → ⊥
     roomy short =
         let (a, b, d, e, k) = room in
@@ -191,13 +194,13 @@ module _ (rule : ℕ) (f : Formula) (sets-record file : List ℕ) (none : NoneOf
 
     no-disagreement : None (ForestFileCause read file)
     no-disagreement number place (ForestFileCause.rows-disagree q p wrong) = wrong (g .rows) right-rows
-    no-disagreement number place (ForestFileCause.sets-disagree q p on wrong) = wrong (sets-told there are .1 (sym (sets-told there are .0) ∙ on))
+    no-disagreement number place (ForestFileCause.sets-disagree q p on wrong) = wrong (told-sets .1 (sym (told-sets .0) ∙ on))
 
     file-clear : NoneOf (fileOrder file)
     file-clear =
         let r = g .rows in
         let good = run-good file (omega arith)
-        (subst (Run 0) (sym (g .bytes)) (file-run n es ls (r .classes) (r .parents) (r .counts) (readBy rule f) there sets-record (g .word) are)) in
+        (subst (Run 0) (sym (g .bytes)) (file-run n es ls (r .classes) (r .parents) (r .counts) (readBy rule f) there (g .sets-record) (g .word) (g .sets-are))) in
         (at0-none 19 (λ over. omega arith), (no-record-cause file good, (no-order-cause file good, (at0-none 21 (λ wrong. wrong (g .sum)), tt))))
 
     pub clear : NoneOf (loadOrder rule file lent)
@@ -217,7 +220,7 @@ module _ (rule : ℕ) (f : Formula) (sets-record file : List ℕ) (none : NoneOf
         let m-is = count ∙ count-is in
         let e-is = prefix ∙ ap length prefix-is in
         let l-is = clauses ∙ ap length clauses-is in
-        let s-is = told ∙ sets-told there are .0 in
+        let s-is = told ∙ told-sets .0 in
         let same = rows-unique read (filled .right .0) (right-rows .0) in
         (λ i. Loaded.Formula (m-is i) (e-is i) (l-is i) (s-is i), filled .left ∙ (λ i. storedIn lent (held i) (same i)))
     reads-back lent′ (Loaded.Refused number place) (first′, same) = absurd (first-or-none (loadOrder rule file lent) number place first′ clear)
@@ -231,6 +234,6 @@ written-reads-back rule f before after count stores lent room lent′ answer loa
     let (file, g, is) = in-front rule f before after count stores in
     let none = none-first (checkOrder rule f) (behindStore f (readAs rule (f .prefix)) before) (stores .0) in
     let short = file-short f (readAs rule (f .prefix)) (limits rule f none) file g in
-    let back = reads-back rule f [] file none g (omega arith) false refl lent room lent′ answer
+    let back = reads-back rule f false file none g (omega arith) lent room lent′ answer
     (subst (λ (xs : List ℕ). Loads rule xs lent lent′ answer) is loads) in
     (back .0, (g .rows, g .right, back .1))

@@ -2,7 +2,8 @@
 -- lent table.
 use Prim.Native.Nat.{ℕ, _+_, _<_, _≤_}
 use mathlib.Core.Path.{_≡_, refl, sym, ap, _∙_}
-use mathlib.Core.List.{List, [], _++_}
+use mathlib.Core.Bool.{false}
+use mathlib.Core.List.{List, _++_}
 use native.Mathlib.Omega.{arith}
 use lib.ListN.{length, take, drop, length-append}
 use lib.Seq.{sets, sets-eq, take-at}
@@ -21,14 +22,23 @@ use Rattle.file_format.proofs.Lengths.{prefix-length, clauses-length, r
 abbrev pub Within : Formula → Type 0
 Within f = (f .n ≤ mostVariables) × (length (f .prefix) ≤ prefixEntries) × (length (f .clauses) ≤ clauseEntries)
 
+-- the bytes of a file without sets: kind 4 is absent
+pub plain-bytes : {f : Formula} {read file : List ℕ} (g : FileWith false f read file)
+    → file ≡ prefixRecord (f .n) (f .prefix)
+    ++ (clausesRecord (f .clauses) ++ (rowsRecord (g .rows .classes) (g .rows .parents) (g .rows .counts) ++ closingRecord (g .word)))
+plain-bytes {f} g =
+    g .bytes
+    ∙ ap (λ (sets-record : List ℕ). prefixRecord (f .n) (f .prefix)
+    ++ (clausesRecord (f .clauses) ++ (rowsRecord (g .rows .classes) (g .rows .parents) (g .rows .counts) ++ (sets-record ++ closingRecord (g .word))))) (g .sets-are)
+
 module _ (f : Formula) (read : List ℕ) (within : Within f) where
-  pub file-short : (file : List ℕ) → FileWith f read [] file → length file ≤ 131100
+  pub file-short : (file : List ℕ) → FileWith false f read file → length file ≤ 131100
   file-short file g =
       let (few, entries, literals) = within in
       let r = g .rows in
       let rows = rowsRecord (r .classes) (r .parents) (r .counts) in
       let last = closingRecord (g .word) in
-      let a = ap length (g .bytes) ∙ length-append (prefixRecord (f .n) (f .prefix)) (clausesRecord (f .clauses) ++ (rows ++ last)) in
+      let a = ap length (plain-bytes g) ∙ length-append (prefixRecord (f .n) (f .prefix)) (clausesRecord (f .clauses) ++ (rows ++ last)) in
       let b = length-append (clausesRecord (f .clauses)) (rows ++ last) in
       let c = length-append rows last in
       let p = prefix-length (f .n) (f .prefix) in

@@ -1,6 +1,7 @@
 -- A formula has one forest, one list of sets and so, by one reading of its prefix, one file.
 use Prim.Native.Nat.{ℕ, _+_, _%_, _<_, _≤_}
 use mathlib.Core.Path.{_≡_, sym, ap, _∙_, subst}
+use mathlib.Core.Bool.{false}
 use mathlib.Core.List.{List, [], _++_}
 use native.Mathlib.Omega.{arith}
 use lib.ListN.{length, getD, List·getD-eq-default}
@@ -19,6 +20,7 @@ use Rattle.forest.specs.Answers.{DependsBy}
 use Rattle.sets.proofs.Records.{records-one}
 use Rattle.file_format.specs.Numbers.{wordSum}
 use Rattle.file_format.specs.Layout.{prefixRecord, clausesRecord, rowsRecord, closingRecord, ForestRows, StandardSets, FileWith}
+use Rattle.file_format.proofs.Short.{plain-bytes}
 use Rattle.file_format.proofs.WordSums.{sum-append, closing-sum}
 use Rattle.file_format.proofs.Lengths.{prefix-length, clauses-length, rows-length}
 
@@ -80,9 +82,10 @@ module _ (f : Formula) where
         omega arith
 
 -- By one reading of its prefix a formula has one file.
-pub file-unique : (f : Formula) (read : List ℕ) (file file′ : List ℕ) → FileWith f read [] file → FileWith f read [] file′ → file ≡ file′
+pub file-unique : (f : Formula) (read : List ℕ) (file file′ : List ℕ) → FileWith false f read file → FileWith false f read file′ → file ≡ file′
 file-unique f read file file′ a b =
     let r = rows-unique (formulaOf (f .n) read (f .clauses)) (a .right) (b .right) in
     let same : whole f (a .rows) (a .word) ≡ whole f (b .rows) (a .word) = λ i. whole f (r i) (a .word) in
-    let word = word-unique f (b .rows) (a .word) (b .word) (a .word-fits) (b .word-fits) (a .bytes ∙ same) (b .bytes) (a .sum) (b .sum) in
-    a .bytes ∙ same ∙ ap (whole f (b .rows)) word ∙ sym (b .bytes)
+    let word = word-unique f (b .rows) (a .word) (b .word) (a .word-fits) (b .word-fits) (plain-bytes a ∙ same) (plain-bytes b) (a .sum)
+    (b .sum) in
+    plain-bytes a ∙ same ∙ ap (whole f (b .rows)) word ∙ sym (plain-bytes b)

@@ -12,10 +12,12 @@ use Rattle.formula.specs.Lent.{Formula}
 use Rattle.file_format.specs.Numbers.{numberBytes, bytesOf, literalNumber}
 use Rattle.file_format.specs.Layout.{prefixKind, clausesKind, rowsKind, setsKind, closingKind, recordBytes, prefixRecord, clausesRecord}
 use Rattle.file_format.specs.Layout.{rowsRecord, closingRecord, SetsRecord}
-use Rattle.file_format.specs.Places.{sizeAt, kindAt, nextAt, Reached, start, behind, RecordAt, mayFollow}
+use Rattle.file_format.specs.Places.{sizeAt, kindAt, nextAt, RecordAt}
+use Rattle.file_format.specs.InnerPlaces.{Reached, start, behind, mayFollow, lastOf, StepCause}
 use Rattle.file_format.specs.Causes.{RecordCause, OrderCause}
 use Rattle.file_format.proofs.Lengths.{number-length, bytes-length, record-length}
 use Rattle.file_format.proofs.Decoded.{StandsAt, record-at}
+use Rattle.file_format.proofs.Passing.{passed-reached, steps-orders}
 
 -- A record with no cause of 19.
 pub record Sound (file : List ℕ) (place : ℕ) : Type 0 where
@@ -33,7 +35,7 @@ pub data Good (file : List ℕ) (before place : ℕ) : Type 0 where
 -- So neither 19 nor 20 has a cause.
 module _ (file : List ℕ) (good : (before place : ℕ) → Reached file before place → Good file before place) where
   sound-at : {place : ℕ} → RecordAt file place → Sound file place
-  sound-at {place} r = of (good (r .before) place (r .reached)) (r .goes-on)
+  sound-at {place} r = of (good (lastOf 0 (r .kinds)) place (passed-reached file (r .passed))) (r .goes-on)
     where
       of : {before place : ℕ} → Good file before place → place < length file → Sound file place
       of (record-here less sound follows) on = sound
@@ -46,17 +48,20 @@ module _ (file : List ℕ) (good : (before place : ℕ) → Reached file before 
   no-record-cause number place (RecordCause.part-literal q r kind some) = some (sound-at r .literals kind)
   no-record-cause number place (RecordCause.no-word q r kind other) = other (sound-at r .word kind)
 
-  pub no-order-cause : None (OrderCause file)
-  no-order-cause number place (OrderCause.wrong before q r less refused) = of (good before place r) less refused
+  no-step-cause : None (StepCause file)
+  no-step-cause number place (StepCause.wrong before q r less refused) = of (good before place r) less refused
     where
       of : {before place : ℕ} → Good file before place → place < length file → mayFollow before (kindAt file place) ≡ false → ⊥
       of (record-here on sound follows) less refused = let z : _≡_ {A = ℕ} 0 1 = cc in omega arith
       of (end-here last is) less refused = omega arith
-  no-order-cause number place (OrderCause.missing before q r end other) = of (good before place r) end other
+  no-step-cause number place (StepCause.missing before q r end other) = of (good before place r) end other
     where
       of : {before place : ℕ} → Good file before place → place ≡ length file → before ≢ closingKind → ⊥
       of (record-here on sound follows) end other = omega arith
       of (end-here last is) end other = other last
+
+  pub no-order-cause : None (OrderCause file)
+  no-order-cause = steps-orders file .none (no-step-cause, tt) .0
 
 -- What a payload is to be like, by the kind of its record.
 pub record Shape (kind : ℕ) (payload : List ℕ) : Type 0 where

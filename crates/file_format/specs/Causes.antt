@@ -15,7 +15,7 @@ use Rattle.formula.specs.Lent.{Formula}
 use Rattle.formula_rules.specs.Rules.{readAs, readBy, RuleCause, PrefixCauseBy}
 use Rattle.forest_tables.specs.Lent.{Rows, rowsIn, rowsOut}
 use Rattle.file_format.specs.Layout.{prefixKind, clausesKind, closingKind, ForestRows, StandardSets, FileWith, SumsToZero}
-use Rattle.file_format.specs.Places.{sizeAt, kindAt, nextAt, Reached, RecordAt, mayFollow, thirdAt, fourthAt, hasSets, formulaHeld, Holds}
+use Rattle.file_format.specs.Places.{sizeAt, kindAt, nextAt, Passed, RecordAt, Whole, Begins, thirdAt, fourthAt, hasSets, formulaHeld, Holds}
 
 -- the most bytes that a file may have
 abbrev pub fileBytes : ℕ
@@ -43,11 +43,11 @@ pub data RecordCause (file : List ℕ) (number place : ℕ) : Type 0 where
 
 -- 20: the place is where the record begins, or would if it is missing
 pub data OrderCause (file : List ℕ) (number place : ℕ) : Type 0 where
-  -- unknown kind or wrong order: the kind may not come behind the one before
-  wrong : (before : ℕ) → number ≡ 20 → Reached file before place → place < length file → mayFollow before (kindAt file place) ≡ false
+  -- unknown kind or wrong order: the kinds so far, with this one, are not the first of a file's
+  wrong : (kinds : List ℕ) → number ≡ 20 → Passed file kinds place → place < length file → (Begins (kinds ++ (kindAt file place ∷ [])) → ⊥)
       → OrderCause file number place
-  -- a kind missing: the file ends, and not behind kind 65,535
-  missing : (before : ℕ) → number ≡ 20 → Reached file before place → place ≡ length file → before ≢ closingKind → OrderCause file number place
+  -- a kind missing: the file ends, and its kinds are not all
+  missing : (kinds : List ℕ) → number ≡ 20 → Passed file kinds place → place ≡ length file → (Whole kinds → ⊥) → OrderCause file number place
 
 -- 21: the file's words do not sum to zero
 abbrev pub SumCause : List ℕ → Causes
@@ -111,10 +111,10 @@ loadOrder rule file lent =
 -- 19 and 14, for writing a formula whose prefix is read as `read`: its file is too long, which within the limits it never is (proofs/Short); it is
 -- longer than the table that is lent for it
 abbrev pub FileTooLarge : Formula → List ℕ → Type 0
-FileTooLarge f read = (file : List ℕ) × FileWith f read [] file × TooLarge file
+FileTooLarge f read = (file : List ℕ) × FileWith false f read file × TooLarge file
 
 abbrev pub FileTooLong : Formula → List ℕ → List ℕ → Type 0
-FileTooLong f read before = (file : List ℕ) × FileWith f read [] file × (length before < length file)
+FileTooLong f read before = (file : List ℕ) × FileWith false f read file × (length before < length file)
 
 abbrev pub StoredLargeCause : Formula → List ℕ → Causes
 StoredLargeCause f read = At0 19 (FileTooLarge f read)

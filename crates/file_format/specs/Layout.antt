@@ -75,11 +75,13 @@ closingRecord word = recordBytes closingKind (numberBytes 2 word)
 abbrev pub SumsToZero : List ℕ → Type 0
 SumsToZero file = wordSum file % 65536 ≡ 0
 
--- A file of a formula whose prefix is read as `read`, with these bytes for its kind 4: the records in the order of their kinds, of which the last has
--- the word that closes the sum. The prefix is kept as it is lent (rule 6.4); the rows are those of the prefix as it is read.
-pub record FileWith (f : Formula) (read : List ℕ) (sets-record file : List ℕ) : Type 0 where
+-- A file of a formula whose prefix is read as `read`, with its sets or without: the records in the order of their kinds, of which the last has the word
+-- that closes the sum. The prefix is kept as it is lent (rule 6.4); rows and sets are those of the prefix as it is read.
+pub record FileWith (there : Bool) (f : Formula) (read file : List ℕ) : Type 0 where
   pub rows : Rows
   pub right : ForestRows (formulaOf (f .n) read (f .clauses)) rows
+  pub sets-record : List ℕ
+  pub sets-are : SetsRecord there (formulaOf (f .n) read (f .clauses)) sets-record
   pub word : ℕ
   pub word-fits : word < 65536
   pub bytes : file ≡ prefixRecord (f .n) (f .prefix)
@@ -88,4 +90,4 @@ pub record FileWith (f : Formula) (read : List ℕ) (sets-record file : List ℕ
 
 -- The file that is written under a reading rule: it has no kind 4 (rule 10.4).
 abbrev pub FileOf : ℕ → Formula → List ℕ → Type 0
-FileOf rule f = FileWith f (readAs rule (f .prefix)) []
+FileOf rule f = FileWith false f (readAs rule (f .prefix))

@@ -6,3 +6,4 @@ pub mod Causes
 pub mod Promises
 -- Inner: what functions look for one after the other, which only proofs rest on.
 pub mod InnerOrders
+pub mod InnerPlaces

@@ -1,11 +1,12 @@
 -- Where the records of any file begin (rule 10.1), in which order kinds may come, and the formula that kinds 1 and 2 hold (rule 10.2).
 use Prim.Native.Nat.{ℕ, _+_, _*_, _-_, _/_, _<_, _≤_}
 use mathlib.Core.Path.{_≡_}
-use mathlib.Core.Bool.{Bool, _&&_, _||_}
-use mathlib.Core.List.{List, map}
+use mathlib.Core.Bool.{Bool}
+use mathlib.Core.List.{List, [], _∷_, _++_, map}
+use mathlib.Core.Logic.{_⊎_}
 use lib.Dec.{eqb}
 use lib.IntN.{ℤ}
-use lib.ListN.{length}
+use lib.ListN.{length, take}
 use Rattle.formula.specs.Lent.{Formula, formulaOf}
 use Rattle.file_format.specs.Numbers.{numberAt, numbersAt, literalOf}
 use Rattle.file_format.specs.Layout.{prefixKind, clausesKind, rowsKind, setsKind, closingKind}
@@ -23,27 +24,32 @@ payloadAt p = p + 6
 unfoldable pub nextAt : List ℕ → ℕ → ℕ
 nextAt file p = payloadAt p + sizeAt file p
 
--- A place at which a record begins or would begin: the beginning of the file, or behind a record that is not cut by the end of the file.
--- The kind of that record goes with it, and 0 with the beginning of the file.
-pub data Reached (file : List ℕ) : ℕ → ℕ → Type 0 where
-  start : {before place : ℕ} → before ≡ 0 → place ≡ 0 → Reached file before place
-  behind : {before place : ℕ} (earlier p : ℕ) → Reached file earlier p → nextAt file p ≤ length file → before ≡ kindAt file p
-      → place ≡ nextAt file p → Reached file before place
+-- The kinds of the records before a place at which a record begins or would begin, from the beginning of the file on, one after the other; none of them is
+-- cut by the end of the file.
+pub data Passed (file : List ℕ) : List ℕ → ℕ → Type 0 where
+  start : {place : ℕ} → place ≡ 0 → Passed file [] place
+  behind : (kinds : List ℕ) {place : ℕ} (p : ℕ) → Passed file kinds p → nextAt file p ≤ length file → place ≡ nextAt file p
+      → Passed file (kinds ++ (kindAt file p ∷ [])) place
 
 -- A record begins there: the file goes on.
 pub record RecordAt (file : List ℕ) (place : ℕ) : Type 0 where
-  pub before : ℕ
-  pub reached : Reached file before place
+  pub kinds : List ℕ
+  pub passed : Passed file kinds place
   pub goes-on : place < length file
 
--- which kind may come behind a kind, 0 for the beginning of the file: 1, 2, 3, then 4 or not, then 65,535
-unfoldable pub mayFollow : ℕ → ℕ → Bool
-mayFollow before kind =
-    (eqb before 0 && eqb kind prefixKind)
-    || ((eqb before prefixKind && eqb kind clausesKind)
-    || ((eqb before clausesKind && eqb kind rowsKind)
-    || ((eqb before rowsKind && (eqb kind setsKind || eqb kind closingKind))
-    || (eqb before setsKind && eqb kind closingKind))))
+-- the kinds of a file, once each and in their order; kind 4 may be absent
+abbrev pub withSets : List ℕ
+withSets = prefixKind ∷ clausesKind ∷ rowsKind ∷ setsKind ∷ closingKind ∷ []
+
+abbrev pub withoutSets : List ℕ
+withoutSets = prefixKind ∷ clausesKind ∷ rowsKind ∷ closingKind ∷ []
+
+-- all of them, or the first of them
+abbrev pub Whole : List ℕ → Type 0
+Whole kinds = (kinds ≡ withSets) ⊎ (kinds ≡ withoutSets)
+
+abbrev pub Begins : List ℕ → Type 0
+Begins kinds = (kinds ≡ take (length kinds) withSets) ⊎ (kinds ≡ take (length kinds) withoutSets)
 
 -- where the records of kinds 2 and 3 begin in a file with the kinds in their order, and the record behind them, which may be of kind 4; that of kind
 -- 1 begins at 0

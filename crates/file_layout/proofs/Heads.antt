@@ -1,16 +1,16 @@
--- The head of a record as the code reads it: kind and length, and which kind may follow which.
+-- The head of a record as the code reads it: kind and length.
 use Prim.Native.Nat.{ℕ, _+_, _%_}
 use mathlib.Core.Path.{_≡_, refl}
-use mathlib.Core.Bool.{Bool, true, false, not, _||_}
+use mathlib.Core.Bool.{Bool, true, false, not}
 use mathlib.Core.List.{List}
 use mathlib.Core.Logic.{_⊎_, inl, inr, ⊎-elim, _≢_}
 use native.Mathlib.Omega.{arith}
-use borrow.Author.Tests.{ltb-true, ltb-false, eqb-true, eqb-false, ne-eqb}
+use borrow.Author.Tests.{ltb-true, ltb-false, eqb-true, eqb-false}
 use lib.Dec.{ltb, eqb}
 use Rattle.forest_tables.specs.Rows.{Tells}
 use Rattle.file_format.specs.Numbers.{numberAt}
-use Rattle.file_format.specs.Layout.{prefixKind, clausesKind, rowsKind, setsKind, closingKind}
-use Rattle.file_format.specs.Places.{sizeAt, kindAt, nextAt, mayFollow}
+use Rattle.file_format.specs.Layout.{prefixKind, clausesKind, closingKind}
+use Rattle.file_format.specs.Places.{sizeAt, kindAt, nextAt}
 use Rattle.file_layout.specs.Laid.{WrongSize}
 
 -- A flag tells of Q what it tells of P, where P gives Q, and Q cannot be without P.
@@ -63,35 +63,3 @@ module _ (kind size : ℕ) (even : size % 2 ≡ 0) where
 
   pub tells-other : kind ≢ prefixKind → kind ≢ clausesKind → kind ≢ closingKind → WrongSize kind size → ⊥
   tells-other a b c = ⊎-elim (λ o. o even) (⊎-elim (λ w. a (w .0)) (⊎-elim (λ w. b (w .0)) (λ w. c (w .0))))
-
--- Which kind may follow, by the kind before.
-module _ (before kind : ℕ) where
-  or-none : (b : Bool) → b || false ≡ b
-  or-none true = refl
-  or-none false = refl
-
-  pub after-start : before ≡ 0 → mayFollow before kind ≡ eqb kind prefixKind
-  unfolding mayFollow
-  after-start e = rw e (or-none (eqb kind prefixKind))
-
-  pub after-prefix : before ≡ prefixKind → mayFollow before kind ≡ eqb kind clausesKind
-  unfolding mayFollow
-  after-prefix e = rw e (or-none (eqb kind clausesKind))
-
-  pub after-clauses : before ≡ clausesKind → mayFollow before kind ≡ eqb kind rowsKind
-  unfolding mayFollow
-  after-clauses e = rw e (or-none (eqb kind rowsKind))
-
-  pub after-rows : before ≡ rowsKind → mayFollow before kind ≡ eqb kind setsKind || eqb kind closingKind
-  unfolding mayFollow
-  after-rows e = rw e (or-none (eqb kind setsKind || eqb kind closingKind))
-
-  pub after-sets : before ≡ setsKind → mayFollow before kind ≡ eqb kind closingKind
-  unfolding mayFollow
-  after-sets e = rw e
-
-  pub after-other : before ≢ 0 → before ≢ prefixKind → before ≢ clausesKind → before ≢ rowsKind → before ≢ setsKind
-      → mayFollow before kind ≡ false
-  unfolding mayFollow
-  after-other a b c d e =
-      rw (ne-eqb before 0 a, ne-eqb before prefixKind b, ne-eqb before clausesKind c, ne-eqb before rowsKind d, ne-eqb before setsKind e)

@@ -8,19 +8,24 @@ use native.Mathlib.Decide.{decLt}
 use native.Mathlib.Omega.{arith}
 use borrow.Author.Tests.{eqb-true}
 use lib.ListN.{length}
-use Rattle.terms.specs.Refusals.{At0, NoneOf, Judged}
+use Rattle.terms.specs.Refusals.{At0, None, NoneOf, Judged}
 use Rattle.terms.specs.declared.Verdict.{Verdict}
 use Rattle.terms.proofs.Verdicts.{at0-none, accepted-then}
 use Rattle.file_format.specs.Layout.{prefixKind, clausesKind, rowsKind, closingKind, SumsToZero}
-use Rattle.file_format.specs.Places.{sizeAt, kindAt, nextAt, secondAt, thirdAt, fourthAt, Reached, start, behind, mayFollow}
-use Rattle.file_format.specs.Causes.{fileBytes, TooLarge, RecordCause, cut, no-count, OrderCause, wrong, missing}
+use Rattle.file_format.specs.Places.{sizeAt, kindAt, nextAt, secondAt, thirdAt, fourthAt}
+use Rattle.file_format.specs.InnerPlaces.{Reached, start, behind, mayFollow, StepCause, wrong, missing}
+use Rattle.file_format.proofs.Passing.{orders-steps, record-reached, after-start, after-prefix, after-clauses}
+use Rattle.file_format.specs.Causes.{fileBytes, TooLarge, RecordCause, cut, no-count, OrderCause}
 use Rattle.file_format.specs.InnerOrders.{fileOrder}
 use Rattle.file_layout.specs.Laid.{Laid}
-use Rattle.file_layout.proofs.Heads.{after-start, after-prefix, after-clauses}
 use Rattle.file_layout.proofs.Walks.{reached-within}
 use Rattle.file_layout.proofs.Spans.{second-is, third-is, fourth-is}
 
 module _ (file : List ℕ) (none : NoneOf (fileOrder file)) where
+  -- no kind comes where it may not, by the one before it
+  pub steps-clear : None (StepCause file)
+  steps-clear = orders-steps file .none (none .1 .1 .0, tt) .0
+
   -- Behind every kind but the last comes a record that may follow, and it is whole.
   pub record Follows (before place : ℕ) : Type 0 where
     pub goes-on : place < length file
@@ -33,16 +38,16 @@ module _ (file : List ℕ) (none : NoneOf (fileOrder file)) where
       on : place < length file
       on =
           by-cases (decLt place (length file)) (λ l. l)
-          (λ l. absurd (none .1 .1 .0 20 place (missing before refl r (let w = reached-within file r in omega arith) other)))
+          (λ l. absurd (steps-clear 20 place (missing before refl r (let w = reached-within file r in omega arith) other)))
 
       may-be : (b : Bool) → mayFollow before (kindAt file place) ≡ b → mayFollow before (kindAt file place) ≡ true
       may-be true e = e
-      may-be false e = absurd (none .1 .1 .0 20 place (wrong before refl r on e))
+      may-be false e = absurd (steps-clear 20 place (wrong before refl r on e))
 
       whole : nextAt file place ≤ length file
       whole =
           by-cases (decLt (length file) (nextAt file place))
-          (λ l. absurd (none .1 .0 19 place (cut refl (record { before = before; reached = r; goes-on = on }) l))) (λ l. omega arith)
+          (λ l. absurd (none .1 .0 19 place (cut refl (record-reached file r on) l))) (λ l. omega arith)
 
   pub next-reached : {before place kind : ℕ} → Reached file before place → Follows before place → kindAt file place ≡ kind → (next : ℕ)
       → next ≡ nextAt file place → Reached file kind next
@@ -79,7 +84,7 @@ module _ (file : List ℕ) (none : NoneOf (fileOrder file)) where
       record {
         counted =
             by-cases (decLt (sizeAt file 0) 2)
-            (λ l. absurd (none .1 .0 19 0 (no-count refl (record { before = 0; reached = start refl refl; goes-on = first .goes-on }) first-kind l)))
+            (λ l. absurd (none .1 .0 19 0 (no-count refl (record-reached file (start refl refl) (first .goes-on)) first-kind l)))
             (λ l. omega arith);
         ends = omega arith;
       }

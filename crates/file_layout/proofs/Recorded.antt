@@ -12,15 +12,16 @@ use lib.ListN.{length, drop, length-append, length-drop, drop-of-length-le}
 use Rattle.terms.specs.Refusals.{NoneOf}
 use Rattle.file_format.specs.Numbers.{numberAt, numbersAt, numberBytes, bytesOf, literalNumber}
 use Rattle.file_format.specs.Layout.{rowsKind, setsKind, closingKind, recordBytes, prefixRecord, clausesRecord, rowsRecord, closingRecord}
-use Rattle.file_format.specs.Places.{sizeAt, kindAt, nextAt, payloadAt, secondAt, thirdAt, fourthAt, hasSets, countIn, prefixIn, clausesIn, Reached, start, Holds}
-use Rattle.file_format.specs.Causes.{odd, part-literal, no-word, wrong}
+use Rattle.file_format.specs.Places.{sizeAt, kindAt, nextAt, payloadAt, secondAt, thirdAt, fourthAt, hasSets, countIn, prefixIn, clausesIn, Holds}
+use Rattle.file_format.specs.InnerPlaces.{Reached, start, wrong}
+use Rattle.file_format.proofs.Passing.{record-reached, after-rows, after-sets, after-other}
+use Rattle.file_format.specs.Causes.{odd, part-literal, no-word}
 use Rattle.file_format.specs.InnerOrders.{fileOrder}
 use Rattle.file_format.proofs.Changed.{Bytes}
-use Rattle.file_layout.proofs.Heads.{after-rows, after-sets, after-other}
 use Rattle.file_layout.proofs.Walks.{reached-within}
 use Rattle.file_layout.proofs.Spans.{prefix-length, numbers-length, second-is, third-is, fourth-is}
 use Rattle.file_layout.proofs.Laying.{Follows, follows, next-reached, first-kind, second-reached, second-kind, third-reached, third-kind}
-use Rattle.file_layout.proofs.Laying.{fourth-reached, file-laid}
+use Rattle.file_layout.proofs.Laying.{steps-clear, fourth-reached, file-laid}
 use Rattle.file_layout.proofs.Encoded.{two-fits, literals-same, record-stands}
 
 module _ (file : List ℕ) (bytes : Bytes file) (none : NoneOf (fileOrder file)) where
@@ -28,7 +29,7 @@ module _ (file : List ℕ) (bytes : Bytes file) (none : NoneOf (fileOrder file))
   even-size : {before place : ℕ} → Reached file before place → place < length file → sizeAt file place % 2 ≡ 0
   even-size {before} {place} r on =
       by-cases (ℕ-discrete (sizeAt file place % 2) 0) (λ e. e)
-      (λ o. absurd (none .1 .0 19 place (odd refl (record { before = before; reached = r; goes-on = on }) o)))
+      (λ o. absurd (none .1 .0 19 place (odd refl (record-reached file r on) o)))
 
   -- what the records of kinds 1 and 2 hold
   prefix-held : Holds 2 file 0 (countIn file ∷ prefixIn file)
@@ -46,7 +47,7 @@ module _ (file : List ℕ) (bytes : Bytes file) (none : NoneOf (fileOrder file))
   whole-literals =
       let f = follows file none (second-reached file none) (λ q. omega arith) in
       by-cases (ℕ-discrete (sizeAt file (secondAt file) % 4) 0) (λ e. e) (λ o. absurd (none .1 .0 19 (secondAt file)
-      (part-literal refl (record { before = 1; reached = second-reached file none; goes-on = f .goes-on }) (second-kind file none) o)))
+      (part-literal refl (record-reached file (second-reached file none) (f .goes-on)) (second-kind file none) o)))
 
   clauses-held : Holds 4 file (secondAt file) (map literalNumber (clausesIn file))
   unfolding clausesIn
@@ -68,7 +69,7 @@ module _ (file : List ℕ) (bytes : Bytes file) (none : NoneOf (fileOrder file))
       record {
         size =
             by-cases (ℕ-discrete (sizeAt file place) 2) (λ e. e)
-            (λ o. absurd (none .1 .0 19 place (no-word refl (record { before = before; reached = r; goes-on = on }) is o)));
+            (λ o. absurd (none .1 .0 19 place (no-word refl (record-reached file r on) is o)));
         values = refl;
       }
 
@@ -79,7 +80,7 @@ module _ (file : List ℕ) (bytes : Bytes file) (none : NoneOf (fileOrder file))
   closing-stands {before} {place} r f is =
       let word = numberBytes 2 (numberAt 2 file (payloadAt place)) in
       let last = next-reached file none r f is (nextAt file place) refl in
-      let over : nextAt file place < length file → ⊥ = λ on. none .1 .1 .0 20 (nextAt file place) (wrong closingKind refl last on
+      let over : nextAt file place < length file → ⊥ = λ on. steps-clear file none 20 (nextAt file place) (wrong closingKind refl last on
       (after-other closingKind (kindAt file (nextAt file place)) (λ q. omega arith) (λ q. omega arith) (λ q. omega arith) (λ q. omega arith)
       (λ q. omega arith))) in
       let end : length file ≤ nextAt file place = by-cases (decLt (nextAt file place) (length file)) (λ on. absurd (over on)) (λ off. omega arith) in

@@ -27,7 +27,7 @@ use Rattle.file_format.specs.Promises.{Stores, Loads, WithoutSets, as-it-is, re
 use Rattle.file_format.proofs.Orders.{none-first}
 use Rattle.file_format.proofs.Changed.{Bytes, sums}
 use Rattle.file_format.proofs.Unique.{rows-unique, file-unique}
-use Rattle.file_format.proofs.Short.{never-too-large, in-front}
+use Rattle.file_format.proofs.Short.{plain-bytes, never-too-large, in-front}
 use Rattle.file_format.proofs.Lengths.{closing-length}
 use Rattle.file_layout.proofs.Recorded.{Behind, plain, with-sets, behind-rows, head, head-then, head-stands, head-length}
 
@@ -49,7 +49,7 @@ module _ (rule : ℕ) (file : List ℕ) (bytes : Bytes file) (none : NoneOf (fil
   written : (w : List ℕ) (g : FileOf rule (formulaHeld file) w) → w ≡ front ++ closingRecord (g .word)
   written w g =
       let same = rows-unique (readBy rule (formulaHeld file)) (g .right) (right .0) in
-      g .bytes
+      plain-bytes g
       ∙ ap (λ (q : Rows). prefixRecord (countIn file) (prefixIn file)
       ++ (clausesRecord (clausesIn file) ++ (rowsRecord (q .classes) (q .parents) (q .counts) ++ closingRecord (g .word)))) same
       ∙ sym (in-order (closingRecord (g .word)))
@@ -65,6 +65,8 @@ module _ (rule : ℕ) (file : List ℕ) (bytes : Bytes file) (none : NoneOf (fil
           let own : FileOf rule (formulaHeld file) file = record {
             rows = r;
             right = right .0;
+            sets-record = [];
+            sets-are = refl;
             word = word;
             word-fits = fits;
             bytes = front-then (closingRecord word) is ∙ in-order (closingRecord word);

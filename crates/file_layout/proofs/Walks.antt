@@ -12,16 +12,14 @@ use Rattle.terms.specs.Refusals.{None, First}
 use Rattle.terms.proofs.Common.{clash}
 use Rattle.terms.proofs.Verdicts.{first-at}
 use Rattle.file_format.specs.Layout.{closingKind}
-use Rattle.file_format.specs.Places.{sizeAt, kindAt, nextAt, Reached, start, behind, RecordAt, mayFollow}
-use Rattle.file_format.specs.Causes.{fileBytes, RecordCause, cut, odd, no-count, part-literal, no-word, OrderCause, wrong, missing}
+use Rattle.file_format.specs.Places.{sizeAt, kindAt, nextAt, RecordAt}
+use Rattle.file_format.specs.InnerPlaces.{Reached, start, behind, mayFollow, lastOf, StepCause, wrong, missing}
+use Rattle.file_format.proofs.Passing.{passed-reached, record-reached}
+pub use Rattle.file_format.proofs.Passing.{next-past}
+use Rattle.file_format.specs.Causes.{fileBytes, RecordCause, cut, odd, no-count, part-literal, no-word}
 use Rattle.file_layout.specs.Laid.{WrongSize}
 
 module _ (file : List ℕ) where
-  -- The place behind a record is past its head.
-  pub next-past : (p : ℕ) → p + 6 ≤ nextAt file p
-  unfolding nextAt
-  next-past p = omega arith
-
   next-same : {p q : ℕ} → p ≡ q → nextAt file p ≡ nextAt file q
   next-same q = ap (nextAt file) q
 
@@ -37,27 +35,27 @@ module _ (file : List ℕ) where
     where
       go : Apart p q → Apart p q′
       go (same s) = let n = next-same s in before (omega arith)
-      go (before l) = let n = next-past q in before (omega arith)
-      go (after l) = let n = next-past q in absurd (omega arith)
+      go (before l) = let n = next-past file q in before (omega arith)
+      go (after l) = let n = next-past file q in absurd (omega arith)
 
   from-next : {b p p′ q : ℕ} → p ≡ nextAt file p′ → ((b q : ℕ) → Reached file b q → Apart p′ q) → Reached file b q → Apart p q
   from-next {b} {p} {p′} {q} is rec (start k z) = go (rec b q (start k z))
     where
       go : Apart p′ q → Apart p q
       go (same s) = let n = next-same s in after (omega arith)
-      go (before l) = let n = next-past p′ in absurd (omega arith)
-      go (after l) = let n = next-past p′ in after (omega arith)
+      go (before l) = let n = next-past file p′ in absurd (omega arith)
+      go (after l) = let n = next-past file p′ in after (omega arith)
   from-next {b} {p} {p′} {q} is rec (behind earlier q′ r fits k e) = go (rec b q (behind earlier q′ r fits k e)) (from-next is rec r)
     where
       inner : nextAt file p′ ≤ q → Apart p q′ → Apart p q
       inner l (same s) = let n = next-same s in before (omega arith)
-      inner l (before m) = let n = next-past q′ in before (omega arith)
+      inner l (before m) = let n = next-past file q′ in before (omega arith)
       inner l (after m) = same (omega arith)
 
       go : Apart p′ q → Apart p q′ → Apart p q
       go (same s) i = let n = next-same s in after (omega arith)
       go (before l) i = inner l i
-      go (after l) i = let n = next-past p′ in after (omega arith)
+      go (after l) i = let n = next-past file p′ in after (omega arith)
 
   apart : {b b′ p q : ℕ} → Reached file b p → Reached file b′ q → Apart p q
   apart (start _ z) s = from-start z s
@@ -66,14 +64,14 @@ module _ (file : List ℕ) where
   -- The kind before a place is one.
   pub kind-one : {b b′ p q : ℕ} → p ≡ q → Reached file b p → Reached file b′ q → b ≡ b′
   kind-one e (start k z) (start k′ z′) = k ∙ sym k′
-  kind-one e (start k z) (behind earlier q r fits k′ z′) = let n = next-past q in absurd (omega arith)
-  kind-one e (behind earlier p r fits k z) (start k′ z′) = let n = next-past p in absurd (omega arith)
+  kind-one e (start k z) (behind earlier q r fits k′ z′) = let n = next-past file q in absurd (omega arith)
+  kind-one e (behind earlier p r fits k z) (start k′ z′) = let n = next-past file p in absurd (omega arith)
   kind-one {b} {b′} e (behind earlier p r fits k z) (behind earlier′ q r′ fits′ k′ z′) = go (apart r r′)
     where
       go : Apart p q → b ≡ b′
       go (same s) = k ∙ ap (kindAt file) s ∙ sym k′
-      go (before l) = let n = next-past q in absurd (omega arith)
-      go (after l) = let n = next-past p in absurd (omega arith)
+      go (before l) = let n = next-past file q in absurd (omega arith)
+      go (after l) = let n = next-past file p in absurd (omega arith)
 
   -- A place is never past the end of the file.
   pub reached-within : {b p : ℕ} → Reached file b p → p ≤ length file
@@ -87,7 +85,7 @@ module _ (file : List ℕ) where
     where
       go : Apart e at → P e
       go (same s) = subst P (sym s) here
-      go (before m) = let n = next-past e in clean e (omega arith)
+      go (before m) = let n = next-past file e in clean e (omega arith)
       go (after m) = absurd (omega arith)
 
   -- A record of a file that is not too long begins near enough to be read.
@@ -136,7 +134,7 @@ module _ (file : List ℕ) where
 
   module _ {at : ℕ} (s : Shaped at) where
     pub shaped-record : at < length file → RecordAt file at
-    shaped-record l = record { before = s .kind; reached = s .reached; goes-on = l }
+    shaped-record l = record-reached file (s .reached) l
 
     pub shaped-fault : RecordCause file 19 at → First (RecordCause file) 19 at
     shaped-fault cause = first-at (s .clean) cause (λ k c. let q = record-cause c .0 in omega arith)
@@ -152,7 +150,7 @@ module _ (file : List ℕ) where
           clean = λ e lt k cause.
               let r = record-cause cause .1 in
               further (λ (p : ℕ). (k : ℕ) → RecordCause file k p → ⊥) (s .reached) (s .clean)
-              (λ k c. none (subst (λ (x : ℕ). RecordCause file x at) (record-cause c .0) c)) (r .before) e (r .reached) (omega arith) k cause;
+              (λ k c. none (subst (λ (x : ℕ). RecordCause file x at) (record-cause c .0) c)) (lastOf 0 (r .kinds)) e (passed-reached file (r .passed)) (omega arith) k cause;
         }
 
     pub shaped-all : length file ≤ at → None (RecordCause file)
@@ -161,25 +159,25 @@ module _ (file : List ℕ) where
   -- The walk for 20: no record before a place is of a kind that may not come there.
   pub record Ordered (at kind : ℕ) : Type 0 where
     pub reached : Reached file kind at
-    pub clean : (e : ℕ) → e < at → (k : ℕ) → OrderCause file k e → ⊥
+    pub clean : (e : ℕ) → e < at → (k : ℕ) → StepCause file k e → ⊥
 
   pub ordered-none : Ordered 0 0
   ordered-none = record { reached = start refl refl; clean = λ e l. absurd (omega arith) }
 
-  order-number : {k e : ℕ} → OrderCause file k e → k ≡ 20
+  order-number : {k e : ℕ} → StepCause file k e → k ≡ 20
   order-number (wrong _ n _ _ _) = n
   order-number (missing _ n _ _ _) = n
 
   module _ {at kind : ℕ} (o : Ordered at kind) where
-    pub ordered-fault : at < length file → mayFollow kind (kindAt file at) ≡ false → First (OrderCause file) 20 at
+    pub ordered-fault : at < length file → mayFollow kind (kindAt file at) ≡ false → First (StepCause file) 20 at
     ordered-fault l no′ = first-at (o .clean) (wrong kind refl (o .reached) l no′) (λ k c. let q = order-number c in omega arith)
 
-    pub ordered-missing : length file ≤ at → kind ≢ closingKind → First (OrderCause file) 20 at
+    pub ordered-missing : length file ≤ at → kind ≢ closingKind → First (StepCause file) 20 at
     ordered-missing over no′ =
         first-at (o .clean) (missing kind refl (o .reached) (let w = reached-within (o .reached) in omega arith) no′)
         (λ k c. let q = order-number c in omega arith)
 
-    pub ordered-all : length file ≤ at → kind ≡ closingKind → None (OrderCause file)
+    pub ordered-all : length file ≤ at → kind ≡ closingKind → None (StepCause file)
     ordered-all over is k e (wrong b n r l no′) = o .clean e (omega arith) k (wrong b n r l no′)
     ordered-all over is k e (missing b n r z no′) =
         let w = reached-within (o .reached) in
@@ -190,7 +188,7 @@ module _ (file : List ℕ) where
       pub whole-fits : at < length file → nextAt file at ≤ length file
       whole-fits l =
           by-cases (decLt (length file) (nextAt file at))
-          (λ over. absurd (whole 19 at (cut refl (record { before = kind; reached = o .reached; goes-on = l }) over))) (λ low. omega arith)
+          (λ over. absurd (whole 19 at (cut refl (record-reached file (o .reached) l) over))) (λ low. omega arith)
 
       pub ordered-more : (next : ℕ) → next ≡ nextAt file at → at < length file → mayFollow kind (kindAt file at) ≡ true
           → Ordered next (kindAt file at)
@@ -199,19 +197,19 @@ module _ (file : List ℕ) where
           record { reached = behind kind at (o .reached) fits refl is; clean = go }
         where
           -- a cause before the next place is one before this, or one here
-          here : (k e : ℕ) → e ≡ at → OrderCause file k e → ⊥
+          here : (k e : ℕ) → e ≡ at → StepCause file k e → ⊥
           here k e q (wrong b n r l′ no′) = clash yes′ (sym (ap₂′ (kind-one q r (o .reached)) q) ∙ no′)
             where
               ap₂′ : {b e : ℕ} → b ≡ kind → e ≡ at → mayFollow b (kindAt file e) ≡ mayFollow kind (kindAt file at)
               ap₂′ p q i = mayFollow (p i) (kindAt file (q i))
           here k e q (missing b n r z no′) = omega arith
 
-          place-of : {k e : ℕ} → OrderCause file k e → (b : ℕ) × Reached file b e
+          place-of : {k e : ℕ} → StepCause file k e → (b : ℕ) × Reached file b e
           place-of (wrong b _ r _ _) = (b, r)
           place-of (missing b _ r _ _) = (b, r)
 
-          go : (e : ℕ) → e < next → (k : ℕ) → OrderCause file k e → ⊥
+          go : (e : ℕ) → e < next → (k : ℕ) → StepCause file k e → ⊥
           go e lt k cause =
               let r = place-of cause in
-              further (λ (p : ℕ). (k : ℕ) → OrderCause file k p → ⊥) (o .reached) (o .clean) (λ k c. here k at refl c) (r .0) e (r .1)
+              further (λ (p : ℕ). (k : ℕ) → StepCause file k p → ⊥) (o .reached) (o .clean) (λ k c. here k at refl c) (r .0) e (r .1)
               (omega arith) k cause

@@ -16,7 +16,8 @@ ghost use lib.ListN.{length};
 ghost use Rattle.terms.specs.Refusals.{At0, None, Judged};
 ghost use Rattle.forest_tables.specs.Rows.{Tells};
 ghost use Rattle.file_format.specs.Layout.{SumsToZero};
-ghost use Rattle.file_format.specs.Places.{RecordAt, mayFollow};
+ghost use Rattle.file_format.specs.Places.{RecordAt};
+ghost use Rattle.file_format.specs.InnerPlaces.{mayFollow, StepCause};
 ghost use Rattle.file_format.specs.Causes.{fileBytes, RecordCause, OrderCause};
 ghost use Rattle.file_format.specs.InnerOrders.{fileOrder};
 ghost use Rattle.file_layout.specs.Laid.{WrongSize};
@@ -105,7 +106,7 @@ fn wrong_size(head: Record) -> bool
 // The first record of a kind that may not come there, or the end of the file where a kind is missing.
 fn order_verdict(file: &[u8]) -> Verdict
     requires whole { ⌜ (length (now file) ≤ fileBytes) × None (RecordCause (now file)) ⌝ }
-    ensures judged { λ r. ⌜ Judged (OrderCause (now (file .entry)) ∷ []) r ⌝ }
+    ensures judged { λ r. ⌜ Judged (StepCause (now (file .entry)) ∷ []) r ⌝ }
 {
     let mut at = 0;
     let mut before = Record::START;

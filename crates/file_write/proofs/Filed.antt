@@ -1,6 +1,7 @@
 -- What is written is the file of the formula, and so the one that the promise speaks of.
 use Prim.Native.Nat.{ℕ, _+_, _%_, _<_, _≤_}
 use mathlib.Core.Path.{_≡_, refl, ap, _∙_, subst}
+use mathlib.Core.Bool.{false}
 use mathlib.Core.List.{List, [], _∷_, _++_, append-assoc}
 use mathlib.Core.Logic.{inl, inr}
 use native.Mathlib.Omega.{arith}
@@ -71,13 +72,15 @@ module _ (f : Formula) (r : Rows) (small : Small f r) where
 
   -- It is the file of the formula, where the rows are those of the prefix as it is read.
   module _ (read : List ℕ) (few : f .n ≤ mostVariables) (right : ForestRows (formulaOf (f .n) read (f .clauses)) r) where
-    file-of : FileWith f read [] whole
+    file-of : FileWith false f read whole
     unfolding wholeOf
     file-of =
         let long = front-length f r small in
         record {
           rows = r;
           right = right;
+          sets-record = [];
+          sets-are = refl;
           word = closing (frontOf f r);
           word-fits = closing-fits (frontOf f r);
           bytes = parts;

@@ -1,6 +1,7 @@
 -- The parts of a file as they are written one after the other, which only proofs rest on.
 use Prim.Native.Nat.{ℕ, _+_, _*_, _<_, _≤_}
 use mathlib.Core.Path.{_≡_}
+use mathlib.Core.Bool.{false}
 use mathlib.Core.List.{List, [], _∷_, _++_}
 use lib.ListN.{length}
 use Rattle.terms.specs.Answers.{Filling}
@@ -42,4 +43,4 @@ StoresWhole whole before = Filling (At0 14 (length before < length whole) ∷ []
 
 -- What writing promises of an accepted formula whose prefix is read as `read`: only 19 and 14 are left to refuse.
 abbrev pub StoresRead : Formula → List ℕ → List ℕ → List ℕ → Filled → Type 0
-StoresRead f read before = Filling (behindStore f read before) (FileWith f read []) before
+StoresRead f read before = Filling (behindStore f read before) (FileWith false f read) before

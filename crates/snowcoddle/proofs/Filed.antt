@@ -16,6 +16,7 @@ use Rattle.file_format.specs.Causes.{Lent, NoRoom, FileTooLarge, FileTooLong, l
 use Rattle.file_format.specs.InnerOrders.{fileOrder, tableOrder, behindStore}
 use Rattle.file_format.specs.Promises.{Loads}
 use Rattle.file_layout.specs.Laid.{Laid}
+use Rattle.file_format.proofs.Passing.{passed-reached}
 use Rattle.file_layout.proofs.Walks.{record-cause, reached-within}
 use Rattle.file_layout.proofs.Spans.{laid-ends}
 use Rattle.file_layout.proofs.Laying.{file-laid}
@@ -39,8 +40,8 @@ module _ (file : List ℕ) where
   record-place cause = let l = record-cause file cause .1 .goes-on in omega arith
 
   order-place : {k p : ℕ} → OrderCause file k p → p ≤ length file
-  order-place (wrong _ _ r _ _) = reached-within file r
-  order-place (missing _ _ r _ _) = reached-within file r
+  order-place (wrong _ _ passed _ _) = reached-within file (passed-reached file passed)
+  order-place (missing _ _ passed _ _) = reached-within file (passed-reached file passed)
 
   forest-place : {f : Formula} {k p : ℕ} → Laid file → ForestFileCause f file k p → p ≤ fileBytes
   forest-place laid (rows-disagree _ q _) = let ends = laid-ends file laid in omega (arith, ends .third, ends .fourth)

@@ -1,12 +1,12 @@
--- By the kind before: what may follow each is one law of Heads.
+-- By the kind before: what may follow each is one law of Passing.
 use Prim.Native.Nat.{ℕ}
 use mathlib.Core.Path.{_≡_, sym, ap, _∙_}
 use mathlib.Core.Bool.{Bool, _||_}
 use borrow.Author.Tests.{eq-eqb, ne-eqb}
 use lib.Dec.{eqb}
 use Rattle.file_format.specs.Layout.{rowsKind, setsKind, closingKind}
-use Rattle.file_format.specs.Places.{mayFollow}
-use Rattle.file_layout.proofs.Heads.{after-start, after-prefix, after-clauses, after-rows, after-sets, after-other}
+use Rattle.file_format.specs.InnerPlaces.{mayFollow}
+use Rattle.file_format.proofs.Passing.{after-start, after-prefix, after-clauses, after-rows, after-sets, after-other}
 use Rattle.file_layout.proofs.may_follow.Statement.{statement}
 use Rattle.file_layout.proofs.may_follow.Tie as tie
 

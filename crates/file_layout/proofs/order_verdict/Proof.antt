@@ -7,7 +7,7 @@ use native.Mathlib.Omega.{arith}
 use borrow.Author.Needs.{needs}
 use borrow.Author.Tests.{not-true, not-false}
 use lib.ListN.{length}
-use Rattle.file_format.specs.Places.{mayFollow}
+use Rattle.file_format.specs.InnerPlaces.{mayFollow}
 use Rattle.file_layout.proofs.Walks.{next-past, Ordered, ordered-none, ordered-fault, ordered-missing, ordered-all, ordered-more}
 use Rattle.file_layout.proofs.order_verdict.Statement.{statement}
 use Rattle.file_layout.proofs.order_verdict.Tie as tie

@@ -1,5 +1,6 @@
 -- The formula is judged by the rule; what is written by the prefix as the rule reads it stands behind that in the order.
 use mathlib.Core.Path.{refl}
+use mathlib.Core.Bool.{false}
 use mathlib.Core.List.{[]}
 use borrow.Author.Needs.{needs}
 use Rattle.terms.specs.Answers.{Filling}
@@ -62,8 +63,8 @@ returns-2 c =
     let after = at-store .store-read .last .1 .1 .1 .1 .0 in
     let answer = at-store .store-read .result in
     behind-read (checkOrder (a .rule) f) _ (a .rule) (a .n) (a .prefix .now) _ (at-count .count .given .1) (at-read .read-formula .ensures)
-    (λ order read. Filling order (FileWith f read []) (a .file .now) after answer)
-    (λ order order′ read. carry-filling (FileWith f read []) (a .file .now) after answer order order′) (λ read. behindStore f read (a .file .now))
+    (λ order read. Filling order (FileWith false f read) (a .file .now) after answer)
+    (λ order order′ read. carry-filling (FileWith false f read) (a .file .now) after answer order order′) (λ read. behindStore f read (a .file .now))
     (at-as-read .as-read .ensures) (at-store .store-read .ensures)
 
 pub store-spec : {M : Type 1} → statement M
