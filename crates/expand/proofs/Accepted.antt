@@ -34,12 +34,14 @@ use Rattle.formula_rules.proofs.Short.{joined-short}
 use Rattle.formula_rules.proofs.Accepted.{good-mark, both-true, joined-accepted}
 use Rattle.formula_rules.proofs.Orders.{accepted-two}
 use Rattle.formula_rules.proofs.Agreement.{also-accepted, both-accept}
-use Rattle.expand_clauses.specs.Expansion.{copyFrom, copyOf, withCopy, expandedPrefix, without, renamed, named, hasCopy, copies, expandedList, clauseTable, expandedClauses}
-use Rattle.expand.specs.Promise.{ResultTables, SetOf, expandedBy, ManyVariables, Long, expandOrder, Leaves, Expands}
+use Rattle.expand_clauses.specs.Expansion.{without, clauseTable}
+use Rattle.expand_clauses.specs.InnerCopies.{copyFrom, copyOf, withCopy, expandedPrefix, renamed, named, hasCopy, copies, expandedList, expandedClauses}
+use Rattle.expand.specs.Promise.{ResultTables, expandedBy, ManyVariables, Long, Leaves, Expands}
 use Rattle.expand.specs.Writing.{beginning}
 use Rattle.expand.proofs.Blocking.{begin-none, begin-new}
 use Rattle.expand.proofs.Laying.{left, left-expanded}
-use Rattle.expand.proofs.Outcome.{copy-number}
+use Rattle.expand.proofs.Outcome.{expanded-same, copy-number}
+use Rattle.expand.specs.Writing.{expandedWith}
 
 -- Copies as they are numbered: over the n variables and within the new count, and no two variables share one.
 pub record Distinct (n most : ℕ) (copy : ℕ → ℕ) : Type 0 where
@@ -358,16 +360,23 @@ module _ {n most : ℕ} {copy : ℕ → ℕ} (distinct : Distinct n most copy) w
       (copies-low true x (clauses ls) all))
 
 -- An accepted formula expanded by the copies of some members, within the limits, is accepted.
-expanded-accepted : (f : Formula) (x : ℕ) (members : List ℕ) → SoundPrefix (f .n) (f .prefix) → None (ClauseCause (f .n) (f .clauses))
-    → ¬ ManyVariables (expandedBy f x members) → ¬ Long (expandedBy f x members) → NoneOf (checkOrder 1 (expandedBy f x members))
-expanded-accepted f x members sound low few short =
-    let g = expandedBy f x members in
+numbered-accepted : (f : Formula) (x : ℕ) (members : List ℕ) → SoundPrefix (f .n) (f .prefix) → None (ClauseCause (f .n) (f .clauses))
+    → (let g = expandedWith (f .n + length members) x (copyOf (f .n) members) f in ¬ ManyVariables g → ¬ Long g → NoneOf (checkOrder 1 g))
+numbered-accepted f x members sound low few short =
+    let g = expandedWith (f .n + length members) x (copyOf (f .n) members) f in
     let fits : ¬ (8192 < length (g .prefix)) = λ over. short (inl over) in
     let small : ¬ (16384 < length (g .clauses)) = λ over. short (inr over) in
     let passes′ = prefix-passes (numbered (f .n) members) x sound in (
       at0-none 23 (λ w. w .0 refl),
       accepts (g .n) (g .prefix) (g .clauses) (omega arith) (omega arith) (omega arith) passes′ (clauses-pass (numbered (f .n) members) x (f .clauses) low),
     )
+
+expanded-accepted : (f : Formula) (x : ℕ) (members : List ℕ) → SoundPrefix (f .n) (f .prefix) → None (ClauseCause (f .n) (f .clauses))
+    → ¬ ManyVariables (expandedBy f x members) → ¬ Long (expandedBy f x members) → NoneOf (checkOrder 1 (expandedBy f x members))
+expanded-accepted f x members sound low few short =
+    let same = expanded-same x members f in
+    subst (λ (g : Formula). NoneOf (checkOrder 1 g)) same
+    (numbered-accepted f x members sound low (λ over. few (subst ManyVariables same over)) (λ over. short (subst Long same over)))
 
 -- The prefix as a rule reads it is sound where the rule accepts it.
 read-sound : (rule n : ℕ) (es : List ℕ) (entries : ℕ) → NoneOf (ruledPrefix rule n es entries) → SoundPrefix n (readAs rule es)

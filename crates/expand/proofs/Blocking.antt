@@ -8,7 +8,7 @@ use native.Mathlib.Omega.{arith}
 use borrow.Author.Tests.{eq-eqb, ne-eqb}
 use lib.ListN.{length, set}
 use Rattle.formula_rules.specs.Writing.{closing}
-use Rattle.expand_clauses.specs.Expansion.{withCopy}
+use Rattle.expand_clauses.specs.InnerCopies.{withCopy}
 use Rattle.expand_clauses.specs.Copied.{Stored, tabled}
 use Rattle.expand.specs.Writing.{beginning}
 use Rattle.expand_clauses.proofs.Storing.{stored-none, stored-one, stored-as, stored-more}

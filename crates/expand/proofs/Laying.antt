@@ -21,7 +21,7 @@ use Rattle.formula_rules.proofs.Passing.{Passes, no-more, begin, go-on, close-b
 use Rattle.terms.proofs.Common.{by-test}
 use Rattle.formula_rules.proofs.Rest.{laid, laid-new, laid-same, blocks-cons}
 use Rattle.formula_rules.proofs.Agreement.{also-accepted}
-use Rattle.expand_clauses.specs.Expansion.{withCopy, placed, expandedBlock, expandedPrefix}
+use Rattle.expand_clauses.specs.InnerCopies.{withCopy, placed, expandedBlock, expandedPrefix}
 use Rattle.expand_clauses.specs.Copied.{Stored}
 use Rattle.expand.specs.Writing.{beginning}
 use Rattle.expand_clauses.proofs.Storing.{stored-as, Onward, onward-none, onward-as, onward-all, onward-more}

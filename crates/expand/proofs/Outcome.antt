@@ -18,15 +18,20 @@ use Rattle.terms.specs.Says.{expandedSaid}
 use Rattle.terms.proofs.Answers.{carry-settles}
 use Rattle.terms.proofs.Orders.{Carries, one-more, same-order, carries-then, behind-none}
 use Rattle.terms.proofs.Verdicts.{at0-first, at0-none}
-use Rattle.formula.specs.Lent.{Formula}
+use Rattle.formula.specs.Lent.{Formula, formulaOf}
 use Rattle.formula.specs.Levels.{SoundPrefix}
 use Rattle.forest_tables.proofs.Agreeing.{lawful}
 use Rattle.forest.specs.Wanted.{Lists}
-use Rattle.expand_clauses.specs.Expansion.{copyFrom, copyOf}
+use Rattle.expand_clauses.specs.InnerCopies.{copyFrom, copyOf}
 use Rattle.expand_clauses.specs.Copied.{tabled, Copies}
 use Rattle.expand.specs.Promise.{ResultTables, Leaves, SetOf, expandedBy, OfExpanded, ManyVariables, Long, Short, ExpandsBy}
 use Rattle.expand.specs.InnerOrders.{resultOrder}
-use Rattle.expand.specs.Writing.{writeOrder, Fits}
+use Rattle.expand.specs.Writing.{expandedWith, writeOrder, Fits}
+use Rattle.expand_clauses.proofs.Tied.{prefix-same, clauses-same}
+
+-- The expanded formula by the numbers of the copies is that by the members.
+pub expanded-same : (x : ℕ) (members : List ℕ) (f : Formula) → expandedWith (f .n + length members) x (copyOf (f .n) members) f ≡ expandedBy f x members
+expanded-same x members f = λ i. formulaOf (f .n + length members) (prefix-same (f .n) members x (f .prefix) i) (clauses-same (f .n) members x (f .clauses) i)
 
 -- no copy has a number over n and the members
 pub copy-number : (n : ℕ) (members : List ℕ) (v : ℕ) → copyFrom (suc n) members v ≤ n + length members

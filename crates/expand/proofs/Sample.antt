@@ -14,7 +14,7 @@ use Rattle.forest_theory.proofs.Search.{cons-all, set-of-depends}
 use Rattle.forest_tables.specs.Formula.{variables, joined, Shares}
 use Rattle.forest_tables.proofs.Agreeing.{lawful}
 use Rattle.formula_rules.specs.Joined.{inFront, joinedBlocks, tableOf}
-use Rattle.expand_clauses.specs.Expansion.{copyFrom, copyOf, withCopy, placed, expandedBlock, expandedPrefix, madeTrue, satisfied, hasX, hasMember, without}
+use Rattle.expand_clauses.specs.Expansion.{isMember, memberNumber, withCopy, placed, expandedBlock, expandedPrefix, madeTrue, satisfied, hasX, hasMember, without}
 use Rattle.expand_clauses.specs.Expansion.{renamed, named, hasCopy, copies, expandedList, clauseTable, expandedClauses}
 use Rattle.expand.specs.Promise.{SetOf, expandedBy}
 use Rattle.expand_clauses.specs.Total.{xLiterals, counts, totalOf, literalTotal}
@@ -43,7 +43,7 @@ pub record Expanded-A : Type 0 where
       ∷ pos 1 ∷ pos 5 ∷ pos 0 ∷ negsuc 9 ∷ pos 12 ∷ pos 0 ∷ []
   -- twelve variables, and twelve literals
   pub count : expandedBy formula-A 3 members .n ≡ 12
-  pub total : literalTotal 3 (copyOf 9 members) clausesA ≡ 12
+  pub total : literalTotal 3 members clausesA ≡ 12
 
 -- the set as it computes
 computed : set-of (variables 9 prefixA) (joined clausesA) 3 ≡ members
@@ -54,7 +54,7 @@ depends : (y : ℕ) → Depends (variables 9 prefixA) (Shares clausesA) 3 y ↔ 
 depends y = subst (λ (l : List ℕ). Depends (variables 9 prefixA) (Shares clausesA) 3 y ↔ List·Memᴰ y l) computed (Iff·symm (set-of-depends (lawful 9 prefixA)))
 
 pub expanded-A : Expanded-A
-unfolding cut blocks clauses opposite denied alwaysTrue inFront joinedBlocks tableOf copyFrom withCopy placed expandedBlock expandedPrefix madeTrue
+unfolding cut blocks clauses opposite denied alwaysTrue inFront joinedBlocks tableOf isMember memberNumber withCopy placed expandedBlock expandedPrefix madeTrue
     satisfied hasX hasMember without renamed named hasCopy copies expandedList clauseTable expandedClauses xLiterals counts totalOf literalTotal
 expanded-A = record {
   set = record {

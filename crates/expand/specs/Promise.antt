@@ -21,7 +21,7 @@ use Rattle.formula.specs.Lent.{Formula, formulaOf}
 use Rattle.formula_rules.specs.Rules.{readAs, readBy, RuleCause, PrefixCauseBy}
 use Rattle.forest.specs.Answers.{DependsBy}
 use Rattle.forest.specs.Causes.{AskedCause}
-use Rattle.expand_clauses.specs.Expansion.{copyOf, expandedPrefix, expandedClauses}
+use Rattle.expand_clauses.specs.Expansion.{expandedPrefix, expandedClauses}
 
 -- The tables that are lent for the result: one for its prefix, and one for its clauses.
 pub record ResultTables : Type 0 where
@@ -42,13 +42,10 @@ resultOut prefix clauses = resultTables (now (prefix .exit)) (now (clauses .exit
 abbrev pub SetOf : Formula → ℕ → List ℕ → Type 0
 SetOf f x members = Listed (DependsBy Standard f x) members
 
--- a formula with x expanded, of so many variables, by the copies that variables have
-abbrev pub expandedWith : ℕ → ℕ → (ℕ → ℕ) → Formula → Formula
-expandedWith count x copy f = formulaOf count (expandedPrefix x copy (f .prefix)) (expandedClauses x copy (f .clauses))
-
 -- the expanded formula by the list of the set of x: each member has a copy, numbered from n + 1
 abbrev pub expandedBy : Formula → ℕ → List ℕ → Formula
-expandedBy f x members = expandedWith (f .n + length members) x (copyOf (f .n) members) f
+expandedBy f x members =
+    formulaOf (f .n + length members) (expandedPrefix x (f .n) members (f .prefix)) (expandedClauses x (f .n) members (f .clauses))
 
 -- P holds of the formula with x expanded by its set
 abbrev pub OfExpanded : Formula → ℕ → (Formula → Type 0) → Type 0

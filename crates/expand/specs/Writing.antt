@@ -8,13 +8,18 @@ use Rattle.terms.specs.Says.{expandedSaid}
 use Rattle.terms.specs.Answers.{Settles}
 use Rattle.terms.specs.Refusals.{Causes, At0}
 use Rattle.terms.specs.declared.Expanded.{Expanded}
-use Rattle.formula.specs.Lent.{Formula}
+use Rattle.formula.specs.Lent.{Formula, formulaOf}
+use Rattle.expand_clauses.specs.InnerCopies.{expandedPrefix, expandedClauses}
 use Rattle.formula_rules.specs.Writing.{closing}
 use Rattle.expand.specs.Promise.{ResultTables, Long, Short, Leaves}
 
 -- what is written in front of a variable: where its block has not begun, the 0 that closes the block before, and its mark
 unfoldable pub beginning : ℕ → ℕ → List ℕ
 beginning mark last = cond (eqb mark last) [] (closing last ++ (mark ∷ []))
+
+-- a formula with x expanded, of so many variables, by the copies that a table has
+abbrev pub expandedWith : ℕ → ℕ → (ℕ → ℕ) → Formula → Formula
+expandedWith count x copy f = formulaOf count (expandedPrefix x copy (f .prefix)) (expandedClauses x copy (f .clauses))
 
 -- what a formula that is to be written is refused for
 abbrev pub writeOrder : ResultTables → Formula → List Causes

@@ -6,7 +6,7 @@ use terms::Variable;
 ghost use Prim.Native.Nat.{ℕ, _≤_};
 ghost use Rattle.formula.specs.Levels.{SoundPrefix};
 ghost use Rattle.formula_rules.specs.Writing.{closing};
-ghost use Rattle.expand_clauses.specs.Expansion.{withCopy, expandedPrefix};
+ghost use Rattle.expand_clauses.specs.InnerCopies.{withCopy, expandedPrefix};
 ghost use Rattle.expand_clauses.specs.Copied.{Stored, tabled};
 ghost use Rattle.expand.specs.Writing.{beginning};
 

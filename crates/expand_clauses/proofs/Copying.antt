@@ -16,7 +16,8 @@ use Rattle.formula.specs.Lookup.{NextZero}
 use Rattle.formula.specs.Meaning.{clauses}
 use Rattle.formula.specs.Tables.{literalAt, cut}
 use Rattle.formula.proofs.Lookups.{clauses-closed, clauses-unclosed}
-use Rattle.expand_clauses.specs.Expansion.{without, named, hasCopy, copies, clauseTable, expandedList, expandedClauses}
+use Rattle.expand_clauses.specs.Expansion.{without, clauseTable}
+use Rattle.expand_clauses.specs.InnerCopies.{named, hasCopy, copies, expandedList, expandedClauses}
 use Rattle.expand_clauses.specs.Copied.{Stored, closed, copied}
 use Rattle.expand_clauses.proofs.Storing.{stored-one, stored-none, stored-as, stored-more, Onward, onward-none, onward-as, onward-all, onward-more}
 

@@ -9,3 +9,5 @@ pub mod Cutting
 pub mod Totals
 -- The numbers of the copies.
 pub mod Numbering
+-- The copies by their numbers, and by the list of members.
+pub mod Tied

@@ -13,7 +13,8 @@ use mir.Syntax.{w32}
 use mir.Val.{SFits, toZ}
 use mir.Facts.{toZ-pos}
 use Rattle.terms.specs.Literals.{variableOf}
-use Rattle.expand_clauses.specs.Expansion.{madeTrue, renamed}
+use Rattle.expand_clauses.specs.Expansion.{madeTrue}
+use Rattle.expand_clauses.specs.InnerCopies.{renamed}
 use Rattle.expand_clauses.specs.Copied.{expandedVariables}
 
 and-false : (b : Bool) → (b && false) ≡ false

@@ -10,7 +10,7 @@ use lib.Dec.{eqb}
 use lib.ListN.{length, getD, set, drop, length-set, drop-of-length-le}
 use lib.Seq.{drop-cons, getD-set-same, getD-set-other}
 use Rattle.terms.specs.Limits.{mostVariables, variableRows}
-use Rattle.expand_clauses.specs.Expansion.{copyFrom, copyOf}
+use Rattle.expand_clauses.specs.InnerCopies.{copyFrom, copyOf}
 use Rattle.expand_clauses.specs.Copied.{tabled}
 
 -- The members from the k-th on have their numbers.

@@ -13,7 +13,8 @@ use lib.Seq.{drop-cons}
 use Rattle.terms.specs.Literals.{variableOf}
 use Rattle.formula.specs.Meaning.{alwaysTrue}
 use Rattle.formula.specs.Tables.{literalAt}
-use Rattle.expand_clauses.specs.Expansion.{madeTrue, satisfied, hasX, hasMember, hasCopy}
+use Rattle.expand_clauses.specs.Expansion.{madeTrue, satisfied, hasX}
+use Rattle.expand_clauses.specs.InnerCopies.{hasMember, hasCopy}
 
 pub or-true : (b : Bool) → (b || true) ≡ true
 or-true true = refl

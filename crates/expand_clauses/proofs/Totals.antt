@@ -11,8 +11,10 @@ use lib.ListN.{length, length-map, length-append}
 use Rattle.terms.specs.Literals.{variableOf}
 use Rattle.terms.proofs.Common.{clash, by-test}
 use Rattle.formula.specs.Meaning.{clauses, opposite, denied, alwaysTrue}
-use Rattle.expand_clauses.specs.Expansion.{madeTrue, satisfied, hasX, hasMember, without, named, hasCopy, copies, expandedList, clauseTable, expandedClauses}
-use Rattle.expand_clauses.specs.Total.{literals, xLiterals, counts, totalOf, literalTotal}
+use Rattle.expand_clauses.specs.Expansion.{madeTrue, satisfied, hasX, without, clauseTable}
+use Rattle.expand_clauses.specs.InnerCopies.{hasMember, named, hasCopy, copies, expandedList, expandedClauses}
+use Rattle.expand_clauses.specs.Total.{literals, xLiterals}
+use Rattle.expand_clauses.specs.InnerCopies.{counts, totalOf, literalTotal}
 use Rattle.expand_clauses.proofs.Testing.{or-true, copy-always, copy-satisfied, copy-touched, copy-first}
 
 -- x leaves all literals but its own

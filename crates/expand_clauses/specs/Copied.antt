@@ -7,7 +7,8 @@ use lib.IntN.{ℤ, pos}
 use lib.ListN.{length, getD}
 use lib.Seq.{sets}
 use Rattle.terms.specs.Limits.{variableRows}
-use Rattle.expand_clauses.specs.Expansion.{without, named, copies, clauseTable}
+use Rattle.expand_clauses.specs.Expansion.{without, clauseTable}
+use Rattle.expand_clauses.specs.InnerCopies.{named, copies}
 
 -- Some entries are stored from the row `at` on, as far as the table has rows, and `end` is the row behind them.
 pub record Stored {A : Type 0} (entries before after : List A) (at end : ℕ) : Type 0 where

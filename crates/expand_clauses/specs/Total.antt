@@ -20,15 +20,15 @@ xLiterals x [] = 0
 xLiterals x (literal ∷ more) = cond (eqb (variableOf literal) x) 1 0 + xLiterals x more
 
 -- a clause not always true counts once without x or member, twice with a member but not x, and with x once less its x literals
-unfoldable pub counts : ℕ → (ℕ → ℕ) → List ℤ → ℕ
-counts x copy clause =
+unfoldable pub counts : ℕ → List ℕ → List ℤ → ℕ
+counts x members clause =
     cond (alwaysTrue clause) 0
     (cond (hasX x clause) (length clause - xLiterals x clause)
-    (cond (hasMember copy clause) (length clause + length clause) (length clause)))
+    (cond (hasMember members clause) (length clause + length clause) (length clause)))
 
-unfoldable pub totalOf : ℕ → (ℕ → ℕ) → List (List ℤ) → ℕ
-totalOf x copy [] = 0
-totalOf x copy (clause ∷ later) = counts x copy clause + totalOf x copy later
+unfoldable pub totalOf : ℕ → List ℕ → List (List ℤ) → ℕ
+totalOf x members [] = 0
+totalOf x members (clause ∷ later) = counts x members clause + totalOf x members later
 
-unfoldable pub literalTotal : ℕ → (ℕ → ℕ) → List ℤ → ℕ
-literalTotal x copy ls = totalOf x copy (clauses ls)
+unfoldable pub literalTotal : ℕ → List ℕ → List ℤ → ℕ
+literalTotal x members ls = totalOf x members (clauses ls)

@@ -7,9 +7,9 @@ use lib.ListN.{length, length-replicate}
 use Rattle.terms.specs.Limits.{mostVariables, variableRows}
 use Rattle.formula.specs.Lent.{Formula, formulaOf}
 use Rattle.forest_tables.proofs.Readings.{new-zero}
-use Rattle.expand.specs.Promise.{ResultTables, resultTables, expandedWith}
-use Rattle.expand.specs.Writing.{Fits}
-use Rattle.expand.proofs.Outcome.{few-members, low-members, right-copies, expand-many, expand-filled}
+use Rattle.expand.specs.Promise.{ResultTables, resultTables}
+use Rattle.expand.specs.Writing.{expandedWith, Fits}
+use Rattle.expand.proofs.Outcome.{expanded-same, few-members, low-members, right-copies, expand-many, expand-filled}
 use Rattle.expand.proofs.expand_set.Statement.{statement}
 use Rattle.expand.proofs.expand_set.Tie as tie
 
@@ -62,7 +62,8 @@ returns-2 c =
     let out′ = resultTables (filled .last .1 .1 .1 .1 .1 .0) (filled .last .1 .1 .1 .1 .1 .1 .0) in
     let Filled : (ℕ → ℕ) → Type 0 = λ copy. Fits (expandedWith count (a .x .0) copy f) (out at-start) out′ (filled .result) in
     expand-filled f (a .x .0) (at-start .pre .1) (out at-start) out′ (λ over. omega (arith, at-if1 .if1 .left)) (filled .result)
-    (subst Filled (fun-ext (at-number .number .ensures .1)) (filled .ensures))
+    (subst (λ (g : Formula). Fits g (out at-start) out′ (filled .result)) (expanded-same (a .x .0) (a .members .now) f)
+    (subst Filled (fun-ext (at-number .number .ensures .1)) (filled .ensures)))
 
 pub expand-set-spec : {M : Type 1} → statement M
 expand-set-spec =

@@ -1,6 +1,6 @@
 -- With x true the name is the copy's, with x false it stays: the two cases of `named`.
 use mathlib.Core.Path.{sym, ap, _∙_}
-use Rattle.expand_clauses.specs.Expansion.{named}
+use Rattle.expand_clauses.specs.InnerCopies.{named}
 use Rattle.expand_clauses.specs.Copied.{tabled}
 use borrow.Author.Needs.{needs}
 use Rattle.expand_clauses.proofs.literals.name_by.Statement.{statement}
