@@ -68,7 +68,8 @@ module _ (f : Formula) (r : Rows) (small : Small f r) where
     pub room : size f r ≤ length before → {after : List ℕ} {count : ℕ} → Wrote whole before after 0 count
         → StoresWhole whole before after (Count count)
     room enough wrote =
-        ((at0-none 14 (λ short. omega (arith, whole-length f r small)), tt), (whole, refl, omega (arith, wrote .end), wrote .stored ∙ stored-overwritten whole before (omega (arith, whole-length f r small))))
+        let fits : length whole ≤ length before = omega (arith, whole-length f r small) in
+        ((at0-none 14 (λ short. omega arith), tt), (whole, refl, omega (arith, wrote .end), wrote .stored ∙ stored-overwritten whole before fits))
 
   -- It is the file of the formula, where the rows are those of the prefix as it is read.
   module _ (read : List ℕ) (few : f .n ≤ mostVariables) (right : ForestRows (formulaOf (f .n) read (f .clauses)) r) where
