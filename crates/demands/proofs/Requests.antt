@@ -51,10 +51,10 @@ use Rattle.path_check.proofs.Demands.{accepted-depends, depends-path, path-agre
 use Rattle.path_resolution.specs.Paths.{DependsByPaths}
 use Rattle.path_resolution.proofs.Outcomes.{resolution-agrees}
 use Rattle.path_resolution.proofs.Within.{paths-strict}
-use Rattle.expand_clauses.specs.Expansion.{copyOf, expandedClauses}
+use Rattle.expand_clauses.specs.Expansion.{expandedClauses}
 use Rattle.expand_clauses.specs.Total.{literals}
 use Rattle.expand_clauses.proofs.Cutting.{clauses-expanded}
-use Rattle.expand_clauses.proofs.Totals.{literal-total}
+use Rattle.expand_clauses.proofs.Tied.{total-of-members}
 use Rattle.expand.specs.Promise.{ResultTables, Expands}
 use Rattle.expand.proofs.Accepted.{result-accepted}
 use Rattle.expand.proofs.Tight.{expand-agrees}
@@ -121,13 +121,13 @@ rules-agree =
 -- The table that expand left holds the expanded clauses.
 total : ExpandedTotal
 total rule f x out out′ count entries literal-entries (none, (members, set, leaves)) =
-    let table = expandedClauses x (copyOf (f .n) members) (f .clauses) in
+    let table = expandedClauses x (f .n) members (f .clauses) in
     let front : take literal-entries (out′ .clauses) ≡ table =
     ap (λ (k : ℕ). take k (out′ .clauses)) (leaves .literals-is) ∙ ap (take (length table)) (leaves .clauses-is) ∙ overwritten-front table (out .clauses) in (
       members,
       set,
-      ap (λ (ls : List ℤ). literals (clauses ls)) front ∙ ap literals (clauses-expanded x (copyOf (f .n) members) (f .clauses))
-          ∙ literal-total x (copyOf (f .n) members) (f .clauses),
+      ap (λ (ls : List ℤ). literals (clauses ls)) front ∙ ap literals (clauses-expanded x (f .n) members (f .clauses))
+          ∙ total-of-members (f .n) members x (f .clauses),
     )
 
 reduced-alike : (rule n : ℕ) (es : List ℕ) (ls ls′ : List ℤ) → Reduced rule n es ls ls′ → ReducedAlike rule (formulaOf n es ls) (formulaOf n es ls′)

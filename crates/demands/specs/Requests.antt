@@ -40,7 +40,6 @@ use Rattle.dqbf_text.specs.Reading.{Tables, ReadIs}
 use Rattle.dqbf_text.specs.Stored.{WritesListed}
 use Rattle.path_check.specs.Causes.{PathJudged}
 use Rattle.path_resolution.specs.Paths.{ResolutionListed}
-use Rattle.expand_clauses.specs.Expansion.{copyOf}
 use Rattle.expand_clauses.specs.Total.{literals, literalTotal}
 use Rattle.expand.specs.Promise.{ResultTables, Expands}
 use Rattle.file_format.specs.Causes.{Lent, Roomy}
@@ -158,7 +157,7 @@ ExpandedTotal =
     (rule : ℕ) (f : Formula) (x : ℕ) (out out′ : ResultTables) (count entries literal-entries : ℕ)
     → Expands rule f x out out′ (Expanded.Formula count entries literal-entries)
     → (members : List ℕ) × Listed (DependsBy Standard (readBy rule f) x) members
-    × (literals (clauses (take literal-entries (out′ .clauses))) ≡ literalTotal x (copyOf (f .n) members) (f .clauses))
+    × (literals (clauses (take literal-entries (out′ .clauses))) ≡ literalTotal x members (f .clauses))
 
 abbrev pub ExpandedIsAccepted : Type 0
 ExpandedIsAccepted =

@@ -1,6 +1,6 @@
 -- The clause table of an expanded formula, cut at its zeros, gives its clauses: no literal of them is 0.
 use Prim.Native.Nat.{ℕ, zero, suc}
-use mathlib.Core.Path.{_≡_, refl, ap, _∙_}
+use mathlib.Core.Path.{_≡_, refl, sym, ap, _∙_}
 use mathlib.Core.Bool.{Bool, true, false, cond}
 use mathlib.Core.List.{List, [], _∷_, _++_, map}
 use mathlib.Core.Logic.{_≢_}
@@ -12,7 +12,10 @@ use Rattle.terms.specs.Literals.{variableOf}
 use Rattle.terms.proofs.Common.{by-test}
 use Rattle.formula.specs.Meaning.{isZero, clauses}
 use Rattle.formula.specs.Tables.{cut, push}
-use Rattle.expand_clauses.specs.Expansion.{without, renamed, named, hasCopy, copies, expandedList, clauseTable, expandedClauses}
+use Rattle.expand_clauses.specs.Expansion.{without, clauseTable}
+use Rattle.expand_clauses.specs.Expansion as plain
+use Rattle.expand_clauses.specs.InnerCopies.{copyOf, renamed, named, hasCopy, copies, expandedList, expandedClauses}
+use Rattle.expand_clauses.proofs.Tied.{list-same, clauses-same}
 
 -- no literal of a clause is 0, and none of some clauses
 abbrev Some : List ℤ → Type 0
@@ -95,10 +98,14 @@ unfolding clauseTable clauses cut
 table-cut [] all = refl
 table-cut (c ∷ cs) all = cut-first c (clauseTable cs) (all .0) ∙ ap (λ ds. c ∷ ds) (table-cut cs (all .1))
 
-pub clauses-expanded : (x : ℕ) (copy : ℕ → ℕ) (ls : List ℤ) → clauses (expandedClauses x copy ls) ≡ expandedList x copy ls
+by-copies : (x : ℕ) (copy : ℕ → ℕ) (ls : List ℤ) → clauses (expandedClauses x copy ls) ≡ expandedList x copy ls
 unfolding expandedClauses expandedList
-clauses-expanded x copy ls =
+by-copies x copy ls =
     let all = clauses-some ls in
     table-cut (copies false x copy (clauses ls) ++ copies true x copy (clauses ls))
     (append-some (copies false x copy (clauses ls)) (copies true x copy (clauses ls)) (copies-some x copy false (clauses ls) all)
     (copies-some x copy true (clauses ls) all))
+
+pub clauses-expanded : (x n : ℕ) (members : List ℕ) (ls : List ℤ) → clauses (plain.expandedClauses x n members ls) ≡ plain.expandedList x n members ls
+clauses-expanded x n members ls =
+    sym (ap clauses (clauses-same n members x ls)) ∙ by-copies x (copyOf n members) ls ∙ list-same n members x ls

@@ -104,7 +104,7 @@ module _ (n : ℕ) (members : List ℕ) where
       cond (copied-same value x clause i) (map (λ (literal : ℤ). named-same value literal i) (without x clause) ∷ copies-same value x later i)
       (copies-same value x later i)
 
-  list-same : (x : ℕ) (ls : List ℤ) → inner.expandedList x copy ls ≡ plain.expandedList x n members ls
+  pub list-same : (x : ℕ) (ls : List ℤ) → inner.expandedList x copy ls ≡ plain.expandedList x n members ls
   unfolding inner.expandedList plain.expandedList
   list-same x ls = λ i. copies-same false x (clauses ls) i ++ copies-same true x (clauses ls) i
 

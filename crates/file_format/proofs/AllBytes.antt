@@ -1,6 +1,7 @@
 -- A file of a formula is made of bytes, whatever the formula is.
 use Prim.Native.Nat.{ℕ, zero, suc, _/_, _%_, _<_}
-use mathlib.Core.Path.{sym, subst}
+use mathlib.Core.Path.{sym, ap, subst, _∙_}
+use mathlib.Core.Bool.{false}
 use mathlib.Core.List.{List, [], _∷_, _++_, map}
 use native.Mathlib.Omega.{arith}
 use lib.IntN.{ℤ}
@@ -38,14 +39,16 @@ record-in-bytes kind payload b =
     (then-more (numberBytes 2 kind) payload (number-in-bytes 2 kind) b)
 
 -- So the whole file, without sets.
-pub file-in-bytes : (f : Formula) (read file : List ℕ) → FileWith f read [] file → Bytes file
+pub file-in-bytes : (f : Formula) (read file : List ℕ) → FileWith false f read file → Bytes file
 unfolding prefixRecord clausesRecord rowsRecord closingRecord
 file-in-bytes f read file g =
     let r = g .rows in
     let numbers = r .classes ++ (r .parents ++ r .counts) in
     let rows = rowsRecord (r .classes) (r .parents) (r .counts) in
     let closing = closingRecord (g .word) in
-    subst Bytes (sym (g .bytes))
+    let none = g .sets-are in
+    let whole = g .bytes ∙ ap (λ (sets : List ℕ). prefixRecord (f .n) (f .prefix) ++ (clausesRecord (f .clauses) ++ (rows ++ (sets ++ closing)))) none in
+    subst Bytes (sym whole)
     (then-more (prefixRecord (f .n) (f .prefix)) (clausesRecord (f .clauses) ++ (rows ++ closing))
     (record-in-bytes prefixKind (bytesOf 2 (f .n ∷ f .prefix)) (all-in-bytes 2 (f .n ∷ f .prefix)))
     (then-more (clausesRecord (f .clauses)) (rows ++ closing)

@@ -5,6 +5,7 @@ use mathlib.Core.List.{List, [], _∷_, _++_}
 use mathlib.Core.Logic.{inl, inr}
 use native.Mathlib.Omega.{arith}
 use lib.ListN.{length}
+use Rattle.terms.specs.Answers.{Settles}
 use Rattle.terms.specs.Refusals.{At0, NoneOf}
 use Rattle.terms.specs.declared.Loaded.{Loaded}
 use Rattle.formula.specs.Lent.{Formula}

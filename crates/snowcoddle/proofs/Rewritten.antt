@@ -5,7 +5,7 @@ use mathlib.Core.List.{List}
 use lib.IntN.{ℤ}
 use Rattle.terms.specs.declared.Filled.{Filled}
 use Rattle.terms.specs.declared.Filled.the-variants.{Count, Refused}
-use Rattle.terms.specs.Answers.{verdictOf}
+use Rattle.terms.specs.Answers.{Settles, verdictOf}
 use Rattle.terms.specs.Refusals.{Causes, Judged}
 use Rattle.forest_theory.specs.Reach.{Variables}
 use Rattle.forest_tables.specs.Formula.{variables, Shares}

@@ -12,7 +12,8 @@ use Rattle.terms.specs.Literals.{variableOf}
 use Rattle.terms.proofs.Common.{clash}
 use Rattle.formula.specs.Meaning.{alwaysTrue}
 use Rattle.forest_theory.proofs.Choice.{choice, either, neither, both, or-right}
-use Rattle.expand_clauses.specs.Expansion.{madeTrue, satisfied, hasX, hasMember, without, renamed, named, hasCopy, copies}
+use Rattle.expand_clauses.specs.Expansion.{madeTrue, satisfied, hasX, without}
+use Rattle.expand_clauses.specs.InnerCopies.{hasMember, renamed, named, hasCopy, copies}
 use Rattle.truth.specs.Strategies.{literalValue}
 
 -- the copy of a clause

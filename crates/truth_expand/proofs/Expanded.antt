@@ -19,8 +19,10 @@ use Rattle.forest_tables.specs.Formula.{universal}
 use Rattle.forest_tables.proofs.Readings.{flag-none, flag-over, flag-in, flag-within}
 use Rattle.forest_tables.proofs.Agreeing.{universal-within}
 use Rattle.forest.proofs.Demands.{universal-alone}
-use Rattle.expand_clauses.specs.Expansion.{copyOf, withCopy, placed, expandedBlock, expandedPrefix}
+use Rattle.expand_clauses.specs.InnerCopies.{copyOf, withCopy, placed, expandedBlock, expandedPrefix}
 use Rattle.expand.specs.Promise.{expandedBy}
+use Rattle.expand.specs.Writing.{expandedWith}
+use Rattle.expand.proofs.Outcome.{expanded-same}
 use Rattle.expand.proofs.Accepted.{numbered}
 use Rattle.truth.specs.Game.{Earlier, Distinct}
 use Rattle.truth.specs.Paths.{MayUse}
@@ -177,7 +179,7 @@ module _ (f : Formula) (x : ℕ) (members : List ℕ) (u : universal (f .n) (f .
   narrowed-to-copies t =
       more-may-depend (λ z y g e p. (p .0, λ q. member-copy (suc (f .n)) (λ k. omega arith) (p .1 q))) (serves .narrowed t)
 
-  expanding : Expanding (isExistential (f .n) es) (isExistential n′ es′) (MayDepend f) (MayDepend (expandedBy f x members)) x copy (clauses (f .clauses))
+  expanding : Expanding (isExistential (f .n) es) (isExistential n′ es′) (MayDepend f) (MayDepend (expandedWith n′ x copy f)) x copy (clauses (f .clauses))
   expanding =
       record {
         universal = universal-not x u;
@@ -210,5 +212,8 @@ module _ (f : Formula) (x : ℕ) (members : List ℕ) (u : universal (f .n) (f .
             (universal-not z tz, record { universal = tz; deeper = level-back z y (copy y) e (member-named y c) (with-copy x copy y c) uz zx (b .deeper) });
       }
 
+  by-copies : Holds f ↔ Holds (expandedWith n′ x copy f)
+  by-copies = rw (clauses-expanded x copy (f .clauses) table) (expanding-keeps expanding)
+
   pub expansion-holds : Holds f ↔ Holds (expandedBy f x members)
-  expansion-holds = rw (clauses-expanded x copy (f .clauses) table) (expanding-keeps expanding)
+  expansion-holds = subst (λ (g : Formula). Holds f ↔ Holds g) (expanded-same x members f) by-copies

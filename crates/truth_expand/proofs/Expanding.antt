@@ -13,7 +13,8 @@ use Rattle.terms.specs.Literals.{variableOf}
 use Rattle.terms.proofs.Common.{by-test, clash}
 use Rattle.formula.specs.Meaning.{alwaysTrue}
 use Rattle.forest_theory.proofs.Choice.{neither}
-use Rattle.expand_clauses.specs.Expansion.{satisfied, hasX, hasMember, without, named, hasCopy, copies}
+use Rattle.expand_clauses.specs.Expansion.{satisfied, hasX, without}
+use Rattle.expand_clauses.specs.InnerCopies.{hasMember, named, hasCopy, copies}
 use Rattle.truth.specs.Strategies.{Assignment, literalValue, Satisfied, Strategy, played, Local, Wins, True}
 use Rattle.truth.specs.Game.{put}
 use Rattle.truth.specs.Paths.{MayUse}

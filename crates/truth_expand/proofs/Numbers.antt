@@ -11,7 +11,7 @@ use lib.Dec.{eqb, leb}
 use lib.ListN.{length, getD, List·getD-eq-default}
 use Rattle.terms.specs.Listed.{Ascending}
 use Rattle.forest_theory.proofs.Choice.{choice}
-use Rattle.expand_clauses.specs.Expansion.{copyFrom, copyOf}
+use Rattle.expand_clauses.specs.InnerCopies.{copyFrom, copyOf}
 
 at-member : (ms : List ℕ) (k : ℕ) → k < length ms → List·Memᴰ (getD ms k 0) ms
 at-member [] k l = absurd (omega arith)

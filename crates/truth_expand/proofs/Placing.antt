@@ -12,7 +12,7 @@ use lib.ListN.{drop}
 use Rattle.formula.specs.Meaning.{markOf}
 use Rattle.forest_theory.proofs.Choice.{choice}
 use Rattle.formula_rules.proofs.Blocks.{Whole, AllWhole}
-use Rattle.expand_clauses.specs.Expansion.{withCopy, placed, expandedBlock}
+use Rattle.expand_clauses.specs.InnerCopies.{withCopy, placed, expandedBlock}
 use Rattle.truth.specs.Game.{Earlier, now, after, Distinct}
 use Rattle.truth_expand.proofs.Order.{order, Marked, mine, further, earlier-across, earlier-right}
 

@@ -23,7 +23,7 @@ use Rattle.forest_tables.specs.Formula.{joined, Shares}
 use Rattle.forest_tables.specs.Lent.{variablesOf}
 use Rattle.forest_tables.proofs.Agreeing.{lawful}
 use Rattle.forest.specs.Answers.{DependsBy}
-use Rattle.expand_clauses.specs.Expansion.{copyFrom, withCopy, placed, expandedBlock, expandedPrefix, madeTrue, satisfied, hasX, hasMember, without}
+use Rattle.expand_clauses.specs.Expansion.{isMember, memberNumber, withCopy, placed, expandedBlock, expandedPrefix, madeTrue, satisfied, hasX, hasMember, without}
 use Rattle.expand_clauses.specs.Expansion.{renamed, named, hasCopy, copies, expandedList, clauseTable, expandedClauses}
 use Rattle.expand.specs.Promise.{expandedBy}
 use Rattle.truth.specs.Game.{put, insertTurn, turnsOf}
@@ -52,14 +52,14 @@ record Computed : Type 0 where
 
 computed : Computed
 unfolding cut blocks clauses opposite denied alwaysTrue connected freeLevel level isUniversal isExistential inFront joinedBlocks tableOf joined
-    copyFrom withCopy placed expandedBlock expandedPrefix madeTrue satisfied hasX hasMember without renamed named hasCopy copies expandedList
+    isMember memberNumber withCopy placed expandedBlock expandedPrefix madeTrue satisfied hasX hasMember without renamed named hasCopy copies expandedList
     clauseTable expandedClauses has meets keep put-back find see spread reached reaches is-from sift set-of put insertTurn turnsOf satisfies satisfiesAll
     tried won
 computed = record { game = refl; right-game = refl; wrong-game = refl; set = refl; too-far = refl; universal = refl; existential = refl; level-1 = refl }
 
 -- Their clause tables are accepted.
 accepted : None (ClauseCause 4 (story .clauses)) × None (ClauseCause 6 (right .clauses)) × None (ClauseCause 5 (wrong .clauses))
-unfolding cut blocks clauses opposite denied alwaysTrue copyFrom madeTrue satisfied hasX hasMember without renamed named hasCopy copies expandedList
+unfolding cut blocks clauses opposite denied alwaysTrue isMember memberNumber madeTrue satisfied hasX hasMember without renamed named hasCopy copies expandedList
     clauseTable expandedClauses prefixPasses clausesPass
 accepted = (
   accepts 4 [] (story .clauses) (omega arith) (omega arith) (omega arith) refl refl .1 .1 .1 .0,

@@ -14,7 +14,8 @@ use Rattle.formula.specs.Meaning.{isZero, blocks, clauses}
 use Rattle.formula.specs.Tables.{cut}
 use Rattle.formula_rules.specs.Joined.{joinedBlocks}
 use Rattle.formula_rules.proofs.Blocks.{blocks-whole, joined-whole, cut-table}
-use Rattle.expand_clauses.specs.Expansion.{expandedBlock, expandedPrefix, without, named, copies, expandedList, clauseTable, expandedClauses}
+use Rattle.expand_clauses.specs.Expansion.{without, clauseTable}
+use Rattle.expand_clauses.specs.InnerCopies.{expandedBlock, expandedPrefix, named, copies, expandedList, expandedClauses}
 use Rattle.truth_formula.proofs.Entries.{literal-within}
 use Rattle.truth_expand.proofs.Copies.{Naming, same, new, naming, without-member, copies-member}
 use Rattle.truth_expand.proofs.Expanding.{expandedOf}
