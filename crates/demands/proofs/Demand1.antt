@@ -3,7 +3,6 @@
 use Prim.Native.Nat.{ℕ}
 use mathlib.Core.Path.{_≡_, refl, subst}
 use mathlib.Core.List.{List, []}
-use mathlib.Core.Logic.{_↔_}
 use lib.IntN.{ℤ}
 use lib.ListN.{getD}
 use denote.Ref.{RefT, now}

@@ -1,12 +1,10 @@
 -- Demand 2: what build left is the forest of the formula and well formed, so that no call that reads it is refused for it; by that forest the members
 -- of a set are what depends on x by reach.
-use Prim.Native.Nat.{ℕ, _≤_}
+use Prim.Native.Nat.{ℕ}
 use mathlib.Core.Path.{_≡_, refl, sym, subst}
-use mathlib.Core.Bool.{true}
 use mathlib.Core.List.{List, [], _∷_, _++_}
 use mathlib.Core.Logic.{_↔_, inl, inr, ⊎-elim}
 use native.Mathlib.Omega.{arith}
-use lib.ListN.{length}
 use Rattle.terms.specs.Listed.{Listed}
 use Rattle.terms.specs.Refusals.{None, NoneOf}
 use Rattle.terms.specs.declared.EntryAnswer.{EntryAnswer}

@@ -1,7 +1,7 @@
 -- Demand 3: what add left is what build may leave of the longer list, so that demand 2 holds of it; and what is reached from a universal that is left
 -- alone stays.
-use Prim.Native.Nat.{ℕ, _≤_, _+_}
-use mathlib.Core.Path.{_≡_, refl, sym, ap, _∙_, subst}
+use Prim.Native.Nat.{ℕ, _≤_}
+use mathlib.Core.Path.{_≡_, sym, ap, _∙_, subst}
 use mathlib.Core.List.{List, [], _∷_, _++_}
 use mathlib.Core.Logic.{_↔_}
 use native.Mathlib.Omega.{arith}
@@ -32,13 +32,13 @@ use Rattle.forest_tables.specs.Lent.{variablesOf, forestOf}
 use Rattle.forest_tables.proofs.Agreeing.{lawful}
 use Rattle.forest.specs.Answers.{EntriesBy, DependsBy, EntriesListed, SetListed, Sized}
 use Rattle.forest.specs.Causes.{askOrder}
-use Rattle.grow.specs.Grown.{Standing, Builds, Adds, withLast}
+use Rattle.grow.specs.Grown.{Standing, Adds}
 use Rattle.grow.proofs.Demand3.{built-accepted, added-builds, adding-builds, adding-depends, adding-entries}
 use Rattle.grow.proofs.StrictDemand.{adding-strictly, adding-strict-entries}
 use Rattle.grow.proofs.Taking.{tally-of-one}
-use Rattle.demands.specs.Words.{Built, IsUniversal, Puts}
+use Rattle.demands.specs.Words.{Built}
 use Rattle.demands.specs.Demand2.{Demand2}
-use Rattle.demands.specs.Demand3.{longer, MayBeAdded, AddedTo, SameStanding, LeftAlone, Demand3}
+use Rattle.demands.specs.Demand3.{longer, AddedTo, SameStanding, LeftAlone, Demand3}
 use Rattle.demands.proofs.Putting.{puts, puts-one}
 use Rattle.demands.proofs.Demand2.{built-forest, built-counted, built-asked, demand2}
 

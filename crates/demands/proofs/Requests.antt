@@ -1,20 +1,16 @@
 -- The claims of the requests, most of them theorems of the crates that are concerned; what is added here goes from what a call wrote to what another writes.
-use Prim.Native.Nat.{ℕ, _+_, _≤_, _<_, _%_}
+use Prim.Native.Nat.{ℕ, _+_, _<_, _%_}
 use mathlib.Core.Path.{_≡_, refl, sym, ap, _∙_, subst}
-use mathlib.Core.Bool.{Bool}
 use mathlib.Core.List.{List, [], _∷_, _++_, List·Memᴰ}
-use mathlib.Core.Logic.{_↔_, _≢_, inl, inr, ⊎-elim}
+use mathlib.Core.Logic.{_≢_, inl, inr, ⊎-elim}
 use native.Mathlib.Omega.{arith}
 use lib.IntN.{ℤ}
 use lib.ListN.{length, take}
 use Rattle.terms.specs.Answers.{InFront}
 use Rattle.terms.specs.Listed.{Listed}
 use Rattle.terms.specs.Refusals.{None, NoneOf}
-use Rattle.terms.specs.declared.Expanded.{Expanded}
-use Rattle.terms.specs.declared.Filled.{Filled}
 use Rattle.terms.specs.declared.Filled.the-variants.{Count}
 use Rattle.terms.specs.declared.Loaded.{Loaded}
-use Rattle.terms.specs.declared.Scheme.{Scheme}
 use Rattle.terms.specs.declared.Scheme.the-variants.{Standard, Strict}
 use Rattle.terms.specs.declared.Verdict.the-variants.{Accepted}
 use Rattle.terms.proofs.Answers.{listed-as}
@@ -27,13 +23,12 @@ use Rattle.formula.specs.Meaning.{clauses}
 use Rattle.formula_rules.specs.Rules.{readAs, readBy}
 use Rattle.formula_rules.proofs.Agreement.{check-agrees}
 use Rattle.forest_tables.specs.Lent.{variablesOf}
-use Rattle.forest.specs.Answers.{EntriesBy, MembersBy, DependsBy, SetListed}
+use Rattle.forest.specs.Answers.{EntriesBy, MembersBy, DependsBy}
 use Rattle.forest.specs.Causes.{AskedCause}
 use Rattle.forest.proofs.Agreed.{entry-agrees, list-agrees, size-agrees}
 use Rattle.forest.proofs.Demands.{set-is-dependencies, size-is-count}
 use Rattle.forest.proofs.Strict.{strict-set-within, one-sign-set, one-sign-entries, one-sign-size}
 use Rattle.sets.proofs.Agreed.{sets-agree}
-use Rattle.grow.specs.Grown.{Standing}
 use Rattle.grow.proofs.Agreed.{build-agrees, add-agrees}
 use Rattle.grow_reduced.proofs.Adding.{same-add}
 use Rattle.grow_reduced.proofs.AllSets.{same-sets-listed}
@@ -42,7 +37,6 @@ use Rattle.text_qdimacs.proofs.Agreed.{write-agrees}
 use Rattle.dqbf_lists.specs.Causes.{ListedLengthCause, ListCause, checkListsOrder}
 use Rattle.dqbf_lists.proofs.Agreement.{check-agrees as lists-agree}
 use Rattle.dqbf_lists.proofs.Ordering.{to-listed}
-use Rattle.dqbf_sets.specs.Answers.{SetByLists}
 use Rattle.dqbf_sets.specs.Depends.{DependsOnBy}
 use Rattle.dqbf_sets.proofs.Agreement.{agrees-under, set-agrees}
 use Rattle.dqbf_text.proofs.Accepted.{written-reads-back as listed-reads-back}
@@ -55,7 +49,6 @@ use Rattle.expand_clauses.specs.Expansion.{expandedClauses}
 use Rattle.expand_clauses.specs.Total.{literals}
 use Rattle.expand_clauses.proofs.Cutting.{clauses-expanded}
 use Rattle.expand_clauses.proofs.Tied.{total-of-members}
-use Rattle.expand.specs.Promise.{ResultTables, Expands}
 use Rattle.expand.proofs.Accepted.{result-accepted}
 use Rattle.expand.proofs.Tight.{expand-agrees}
 use Rattle.file_format.specs.Causes.{Lent}
@@ -67,7 +60,6 @@ use Rattle.file_format.proofs.Changed.{Bytes, other-word-refused}
 use Rattle.file_format.proofs.RoundTrip.{written-reads-back}
 use Rattle.file_format.proofs.Short.{in-front}
 use Rattle.file_layout.proofs.Rewritten.{written-again}
-use Rattle.demands.specs.Words.{Built, IsUniversal}
 use Rattle.demands.specs.Demand2.{Demand2}
 use Rattle.demands.specs.Requests.{Wrote, withWord, ExpandedTotal, NoListsAgree, RulesAgree, Reduced, ReducedAlike, Requests}
 use Rattle.demands.proofs.Putting.{puts, puts-one}

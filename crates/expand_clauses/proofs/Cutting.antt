@@ -4,12 +4,10 @@ use mathlib.Core.Path.{_≡_, refl, sym, ap, _∙_}
 use mathlib.Core.Bool.{Bool, true, false, cond}
 use mathlib.Core.List.{List, [], _∷_, _++_, map}
 use mathlib.Core.Logic.{_≢_}
-use native.Mathlib.Omega.{arith}
 use borrow.Author.Tests.{eqb-false, ne-eqb}
 use lib.Dec.{eqb}
 use lib.IntN.{ℤ, pos, negsuc, negℤ}
 use Rattle.terms.specs.Literals.{variableOf}
-use Rattle.terms.proofs.Common.{by-test}
 use Rattle.formula.specs.Meaning.{isZero, clauses}
 use Rattle.formula.specs.Tables.{cut, push}
 use Rattle.expand_clauses.specs.Expansion.{without, clauseTable}

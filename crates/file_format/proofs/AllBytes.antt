@@ -4,7 +4,6 @@ use mathlib.Core.Path.{sym, ap, subst, _∙_}
 use mathlib.Core.Bool.{false}
 use mathlib.Core.List.{List, [], _∷_, _++_, map}
 use native.Mathlib.Omega.{arith}
-use lib.IntN.{ℤ}
 use lib.ListN.{length}
 use Rattle.formula.specs.Lent.{Formula}
 use Rattle.file_format.specs.Numbers.{numberBytes, bytesOf, literalNumber}
