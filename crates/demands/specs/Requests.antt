@@ -136,7 +136,8 @@ pub record RulesAgree : Type 0 where
   pub check-lists : (f : Formula) (lists : List ℕ) → length lists ≤ listEntries → RuleOneAccepts f → (v : Verdict)
       → ListsChecked 1 f lists v ↔ ListsChecked 2 f lists v
   pub listed-set : (f : Formula) (lists : List ℕ) → length lists ≤ listEntries → RuleOneAccepts f
-      → (scheme : Scheme) (x : ℕ) (before after : List ℕ) (a : Filled) → SetByLists 1 scheme f lists x before after a ↔ SetByLists 2 scheme f lists x before after a
+      → (scheme : Scheme) (x : ℕ) (before after : List ℕ) (a : Filled)
+      → SetByLists 1 scheme f lists x before after a ↔ SetByLists 2 scheme f lists x before after a
 
 -- Request 8. An accepted path is a dependency,
 abbrev pub PathIsDependency : Type 0

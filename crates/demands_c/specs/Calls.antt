@@ -67,7 +67,8 @@ pub record TellsWhatIsPromised : Type 0 where
       → BuildTold rule f classes parents counts tally count place returned
       → (after : Tally) × (answer : Filled)
       × Builds rule f (lentStanding classes parents counts tally) (standing (rowsOut classes parents counts) after) answer
-      × Reads (filledSaid answer) (λ (written : ℕ). (now (count .exit) ≡ written) × (now (tally .exit) ≡ cellsOf after)) (Kept count × Kept tally) place returned
+      × Reads (filledSaid answer) (λ (written : ℕ). (now (count .exit) ≡ written) × (now (tally .exit) ≡ cellsOf after))
+      (Kept count × Kept tally) place returned
   -- `snow_add`
   pub add : (rule n : ℕ) (es : List ℕ) (classes parents counts tally : Table) (clause : List ℤ) (place : Cell) (returned : ℕ)
       → AddTold rule n es classes parents counts tally clause place returned

@@ -107,8 +107,8 @@ SetForC =
 -- leaves of the longer list from the tables that were first lent; that returns 0 too.
 abbrev pub AddForC : Type 0
 AddForC =
-    (rule : ℕ) (f : Formula) (clause : List ℤ) (classes parents counts tally : Table) (rows place : Cell) (classes′ parents′ counts′ tally′ : Table) (place′ : Cell)
-    (returned′ : ℕ) (classes″ parents″ counts″ tally″ : Table) (rows″ place″ : Cell) (returned″ : ℕ)
+    (rule : ℕ) (f : Formula) (clause : List ℤ) (classes parents counts tally : Table) (rows place : Cell)
+    (classes′ parents′ counts′ tally′ : Table) (place′ : Cell) (returned′ : ℕ) (classes″ parents″ counts″ tally″ : Table) (rows″ place″ : Cell) (returned″ : ℕ)
     → BuildTold rule f classes parents counts tally rows place 0 → MayBeAdded f clause
     → rowsIn classes′ parents′ counts′ ≡ rowsOut classes parents counts → now (tally′ .entry) ≡ now (tally .exit)
     → AddTold rule (f .n) (f .prefix) classes′ parents′ counts′ tally′ clause place′ returned′
