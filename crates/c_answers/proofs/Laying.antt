@@ -3,7 +3,7 @@ use Prim.Native.Nat.{ℕ}
 use mathlib.Core.Path.{_≡_, refl, sym, ap, subst, _∙_}
 use mathlib.Core.List.{List}
 use Rattle.terms.specs.declared.Tally.{Tally}
-use Rattle.c_answers.specs.Cells.{Said, gives, refuses, numberOf, saidBy, Laid, given, placed, TallyLaid, builtSaid, addedSaid}
+use Rattle.c_answers.specs.InnerCells.{Said, gives, refuses, numberOf, saidBy, Laid, given, placed, TallyLaid, builtSaid, addedSaid}
 
 -- four cells, of which the last was told by a function
 abbrev four : ℕ → ℕ → ℕ → ℕ → ℕ × ℕ × ℕ × ℕ

@@ -1,4 +1,4 @@
 -- What C writes as numbers; and how an answer stands in the cells of a C caller.
 pub mod Codes
-pub mod Cells
-pub mod Formulas
+pub mod InnerCells
+pub mod InnerFormulas

@@ -6,9 +6,9 @@ use terms::Loaded;
 use terms::Reading;
 ghost use mathlib.Core.Path.{_≡_};
 ghost use Rattle.c_answers.specs.Codes.{tellsSets};
-ghost use Rattle.c_answers.specs.Cells.{Fits, Any, ThreeLaid, FourLaid};
-ghost use Rattle.c_answers.specs.Formulas.{TwoInCells, ThreeInCells, LoadedInCells};
-ghost use Rattle.c_answers.specs.Formulas.{readingSaid, listedSaid, expandedSaid, loadedCells};
+ghost use Rattle.c_answers.specs.InnerCells.{Fits, Any, ThreeLaid, FourLaid};
+ghost use Rattle.c_answers.specs.InnerFormulas.{TwoInCells, ThreeInCells, LoadedInCells};
+ghost use Rattle.c_answers.specs.InnerFormulas.{readingSaid, listedSaid, expandedSaid, loadedCells};
 
 // What was read from a text.
 pub fn lay_reading(

@@ -10,7 +10,7 @@ use terms::Scheme;
 use terms::Verdict;
 ghost use mathlib.Core.Path.{_≡_};
 ghost use Rattle.c_answers.specs.Codes.{schemeOf};
-ghost use Rattle.c_answers.specs.Cells.{Fits, Any, NoneLaid, OneLaid, TwoLaid, verdictSaid, filledSaid, entrySaid};
+ghost use Rattle.c_answers.specs.InnerCells.{Fits, Any, NoneLaid, OneLaid, TwoLaid, verdictSaid, filledSaid, entrySaid};
 
 // A verdict: there is nothing but the place of a refusal.
 pub fn lay_verdict(verdict: Verdict, place: &mut u32) -> u32

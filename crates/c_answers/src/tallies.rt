@@ -6,7 +6,7 @@ use terms::Tallied;
 use terms::Tally;
 ghost use mathlib.Core.Path.{_≡_};
 ghost use Rattle.c_answers.specs.Codes.{tallyIn};
-ghost use Rattle.c_answers.specs.Cells.{Fits, Any, TallyLaid, BuiltLaid, AddedLaid, filledSaid};
+ghost use Rattle.c_answers.specs.InnerCells.{Fits, Any, TallyLaid, BuiltLaid, AddedLaid, filledSaid};
 
 // Clauses, merges and classes, in this order.
 pub type TallyCells = [u32; 3];

@@ -21,7 +21,8 @@ use Rattle.formula.specs.Lent.{Formula, formulaOf}
 use Rattle.formula_rules.specs.Rules.{readBy, checkOrder}
 use Rattle.forest_theory.specs.Counts.{Counted, Numbered}
 use Rattle.forest_theory.specs.Forest.{Forest, EntryClass}
-use Rattle.forest_theory.specs.Reach.{Variables, Universal, Deeper}
+use Rattle.forest_theory.specs.Reach.{Variables, Deeper}
+use Rattle.forest_theory.specs.InnerVariables.{Universal}
 use Rattle.forest_theory.specs.Tables.{Table, row, Above, WellFormed, EntryPointOf}
 use Rattle.forest_theory.proofs.Counts.{size-numbered}
 use Rattle.forest_theory.proofs.Growth.{forest-is}

@@ -16,7 +16,7 @@ use Rattle.terms.proofs.Verdicts.{first-at}
 use Rattle.formula.specs.Tables.{at, opens, MarkAt, VariableAt, NearestMark, EndsInside}
 use Rattle.formula.proofs.Scanned.{open-end}
 use Rattle.forest_tables.specs.Formula.{universal}
-use Rattle.forest_tables.specs.Tabled.{universalIn}
+use Rattle.forest_tables.specs.InnerTabled.{universalIn}
 use Rattle.forest_tables.proofs.Agreeing.{universal-within}
 use Rattle.forest_tables.proofs.Readings.{flag-within}
 use Rattle.dqbf_lists.specs.Lists.{InBlock}

@@ -14,7 +14,7 @@ use Rattle.terms.proofs.Orders.{Carries, same-order, one-more, behind}
 use Rattle.terms.proofs.Verdicts.{refused-first}
 use Rattle.formula.specs.Causes.{VariableCount, PrefixLong, ClausesLong, ClauseCause}
 use Rattle.formula.specs.Lent.{Formula}
-use Rattle.formula_rules.specs.Reading.{ReadsFormula}
+use Rattle.formula_rules.specs.InnerReading.{ReadsFormula}
 use Rattle.formula_rules.specs.Rules.{PrefixCauseBy, NoRule, ruledPrefix}
 use Rattle.dqbf_lists.specs.Lists.{listEntries}
 use Rattle.dqbf_lists.specs.Causes.{ListsLong}

@@ -11,7 +11,7 @@ use lib.ListN.{length, getD, set}
 use Rattle.terms.proofs.Common.{clash}
 use Rattle.formula.specs.Tables.{at, opens}
 use Rattle.formula.specs.Meaning.{isUniversal}
-use Rattle.formula.specs.Levels.{SoundPrefix}
+use Rattle.formula.specs.InnerLevels.{SoundPrefix}
 use Rattle.formula.proofs.InBlocks.{place-of, block-of}
 use Rattle.formula.proofs.Levelling.{mark-there, variable-small}
 use Rattle.formula.proofs.Named.{Named, named-skip, named-more}

@@ -5,15 +5,15 @@ use mathlib.Core.Bool.{Bool, true, false}
 use mathlib.Core.List.{List, [], _∷_, _++_}
 use mathlib.Core.Logic.{_≢_}
 use lib.ListN.{length, getD, set}
-use Rattle.terms.specs.Limits.{variableRows}
+use Rattle.terms.specs.InnerLimits.{variableRows}
 use Rattle.terms.specs.Refusals.{Causes, At0, FirstOf}
 use Rattle.terms.specs.declared.Filled.{Filled}
 use Rattle.formula.specs.Causes.{VariableCount, ClauseCause}
 use Rattle.formula.specs.Lent.{Formula}
-use Rattle.formula.specs.Lookup.{SoundClauses}
+use Rattle.formula.specs.InnerLookup.{SoundClauses}
 use Rattle.formula.specs.Tables.{at, MarkAt, VariableAt}
-use Rattle.forest_tables.specs.Tabled.{universalIn}
-use Rattle.formula_rules.specs.Reading.{Reads}
+use Rattle.forest_tables.specs.InnerTabled.{universalIn}
+use Rattle.formula_rules.specs.InnerReading.{Reads}
 use Rattle.formula_rules.specs.Rules.{RuleCause, PrefixCauseBy}
 use Rattle.dqbf_lists.specs.Lists.{listEntries, OneList, InBlock}
 use Rattle.dqbf_lists.specs.Causes.{ListedLengthCause}

@@ -6,7 +6,7 @@ use terms::Filled;
 use terms::Variable;
 ghost use mathlib.Core.Path.{_≡_};
 ghost use lib.ListN.{length};
-ghost use Rattle.terms.specs.Limits.{joinedEntries};
+ghost use Rattle.terms.specs.InnerLimits.{joinedEntries};
 ghost use Rattle.formula.specs.Lent.{formulaIn};
 ghost use Rattle.dqbf_lists.specs.Inner.{ReadsListed, LongRefused};
 

@@ -18,7 +18,7 @@ use Rattle.terms.proofs.Answers.{listing-settled, carry-filling}
 use Rattle.formula.specs.Tables.{cut}
 use Rattle.formula.specs.Causes.{ClauseCause}
 use Rattle.formula.specs.Lent.{Formula, formulaOf}
-use Rattle.formula.specs.Levels.{SoundPrefix}
+use Rattle.formula.specs.InnerLevels.{SoundPrefix}
 use Rattle.formula.specs.Meaning.{level}
 use Rattle.formula.proofs.Ordered.{deeper-named}
 use Rattle.formula.proofs.Sound.{sound-prefix}

@@ -15,8 +15,8 @@ use Rattle.forest_theory.proofs.Reach.{reach-one, reach-trans, reach-sym, reach
 use Rattle.forest_theory.proofs.Represent.{Link, to-class, to-parent, Linked, up, down, linked-sym}
 use Rattle.forest_theory.proofs.Rows.{row-at, row-out}
 use Rattle.forest_tables.specs.Formula.{joined}
-use Rattle.grow_union_find.specs.Loose.{Equal, Kept, table, ranked, Growing}
-use Rattle.grow_passes.specs.Rows.{Holds, Settled, Written}
+use Rattle.grow_union_find.specs.InnerLoose.{Equal, Kept, table, ranked, Growing}
+use Rattle.grow_passes.specs.InnerRows.{Holds, Settled, Written}
 use Rattle.grow_union_find.proofs.Inside.{inside-reach, equal-trans}
 use Rattle.grow_union_find.proofs.Steps.{no-zero, deep-some, some-deep}
 use Rattle.dqbf_sets.specs.Inner.{Flat, Classed}

@@ -17,9 +17,9 @@ use Rattle.forest_theory.proofs.Reach.{reach-mono, reach-ends, reach-first, fol
 use Rattle.forest_tables.specs.Formula.{universal, Shares, SharesBy}
 use Rattle.forest_tables.proofs.Agreeing.{lawful}
 use Rattle.forest_members.specs.declared.Asked.the-variants.{Set}
-use Rattle.forest_members.specs.Picked.{pick, picked}
+use Rattle.forest_members.specs.InnerPicked.{pick, picked}
 use Rattle.forest_members.proofs.Picked.{picked-listed}
-use Rattle.forest_entries.specs.Flags.{Takes, Via, Entering}
+use Rattle.forest_entries.specs.InnerFlags.{Takes, Via, Entering}
 use Rattle.forest_entries.proofs.Sides.{shares-some, shares-signed}
 use Rattle.forest.proofs.Demands.{universal-alone}
 use Rattle.dqbf_lists.specs.Lists.{ListHas}

@@ -14,11 +14,11 @@ use Rattle.terms.specs.Refusals.{None}
 use Rattle.terms.proofs.Common.{clash}
 use Rattle.formula.specs.Tables.{at, opens, MarkAt, VariableAt, NearestMark, EndsInside}
 use Rattle.formula.specs.Meaning.{level, isUniversal, isExistential}
-use Rattle.formula.specs.Levels.{SoundPrefix, Levelled}
+use Rattle.formula.specs.InnerLevels.{SoundPrefix, Levelled}
 use Rattle.formula.proofs.Ordered.{deeper-named}
 use Rattle.forest_theory.specs.Tables.{row}
 use Rattle.forest_tables.specs.Formula.{universal}
-use Rattle.forest_tables.specs.Tabled.{existentialIn}
+use Rattle.forest_tables.specs.InnerTabled.{existentialIn}
 use Rattle.forest_tables.proofs.Readings.{row-none, row-over, flag-in, flag-within, row-stored, row-kept}
 use Rattle.forest_tables.proofs.Agreeing.{tables-agree, level-agrees, lawful, universal-within}
 use Rattle.dqbf_lists.specs.Lists.{InBlock, ListHas}

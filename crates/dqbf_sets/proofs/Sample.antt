@@ -7,7 +7,8 @@ use native.Mathlib.Omega.{arith}
 use lib.IntN.{ℤ, pos}
 use Rattle.formula.specs.Lent.{Formula, formulaOf}
 use Rattle.formula.specs.Tables.{cut, at}
-use Rattle.formula.specs.Meaning.{blocks, clauses, opposite, denied, alwaysTrue, connected, freeLevel, isUniversal, isExistential}
+use Rattle.formula.specs.Meaning.{blocks, clauses, opposite, denied, alwaysTrue, connected, isUniversal, isExistential}
+use Rattle.formula.specs.InnerLevels.{freeLevel}
 use Rattle.forest_theory.specs.Reach.{here, step}
 use Rattle.forest_tables.specs.Formula.{joined, Shares}
 use Rattle.dqbf_lists.specs.Lists.{lists, Given, ListHas}

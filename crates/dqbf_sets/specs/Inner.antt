@@ -17,7 +17,7 @@ use Rattle.formula.specs.Lent.{Formula}
 use Rattle.forest_theory.specs.Reach.{Reach}
 use Rattle.forest_theory.specs.Tables.{row}
 use Rattle.forest_tables.specs.Formula.{Shares}
-use Rattle.forest_tables.specs.Tabled.{existentialIn}
+use Rattle.forest_tables.specs.InnerTabled.{existentialIn}
 use Rattle.forest.specs.Causes.{AskedCause, OutputCause}
 use Rattle.dqbf_lists.specs.Lists.{ListHas}
 use Rattle.dqbf_lists.specs.Inner.{GivenAt}

@@ -11,7 +11,7 @@ ghost use Prim.Native.Nat.{_≤_};
 ghost use mathlib.Core.Path.{_≡_};
 ghost use lib.ListN.{length};
 ghost use Rattle.terms.specs.Limits.{mostVariables};
-ghost use Rattle.formula.specs.Lookup.{SoundClauses};
+ghost use Rattle.formula.specs.InnerLookup.{SoundClauses};
 ghost use Rattle.forest_theory.specs.Tables.{row};
 ghost use Rattle.dqbf_sets.specs.Inner.{Flat, Classed};
 

@@ -12,7 +12,7 @@ ghost use mathlib.Core.List.{[]};
 ghost use mathlib.Core.Bool.{true};
 ghost use Prim.Native.Nat.{_<_, _≤_};
 ghost use lib.ListN.{length};
-ghost use Rattle.text_write.specs.Stored.{Wrote};
+ghost use Rattle.text_write.specs.InnerBytes.{Wrote};
 ghost use Rattle.text_write.specs.InnerBytes.{SmallEntries};
 ghost use Rattle.text_write.specs.InnerOrders.{WriteIs};
 ghost use Rattle.dqbf_lists.specs.Lists.{listEntries};

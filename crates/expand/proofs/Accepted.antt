@@ -18,15 +18,15 @@ use Rattle.terms.proofs.Overwritten.{overwritten-front}
 use Rattle.terms.proofs.Verdicts.{at0-none}
 use Rattle.formula.specs.Causes.{ClauseCause}
 use Rattle.formula.specs.Lent.{Formula, formulaOf}
-use Rattle.formula.specs.Levels.{SoundPrefix}
+use Rattle.formula.specs.InnerLevels.{SoundPrefix}
 use Rattle.formula.specs.Meaning.{has, isZero, clauses}
-use Rattle.formula.specs.Scan.{IsMark}
+use Rattle.formula.specs.InnerScan.{IsMark}
 use Rattle.formula.specs.Tables.{literalAt, cut, push}
 use Rattle.formula.proofs.Accepts.{prefixPasses, clausesPass, accepts}
 use Rattle.formula.proofs.Sound.{sound-prefix}
 use Rattle.formula_rules.specs.Joined.{joinedPrefix}
 use Rattle.formula_rules.specs.Rules.{readAs, readBy, ruledPrefix, checkOrder}
-use Rattle.formula_rules.specs.Writing.{closing}
+use Rattle.formula_rules.specs.InnerWriting.{closing}
 use Rattle.formula_rules.proofs.Scanned.{mark-some}
 use Rattle.formula_rules.proofs.Passing.{startsZero, Passes, no-more, begin, go-on, close-block, name, passes}
 use Rattle.formula_rules.proofs.Rest.{old-mark}
@@ -37,11 +37,11 @@ use Rattle.formula_rules.proofs.Agreement.{also-accepted, both-accept}
 use Rattle.expand_clauses.specs.Expansion.{without, clauseTable}
 use Rattle.expand_clauses.specs.InnerCopies.{copyFrom, copyOf, withCopy, expandedPrefix, renamed, named, hasCopy, copies, expandedList, expandedClauses}
 use Rattle.expand.specs.Promise.{ResultTables, expandedBy, ManyVariables, Long, Leaves, Expands}
-use Rattle.expand.specs.Writing.{beginning}
+use Rattle.expand.specs.InnerWriting.{beginning}
 use Rattle.expand.proofs.Blocking.{begin-none, begin-new}
 use Rattle.expand.proofs.Laying.{left, left-expanded}
 use Rattle.expand.proofs.Outcome.{expanded-same, copy-number}
-use Rattle.expand.specs.Writing.{expandedWith}
+use Rattle.expand.specs.InnerWriting.{expandedWith}
 
 -- Copies as they are numbered: over the n variables and within the new count, and no two variables share one.
 pub record Distinct (n most : ℕ) (copy : ℕ → ℕ) : Type 0 where

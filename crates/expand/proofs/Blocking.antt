@@ -7,10 +7,10 @@ use mathlib.Core.Logic.{_≢_}
 use native.Mathlib.Omega.{arith}
 use borrow.Author.Tests.{eq-eqb, ne-eqb}
 use lib.ListN.{length, set}
-use Rattle.formula_rules.specs.Writing.{closing}
+use Rattle.formula_rules.specs.InnerWriting.{closing}
 use Rattle.expand_clauses.specs.InnerCopies.{withCopy}
-use Rattle.expand_clauses.specs.Copied.{Stored, tabled}
-use Rattle.expand.specs.Writing.{beginning}
+use Rattle.expand_clauses.specs.InnerCopied.{Stored, tabled}
+use Rattle.expand.specs.InnerWriting.{beginning}
 use Rattle.expand_clauses.proofs.Storing.{stored-none, stored-one, stored-as, stored-more}
 
 -- closing a block: nothing where there is none, and else a 0

@@ -11,19 +11,19 @@ use borrow.Author.Tests.{eq-eqb, ne-eqb}
 use lib.Dec.{eqb}
 use lib.ListN.{length, drop, drop-of-length-le, length-append}
 use lib.Seq.{drop-cons}
-use Rattle.formula.specs.Levels.{SoundPrefix}
+use Rattle.formula.specs.InnerLevels.{SoundPrefix}
 use Rattle.formula.specs.Meaning.{blocks}
 use Rattle.formula.specs.Tables.{at, cut, push}
 use Rattle.formula_rules.specs.Joined.{inFront, joinedBlocks, tableOf}
-use Rattle.formula_rules.specs.Writing.{closing}
+use Rattle.formula_rules.specs.InnerWriting.{closing}
 use Rattle.formula_rules.proofs.Scanned.{mark-some}
 use Rattle.formula_rules.proofs.Passing.{Passes, no-more, begin, go-on, close-block, name, passes}
 use Rattle.terms.proofs.Common.{by-test}
 use Rattle.formula_rules.proofs.Rest.{laid, laid-new, laid-same, blocks-cons}
 use Rattle.formula_rules.proofs.Agreement.{also-accepted}
 use Rattle.expand_clauses.specs.InnerCopies.{withCopy, placed, expandedBlock, expandedPrefix}
-use Rattle.expand_clauses.specs.Copied.{Stored}
-use Rattle.expand.specs.Writing.{beginning}
+use Rattle.expand_clauses.specs.InnerCopied.{Stored}
+use Rattle.expand.specs.InnerWriting.{beginning}
 use Rattle.expand_clauses.proofs.Storing.{stored-as, Onward, onward-none, onward-as, onward-all, onward-more}
 use Rattle.expand.proofs.Blocking.{closing-most, begin-none, begin-new}
 

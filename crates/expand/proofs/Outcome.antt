@@ -8,7 +8,8 @@ use native.Mathlib.Omega.{arith}
 use lib.Dec.{eqb}
 use lib.ListN.{length, getD, take}
 use lib.Seq.{sets, length-sets}
-use Rattle.terms.specs.Limits.{mostVariables, variableRows}
+use Rattle.terms.specs.Limits.{mostVariables}
+use Rattle.terms.specs.InnerLimits.{variableRows}
 use Rattle.terms.specs.Listed.{Listed}
 use Rattle.terms.specs.Refusals.{Causes, At0}
 use Rattle.terms.specs.declared.Expanded.{Expanded}
@@ -19,14 +20,14 @@ use Rattle.terms.proofs.Answers.{carry-settles}
 use Rattle.terms.proofs.Orders.{Carries, one-more, same-order, carries-then, behind-none}
 use Rattle.terms.proofs.Verdicts.{at0-first, at0-none}
 use Rattle.formula.specs.Lent.{Formula, formulaOf}
-use Rattle.formula.specs.Levels.{SoundPrefix}
+use Rattle.formula.specs.InnerLevels.{SoundPrefix}
 use Rattle.forest_tables.proofs.Agreeing.{lawful}
-use Rattle.forest.specs.Wanted.{Lists}
+use Rattle.forest.specs.InnerWanted.{Lists}
 use Rattle.expand_clauses.specs.InnerCopies.{copyFrom, copyOf}
-use Rattle.expand_clauses.specs.Copied.{tabled, Copies}
+use Rattle.expand_clauses.specs.InnerCopied.{tabled, Copies}
 use Rattle.expand.specs.Promise.{ResultTables, Leaves, SetOf, expandedBy, OfExpanded, ManyVariables, Long, Short, ExpandsBy}
 use Rattle.expand.specs.InnerOrders.{resultOrder}
-use Rattle.expand.specs.Writing.{expandedWith, writeOrder, Fits}
+use Rattle.expand.specs.InnerWriting.{expandedWith, writeOrder, Fits}
 use Rattle.expand_clauses.proofs.Tied.{prefix-same, clauses-same}
 
 -- The expanded formula by the numbers of the copies is that by the members.

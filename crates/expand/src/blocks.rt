@@ -4,11 +4,11 @@ use expand_clauses::stores::copy_at;
 use expand_clauses::stores::store_entry;
 use terms::Variable;
 ghost use Prim.Native.Nat.{ℕ, _≤_};
-ghost use Rattle.formula.specs.Levels.{SoundPrefix};
-ghost use Rattle.formula_rules.specs.Writing.{closing};
+ghost use Rattle.formula.specs.InnerLevels.{SoundPrefix};
+ghost use Rattle.formula_rules.specs.InnerWriting.{closing};
 ghost use Rattle.expand_clauses.specs.InnerCopies.{withCopy, expandedPrefix};
-ghost use Rattle.expand_clauses.specs.Copied.{Stored, tabled};
-ghost use Rattle.expand.specs.Writing.{beginning};
+ghost use Rattle.expand_clauses.specs.InnerCopied.{Stored, tabled};
+ghost use Rattle.expand.specs.InnerWriting.{beginning};
 
 // Writes the prefix into a table as far as that has rows, and gives the count of all entries. A block begins with its first variable that stays.
 pub fn lay(prefix: &[u32], x: Variable, copies: &[u32], out: &mut [u32]) -> usize

@@ -21,15 +21,15 @@ ghost use Prim.Native.Nat.{ℕ, _≤_};
 ghost use mathlib.Core.Path.{_≡_};
 ghost use lib.ListN.{length};
 ghost use Rattle.formula.specs.Lent.{formulaOf, formulaIn};
-ghost use Rattle.formula.specs.Levels.{SoundPrefix};
-ghost use Rattle.formula.specs.Lookup.{SoundClauses};
+ghost use Rattle.formula.specs.InnerLevels.{SoundPrefix};
+ghost use Rattle.formula.specs.InnerLookup.{SoundClauses};
 ghost use Rattle.formula.specs.Meaning.{level};
 ghost use Rattle.forest_tables.specs.Formula.{universal};
 ghost use Rattle.expand_clauses.specs.InnerCopies.{expandedPrefix, expandedClauses};
-ghost use Rattle.expand_clauses.specs.Copied.{tabled, Copies};
+ghost use Rattle.expand_clauses.specs.InnerCopied.{tabled, Copies};
 ghost use Rattle.expand.specs.Promise.{resultIn, resultOut, SetOf, ExpandsBy, Expands};
 ghost use Rattle.expand.specs.InnerOrders.{resultOrder, behindExpand};
-ghost use Rattle.expand.specs.Writing.{expandedWith, Fits};
+ghost use Rattle.expand.specs.InnerWriting.{expandedWith, Fits};
 
 // Writes the formula with the universal x expanded, its prefix read by a rule: the standard set of x is found from the clauses and gets copies
 // numbered from n + 1.

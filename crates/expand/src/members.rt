@@ -11,12 +11,12 @@ ghost use mathlib.Core.Bool.{true};
 ghost use lib.ListN.{length};
 ghost use Rattle.terms.specs.declared.Scheme.the-variants.{Standard};
 ghost use Rattle.formula.specs.Lent.{formulaIn};
-ghost use Rattle.formula.specs.Levels.{SoundPrefix};
-ghost use Rattle.formula.specs.Lookup.{SoundClauses};
+ghost use Rattle.formula.specs.InnerLevels.{SoundPrefix};
+ghost use Rattle.formula.specs.InnerLookup.{SoundClauses};
 ghost use Rattle.formula.specs.Meaning.{level};
 ghost use Rattle.forest_tables.specs.Formula.{universal};
 ghost use Rattle.forest.specs.Answers.{DependsBy};
-ghost use Rattle.forest.specs.Wanted.{Lists};
+ghost use Rattle.forest.specs.InnerWanted.{Lists};
 
 // Writes the standard set of a universal x, whose level is known, ascending into a table with room for all variables, and gives the count of its
 // members. The classes and parents of the formula's forest are made, and the set is listed by them; counts and tally are not needed.

@@ -12,13 +12,13 @@ use lib.IntN.{ℤ, pos}
 use lib.ListN.{length, set, take, drop, drop-of-length-le, length-append, length-map, length-take, length-drop}
 use lib.Seq.{drop-cons, length-take-le}
 use Rattle.terms.specs.Literals.{variableOf}
-use Rattle.formula.specs.Lookup.{NextZero}
+use Rattle.formula.specs.InnerLookup.{NextZero}
 use Rattle.formula.specs.Meaning.{clauses}
 use Rattle.formula.specs.Tables.{literalAt, cut}
 use Rattle.formula.proofs.Lookups.{clauses-closed, clauses-unclosed}
 use Rattle.expand_clauses.specs.Expansion.{without, clauseTable}
 use Rattle.expand_clauses.specs.InnerCopies.{named, hasCopy, copies, expandedList, expandedClauses}
-use Rattle.expand_clauses.specs.Copied.{Stored, closed, copied}
+use Rattle.expand_clauses.specs.InnerCopied.{Stored, closed, copied}
 use Rattle.expand_clauses.proofs.Storing.{stored-one, stored-none, stored-as, stored-more, Onward, onward-none, onward-as, onward-all, onward-more}
 
 -- The literals before entry i are passed, and those that are not of x are stored.

@@ -15,7 +15,7 @@ use mir.Facts.{toZ-pos}
 use Rattle.terms.specs.Literals.{variableOf}
 use Rattle.expand_clauses.specs.Expansion.{madeTrue}
 use Rattle.expand_clauses.specs.InnerCopies.{renamed}
-use Rattle.expand_clauses.specs.Copied.{expandedVariables}
+use Rattle.expand_clauses.specs.InnerCopied.{expandedVariables}
 
 and-false : (b : Bool) → (b && false) ≡ false
 and-false true = refl

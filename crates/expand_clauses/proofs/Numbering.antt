@@ -9,9 +9,10 @@ use borrow.Author.Tests.{eq-eqb, ne-eqb}
 use lib.Dec.{eqb}
 use lib.ListN.{length, getD, set, drop, length-set, drop-of-length-le}
 use lib.Seq.{drop-cons, getD-set-same, getD-set-other}
-use Rattle.terms.specs.Limits.{mostVariables, variableRows}
+use Rattle.terms.specs.Limits.{mostVariables}
+use Rattle.terms.specs.InnerLimits.{variableRows}
 use Rattle.expand_clauses.specs.InnerCopies.{copyFrom, copyOf}
-use Rattle.expand_clauses.specs.Copied.{tabled}
+use Rattle.expand_clauses.specs.InnerCopied.{tabled}
 
 -- The members from the k-th on have their numbers.
 pub record Numbers (n : ℕ) (members : List ℕ) (k : ℕ) (copies : List ℕ) : Type 0 where

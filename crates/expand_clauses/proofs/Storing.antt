@@ -6,7 +6,7 @@ use native.Mathlib.Omega.{arith}
 use lib.ListN.{length, set, length-append}
 use lib.Seq.{sets, length-sets}
 use Rattle.terms.proofs.Common.{sets-append}
-use Rattle.expand_clauses.specs.Copied.{Stored}
+use Rattle.expand_clauses.specs.InnerCopied.{Stored}
 
 module _ {A : Type 0} where
   pub stored-none : (table : List A) (at : ℕ) → Stored [] table table at at

@@ -2,4 +2,4 @@
 pub mod Expansion
 pub mod Total
 pub mod InnerCopies
-pub mod Copied
+pub mod InnerCopied

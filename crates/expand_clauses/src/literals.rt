@@ -14,11 +14,11 @@ ghost use mathlib.Core.List.{[], _∷_};
 ghost use lib.IntN.{pos, negℤ};
 ghost use lib.ListN.{length};
 ghost use Rattle.terms.specs.Limits.{clauseEntries};
-ghost use Rattle.formula.specs.Lookup.{InRows, SoundClauses, Stamps};
+ghost use Rattle.formula.specs.InnerLookup.{InRows, SoundClauses, Stamps};
 ghost use Rattle.formula.specs.Meaning.{clauses as Meaning·clauses};
 ghost use Rattle.expand_clauses.specs.Expansion.{madeTrue, satisfied, hasX};
 ghost use Rattle.expand_clauses.specs.InnerCopies.{hasMember, renamed, named, hasCopy, expandedClauses};
-ghost use Rattle.expand_clauses.specs.Copied.{Stored, tabled, expandedVariables, expandedEntries, Copies, closed, copied};
+ghost use Rattle.expand_clauses.specs.InnerCopied.{Stored, tabled, expandedVariables, expandedEntries, Copies, closed, copied};
 
 // Writes the clauses into a table as far as that has rows, and gives the count of all entries.
 pub fn copy_clauses(clauses: &[i32], x: Variable, copies: &[u32], out: &mut [i32]) -> usize

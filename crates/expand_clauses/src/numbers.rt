@@ -3,9 +3,10 @@
 ghost use Prim.Native.Nat.{ℕ, _≤_};
 ghost use mathlib.Core.Path.{_≡_};
 ghost use lib.ListN.{length, getD};
-ghost use Rattle.terms.specs.Limits.{mostVariables, variableRows};
+ghost use Rattle.terms.specs.Limits.{mostVariables};
+ghost use Rattle.terms.specs.InnerLimits.{variableRows};
 ghost use Rattle.expand_clauses.specs.InnerCopies.{copyOf};
-ghost use Rattle.expand_clauses.specs.Copied.{tabled};
+ghost use Rattle.expand_clauses.specs.InnerCopied.{tabled};
 
 // Gives each member the number of its copy, in the row of the member: n + 1 for the first, and one more for each that follows.
 pub fn number(n: u32, members: &[u32], copies: &mut [u32])

@@ -6,12 +6,12 @@ use native.Mathlib.Omega.{arith}
 use lib.IntN.{ℤ}
 use lib.ListN.{length, take, drop, length-append, length-map}
 use lib.Seq.{sets-eq, take-at, length-take-le}
-use Rattle.text_write.specs.Stored.{Wrote}
+use Rattle.text_write.specs.InnerBytes.{Wrote}
 use Rattle.text_write.proofs.Stores.{wrote-more}
 use Rattle.file_format.specs.Numbers.{numberBytes, bytesOf, literalNumber, wordSum}
 use Rattle.file_format.specs.Layout.{prefixKind, clausesKind, rowsKind, closingKind, recordBytes, prefixRecord, clausesRecord, rowsRecord, closingRecord}
 use Rattle.file_format.proofs.Lengths.{number-length, bytes-length, bytes-append}
-use Rattle.file_bytes.specs.Parts.{headBytes, closing}
+use Rattle.file_bytes.specs.InnerParts.{headBytes, closing}
 
 -- equal bytes are written alike
 pub wrote-as : {xs ys before after : List ℕ} {at next : ℕ} → xs ≡ ys → Wrote xs before after at next → Wrote ys before after at next

@@ -7,7 +7,7 @@ use native.Mathlib.Numerals.{add-one}
 use lib.IntN.{ℤ, pos}
 use lib.ListN.{length, getD, drop, length-append, drop-of-length-le}
 use lib.Seq.{drop-cons}
-use Rattle.text_write.specs.Stored.{Wrote}
+use Rattle.text_write.specs.InnerBytes.{Wrote}
 use Rattle.text_write.proofs.Stores.{wrote-none, wrote-more, wrote-length}
 use Rattle.file_format.specs.Numbers.{numberBytes, bytesOf, literalNumber}
 

@@ -4,10 +4,10 @@ use mathlib.Core.Path.{_≡_}
 use mathlib.Core.List.{List, [], _∷_}
 use native.Mathlib.Omega.{arith}
 use lib.ListN.{length, length-append}
-use Rattle.text_write.specs.Stored.{Wrote}
+use Rattle.text_write.specs.InnerBytes.{Wrote}
 use Rattle.file_format.specs.Numbers.{numberBytes, bytesOf}
 use Rattle.file_format.proofs.Lengths.{number-length, bytes-length}
-use Rattle.file_bytes.specs.Parts.{headBytes}
+use Rattle.file_bytes.specs.InnerParts.{headBytes}
 
 head-length : (size kind : ℕ) → length (headBytes size kind) ≡ 6
 head-length size kind =

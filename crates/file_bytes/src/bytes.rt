@@ -7,9 +7,9 @@ ghost use Prim.Native.Nat.{_<_, _≤_};
 ghost use mathlib.Core.List.{map};
 ghost use lib.ListN.{length};
 ghost use Rattle.terms.specs.Limits.{prefixEntries, clauseEntries};
-ghost use Rattle.text_write.specs.Stored.{Wrote};
+ghost use Rattle.text_write.specs.InnerBytes.{Wrote};
 ghost use Rattle.file_format.specs.Numbers.{numberBytes, bytesOf, literalNumber};
-ghost use Rattle.file_bytes.specs.Parts.{headBytes};
+ghost use Rattle.file_bytes.specs.InnerParts.{headBytes};
 
 // Stores so many bytes of a number, little-endian.
 pub fn put_number(out: &mut [u8], at: usize, width: u32, number: u32) -> usize

@@ -11,10 +11,10 @@ ghost use mathlib.Core.Path.{_≡_};
 ghost use mathlib.Core.List.{_++_};
 ghost use lib.ListN.{length, take};
 ghost use Rattle.terms.specs.Limits.{mostVariables, prefixEntries, clauseEntries};
-ghost use Rattle.text_write.specs.Stored.{Wrote};
+ghost use Rattle.text_write.specs.InnerBytes.{Wrote};
 ghost use Rattle.file_format.specs.Numbers.{bytesOf};
 ghost use Rattle.file_format.specs.Layout.{prefixRecord, clausesRecord, rowsRecord, closingRecord};
-ghost use Rattle.file_bytes.specs.Parts.{closing};
+ghost use Rattle.file_bytes.specs.InnerParts.{closing};
 
 // Kind 1: n and the prefix.
 pub fn put_prefix(out: &mut [u8], n: u32, prefix: &[u32]) -> usize

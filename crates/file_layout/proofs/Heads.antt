@@ -7,11 +7,11 @@ use mathlib.Core.Logic.{_⊎_, inl, inr, ⊎-elim, _≢_}
 use native.Mathlib.Omega.{arith}
 use borrow.Author.Tests.{ltb-true, ltb-false, eqb-true, eqb-false}
 use lib.Dec.{ltb, eqb}
-use Rattle.forest_tables.specs.Rows.{Tells}
+use Rattle.forest_tables.specs.InnerRows.{Tells}
 use Rattle.file_format.specs.Numbers.{numberAt}
 use Rattle.file_format.specs.Layout.{prefixKind, clausesKind, closingKind}
 use Rattle.file_format.specs.Places.{sizeAt, kindAt, nextAt}
-use Rattle.file_layout.specs.Laid.{WrongSize}
+use Rattle.file_layout.specs.InnerLaid.{WrongSize}
 
 -- A flag tells of Q what it tells of P, where P gives Q, and Q cannot be without P.
 pub told-back : {P Q : Type 0} (b : Bool) → (P → Q) → ((P → ⊥) → Q → ⊥) → Tells b P → Tells b Q

@@ -17,7 +17,7 @@ use Rattle.file_format.specs.InnerPlaces.{Reached, start, behind, mayFollow, St
 use Rattle.file_format.proofs.Passing.{orders-steps, record-reached, after-start, after-prefix, after-clauses}
 use Rattle.file_format.specs.Causes.{fileBytes, TooLarge, RecordCause, cut, no-count, OrderCause}
 use Rattle.file_format.specs.InnerOrders.{fileOrder}
-use Rattle.file_layout.specs.Laid.{Laid}
+use Rattle.file_layout.specs.InnerLaid.{Laid}
 use Rattle.file_layout.proofs.Walks.{reached-within}
 use Rattle.file_layout.proofs.Spans.{second-is, third-is, fourth-is}
 

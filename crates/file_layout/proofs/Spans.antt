@@ -9,7 +9,7 @@ use Rattle.file_format.specs.Numbers.{numberAt, numbersAt, literalOf}
 use Rattle.file_format.specs.Places.{sizeAt, kindAt, nextAt, payloadAt, secondAt, thirdAt, fourthAt, hasSets, countIn, prefixIn, clausesIn}
 use Rattle.file_format.specs.Layout.{setsKind}
 use Rattle.file_format.specs.Causes.{fileBytes}
-use Rattle.file_layout.specs.Laid.{Laid}
+use Rattle.file_layout.specs.InnerLaid.{Laid}
 use Rattle.file_layout.proofs.Heads.{next-read}
 
 -- The list of so many numbers from a place on is that long.

@@ -17,7 +17,7 @@ use Rattle.file_format.specs.InnerPlaces.{Reached, start, behind, mayFollow, la
 use Rattle.file_format.proofs.Passing.{passed-reached, record-reached}
 pub use Rattle.file_format.proofs.Passing.{next-past}
 use Rattle.file_format.specs.Causes.{fileBytes, RecordCause, cut, odd, no-count, part-literal, no-word}
-use Rattle.file_layout.specs.Laid.{WrongSize}
+use Rattle.file_layout.specs.InnerLaid.{WrongSize}
 
 module _ (file : List ℕ) where
   next-same : {p q : ℕ} → p ≡ q → nextAt file p ≡ nextAt file q

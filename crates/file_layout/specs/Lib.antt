@@ -1,3 +1,3 @@
 -- The records of a file one after the other: what the walk over them finds.
-pub mod Laid
-pub mod Widths
+pub mod InnerLaid
+pub mod InnerWidths

@@ -12,11 +12,11 @@ ghost use mathlib.Core.Path.{_≡_};
 ghost use mathlib.Core.List.{map};
 ghost use lib.ListN.{length};
 ghost use lib.Seq.{sets};
-ghost use Rattle.forest_tables.specs.Rows.{Tells};
+ghost use Rattle.forest_tables.specs.InnerRows.{Tells};
 ghost use Rattle.file_format.specs.Numbers.{numberAt, numbersAt, literalOf};
 ghost use Rattle.file_format.specs.Places.{prefixIn, clausesIn};
-ghost use Rattle.file_layout.specs.Laid.{Laid};
-ghost use Rattle.file_layout.specs.Widths.{Width};
+ghost use Rattle.file_layout.specs.InnerLaid.{Laid};
+ghost use Rattle.file_layout.specs.InnerWidths.{Width};
 
 // The number of two or four bytes at a place.
 fn number_in(file: &[u8], width: usize, at: usize) -> u32

@@ -14,13 +14,13 @@ ghost use mathlib.Core.Path.{_≡_};
 ghost use mathlib.Core.List.{[], _∷_};
 ghost use lib.ListN.{length};
 ghost use Rattle.terms.specs.Refusals.{At0, None, Judged};
-ghost use Rattle.forest_tables.specs.Rows.{Tells};
+ghost use Rattle.forest_tables.specs.InnerRows.{Tells};
 ghost use Rattle.file_format.specs.Layout.{SumsToZero};
 ghost use Rattle.file_format.specs.Places.{RecordAt};
 ghost use Rattle.file_format.specs.InnerPlaces.{mayFollow, StepCause};
 ghost use Rattle.file_format.specs.Causes.{fileBytes, RecordCause, OrderCause};
 ghost use Rattle.file_format.specs.InnerOrders.{fileOrder};
-ghost use Rattle.file_layout.specs.Laid.{WrongSize};
+ghost use Rattle.file_layout.specs.InnerLaid.{WrongSize};
 
 // The first cause of refusals 19 to 21 in a file.
 pub fn layout_verdict(file: &[u8]) -> Verdict

@@ -8,7 +8,7 @@ ghost use Prim.Native.Nat.{_<_};
 ghost use mathlib.Core.Path.{_≡_};
 ghost use lib.ListN.{length};
 ghost use Rattle.file_format.specs.Places.{sizeAt, kindAt, nextAt, secondAt, thirdAt, fourthAt, prefixIn, clausesIn, hasSets};
-ghost use Rattle.file_layout.specs.Laid.{Laid};
+ghost use Rattle.file_layout.specs.InnerLaid.{Laid};
 
 // How many bytes the payload of the record that begins at a place has.
 pub fn size_at(file: &[u8], at: usize) -> u32

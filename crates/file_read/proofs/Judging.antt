@@ -17,7 +17,7 @@ use Rattle.file_format.specs.Numbers.{numbersAt}
 use Rattle.file_format.specs.Places.{payloadAt, thirdAt, countIn, prefixIn, clausesIn, formulaHeld}
 use Rattle.file_format.specs.Causes.{Lent, lentTables, NoRoom, Roomy}
 use Rattle.file_format.specs.Promises.{storedIn}
-use Rattle.file_verify.specs.Verified.{classesIn, parentsIn, countsIn, rowsHeld}
+use Rattle.file_verify.specs.InnerVerified.{classesIn, parentsIn, countsIn, rowsHeld}
 use Rattle.file_layout.proofs.Spans.{numbers-length}
 use Rattle.file_read.specs.Inner.{saidOf, LoadsRight}
 

@@ -8,7 +8,7 @@ use Rattle.formula.specs.Lent.{Formula}
 use Rattle.file_format.specs.Places.{hasSets, formulaHeld}
 use Rattle.file_format.specs.Causes.{RightRows, Lent, NoRoom}
 use Rattle.file_format.specs.Promises.{Loading}
-use Rattle.file_verify.specs.Verified.{rowsHeld}
+use Rattle.file_verify.specs.InnerVerified.{rowsHeld}
 
 -- what the answer says of a file
 abbrev pub saidOf : List ℕ → Loaded

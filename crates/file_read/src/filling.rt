@@ -14,12 +14,12 @@ ghost use mathlib.Core.Path.{_≡_};
 ghost use lib.ListN.{length};
 ghost use lib.Seq.{sets};
 ghost use Rattle.forest_tables.specs.Lent.{rows};
-ghost use Rattle.forest_tables.specs.Rows.{Tells};
+ghost use Rattle.forest_tables.specs.InnerRows.{Tells};
 ghost use Rattle.file_format.specs.Places.{countIn, formulaHeld};
 ghost use Rattle.file_format.specs.Causes.{lentTables, lentIn, lentOut, Roomy};
 ghost use Rattle.file_format.specs.Promises.{storedIn};
-ghost use Rattle.file_layout.specs.Laid.{Laid};
-ghost use Rattle.file_verify.specs.Verified.{classesIn, parentsIn, countsIn, rowsHeld};
+ghost use Rattle.file_layout.specs.InnerLaid.{Laid};
+ghost use Rattle.file_verify.specs.InnerVerified.{classesIn, parentsIn, countsIn, rowsHeld};
 ghost use Rattle.file_read.specs.Inner.{saidOf};
 
 // Whether every lent table is long enough.

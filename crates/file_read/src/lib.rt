@@ -9,7 +9,7 @@ use terms::Loaded;
 use terms::Verdict;
 ghost use Rattle.file_format.specs.Causes.{lentIn, lentOut};
 ghost use Rattle.file_format.specs.Promises.{Loads};
-ghost use Rattle.file_layout.specs.Laid.{Laid};
+ghost use Rattle.file_layout.specs.InnerLaid.{Laid};
 ghost use Rattle.file_read.specs.Inner.{LoadsRight};
 
 // Reads a file into the lent tables: prefix, clauses, and the rows of class names, parents and counts. Everything is judged before the first row is

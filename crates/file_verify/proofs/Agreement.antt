@@ -7,12 +7,12 @@ use mathlib.Core.Logic.{_↔_, _≢_}
 use native.Mathlib.Omega.{arith}
 use lib.ListN.{length, take, drop, length-append}
 use lib.Seq.{take-append-seam, take-at, drop-at}
-use Rattle.forest_tables.specs.Rows.{Tells}
+use Rattle.forest_tables.specs.InnerRows.{Tells}
 use Rattle.forest_tables.proofs.Readings.{told-both}
 use Rattle.file_format.specs.Numbers.{numberAt, numbersAt}
 use Rattle.file_format.specs.Places.{sizeAt, payloadAt, thirdAt, countIn, Holds}
 use Rattle.file_layout.proofs.Spans.{numbers-length}
-use Rattle.file_verify.specs.Verified.{classesIn, parentsIn, countsIn}
+use Rattle.file_verify.specs.InnerVerified.{classesIn, parentsIn, countsIn}
 
 -- The rows of a file, as so many numbers from a place on.
 pub rows-are : (file : List ℕ) (n p : ℕ) → n ≡ countIn file → p ≡ thirdAt file

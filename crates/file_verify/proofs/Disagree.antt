@@ -14,10 +14,10 @@ use Rattle.file_format.specs.Numbers.{numbersAt}
 use Rattle.file_format.specs.Places.{payloadAt, thirdAt, fourthAt, hasSets, countIn, Holds}
 use Rattle.file_format.specs.Causes.{RightRows, RightSets, ForestFileCause, rows-disagree, sets-disagree}
 use Rattle.file_format.proofs.Unique.{rows-unique, sets-unique}
-use Rattle.file_layout.specs.Laid.{Laid}
+use Rattle.file_layout.specs.InnerLaid.{Laid}
 use Rattle.file_layout.proofs.Walks.{next-past}
 use Rattle.file_layout.proofs.Spans.{fourth-is, laid-ends}
-use Rattle.file_verify.specs.Verified.{classesIn, parentsIn, countsIn, rowsHeld, setNumbers}
+use Rattle.file_verify.specs.InnerVerified.{classesIn, parentsIn, countsIn, rowsHeld, setNumbers}
 use Rattle.file_verify.proofs.Agreement.{three}
 
 module _ (f : Formula) (file : List ℕ) where

@@ -16,9 +16,9 @@ use Rattle.formula_rules.specs.Rules.{NoRule, readBy}
 use Rattle.file_format.specs.Places.{formulaHeld}
 use Rattle.file_format.specs.Causes.{ForestFileCause}
 use Rattle.file_format.specs.InnerOrders.{fileOrder, tableOrder}
-use Rattle.file_layout.specs.Laid.{Laid}
+use Rattle.file_layout.specs.InnerLaid.{Laid}
 use Rattle.file_layout.proofs.Laying.{file-laid}
-use Rattle.file_verify.specs.Verified.{IsRule, Finds, Judges, verifyOrder, Verifies}
+use Rattle.file_verify.specs.InnerVerified.{IsRule, Finds, Judges, verifyOrder, Verifies}
 
 -- What is found by one order is found by another that says as much.
 pub carry-finds : (f : Formula) (file : List ℕ) (v : Verdict) (order order′ : List Causes) → Carries order order′

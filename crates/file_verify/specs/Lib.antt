@@ -1,2 +1,2 @@
 -- A file verified: what its verdict says, and what the inner functions promise.
-pub mod Verified
+pub mod InnerVerified

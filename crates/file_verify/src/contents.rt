@@ -27,12 +27,12 @@ ghost use lib.ListN.{length};
 ghost use Rattle.terms.specs.Limits.{mostVariables, prefixEntries, clauseEntries};
 ghost use Rattle.formula.specs.Lent.{formulaOf, formulaIn};
 ghost use Rattle.forest_tables.specs.Lent.{rows};
-ghost use Rattle.forest_tables.specs.Rows.{Tells};
+ghost use Rattle.forest_tables.specs.InnerRows.{Tells};
 ghost use Rattle.file_format.specs.Layout.{ForestRows};
 ghost use Rattle.file_format.specs.Places.{thirdAt, fourthAt, Holds, formulaHeld};
 ghost use Rattle.file_format.specs.Causes.{RightSets};
-ghost use Rattle.file_layout.specs.Laid.{Laid};
-ghost use Rattle.file_verify.specs.Verified.{IsRule, SoundFormula, OwnForest, Judges, JudgesRows, setNumbers};
+ghost use Rattle.file_layout.specs.InnerLaid.{Laid};
+ghost use Rattle.file_verify.specs.InnerVerified.{IsRule, SoundFormula, OwnForest, Judges, JudgesRows, setNumbers};
 
 // The most numbers that the record of kind 4 may have: two bytes each, in the longest file.
 const SET_NUMBERS: usize = 131072;

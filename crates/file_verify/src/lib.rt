@@ -6,8 +6,8 @@ mod contents;
 use contents::contents_verdict;
 use file_layout::layout_verdict;
 use terms::Verdict;
-ghost use Rattle.forest_tables.specs.Rows.{Tells};
-ghost use Rattle.file_verify.specs.Verified.{IsRule, Verifies};
+ghost use Rattle.forest_tables.specs.InnerRows.{Tells};
+ghost use Rattle.file_verify.specs.InnerVerified.{IsRule, Verifies};
 
 // The first cause of refusal in a file: 23, then 19 to 21 in its records, those of its formula with the prefix read by the rule, and 22.
 pub fn file_verdict(rule: u32, file: &[u8]) -> Verdict

@@ -6,12 +6,12 @@ use native.Mathlib.Omega.{arith}
 use lib.ListN.{length, take}
 use Rattle.formula.specs.Lent.{Formula}
 use Rattle.forest_tables.specs.Lent.{Rows}
-use Rattle.text_write.specs.Stored.{Wrote}
+use Rattle.text_write.specs.InnerBytes.{Wrote}
 use Rattle.text_write.proofs.Stores.{wrote-more}
 use Rattle.file_format.specs.Layout.{prefixRecord, clausesRecord, rowsRecord, closingRecord}
-use Rattle.file_bytes.specs.Parts.{closing}
+use Rattle.file_bytes.specs.InnerParts.{closing}
 use Rattle.file_bytes.proofs.Composed.{wrote-as, front-stored}
-use Rattle.file_write.specs.Parts.{formulaPart, frontOf, wholeOf}
+use Rattle.file_write.specs.InnerParts.{formulaPart, frontOf, wholeOf}
 
 -- The records of the formula.
 pub formula-wrote : (f : Formula) {before mid after : List ℕ} {at start next : ℕ} → Wrote (prefixRecord (f .n) (f .prefix)) before mid at start

@@ -16,15 +16,15 @@ use Rattle.terms.proofs.Orders.{Carries, same-order, one-more}
 use Rattle.terms.proofs.Verdicts.{at0-first, at0-none}
 use Rattle.formula.specs.Lent.{Formula, formulaOf}
 use Rattle.forest_tables.specs.Lent.{Rows}
-use Rattle.text_write.specs.Stored.{Wrote}
+use Rattle.text_write.specs.InnerBytes.{Wrote}
 use Rattle.file_format.specs.Numbers.{numberBytes, wordSum}
 use Rattle.file_format.specs.Layout.{closingKind, prefixRecord, clausesRecord, rowsRecord, closingRecord, ForestRows, SumsToZero, FileWith}
 use Rattle.file_format.specs.Causes.{FileTooLarge, FileTooLong}
 use Rattle.file_format.proofs.WordSums.{sum-append, closing-sum}
 use Rattle.file_format.proofs.Unique.{file-unique}
 use Rattle.file_format.proofs.Short.{never-too-large}
-use Rattle.file_bytes.specs.Parts.{headBytes, closing}
-use Rattle.file_write.specs.Parts.{formulaPart, frontOf, wholeOf, Small, StoresWhole, StoresRead}
+use Rattle.file_bytes.specs.InnerParts.{headBytes, closing}
+use Rattle.file_write.specs.InnerParts.{formulaPart, frontOf, wholeOf, Small, StoresWhole, StoresRead}
 use Rattle.file_write.proofs.Sizes.{size, front-length, whole-length}
 
 -- the word fits, and closes the sum of an even front

@@ -7,8 +7,8 @@ use Rattle.formula.specs.Lent.{Formula}
 use Rattle.forest_tables.specs.Lent.{Rows}
 use Rattle.file_format.specs.Layout.{prefixRecord, clausesRecord, rowsRecord, closingRecord}
 use Rattle.file_format.proofs.Lengths.{prefix-length, clauses-length, rows-length, closing-length}
-use Rattle.file_bytes.specs.Parts.{closing}
-use Rattle.file_write.specs.Parts.{formulaPart, frontOf, wholeOf, sizeOf, Small}
+use Rattle.file_bytes.specs.InnerParts.{closing}
+use Rattle.file_write.specs.InnerParts.{formulaPart, frontOf, wholeOf, sizeOf, Small}
 
 pub formula-length : (f : Formula) → length (formulaPart f) ≡ 14 + 2 * length (f .prefix) + 4 * length (f .clauses)
 unfolding formulaPart

@@ -13,10 +13,10 @@ ghost use Prim.Native.Nat.{_≤_};
 ghost use lib.ListN.{length};
 ghost use Rattle.terms.specs.Limits.{prefixEntries};
 ghost use Rattle.formula.specs.Lent.{formulaIn};
-ghost use Rattle.formula.specs.Levels.{SoundPrefix};
-ghost use Rattle.formula.specs.Lookup.{SoundClauses};
+ghost use Rattle.formula.specs.InnerLevels.{SoundPrefix};
+ghost use Rattle.formula.specs.InnerLookup.{SoundClauses};
 ghost use Rattle.file_format.specs.Promises.{Stores};
-ghost use Rattle.file_write.specs.Parts.{StoresRead};
+ghost use Rattle.file_write.specs.InnerParts.{StoresRead};
 
 // Writes the file of a formula and its forest into a lent table, and gives the count of its bytes. The prefix is written as it is lent.
 pub fn store(rule: u32, n: u32, prefix: &[u32], clauses: &[i32], file: &mut [u8]) -> Filled

@@ -11,8 +11,8 @@ ghost use lib.ListN.{length};
 ghost use Rattle.terms.specs.Limits.{mostVariables, prefixEntries, clauseEntries};
 ghost use Rattle.formula.specs.Lent.{formulaOf, formulaIn};
 ghost use Rattle.forest_tables.specs.Lent.{rows, rowsIn};
-ghost use Rattle.text_write.specs.Stored.{Wrote};
-ghost use Rattle.file_write.specs.Parts.{formulaPart, wholeOf, sizeOf, Small, StoresWhole};
+ghost use Rattle.text_write.specs.InnerBytes.{Wrote};
+ghost use Rattle.file_write.specs.InnerParts.{formulaPart, wholeOf, sizeOf, Small, StoresWhole};
 
 // Writes the file of a formula and these rows; nothing is written where it does not fit. Within the limits it is never too long.
 pub fn store_file(

@@ -17,9 +17,10 @@ use Rattle.terms.specs.declared.Variable.{Variable}
 use Rattle.terms.proofs.Common.{clash}
 use Rattle.terms.proofs.Answers.{listed-as, answered-settled, listing-settled, numbered-settled}
 use Rattle.formula.specs.Lent.{Formula}
-use Rattle.formula.specs.Meaning.{blocks, markOf, firstMark, freeLevel, level, isUniversal, isExistential}
+use Rattle.formula.specs.Meaning.{blocks, markOf, firstMark, level, isUniversal, isExistential}
+use Rattle.formula.specs.InnerLevels.{freeLevel}
 use Rattle.formula.proofs.InBlocks.{Found, in-one, in-none, finds}
-use Rattle.forest_theory.specs.Reach.{Universal}
+use Rattle.forest_theory.specs.InnerVariables.{Universal}
 use Rattle.forest_theory.specs.Tables.{row}
 use Rattle.forest_theory.specs.Forest.{Forest, EntryClass}
 use Rattle.terms.specs.Listed.{Listed}

@@ -10,22 +10,23 @@ use lib.ListN.{getD}
 use Rattle.terms.specs.Refusals.{None}
 use Rattle.terms.proofs.Common.{clash}
 use Rattle.formula.specs.Meaning.{level, isExistential}
-use Rattle.formula.specs.Levels.{SoundPrefix, Levelled}
-use Rattle.forest_theory.specs.Reach.{Variables, Lawful, Deeper}
+use Rattle.formula.specs.InnerLevels.{SoundPrefix, Levelled}
+use Rattle.forest_theory.specs.Reach.{Variables, Deeper}
+use Rattle.forest_theory.specs.InnerVariables.{Lawful}
 use Rattle.forest_theory.specs.Tables.{Table, row, lent, WellFormed, EntryPoint, EntryPointOf, MemberBy}
-use Rattle.forest_theory.specs.Climb.{Climbed}
+use Rattle.forest_theory.specs.InnerClimb.{Climbed}
 use Rattle.forest_theory.proofs.Climb.{above-class, entry-one, entry-climb, entry-rises}
 use Rattle.forest_theory.proofs.Sets.{member-deeper, member-climb}
 use Rattle.forest_tables.specs.Formula.{variables}
-use Rattle.forest_tables.specs.Tabled.{tabled, universalIn}
+use Rattle.forest_tables.specs.InnerTabled.{tabled, universalIn}
 use Rattle.forest_tables.specs.Causes.{ForestCause}
 use Rattle.forest_tables.specs.Lent.{rows}
 use Rattle.formula.specs.Lent.{formulaOf}
 use Rattle.forest.specs.Causes.{NotUniversal, NotDeeper}
 use Rattle.forest.specs.Answers.{Entry}
-use Rattle.forest_tables.specs.Rows.{rowsOf}
-use Rattle.forest_climb.specs.Search.{EntryRows}
-use Rattle.forest_entries.specs.Flags.{Via}
+use Rattle.forest_tables.specs.InnerRows.{rowsOf}
+use Rattle.forest_climb.specs.InnerSearch.{EntryRows}
+use Rattle.forest_entries.specs.InnerFlags.{Via}
 use Rattle.forest_tables.proofs.Agreeing.{Same, same-back, deeper-same, formed-same, tables-agree, level-agrees, universal-agrees, universal-within, none-formed}
 use Rattle.forest.proofs.Agreeing.{entry-same}
 

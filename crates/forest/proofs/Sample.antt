@@ -10,9 +10,10 @@ use lib.IntN.{ℤ, pos, negsuc}
 use lib.Signed.{nonNeg}
 use Rattle.terms.proofs.Common.{clash}
 use Rattle.formula.specs.Tables.{cut}
-use Rattle.formula.specs.Meaning.{blocks, clauses, opposite, denied, alwaysTrue, connected, freeLevel, level, isUniversal, isExistential}
+use Rattle.formula.specs.Meaning.{blocks, clauses, opposite, denied, alwaysTrue, connected, level, isUniversal, isExistential}
+use Rattle.formula.specs.InnerLevels.{freeLevel}
 use Rattle.forest_theory.specs.Reach.{Variables, From, Reach, here, Follows}
-use Rattle.forest_theory.specs.Search.{has, meets, keep, put-back, find, see, spread, reached, reaches, is-from, sift, set-of}
+use Rattle.forest_theory.specs.InnerSearch.{has, meets, keep, put-back, find, see, spread, reached, reaches, is-from, sift, set-of}
 use Rattle.forest_theory.proofs.Search.{reaches-true, reaches-false, from-test, set-of-depends}
 use Rattle.terms.specs.declared.Scheme.the-variants.{Standard, Strict}
 use Rattle.formula.specs.Lent.{Formula, formulaOf}

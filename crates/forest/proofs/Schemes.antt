@@ -13,9 +13,9 @@ use Rattle.formula.specs.Lent.{Formula}
 use Rattle.forest_tables.specs.Formula.{Shares, SharesBy}
 use Rattle.forest_tables.specs.Lent.{Rows, variablesOf, forestOf}
 use Rattle.forest.specs.Answers.{EntriesBy}
-use Rattle.forest_climb.specs.Search.{EntryRows, TopRows}
-use Rattle.forest_entries.specs.Flags.{Takes, Via, Entering}
-use Rattle.forest.specs.Wanted.{Enters}
+use Rattle.forest_climb.specs.InnerSearch.{EntryRows, TopRows}
+use Rattle.forest_entries.specs.InnerFlags.{Takes, Via, Entering}
+use Rattle.forest.specs.InnerWanted.{Enters}
 use Rattle.forest_climb.proofs.Climbing.{tops-entries}
 use Rattle.forest_entries.proofs.Flags.{via-as, via-or}
 use Rattle.forest_tables.proofs.Agreeing.{lawful}

@@ -1,5 +1,5 @@
--- What the calls that ask of a forest promise: Causes and Answers are what to believe, Wanted and InnerOrders are inner.
+-- What the calls that ask of a forest promise: Causes and Answers are what to believe, the others are inner.
 pub mod Causes
 pub mod Answers
-pub mod Wanted
+pub mod InnerWanted
 pub mod InnerOrders

@@ -15,17 +15,18 @@ ghost use Prim.Native.Nat.{_≤_};
 ghost use mathlib.Core.Path.{_≡_};
 ghost use mathlib.Core.List.{[]};
 ghost use lib.ListN.{length};
-ghost use Rattle.terms.specs.Limits.{mostVariables, variableRows};
+ghost use Rattle.terms.specs.Limits.{mostVariables};
+ghost use Rattle.terms.specs.InnerLimits.{variableRows};
 ghost use Rattle.terms.specs.Refusals.{Judged};
 ghost use Rattle.terms.specs.declared.Verdict.the-variants.{Accepted};
 ghost use Rattle.formula.specs.Meaning.{level};
-ghost use Rattle.formula.specs.Levels.{SoundPrefix};
-ghost use Rattle.formula.specs.Lookup.{SoundClauses};
+ghost use Rattle.formula.specs.InnerLevels.{SoundPrefix};
+ghost use Rattle.formula.specs.InnerLookup.{SoundClauses};
 ghost use Rattle.formula.specs.Lent.{formulaIn};
-ghost use Rattle.forest_tables.specs.Counting.{FormedBy};
+ghost use Rattle.forest_tables.specs.InnerCounting.{FormedBy};
 ghost use Rattle.forest_tables.specs.Lent.{rows, rowsIn};
 ghost use Rattle.forest.specs.InnerOrders.{behindCheck};
-ghost use Rattle.forest.specs.Wanted.{Enters};
+ghost use Rattle.forest.specs.InnerWanted.{Enters};
 
 // Refusals 12 and 13 of an accepted formula; where there is none, the flags of all entry points of x by the scheme, and in `tops` for each variable
 // the number by whose flag it is a member. Before that the two tables hold the levels and the universals, so that no others are needed (rule 7.7).

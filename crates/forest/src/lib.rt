@@ -32,13 +32,13 @@ ghost use Rattle.terms.specs.Answers.{Answered, Numbered, Listing, TooLong};
 ghost use Rattle.terms.specs.Refusals.{At0};
 ghost use Rattle.formula.specs.Lent.{formulaIn, prefixIn};
 ghost use Rattle.formula.specs.Meaning.{level};
-ghost use Rattle.formula.specs.Levels.{SoundPrefix};
-ghost use Rattle.formula.specs.Lookup.{SoundClauses};
-ghost use Rattle.forest_tables.specs.Counting.{FormedBy};
+ghost use Rattle.formula.specs.InnerLevels.{SoundPrefix};
+ghost use Rattle.formula.specs.InnerLookup.{SoundClauses};
+ghost use Rattle.forest_tables.specs.InnerCounting.{FormedBy};
 ghost use Rattle.forest_tables.specs.Lent.{rows, rowsIn};
 ghost use Rattle.forest.specs.InnerOrders.{behindEntry, behindCheck};
 ghost use Rattle.forest.specs.Answers.{Entry, MembersBy, SizeBy, EntryAnswered, ListedFor, EntriesListed, SetListed, Sized};
-ghost use Rattle.forest.specs.Wanted.{Lists, Wanted};
+ghost use Rattle.forest.specs.InnerWanted.{Lists, Wanted};
 
 // What is listed for x: its entry points or its set, by a scheme.
 struct Question {

@@ -9,9 +9,9 @@ use lib.ListN.{getD}
 use Rattle.forest_theory.specs.Reach.{Variables}
 use Rattle.forest_theory.specs.Tables.{Table, row, lent, WellFormed, Above, start, rise, EntryPoint}
 use Rattle.forest_theory.proofs.Climb.{entry-ends}
-use Rattle.forest_tables.specs.Tabled.{tabled, existentialIn}
-use Rattle.forest_tables.specs.Rows.{rowsOf}
-use Rattle.forest_climb.specs.Search.{parentTable, Falling, Searched, Climbs, TopRows, EntryRows}
+use Rattle.forest_tables.specs.InnerTabled.{tabled, existentialIn}
+use Rattle.forest_tables.specs.InnerRows.{rowsOf}
+use Rattle.forest_climb.specs.InnerSearch.{parentTable, Falling, Searched, Climbs, TopRows, EntryRows}
 
 module _ (n : ℕ) (levels parents : List ℕ) (floor c rises : ℕ) where
   -- A class with no parent deeper than the floor is where the climb ends.

@@ -15,16 +15,17 @@ use Rattle.terms.proofs.Common.{clash}
 use Rattle.formula.specs.Tables.{at, opens, marksBefore, VariableAt}
 use Rattle.formula.specs.Causes.{outside}
 use Rattle.formula.specs.Meaning.{level}
-use Rattle.formula.specs.Levels.{SoundPrefix}
+use Rattle.formula.specs.InnerLevels.{SoundPrefix}
 use Rattle.formula.proofs.Levelling.{mark-there}
 use Rattle.formula.proofs.Blocked.{marks-rise}
 use Rattle.formula.proofs.Ordered.{NamedFrom, named?, once, level-at, level-most, closed-end, deeper-named}
-use Rattle.forest_theory.specs.Reach.{Variables, Lawful}
+use Rattle.forest_theory.specs.Reach.{Variables}
+use Rattle.forest_theory.specs.InnerVariables.{Lawful}
 use Rattle.forest_theory.specs.Tables.{Table, row, lent, WellFormed, Above, start, rise}
 use Rattle.forest_theory.proofs.Climb.{above-class}
 use Rattle.forest_tables.specs.Formula.{variables}
-use Rattle.forest_tables.specs.Counting.{FormedBy}
-use Rattle.forest_climb.specs.Search.{Searched, Under, topBy, TopRow, TopRows, Behind, TopsOver}
+use Rattle.forest_tables.specs.InnerCounting.{FormedBy}
+use Rattle.forest_climb.specs.InnerSearch.{Searched, Under, topBy, TopRow, TopRows, Behind, TopsOver}
 use Rattle.forest_tables.proofs.Readings.{new-zero, row-none, row-over, row-at, row-stored, row-kept}
 use Rattle.forest_tables.proofs.Agreeing.{lawful}
 

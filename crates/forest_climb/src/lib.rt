@@ -13,12 +13,12 @@ ghost use mathlib.Core.List.{List};
 ghost use lib.ListN.{length, getD};
 ghost use Rattle.formula.specs.Tables.{opens, marksBefore};
 ghost use Rattle.formula.specs.Meaning.{level};
-ghost use Rattle.formula.specs.Levels.{SoundPrefix, Levelled};
+ghost use Rattle.formula.specs.InnerLevels.{SoundPrefix, Levelled};
 ghost use Rattle.forest_theory.specs.Tables.{row, WellFormed};
-ghost use Rattle.forest_tables.specs.Tabled.{tabled};
-ghost use Rattle.forest_tables.specs.Counting.{FormedBy};
-ghost use Rattle.forest_tables.specs.Rows.{rowsOf};
-ghost use Rattle.forest_climb.specs.Search.{Falling, Climbs, Finds, topBy, ToppedFrom, Topless, Behind, Known, Topped};
+ghost use Rattle.forest_tables.specs.InnerTabled.{tabled};
+ghost use Rattle.forest_tables.specs.InnerCounting.{FormedBy};
+ghost use Rattle.forest_tables.specs.InnerRows.{rowsOf};
+ghost use Rattle.forest_climb.specs.InnerSearch.{Falling, Climbs, Finds, topBy, ToppedFrom, Topless, Behind, Known, Topped};
 
 // Where a climb ends, and how many classes it passed, the first not counted.
 pub struct End {

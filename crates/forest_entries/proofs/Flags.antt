@@ -11,17 +11,17 @@ use lib.IntN.{ℤ, pos}
 use lib.ListN.{length, getD, set, take, drop, replicate, length-set, length-drop, length-replicate, getD-replicate, List·getD-eq-default}
 use lib.Seq.{getD-set-same, getD-set-other, getD-take, getD-drop, length-take-le}
 use Rattle.terms.specs.Literals.{variableOf}
-use Rattle.terms.specs.Limits.{variableRows}
+use Rattle.terms.specs.InnerLimits.{variableRows}
 use Rattle.terms.proofs.Common.{clash}
 use Rattle.formula.specs.Tables.{literalAt}
 use Rattle.formula.specs.Meaning.{clauses, alwaysTrue, connected}
-use Rattle.formula.specs.Lookup.{NextZero}
+use Rattle.formula.specs.InnerLookup.{NextZero}
 use Rattle.formula.proofs.Lookups.{clauses-closed}
 use Rattle.formula.proofs.Signs.{connected-none, connected-all}
 use Rattle.forest_theory.specs.Tables.{row}
 use Rattle.forest_entries.specs.declared.Signs.{Signs}
 use Rattle.forest_tables.specs.Formula.{signed, SharesBy}
-use Rattle.forest_entries.specs.Flags.{Has, HasLiteral, By, Connects, Flagged, Via, Blank}
+use Rattle.forest_entries.specs.InnerFlags.{Has, HasLiteral, By, Connects, Flagged, Via, Blank}
 use Rattle.forest_entries.proofs.Sides.{signed-variable, mem-at, one-sign}
 
 -- A flag that is set is within its table.

@@ -21,7 +21,7 @@ use Rattle.formula.specs.Tables.{literalAt}
 use Rattle.forest_entries.specs.declared.Side.{Side}
 use Rattle.forest_entries.specs.declared.Signs.{Signs}
 use Rattle.forest_tables.specs.Formula.{signed, joined, Shares, SharesBy}
-use Rattle.forest_entries.specs.Flags.{HasLiteral, Sided, By, sideBy}
+use Rattle.forest_entries.specs.InnerFlags.{HasLiteral, Sided, By, sideBy}
 
 -- The variable of a literal of x is x, and every literal is one of its variable.
 pub signed-variable : (sign : Bool) (x : ℕ) → variableOf (signed sign x) ≡ x

@@ -12,7 +12,7 @@ use Rattle.terms.proofs.Common.{clash}
 use Rattle.forest_theory.specs.Tables.{row}
 use Rattle.forest_tables.proofs.Readings.{row-none, row-over, row-stored, row-kept}
 use Rattle.forest_entries.specs.declared.Signs.{Signs}
-use Rattle.forest_entries.specs.Flags.{By, Flagged, Takes, Via, Blank, ifFlagged, Entering}
+use Rattle.forest_entries.specs.InnerFlags.{By, Flagged, Takes, Via, Blank, ifFlagged, Entering}
 use Rattle.forest_entries.proofs.Flags.{via-as, via-or}
 
 pub flags-are : {P : ℕ → Type 0} {old new : List Bool} → Blank old → Flagged P old new → (v : ℕ) → v ≤ 4096 → (getD new v false ≡ true) ↔ P v

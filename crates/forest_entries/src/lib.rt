@@ -13,12 +13,12 @@ ghost use mathlib.Core.Path.{_≡_};
 ghost use mathlib.Core.Bool.{false};
 ghost use lib.ListN.{length, getD};
 ghost use Rattle.terms.specs.Literals.{variableOf};
-ghost use Rattle.terms.specs.Limits.{variableRows};
-ghost use Rattle.formula.specs.Lookup.{NextZero, SoundClauses, Stamps};
+ghost use Rattle.terms.specs.InnerLimits.{variableRows};
+ghost use Rattle.formula.specs.InnerLookup.{NextZero, SoundClauses, Stamps};
 ghost use Rattle.forest_theory.specs.Tables.{row};
 ghost use Rattle.terms.specs.declared.Scheme.the-variants.{Strict};
 ghost use Rattle.forest_tables.specs.Formula.{signed, SharesBy};
-ghost use Rattle.forest_entries.specs.Flags.{Has, HasLiteral, Sided, By, sideBy, Connects, Flagged, Via, Blank, ifFlagged, SharedBy};
+ghost use Rattle.forest_entries.specs.InnerFlags.{Has, HasLiteral, Sided, By, sideBy, Connects, Flagged, Via, Blank, ifFlagged, SharedBy};
 
 // In which sign a clause has x. One that is not always true has it in one sign only.
 pub enum Side {

@@ -15,7 +15,7 @@ use Rattle.terms.proofs.Common.{sets-append}
 use Rattle.terms.specs.Listed.{Ascending, Listed}
 use Rattle.forest_theory.specs.Counts.{sum}
 use Rattle.forest_theory.proofs.Counts.{sum-more}
-use Rattle.forest_members.specs.Picked.{picked, NoneUpto}
+use Rattle.forest_members.specs.InnerPicked.{picked, NoneUpto}
 
 -- One number more: it is added if it is picked.
 pub picked-more : (f : ℕ → Bool) (m : ℕ) → f (m + 1) ≡ true → picked f (m + 1) ≡ picked f m ++ ((m + 1) ∷ [])

@@ -11,8 +11,8 @@ ghost use lib.ListN.{length, getD};
 ghost use lib.Seq.{sets};
 ghost use Rattle.forest_theory.specs.Tables.{row};
 ghost use Rattle.forest_theory.specs.Counts.{sum};
-ghost use Rattle.forest_tables.specs.Rows.{Tells};
-ghost use Rattle.forest_members.specs.Picked.{pick, picked, NoneUpto, Picks};
+ghost use Rattle.forest_tables.specs.InnerRows.{Tells};
+ghost use Rattle.forest_members.specs.InnerPicked.{pick, picked, NoneUpto, Picks};
 
 // What is listed: the flagged entry points themselves, or the set, which is the variables with a flagged top.
 pub enum Asked {

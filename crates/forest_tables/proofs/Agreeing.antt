@@ -12,17 +12,18 @@ use lib.ListN.{getD}
 use Rattle.terms.specs.Refusals.{None}
 use Rattle.terms.proofs.Common.{clash}
 use Rattle.formula.specs.Meaning.{level, isUniversal, isExistential}
-use Rattle.formula.specs.Levels.{SoundPrefix, Levelled}
-use Rattle.forest_theory.specs.Reach.{Variables, Lawful, Deeper}
+use Rattle.formula.specs.InnerLevels.{SoundPrefix, Levelled}
+use Rattle.forest_theory.specs.Reach.{Variables, Deeper}
+use Rattle.forest_theory.specs.InnerVariables.{Lawful}
 use Rattle.forest_theory.specs.Tables.{Table, row, lent, ClassName, Row, WellFormed}
 use Rattle.forest_theory.specs.Counts.{CountRow, Counted}
 use Rattle.forest_theory.proofs.Counts.{row-is}
 use Rattle.forest_theory.proofs.Counting.{counts-counted}
 use Rattle.forest_tables.specs.Formula.{variables, universal}
-use Rattle.forest_tables.specs.Tabled.{tabled, existentialIn, universalIn}
+use Rattle.forest_tables.specs.InnerTabled.{tabled, existentialIn, universalIn}
 use Rattle.forest_tables.specs.Causes.{ForestCause, bad-row, bad-count}
 use Rattle.forest_tables.specs.Lent.{rows}
-use Rattle.forest_tables.specs.Rows.{rowsOf, FirstBad}
+use Rattle.forest_tables.specs.InnerRows.{rowsOf, FirstBad}
 use Rattle.forest_tables.proofs.Formed.{bad-same}
 use Rattle.forest_tables.proofs.Readings.{row-none, row-over, flag-over, flag-within}
 

@@ -12,16 +12,16 @@ use lib.ListN.{length, getD, set, length-set}
 use lib.Seq.{getD-set-same, getD-set-other}
 use Rattle.formula.specs.Tables.{at, opens, VariableAt}
 use Rattle.formula.specs.Meaning.{level}
-use Rattle.formula.specs.Levels.{SoundPrefix}
+use Rattle.formula.specs.InnerLevels.{SoundPrefix}
 use Rattle.formula.proofs.Blocked.{marks-rise}
 use Rattle.formula.proofs.Ordered.{NamedFrom, once, level-at, deeper-named}
 use Rattle.forest_theory.specs.Reach.{Variables}
 use Rattle.forest_theory.specs.Tables.{Table, row, lent}
-use Rattle.forest_theory.specs.Passing.{Placed, WithinBy}
+use Rattle.forest_theory.specs.InnerPassing.{Placed, WithinBy}
 use Rattle.forest_theory.proofs.Numbered.{numbered-most}
 use Rattle.forest_theory.proofs.Passing.{Finishes, placed-none, placed-over, placed-more, placed-all, pass-same, pass-over, pass-up, pass-all}
 use Rattle.forest_tables.specs.Formula.{variables}
-use Rattle.forest_tables.specs.Counting.{Counting, FormedBy, passedUp, CountsOf}
+use Rattle.forest_tables.specs.InnerCounting.{Counting, FormedBy, passedUp, CountsOf}
 use Rattle.forest_tables.proofs.Agreeing.{lawful}
 
 -- An entry of a prefix names a variable if it is no 0 and follows an entry that is none.

@@ -14,10 +14,10 @@ use Rattle.forest_theory.specs.Reach.{Variables}
 use Rattle.forest_theory.specs.Tables.{Table, row, lent, ClassName, ClassRow, ParentRow, Row, WellFormed}
 use Rattle.forest_theory.specs.Counts.{CountRow}
 use Rattle.forest_tables.specs.Formula.{variables}
-use Rattle.forest_tables.specs.Tabled.{tabled, existentialIn}
+use Rattle.forest_tables.specs.InnerTabled.{tabled, existentialIn}
 use Rattle.forest_tables.specs.Causes.{ForestCause, short, bad-row, bad-count}
 use Rattle.forest_tables.specs.Lent.{rows}
-use Rattle.forest_tables.specs.Rows.{rowsOf, FirstBad}
+use Rattle.forest_tables.specs.InnerRows.{rowsOf, FirstBad}
 
 module _ (n : ℕ) (levels : List ℕ) (universals : List Bool) (classes parents : List ℕ) where
   abbrev X : Variables

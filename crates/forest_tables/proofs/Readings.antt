@@ -12,7 +12,7 @@ use lib.ListN.{length, getD, set, replicate, length-replicate, getD-replicate, L
 use lib.Seq.{getD-set-same, getD-set-other}
 use Rattle.terms.proofs.Common.{clash}
 use Rattle.forest_theory.specs.Tables.{row}
-use Rattle.forest_tables.specs.Rows.{Tells}
+use Rattle.forest_tables.specs.InnerRows.{Tells}
 
 -- A row: 0 for no variable and for one over n, else what stands in its place.
 pub row-none : (n : ℕ) (rows : List ℕ) (v : ℕ) → v ≡ 0 → row n rows v ≡ 0

@@ -3,6 +3,6 @@ pub mod Formula
 pub mod Lent
 pub mod Causes
 -- Inner, which nobody needs to believe.
-pub mod Tabled
-pub mod Rows
-pub mod Counting
+pub mod InnerTabled
+pub mod InnerRows
+pub mod InnerCounting

@@ -10,12 +10,12 @@ ghost use mathlib.Core.Path.{_≡_};
 ghost use mathlib.Core.List.{[], _∷_};
 ghost use lib.ListN.{length, getD};
 ghost use Rattle.terms.specs.Refusals.{Judged};
-ghost use Rattle.formula.specs.Levels.{SoundPrefix, Levelled};
+ghost use Rattle.formula.specs.InnerLevels.{SoundPrefix, Levelled};
 ghost use Rattle.forest_theory.specs.Tables.{row};
 ghost use Rattle.forest_tables.specs.Causes.{ForestCause};
 ghost use Rattle.forest_tables.specs.Lent.{rowsIn};
-ghost use Rattle.forest_tables.specs.Rows.{FirstBad};
-ghost use Rattle.forest_tables.specs.Counting.{FormedBy, RightCount};
+ghost use Rattle.forest_tables.specs.InnerRows.{FirstBad};
+ghost use Rattle.forest_tables.specs.InnerCounting.{FormedBy, RightCount};
 
 // Refused as 12 at the first bad row, then at the first bad count; at 0 where a table is shorter than n. The level table is that of the prefix.
 pub fn check_forest(

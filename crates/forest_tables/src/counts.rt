@@ -8,12 +8,13 @@ ghost use Prim.Native.Nat.{ℕ, _≤_, _<_};
 ghost use mathlib.Core.Path.{_≡_};
 ghost use mathlib.Core.List.{List};
 ghost use lib.ListN.{length, getD};
-ghost use Rattle.terms.specs.Limits.{mostVariables, variableRows};
+ghost use Rattle.terms.specs.Limits.{mostVariables};
+ghost use Rattle.terms.specs.InnerLimits.{variableRows};
 ghost use Rattle.formula.specs.Tables.{VariableAt};
-ghost use Rattle.formula.specs.Levels.{SoundPrefix};
+ghost use Rattle.formula.specs.InnerLevels.{SoundPrefix};
 ghost use Rattle.forest_theory.specs.Tables.{row};
-ghost use Rattle.forest_tables.specs.Rows.{Tells};
-ghost use Rattle.forest_tables.specs.Counting.{FormedBy, ForClasses, MembersTo, passedUp, CountsOf, PassesUp};
+ghost use Rattle.forest_tables.specs.InnerRows.{Tells};
+ghost use Rattle.forest_tables.specs.InnerCounting.{FormedBy, ForClasses, MembersTo, passedUp, CountsOf, PassesUp};
 
 // Fills a table, which is 0 throughout, with the counts of well-formed rows.
 pub fn fill_counts(n: u32, prefix: &[u32], classes: &[u32], parents: &[u32], counts: &mut [u16])

@@ -7,8 +7,8 @@ ghost use mathlib.Core.Bool.{false};
 ghost use lib.ListN.{getD};
 ghost use Rattle.forest_theory.specs.Reach.{Deeper};
 ghost use Rattle.forest_theory.specs.Tables.{row};
-ghost use Rattle.forest_tables.specs.Tabled.{tabled, existentialIn, universalIn};
-ghost use Rattle.forest_tables.specs.Rows.{Tells, NamesClass, RightClass, RightParent, RightRow, FirstBad};
+ghost use Rattle.forest_tables.specs.InnerTabled.{tabled, existentialIn, universalIn};
+ghost use Rattle.forest_tables.specs.InnerRows.{Tells, NamesClass, RightClass, RightParent, RightRow, FirstBad};
 
 // The first variable whose rows are not right, 0 where all are.
 pub fn first_bad(

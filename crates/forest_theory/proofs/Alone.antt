@@ -6,12 +6,14 @@ use mathlib.Core.List.{List, [], _∷_, _++_, List·Memᴰ}
 use mathlib.Core.Logic.{_⊎_, inl, inr, _↔_, _≢_, by-cases}
 use native.Mathlib.Decide.{ℕ-discrete}
 use native.Mathlib.Omega.{arith}
-use Rattle.forest_theory.specs.Reach.{Variables, Lawful, Universal, From, Joined, Reach, here, step, Depends, Follows}
+use Rattle.forest_theory.specs.Reach.{Variables, From, Joined, Reach, here, step, Depends, Follows}
+use Rattle.forest_theory.specs.InnerVariables.{Lawful, Universal}
 use Rattle.forest_theory.specs.Tables.{Table, ClassName, WellFormed, Above, start, rise, EntryPoint, EntryPointOf}
 use Rattle.forest_theory.specs.Forest.{Forest}
-use Rattle.forest_theory.specs.Growth.{Added, before, added, LeavesAlone}
-use Rattle.forest_theory.specs.Climb.{top, Represents}
-use Rattle.forest_theory.specs.Fused.{Marked, FusedClass, merged, kept, FusedParent, chained, carried, Fused}
+use Rattle.forest_theory.specs.Growth.{LeavesAlone}
+use Rattle.forest_theory.specs.InnerGrowth.{before, added, Added}
+use Rattle.forest_theory.specs.InnerClimb.{top, Represents}
+use Rattle.forest_theory.specs.InnerFused.{Marked, FusedClass, merged, kept, FusedParent, chained, carried, Fused}
 use Rattle.forest_theory.proofs.Reach.{reach-first, reach-ends, reach-one, reach-trans, reach-along, reach-level, allow, joined-added}
 use Rattle.forest_theory.proofs.Climb.{Ends, above-falls, entry-ends, climb-entry, entry-one}
 use Rattle.forest_theory.proofs.Represent.{from-class, class-top, parent-top}

@@ -9,7 +9,7 @@ use native.Mathlib.Omega.{arith}
 use borrow.Author.Tests.{eq-eqb, ne-eqb, lt-ltb, le-ltb}
 use Rattle.forest_theory.specs.Reach.{Variables, From}
 use Rattle.forest_theory.specs.Tables.{Table, ClassName, WellFormed, Above, start, rise, EntryPoint}
-use Rattle.forest_theory.specs.Climb.{Climbed, climb-by, climb, top}
+use Rattle.forest_theory.specs.InnerClimb.{Climbed, climb-by, climb, top}
 
 -- p is where a climb from c at level i ends, after k rises: it stands in block i or deeper, and its parent, if any, does not.
 pub record Ends (X : Variables) (W : Table) (i c p k : ℕ) : Type 0 where

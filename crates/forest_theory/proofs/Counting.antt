@@ -3,11 +3,12 @@ use Prim.Native.Nat.{ℕ}
 use mathlib.Core.Path.{_≡_, sym, _∙_, subst}
 use mathlib.Core.Bool.{true, false, _&&_, false≢true}
 use native.Mathlib.Omega.{arith}
-use Rattle.forest_theory.specs.Reach.{Variables, Lawful}
+use Rattle.forest_theory.specs.Reach.{Variables}
+use Rattle.forest_theory.specs.InnerVariables.{Lawful}
 use Rattle.forest_theory.specs.Tables.{Table, row, WellFormed}
 use Rattle.forest_theory.specs.Counts.{Numbered, Within, Counted}
-use Rattle.forest_theory.specs.Search.{has}
-use Rattle.forest_theory.specs.Fusing.{classes-up, count-of, counts-of}
+use Rattle.forest_theory.specs.InnerSearch.{has}
+use Rattle.forest_theory.specs.InnerFusing.{classes-up, count-of, counts-of}
 use Rattle.forest_theory.proofs.Choice.{both}
 use Rattle.forest_theory.proofs.Search.{has-member, member-has}
 use Rattle.forest_theory.proofs.Climb.{above-falls}

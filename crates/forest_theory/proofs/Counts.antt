@@ -8,11 +8,12 @@ use native.Mathlib.Omega.{arith}
 use lib.ListN.{length}
 use lib.Dec.{eqb}
 use borrow.Author.Tests.{eqb-true, eq-eqb}
-use Rattle.forest_theory.specs.Reach.{Variables, Lawful}
+use Rattle.forest_theory.specs.Reach.{Variables}
+use Rattle.forest_theory.specs.InnerVariables.{Lawful}
 use Rattle.forest_theory.specs.Tables.{Table, ClassName, WellFormed, EntryPointOf, MemberBy}
 use Rattle.terms.specs.Listed.{Ascending, Listed}
 use Rattle.forest_theory.specs.Counts.{Numbered, Within, CountRow, Counted, sum, how-many, names}
-use Rattle.forest_theory.specs.Passing.{RowsCount}
+use Rattle.forest_theory.specs.InnerPassing.{RowsCount}
 use Rattle.forest_theory.proofs.Choice.{both}
 use Rattle.forest_theory.proofs.Climb.{Ends, above-class, entry-ends, ends-one}
 use Rattle.forest_theory.proofs.Numbered.{numbered-one, numbered-most, numbered-none, numbered-same, numbered-plus, how-many-numbered}

@@ -6,9 +6,9 @@ use Rattle.forest_theory.specs.Reach.{Joined}
 use Rattle.forest_theory.specs.Tables.{row, lent}
 use Rattle.forest_theory.specs.Forest.{Forest}
 use Rattle.forest_theory.specs.Counts.{Counted, how-many, names}
-use Rattle.forest_theory.specs.Search.{has}
-use Rattle.forest_theory.specs.Fusing.{fill, classes-up, marks, goes-before, under, fuse-class, fuse-parent, Rows, table-of, rows-by}
-use Rattle.forest_theory.specs.Fusing.{fuse-marks, fuse, fuse-all, singles, forest-of, count-of, counts-of}
+use Rattle.forest_theory.specs.InnerSearch.{has}
+use Rattle.forest_theory.specs.InnerFusing.{fill, classes-up, marks, goes-before, under, fuse-class, fuse-parent, Rows, table-of, rows-by}
+use Rattle.forest_theory.specs.InnerFusing.{fuse-marks, fuse, fuse-all, singles, forest-of, count-of, counts-of}
 use Rattle.forest_theory.proofs.Growth.{forest-is}
 use Rattle.forest_theory.proofs.Counting.{counts-counted}
 use Rattle.forest_theory.proofs.FormulaA.{A, clauses, with, A-lawful, forest-by}

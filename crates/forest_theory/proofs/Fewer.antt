@@ -4,10 +4,11 @@ use mathlib.Core.Path.{_≡_}
 use mathlib.Core.Bool.{true}
 use mathlib.Core.List.{List, [], _∷_, _++_}
 use native.Mathlib.Nat.{le-antisymm}
-use Rattle.forest_theory.specs.Reach.{Variables, Lawful, Joined, here}
+use Rattle.forest_theory.specs.Reach.{Variables, Joined, here}
+use Rattle.forest_theory.specs.InnerVariables.{Lawful}
 use Rattle.forest_theory.specs.Tables.{Table, WellFormed, joins}
 use Rattle.forest_theory.specs.Forest.{Names, Forest}
-use Rattle.forest_theory.specs.Growth.{before}
+use Rattle.forest_theory.specs.InnerGrowth.{before}
 use Rattle.forest_theory.specs.Counts.{how-many, names}
 use Rattle.forest_theory.proofs.Reach.{reach-along, joined-added}
 use Rattle.forest_theory.proofs.Joins.{represents-itself}

@@ -9,7 +9,7 @@ use native.Mathlib.Omega.{arith}
 use Rattle.forest_theory.specs.Reach.{Variables, From, Reach}
 use Rattle.forest_theory.specs.Tables.{Table, ClassName, start}
 use Rattle.forest_theory.specs.Forest.{Names, ClassAbove, Parent, none, deepest, Forest}
-use Rattle.forest_theory.specs.Climb.{top, Represents}
+use Rattle.forest_theory.specs.InnerClimb.{top, Represents}
 use Rattle.forest_theory.proofs.Reach.{Symmetric, allow, reach-trans, reach-sym}
 use Rattle.forest_theory.proofs.Climb.{top-class}
 use Rattle.forest_theory.proofs.Represent.{parent-top, class-top, own-top}

@@ -8,13 +8,14 @@ use native.Mathlib.Omega.{arith}
 use lib.ListN.{getD}
 use lib.Dec.{lit≤, leb}
 use borrow.Author.Tests.{le-leb, leb-true}
-use Rattle.forest_theory.specs.Reach.{Variables, Lawful, From, Joined, Reach, Depends}
+use Rattle.forest_theory.specs.Reach.{Variables, From, Joined, Reach, Depends}
+use Rattle.forest_theory.specs.InnerVariables.{Lawful}
 use Rattle.forest_theory.specs.Tables.{Table, row, lent, WellFormed, Above, EntryPoint}
-use Rattle.forest_theory.specs.Climb.{Climbed, climb-by, climb}
+use Rattle.forest_theory.specs.InnerClimb.{Climbed, climb-by, climb}
 use Rattle.forest_theory.specs.Forest.{Forest}
-use Rattle.forest_theory.specs.Search.{has, meets, keep, put-back, find, see, spread, reached, reaches, is-from, sift, set-of}
-use Rattle.forest_theory.specs.Fusing.{fill, classes-up, marks, goes-before, under, fuse-class, fuse-parent, Rows, table-of, rows-by}
-use Rattle.forest_theory.specs.Fusing.{fuse-marks, fuse, fuse-all, singles, forest-of}
+use Rattle.forest_theory.specs.InnerSearch.{has, meets, keep, put-back, find, see, spread, reached, reaches, is-from, sift, set-of}
+use Rattle.forest_theory.specs.InnerFusing.{fill, classes-up, marks, goes-before, under, fuse-class, fuse-parent, Rows, table-of, rows-by}
+use Rattle.forest_theory.specs.InnerFusing.{fuse-marks, fuse, fuse-all, singles, forest-of}
 use Rattle.forest_theory.proofs.Growth.{forest-represents, forest-exists}
 use Rattle.forest_theory.proofs.Climb.{climb-entry, entry-one, above-falls}
 use Rattle.forest_theory.proofs.Reach.{joined-sym}

@@ -7,11 +7,12 @@ use mathlib.Core.Logic.{_↔_, _≢_, Iff·trans, by-cases}
 use native.Mathlib.Decide.{ℕ-discrete, decLe}
 use native.Mathlib.Nat.{le-antisymm}
 use native.Mathlib.Omega.{arith}
-use Rattle.forest_theory.specs.Reach.{Variables, Lawful, From, Reach, here}
+use Rattle.forest_theory.specs.Reach.{Variables, From, Reach, here}
+use Rattle.forest_theory.specs.InnerVariables.{Lawful}
 use Rattle.forest_theory.specs.Tables.{Table, ClassName, ClassRow, ParentRow, WellFormed, start}
-use Rattle.forest_theory.specs.Growth.{Added, before, added}
-use Rattle.forest_theory.specs.Climb.{Represents}
-use Rattle.forest_theory.specs.Fused.{Marked, Low, none-next, next-low, FusedClass, merged, kept, FusedParent, chained, carried, Fused}
+use Rattle.forest_theory.specs.InnerGrowth.{before, added, Added}
+use Rattle.forest_theory.specs.InnerClimb.{Represents}
+use Rattle.forest_theory.specs.InnerFused.{Marked, Low, none-next, next-low, FusedClass, merged, kept, FusedParent, chained, carried, Fused}
 use Rattle.forest_theory.proofs.Reach.{reach-one, reach-trans, reach-sym, simulate, reach-along, allow, added-sym}
 use Rattle.forest_theory.proofs.Climb.{above-all, above-next, above-falls}
 use Rattle.forest_theory.proofs.Represent.{Link, to-class, to-parent, Linked, up, down, linked-sym, from-class, above-reach, linked-tops}

@@ -10,11 +10,12 @@ use native.Mathlib.Decide.{decLe, decLt}
 use lib.ListN.{getD}
 use lib.Dec.{eqb, ltb}
 use borrow.Author.Tests.{ltb-true, ltb-false, eqb-true, eqb-false, eq-eqb, ne-eqb, lt-ltb}
-use Rattle.forest_theory.specs.Reach.{Variables, Lawful}
+use Rattle.forest_theory.specs.Reach.{Variables}
+use Rattle.forest_theory.specs.InnerVariables.{Lawful}
 use Rattle.forest_theory.specs.Tables.{Table, row, lent, WellFormed, Above, start, rise}
-use Rattle.forest_theory.specs.Fused.{Marked, Low, Next, none-next, next-low, FusedClass, merged, kept, FusedParent, chained, carried, Fused}
-use Rattle.forest_theory.specs.Search.{has}
-use Rattle.forest_theory.specs.Fusing.{fill, classes-up, marks, goes-before, under, fuse-class, fuse-parent, Rows, table-of, rows-by, fuse-marks, fuse}
+use Rattle.forest_theory.specs.InnerFused.{Marked, Low, Next, none-next, next-low, FusedClass, merged, kept, FusedParent, chained, carried, Fused}
+use Rattle.forest_theory.specs.InnerSearch.{has}
+use Rattle.forest_theory.specs.InnerFusing.{fill, classes-up, marks, goes-before, under, fuse-class, fuse-parent, Rows, table-of, rows-by, fuse-marks, fuse}
 use Rattle.forest_theory.proofs.Choice.{choice, neither, both}
 use Rattle.forest_theory.proofs.Search.{cons-all, has-member, member-has}
 use Rattle.forest_theory.proofs.Climb.{above-falls}

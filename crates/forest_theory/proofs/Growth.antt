@@ -5,12 +5,13 @@ use mathlib.Core.Bool.{cond}
 use mathlib.Core.List.{List, [], _∷_, _++_, append-assoc, append-nil, List·Memᴰ·not-nil}
 use mathlib.Core.Logic.{_↔_}
 use native.Mathlib.Omega.{arith}
-use Rattle.forest_theory.specs.Reach.{Variables, Lawful, From, Joined, Reach, here, step}
+use Rattle.forest_theory.specs.Reach.{Variables, From, Joined, Reach, here, step}
+use Rattle.forest_theory.specs.InnerVariables.{Lawful}
 use Rattle.forest_theory.specs.Tables.{Table, row, lent, WellFormed, start, joins}
 use Rattle.forest_theory.specs.Forest.{Forest}
-use Rattle.forest_theory.specs.Climb.{top, Represents}
-use Rattle.forest_theory.specs.Fused.{Single, Fused}
-use Rattle.forest_theory.specs.Fusing.{fill, Rows, table-of, rows-by, fuse, fuse-all, singles, forest-of}
+use Rattle.forest_theory.specs.InnerClimb.{top, Represents}
+use Rattle.forest_theory.specs.InnerFused.{Single, Fused}
+use Rattle.forest_theory.specs.InnerFusing.{fill, Rows, table-of, rows-by, fuse, fuse-all, singles, forest-of}
 use Rattle.forest_theory.proofs.Reach.{reach-along, joined-added, joined-sym}
 use Rattle.forest_theory.proofs.Climb.{top-class}
 use Rattle.forest_theory.proofs.Joins.{represents-itself}

@@ -8,9 +8,10 @@ use native.Mathlib.Decide.{ℕ-discrete}
 use native.Mathlib.Omega.{arith}
 use lib.Dec.{eqb}
 use borrow.Author.Tests.{eqb-false, ne-eqb}
-use Rattle.forest_theory.specs.Reach.{Variables, Lawful, Joined, Reach, here}
+use Rattle.forest_theory.specs.Reach.{Variables, Joined, Reach, here}
+use Rattle.forest_theory.specs.InnerVariables.{Lawful}
 use Rattle.forest_theory.specs.Tables.{Table, WellFormed, class-join, parent-join, each, joins}
-use Rattle.forest_theory.specs.Climb.{Represents}
+use Rattle.forest_theory.specs.InnerClimb.{Represents}
 use Rattle.forest_theory.proofs.Choice.{choice}
 use Rattle.forest_theory.proofs.Reach.{reach-one, simulate, reach-along, joined-sym}
 use Rattle.forest_theory.proofs.Represent.{Link, to-class, to-parent, Linked, up, down, linked-tops}

@@ -5,10 +5,11 @@ use mathlib.Core.Bool.{true, false, false≢true}
 use mathlib.Core.Logic.{_⊎_, inl, inr, ⊎-elim, _↔_, _≢_, by-cases}
 use native.Mathlib.Decide.{ℕ-discrete}
 use native.Mathlib.Omega.{arith}
-use Rattle.forest_theory.specs.Reach.{Variables, Lawful}
+use Rattle.forest_theory.specs.Reach.{Variables}
+use Rattle.forest_theory.specs.InnerVariables.{Lawful}
 use Rattle.forest_theory.specs.Tables.{Table, WellFormed, Above, start, rise}
 use Rattle.forest_theory.specs.Counts.{Numbered, Counted}
-use Rattle.forest_theory.specs.Passing.{RowsCount, Placed, Passes, there, onward, WithinBy}
+use Rattle.forest_theory.specs.InnerPassing.{RowsCount, Placed, Passes, there, onward, WithinBy}
 use Rattle.forest_theory.proofs.Climb.{above-falls}
 use Rattle.forest_theory.proofs.Numbered.{numbered-most, numbered-none, numbered-same, numbered-more, numbered-plus}
 use Rattle.forest_theory.proofs.Counts.{counted-rows}

@@ -5,8 +5,9 @@ use mathlib.Core.Bool.{true, true≢false}
 use mathlib.Core.List.{List, [], _∷_, _++_, List·Memᴰ, List·Memᴰ·head, List·Memᴰ·append-cases, List·Memᴰ·eq-of-singleton, Memᴰ·append-left, Memᴰ·append-right}
 use mathlib.Core.Logic.{_⊎_, inl, inr, _↔_}
 use native.Mathlib.Omega.{arith}
-use Rattle.forest_theory.specs.Reach.{Variables, Universal, From, Joined, Reach, here, step, Depends, Follows}
-use Rattle.forest_theory.specs.Growth.{Added, before, added}
+use Rattle.forest_theory.specs.Reach.{Variables, From, Joined, Reach, here, step, Depends, Follows}
+use Rattle.forest_theory.specs.InnerVariables.{Universal}
+use Rattle.forest_theory.specs.InnerGrowth.{before, added, Added}
 
 -- Joins that go both ways.
 abbrev pub Symmetric : (ℕ → ℕ → Type 0) → Type 0

@@ -6,7 +6,7 @@ use mathlib.Core.Logic.{_↔_, _≢_}
 use native.Mathlib.Omega.{arith}
 use Rattle.forest_theory.specs.Reach.{Variables, From, Reach, here, step}
 use Rattle.forest_theory.specs.Tables.{Table, WellFormed, Above, start, rise}
-use Rattle.forest_theory.specs.Climb.{climb, top}
+use Rattle.forest_theory.specs.InnerClimb.{climb, top}
 use Rattle.forest_theory.proofs.Reach.{Symmetric, reach-one, reach-trans, reach-sym, reach-ends}
 use Rattle.forest_theory.proofs.Climb.{above-falls, ends-exist, top-ends, top-exists, top-class}
 

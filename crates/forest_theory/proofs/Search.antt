@@ -10,8 +10,9 @@ use native.Mathlib.Omega.{arith}
 use lib.ListN.{length}
 use lib.Dec.{eqb, leb}
 use borrow.Author.Tests.{leb-true, le-leb, eqb-true, eq-eqb}
-use Rattle.forest_theory.specs.Reach.{Variables, Lawful, From, Joined, Reach, here, step, Depends}
-use Rattle.forest_theory.specs.Search.{has, meets, keep, Found, nowhere, found, put-back, find, see, spread, reached, reaches, is-from, sift, set-of}
+use Rattle.forest_theory.specs.Reach.{Variables, From, Joined, Reach, here, step, Depends}
+use Rattle.forest_theory.specs.InnerVariables.{Lawful}
+use Rattle.forest_theory.specs.InnerSearch.{has, meets, keep, Found, nowhere, found, put-back, find, see, spread, reached, reaches, is-from, sift, set-of}
 use Rattle.forest_theory.proofs.Choice.{choice, either, both, or-right}
 
 -- What holds of the head and of all in the tail holds of all in the list.

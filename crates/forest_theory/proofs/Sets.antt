@@ -5,10 +5,12 @@ use mathlib.Core.Bool.{true}
 use mathlib.Core.List.{List}
 use mathlib.Core.Logic.{_↔_, Iff·trans}
 use native.Mathlib.Omega.{arith}
-use Rattle.forest_theory.specs.Reach.{Variables, Lawful, Universal, From, Joined, Depends, Follows}
-use Rattle.forest_theory.specs.Tables.{Table, ClassName, WellFormed, Above, start, rise, EntryPoint, EntryPointOf, MemberBy, Member}
+use Rattle.forest_theory.specs.Reach.{Variables, From, Joined, Depends, Follows}
+use Rattle.forest_theory.specs.InnerVariables.{Lawful, Universal}
+use Rattle.forest_theory.specs.Tables.{Table, ClassName, WellFormed, Above, start, rise, EntryPoint, EntryPointOf, MemberBy}
+use Rattle.forest_theory.specs.InnerMembers.{Member}
 use Rattle.forest_theory.specs.Forest.{Forest, ClassAbove, AtOrAbove, at, over, EntryClass}
-use Rattle.forest_theory.specs.Climb.{Climbed, climb, top, Represents}
+use Rattle.forest_theory.specs.InnerClimb.{Climbed, climb, top, Represents}
 use Rattle.forest_theory.proofs.Reach.{reach-mono, reach-level, reach-ends, allow, from-less, depends-follows}
 use Rattle.forest_theory.proofs.Climb.{Ends, above-falls, above-class, above-strict, climb-ends, climb-entry, entry-ends, top-ends, top-exists, top-class}
 use Rattle.forest_theory.proofs.Represent.{own-top}

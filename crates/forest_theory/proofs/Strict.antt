@@ -3,8 +3,10 @@ use Prim.Native.Nat.{ℕ}
 use mathlib.Core.Bool.{Bool, true}
 use mathlib.Core.List.{List, [], _∷_, _++_}
 use mathlib.Core.Logic.{_↔_}
-use Rattle.forest_theory.specs.Reach.{Variables, Lawful, Universal, Joined, Depends, StrictlyDepends}
-use Rattle.forest_theory.specs.Tables.{Table, WellFormed, EntryPointOf, Member, StrictEntryOf, StrictMember}
+use Rattle.forest_theory.specs.Reach.{Variables, Joined, Depends, StrictlyDepends}
+use Rattle.forest_theory.specs.InnerVariables.{Lawful, Universal}
+use Rattle.forest_theory.specs.Tables.{Table, WellFormed, EntryPointOf, StrictEntryOf}
+use Rattle.forest_theory.specs.InnerMembers.{Member, StrictMember}
 use Rattle.forest_theory.specs.Forest.{Forest}
 use Rattle.forest_theory.specs.Growth.{LeavesAlone}
 use Rattle.forest_theory.proofs.Reach.{depends-follows}

@@ -3,11 +3,6 @@ use Prim.Native.Nat.{ℕ}
 use mathlib.Core.List.{List, List·Memᴰ}
 use Rattle.forest_theory.specs.Reach.{Variables, Depends}
 
--- The joins J with a clause added.
-pub data Added (J : ℕ → ℕ → Type 0) (clause : List ℕ) (v y : ℕ) : Type 0 where
-  before : J v y → Added J clause v y
-  added : List·Memᴰ v clause → List·Memᴰ y clause → Added J clause v y
-
 -- A clause that leaves x alone: it has neither x nor any variable of the set of x.
 pub record LeavesAlone (X : Variables) (J : ℕ → ℕ → Type 0) (clause : List ℕ) (x : ℕ) : Type 0 where
   pub itself : List·Memᴰ x clause → ⊥

@@ -6,8 +6,11 @@ pub mod Forest
 pub mod Growth
 pub mod Counts
 -- Inner, which only proofs and worked examples rest on: the climb, the rows after a clause, both and reach as they compute, counts passed up.
-pub mod Climb
-pub mod Fused
-pub mod Search
-pub mod Fusing
-pub mod Passing
+pub mod InnerClimb
+pub mod InnerFused
+pub mod InnerSearch
+pub mod InnerFusing
+pub mod InnerPassing
+pub mod InnerGrowth
+pub mod InnerVariables
+pub mod InnerMembers

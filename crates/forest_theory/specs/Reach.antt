@@ -3,22 +3,12 @@ use Prim.Native.Nat.{ℕ, _<_, _≤_}
 use mathlib.Core.Path.{_≡_}
 use mathlib.Core.Bool.{Bool, true, false}
 use mathlib.Core.List.{List, List·Memᴰ}
-use mathlib.Core.Logic.{_≢_}
 
 -- The variables of a formula: how many, the block number of each, and which are existential.
 pub record Variables : Type 0 where
   pub count : ℕ
   pub lev : ℕ → ℕ
   pub ex : ℕ → Bool
-
--- An existential is one of the variables 1 to count.
-pub record Lawful (X : Variables) : Type 0 where
-  pub within : (v : ℕ) → X .ex v ≡ true → (1 ≤ v) × (v ≤ X .count)
-
--- x is universal, and since a block has one quantifier, no existential stands in its block.
-pub record Universal (X : Variables) (x : ℕ) : Type 0 where
-  pub universal : X .ex x ≡ false
-  pub alone : (y : ℕ) → X .ex y ≡ true → X .lev y ≢ X .lev x
 
 -- The existentials of block i or deeper (Lonsing and Biere, definition 4.1).
 pub record From (X : Variables) (i v : ℕ) : Type 0 where

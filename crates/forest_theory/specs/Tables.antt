@@ -82,13 +82,6 @@ pub record MemberBy (X : Variables) (W : Table) (P : ℕ → Type 0) (y : ℕ) :
   pub rises : ℕ
   pub below : Above W entry (W .cls y) rises
 
--- y is in the set of x by the tables as lent: a member of a class at or below an entry point of x; and in its strict set likewise.
-abbrev pub Member : Variables → Table → (ℕ → ℕ → Type 0) → ℕ → ℕ → Type 0
-Member X W S x = MemberBy X W (EntryPointOf X W S x)
-
-abbrev pub StrictMember : Variables → Table → (Bool → ℕ → ℕ → Type 0) → ℕ → ℕ → Type 0
-StrictMember X W S x = MemberBy X W (StrictEntryOf X W S x)
-
 -- {v, class name of v} for an existential.
 unfoldable pub class-join : Variables → Table → ℕ → List (List ℕ)
 class-join X W v = cond (X .ex v) ((v ∷ W .cls v ∷ []) ∷ []) []

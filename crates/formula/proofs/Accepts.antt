@@ -17,9 +17,10 @@ use Rattle.terms.specs.Refusals.{None, NoneOf}
 use Rattle.terms.proofs.Common.{clash}
 use Rattle.terms.proofs.Verdicts.{at0-none}
 use Rattle.formula.specs.Tables.{at, literalAt}
-use Rattle.formula.specs.Causes.{PrefixCause, ClauseCause, checkOrder}
+use Rattle.formula.specs.Causes.{PrefixCause, ClauseCause}
+use Rattle.formula.specs.InnerOrders.{checkOrder}
 use Rattle.formula.specs.Meaning.{has}
-use Rattle.formula.specs.Scan.{IsMark, MarkFault}
+use Rattle.formula.specs.InnerScan.{IsMark, MarkFault}
 use Rattle.formula.proofs.Scanned.{Scanned, scan-none, scan-mark, scan-close, scan-variable, none-in-prefix}
 use Rattle.formula.proofs.Named.{unnamed}
 use Rattle.formula.proofs.Literals.{Read, read-none, read-literal, none-in-clauses}

@@ -14,7 +14,7 @@ use Rattle.terms.proofs.Common.{clash}
 use Rattle.formula.specs.Tables.{at, opens, cut, push, marksBefore, VariableAt}
 use Rattle.formula.specs.Causes.{named-before}
 use Rattle.formula.specs.Meaning.{isZero, blocks, has, names}
-use Rattle.formula.specs.Levels.{SoundPrefix}
+use Rattle.formula.specs.InnerLevels.{SoundPrefix}
 
 -- marks only grow in number
 pub marks-rise : (es : List ℕ) (e f : ℕ) → e ≤ f → marksBefore es e ≤ marksBefore es f

@@ -10,7 +10,8 @@ use Rattle.terms.specs.declared.Verdict.{Verdict}
 use Rattle.terms.specs.declared.Verdict.the-variants.{Accepted, Refused}
 use Rattle.terms.specs.Refusals.{None, Judged}
 use Rattle.terms.proofs.Verdicts.{at0-first, at0-none, judged-unique}
-use Rattle.formula.specs.Causes.{PrefixCause, ClauseCause, checkOrder}
+use Rattle.formula.specs.Causes.{PrefixCause, ClauseCause}
+use Rattle.formula.specs.InnerOrders.{checkOrder}
 use Rattle.formula.proofs.Accepts.{prefixPasses, goodMark, clausesPass, accepts}
 use Rattle.formula.proofs.Scanned.{scan-none, none-in-prefix}
 use Rattle.formula.proofs.Literals.{read-none, fault-at-literal, none-in-clauses}

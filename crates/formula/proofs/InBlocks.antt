@@ -10,8 +10,9 @@ use native.Mathlib.Omega.{arith}
 use lib.Dec.{eqb}
 use lib.ListN.{getD}
 use Rattle.terms.proofs.Common.{clash}
-use Rattle.formula.specs.Meaning.{blocks, markOf, has, names, InBlock, numberFrom, universalOf, freeLevel, level, isUniversal}
-use Rattle.formula.specs.Levels.{SoundPrefix}
+use Rattle.formula.specs.Meaning.{blocks, markOf, has, names, InBlock, numberFrom, universalOf, level, isUniversal}
+use Rattle.formula.specs.InnerLevels.{freeLevel}
+use Rattle.formula.specs.InnerLevels.{SoundPrefix}
 use Rattle.formula.proofs.Blocked.{Place, block-place, Once, named-once}
 
 -- a block that names v is its mark and then variables with v among them

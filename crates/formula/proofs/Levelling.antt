@@ -15,8 +15,9 @@ use lib.Seq.{drop-cons, getD-drop, getD-set-same, getD-set-other}
 use Rattle.terms.proofs.Common.{by-test}
 use Rattle.formula.specs.Tables.{at, opens, cut, push}
 use Rattle.formula.specs.Causes.{ends-inside, no-mark, outside}
-use Rattle.formula.specs.Meaning.{isZero, blocks, markOf, has, names, numberFrom, firstMark, freeLevelOf, universalOf, freeLevel, level, isUniversal}
-use Rattle.formula.specs.Levels.{SoundPrefix, LevelRows, Levelled}
+use Rattle.formula.specs.Meaning.{isZero, blocks, markOf, has, names, numberFrom, firstMark, freeLevelOf, universalOf, level, isUniversal}
+use Rattle.formula.specs.InnerLevels.{freeLevel}
+use Rattle.formula.specs.InnerLevels.{SoundPrefix, LevelRows, Levelled}
 use Rattle.formula.proofs.Blocked.{Once, named-once}
 
 -- a list with a 0 in it holds a list that the 0 closes

@@ -16,7 +16,7 @@ use Rattle.terms.proofs.Common.{below-suc}
 use Rattle.terms.proofs.Verdicts.{first-at}
 use Rattle.formula.specs.Tables.{literalAt, EndsInside}
 use Rattle.formula.specs.Causes.{ClauseCause, outside, ends-inside}
-use Rattle.formula.specs.Scan.{AllUpto, FirstOver}
+use Rattle.formula.specs.InnerScan.{AllUpto, FirstOver}
 
 -- only the literal 0 has no variable
 pub no-variable : (z : ℤ) → variableOf z ≡ 0 → z ≡ pos 0

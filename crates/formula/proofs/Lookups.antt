@@ -13,7 +13,7 @@ use lib.Seq.{getD-take, getD-drop, drop-drop, length-take-le}
 use Rattle.terms.specs.Literals.{variableOf}
 use Rattle.formula.specs.Tables.{literalAt, cut}
 use Rattle.formula.specs.Meaning.{clauses, isZero}
-use Rattle.formula.specs.Lookup.{NextZero, Stands, InRows}
+use Rattle.formula.specs.InnerLookup.{NextZero, Stands, InRows}
 use Rattle.formula.specs.Clause.{beginOf}
 use Rattle.formula.specs.declared.clauses.Span.the-variants.{At, Nowhere}
 use Rattle.formula.proofs.Cuts.{cut-closed, cut-unclosed}

@@ -13,8 +13,9 @@ use lib.ListN.{length, getD, set, replicate, getD-replicate, length-replicate, L
 use lib.Seq.{getD-set-same, getD-set-other}
 use Rattle.formula.specs.Tables.{at, opens, cut, marksBefore, VariableAt}
 use Rattle.formula.specs.Causes.{ends-inside, named-before}
-use Rattle.formula.specs.Meaning.{blocks, firstMark, level, freeLevel}
-use Rattle.formula.specs.Levels.{SoundPrefix}
+use Rattle.formula.specs.Meaning.{blocks, firstMark, level}
+use Rattle.formula.specs.InnerLevels.{freeLevel}
+use Rattle.formula.specs.InnerLevels.{SoundPrefix}
 use Rattle.formula.proofs.Blocked.{marks-rise}
 use Rattle.formula.proofs.Levelling.{Levelling, level-none, level-mark, level-close, level-variable, levelled, variable-small}
 

@@ -14,7 +14,7 @@ use Rattle.terms.proofs.Common.{below-suc, clash}
 use Rattle.terms.proofs.Verdicts.{first-at}
 use Rattle.formula.specs.Tables.{at, opens, NearestMark, marksBefore, EndsInside}
 use Rattle.formula.specs.Causes.{PrefixCause, ends-inside, no-mark, same-mark, too-many-blocks, outside, named-before, empty-block}
-use Rattle.formula.specs.Scan.{IsMark, MarkFault, NameFault, NamedTo, no-name, one-name, NamesEnd, closed, faulty, unclosed}
+use Rattle.formula.specs.InnerScan.{IsMark, MarkFault, NameFault, NamedTo, no-name, one-name, NamesEnd, closed, faulty, unclosed}
 use Rattle.formula.proofs.Named.{Named, named-none, named-skip, named-more}
 
 -- entry i comes directly after a mark

@@ -12,11 +12,11 @@ use lib.IntN.{ℤ, pos, negsuc}
 use lib.ListN.{length, getD, set, replicate, length-set, length-replicate, getD-replicate, List·getD-eq-default}
 use lib.Seq.{getD-set-same, getD-set-other}
 use Rattle.terms.specs.Literals.{variableOf}
-use Rattle.terms.specs.LiteralRows.{rowOf, otherRow}
+use Rattle.terms.specs.InnerLiteralRows.{rowOf, otherRow}
 use Rattle.terms.proofs.Common.{below-suc, clash}
 use Rattle.formula.specs.Tables.{literalAt}
 use Rattle.formula.specs.Meaning.{opposite, denied, alwaysTrue, connected}
-use Rattle.formula.specs.Lookup.{InRows, Stamps}
+use Rattle.formula.specs.InnerLookup.{InRows, Stamps}
 
 -- Two literals are opposite exactly if the row of one is the other row of the other.
 pub opposite-row : (a b : ℤ) → rowOf b ≡ otherRow a → opposite b a ≡ true

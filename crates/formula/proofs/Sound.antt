@@ -8,8 +8,9 @@ use native.Mathlib.Omega.{arith}
 use lib.IntN.{ℤ}
 use lib.ListN.{length}
 use Rattle.terms.specs.Refusals.{Causes, NoneOf}
-use Rattle.formula.specs.Causes.{ClauseCause, prefixOrder, checkOrder}
-use Rattle.formula.specs.Levels.{SoundPrefix}
+use Rattle.formula.specs.Causes.{ClauseCause}
+use Rattle.formula.specs.InnerOrders.{prefixOrder, checkOrder}
+use Rattle.formula.specs.InnerLevels.{SoundPrefix}
 
 -- No cause among the first of a call, whatever is looked at after them: n and the prefix are sound.
 pub sound-prefix : {n : ℕ} {es : List ℕ} (entries : ℕ) (more : List Causes) → NoneOf (prefixOrder n es entries ++ more) → SoundPrefix n es

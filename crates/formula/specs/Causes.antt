@@ -58,14 +58,6 @@ pub data ClauseCause (n : ℕ) (ls : List ℤ) (number e : ℕ) : Type 0 where
 abbrev pub NumberCause : List ℤ → ℕ → Causes
 NumberCause ls asked = At0 13 (length (clauses ls) ≤ asked)
 
--- the order of a prefix alone, beside which so many clause entries are lent: 1, 2, prefix from the left
-abbrev pub prefixOrder : ℕ → List ℕ → ℕ → List Causes
-prefixOrder n es entries = VariableCount n ∷ LengthCause es entries ∷ PrefixCause n es ∷ []
-
--- the order of check: 1, 2, prefix from the left, clause literals from the left
-abbrev pub checkOrder : ℕ → List ℕ → List ℤ → List Causes
-checkOrder n es ls = VariableCount n ∷ LengthCause es (length ls) ∷ PrefixCause n es ∷ ClauseCause n ls ∷ []
-
 -- the order of the clause call: 1, 2, clause literals from the left, 13
 abbrev pub clauseOrder : ℕ → List ℤ → ℕ → List Causes
 clauseOrder n ls asked = VariableCount n ∷ ClausesLengthCause ls ∷ ClauseCause n ls ∷ NumberCause ls asked ∷ []

@@ -5,6 +5,7 @@ pub mod Meaning
 pub mod Causes
 pub mod Clause
 -- Inner, which nobody needs to believe.
-pub mod Scan
-pub mod Lookup
-pub mod Levels
+pub mod InnerScan
+pub mod InnerLookup
+pub mod InnerLevels
+pub mod InnerOrders

@@ -94,10 +94,6 @@ universalOf (block ∷ later) v = cond (names block v) (eqb (markOf block) 2) (u
 abbrev pub existentialOf : ℕ → List (List ℕ) → ℕ → Bool
 existentialOf n bs v = leb 1 v && leb v n && not (universalOf bs v)
 
--- so by the blocks of a prefix
-unfoldable pub freeLevel : List ℕ → ℕ
-freeLevel es = freeLevelOf (blocks es)
-
 unfoldable pub level : List ℕ → ℕ → ℕ
 level es v = levelOf (blocks es) v
 

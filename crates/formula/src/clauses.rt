@@ -12,8 +12,8 @@ ghost use Rattle.terms.specs.Literals.{variableOf};
 ghost use Rattle.terms.specs.Refusals.{Judged};
 ghost use Rattle.formula.specs.Tables.{literalAt};
 ghost use Rattle.formula.specs.Causes.{ClauseCause};
-ghost use Rattle.formula.specs.Scan.{AllUpto, FirstOver};
-ghost use Rattle.formula.specs.Lookup.{NextZero, Stands};
+ghost use Rattle.formula.specs.InnerScan.{AllUpto, FirstOver};
+ghost use Rattle.formula.specs.InnerLookup.{NextZero, Stands};
 
 // The literal at entry i; 0 past the end.
 pub fn literal_at(clauses: &[i32], i: usize) -> Literal

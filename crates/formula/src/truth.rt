@@ -4,7 +4,7 @@ use crate::clauses::literal_at;
 ghost use Prim.Native.Nat.{_+_};
 ghost use mathlib.Core.Path.{_≡_};
 ghost use Rattle.formula.specs.Meaning.{alwaysTrue};
-ghost use Rattle.formula.specs.Lookup.{InRows, Stamps};
+ghost use Rattle.formula.specs.InnerLookup.{InRows, Stamps};
 
 // Whether a clause has both signs of one variable. `seen` has a row for each literal, which gets the stamp when the literal is passed. Every row
 // holds a lesser stamp before, so that one table serves clause after clause, each with a greater stamp, and is never cleared.

@@ -8,10 +8,12 @@ ghost use Prim.Native.Nat.{_≤_};
 ghost use mathlib.Core.Path.{_≡_};
 ghost use mathlib.Core.List.{[], _∷_};
 ghost use lib.ListN.{length};
-ghost use Rattle.terms.specs.Limits.{mostVariables, variableRows};
+ghost use Rattle.terms.specs.Limits.{mostVariables};
+ghost use Rattle.terms.specs.InnerLimits.{variableRows};
 ghost use Rattle.terms.specs.Refusals.{Judged};
-ghost use Rattle.formula.specs.Causes.{PrefixCause, prefixOrder};
-ghost use Rattle.formula.specs.Scan.{MarkFault, NameFault, NamesEnd};
+ghost use Rattle.formula.specs.Causes.{PrefixCause};
+ghost use Rattle.formula.specs.InnerOrders.{prefixOrder};
+ghost use Rattle.formula.specs.InnerScan.{MarkFault, NameFault, NamesEnd};
 
 // Refusals 1, 2 and those of the prefix, which every call that takes a prefix looks at first. Beside the prefix so many clause entries are
 // lent, 0 where a call takes none.

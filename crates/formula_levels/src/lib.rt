@@ -3,8 +3,8 @@
 use terms::Variable;
 ghost use Prim.Native.Nat.{ℕ};
 ghost use mathlib.Core.Path.{_≡_};
-ghost use Rattle.formula.specs.Levels.{SoundPrefix, LevelRows, AllFree, Levelled};
-ghost use Rattle.formula.specs.Meaning.{freeLevel};
+ghost use Rattle.formula.specs.InnerLevels.{SoundPrefix, LevelRows, AllFree, Levelled};
+ghost use Rattle.formula.specs.InnerLevels.{freeLevel};
 
 // Fills row v with the level of variable v, and with whether v is universal, for every v up to the limit.
 pub fn fill_levels(prefix: &[u32], levels: &mut [u32], universals: &mut [bool])

@@ -12,11 +12,11 @@ use Rattle.terms.specs.Refusals.{None}
 use Rattle.terms.proofs.Common.{clash}
 use Rattle.formula.specs.Causes.{PrefixCause}
 use Rattle.formula.specs.Meaning.{has}
-use Rattle.formula.specs.Scan.{IsMark}
+use Rattle.formula.specs.InnerScan.{IsMark}
 use Rattle.formula.proofs.Accepts.{goodMark, prefixPasses, clausesPass, accepts}
 use Rattle.formula_rules.specs.Joined.{joinedPrefix}
 use Rattle.formula_rules.specs.Rules.{JoinedCause}
-use Rattle.formula_rules.specs.Writing.{closing}
+use Rattle.formula_rules.specs.InnerWriting.{closing}
 use Rattle.formula_rules.proofs.Scanned.{mark-some}
 use Rattle.formula_rules.proofs.Passing.{startsZero, newMark, Passes, no-more, begin, go-on, close-block, name, passes}
 use Rattle.formula_rules.proofs.Rest.{rest, rest-joined, new-mark, old-mark}

@@ -17,13 +17,13 @@ use Rattle.terms.proofs.Common.{clash, by-test}
 use Rattle.terms.proofs.Verdicts.{at0-none, judged-unique}
 use Rattle.formula.specs.Causes.{PrefixCause, ClauseCause}
 use Rattle.formula.specs.Lent.{Formula}
-use Rattle.formula.specs.Scan.{IsMark, MarkFault}
+use Rattle.formula.specs.InnerScan.{IsMark, MarkFault}
 use Rattle.formula.specs.Tables.{at, opens, marksBefore}
 use Rattle.formula.proofs.Scanned as first
 use Rattle.formula_rules.specs.Joined.{joinedPrefix}
 use Rattle.formula_rules.specs.Rules.{readAs, JoinedCause, ruledPrefix, checkOrder}
 use Rattle.formula_rules.specs.InnerScan.{emptyAt, beginsAfter, lastMark, begunBefore}
-use Rattle.formula_rules.specs.Writing.{closing}
+use Rattle.formula_rules.specs.InnerWriting.{closing}
 use Rattle.formula_rules.proofs.Begun.{begun-joined}
 use Rattle.formula_rules.proofs.Scanned.{mark-some}
 use Rattle.formula_rules.proofs.Passing.{startsZero, newMark, starts-empty, passes}

@@ -9,7 +9,7 @@ use native.Mathlib.Decide.{ℕ-discrete}
 use borrow.Author.Tests.{eq-eqb, ne-eqb}
 use lib.Dec.{eqb, leb}
 use lib.ListN.{drop}
-use Rattle.formula.specs.Levels.{SoundPrefix}
+use Rattle.formula.specs.InnerLevels.{SoundPrefix}
 use Rattle.formula.specs.Meaning.{blocks, isZero, InBlock, levelOf, universalOf, existentialOf, level, isUniversal, isExistential}
 use Rattle.formula.specs.Tables.{cut, push}
 use Rattle.formula.proofs.InBlocks.{of-block}

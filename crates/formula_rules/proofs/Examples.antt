@@ -8,7 +8,8 @@ use Rattle.terms.specs.Refusals.{Judged}
 use Rattle.terms.specs.declared.Verdict.{Verdict}
 use Rattle.terms.specs.declared.Verdict.the-variants.{Refused}
 use Rattle.terms.proofs.Verdicts.{at0-first, judged-unique}
-use Rattle.formula.specs.Meaning.{blocks, level, freeLevel}
+use Rattle.formula.specs.Meaning.{blocks, level}
+use Rattle.formula.specs.InnerLevels.{freeLevel}
 use Rattle.formula.specs.Tables.{cut}
 use Rattle.formula_rules.specs.Joined.{inFront, joinedBlocks, tableOf, joinedPrefix}
 use Rattle.formula_rules.specs.Rules.{ruledPrefix}

@@ -12,17 +12,18 @@ use Rattle.terms.specs.declared.Filled.the-variants.{Count}
 use Rattle.terms.specs.declared.Verdict.{Verdict}
 use Rattle.terms.specs.declared.Verdict.the-variants.{Accepted}
 use Rattle.terms.proofs.Verdicts.{at0-first, at0-none, accepted-then}
-use Rattle.terms.specs.Limits.{joinedEntries}
+use Rattle.terms.specs.InnerLimits.{joinedEntries}
 use Rattle.terms.specs.Literals.{variableOf}
-use Rattle.formula.specs.Causes.{VariableCount, PrefixLong, ClausesLong, PrefixCause, ClauseCause, prefixOrder}
-use Rattle.formula.specs.Causes as plain
+use Rattle.formula.specs.Causes.{VariableCount, PrefixLong, ClausesLong, PrefixCause, ClauseCause}
+use Rattle.formula.specs.InnerOrders.{prefixOrder}
+use Rattle.formula.specs.InnerOrders as plain
 use Rattle.formula.specs.Lent.{Formula}
-use Rattle.formula.specs.Levels.{SoundPrefix}
-use Rattle.formula.specs.Lookup.{SoundClauses}
+use Rattle.formula.specs.InnerLevels.{SoundPrefix}
+use Rattle.formula.specs.InnerLookup.{SoundClauses}
 use Rattle.formula.specs.Tables.{literalAt}
 use Rattle.formula_rules.specs.Joined.{joinedPrefix}
 use Rattle.formula_rules.specs.Rules.{readAs, JoinedCause, PrefixCauseBy, NoRule, ruledPrefix, checkOrder}
-use Rattle.formula_rules.specs.Reading.{ReadsPrefix}
+use Rattle.formula_rules.specs.InnerReading.{ReadsPrefix}
 use Rattle.formula_rules.proofs.Accepted.{joined-accepted}
 
 -- rule 1 reads what is lent

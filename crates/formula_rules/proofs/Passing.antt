@@ -13,7 +13,7 @@ use lib.Seq.{drop-cons}
 use Rattle.terms.specs.Refusals.{None}
 use Rattle.terms.proofs.Common.{by-test, clash}
 use Rattle.formula.specs.Meaning.{has}
-use Rattle.formula.specs.Scan.{IsMark}
+use Rattle.formula.specs.InnerScan.{IsMark}
 use Rattle.formula.specs.Tables.{at, opens, VariableAt}
 use Rattle.formula.proofs.Scanned.{open-end}
 use Rattle.formula_rules.specs.Rules.{JoinedCause}

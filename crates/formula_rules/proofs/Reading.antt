@@ -13,9 +13,9 @@ use Rattle.terms.proofs.Verdicts.{refused-first, accepted-then}
 use Rattle.terms.proofs.Orders.{Carries, behind-none}
 use Rattle.formula.specs.Causes.{ClauseCause}
 use Rattle.formula.specs.Lent.{Formula}
-use Rattle.formula.specs.Levels.{SoundPrefix}
+use Rattle.formula.specs.InnerLevels.{SoundPrefix}
 use Rattle.formula_rules.specs.Rules.{readAs, ruledPrefix, checkOrder}
-use Rattle.formula_rules.specs.Reading.{AtHand, Reads, ReadsPrefix, ReadsFormula}
+use Rattle.formula_rules.specs.InnerReading.{AtHand, Reads, ReadsPrefix, ReadsFormula}
 use Rattle.formula_rules.proofs.Orders.{clauses-sound}
 
 -- Under any rule but 1 what is at hand is the front of the table.

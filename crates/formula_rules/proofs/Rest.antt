@@ -9,10 +9,10 @@ use lib.Dec.{eqb}
 use lib.ListN.{drop}
 use Rattle.terms.proofs.Common.{clash, by-test}
 use Rattle.formula.specs.Meaning.{blocks, markOf, isZero}
-use Rattle.formula.specs.Scan.{IsMark}
+use Rattle.formula.specs.InnerScan.{IsMark}
 use Rattle.formula.specs.Tables.{cut, push}
 use Rattle.formula_rules.specs.Joined.{inFront, joinedBlocks, tableOf, joinedPrefix}
-use Rattle.formula_rules.specs.Writing.{closing}
+use Rattle.formula_rules.specs.InnerWriting.{closing}
 use Rattle.formula_rules.proofs.Scanned.{mark-some}
 use Rattle.formula_rules.proofs.Passing.{startsZero, newMark, Passes, no-more, begin, go-on, close-block, name}
 

@@ -12,13 +12,13 @@ use Rattle.terms.specs.Refusals.{First, None}
 use Rattle.terms.proofs.Common.{below-suc, clash}
 use Rattle.terms.proofs.Verdicts.{first-at}
 use Rattle.formula.specs.Tables.{at, opens, EndsInside}
-use Rattle.formula.specs.Scan.{IsMark, NameFault, NamedTo, no-name, one-name, NamesEnd, closed, faulty, unclosed}
+use Rattle.formula.specs.InnerScan.{IsMark, NameFault, NamedTo, no-name, one-name, NamesEnd, closed, faulty, unclosed}
 use Rattle.formula.proofs.Named.{Named, named-none, named-skip, named-more}
 use Rattle.formula.proofs.Scanned.{open-end, shut-end}
 use Rattle.formula_rules.specs.Rules.{JoinedCause}
 use Rattle.formula_rules.specs.InnerScan.{beginsAfter, lastMark, begins, begunBefore}
 use Rattle.formula_rules.specs.Rules.{ends-inside, no-mark, too-many-blocks, outside, named-before}
-use Rattle.formula_rules.specs.Writing.{MarkFault}
+use Rattle.formula_rules.specs.InnerWriting.{MarkFault}
 use Rattle.formula_rules.proofs.Begun.{last-next, last-stays, begins-open, begins-shut, begun-next, begun-joined, scan-begins, begins-scan}
 
 -- no cause stands at entry e

@@ -12,7 +12,7 @@ use Rattle.terms.specs.Refusals.{None}
 use Rattle.formula.specs.Meaning.{has}
 use Rattle.formula_rules.specs.Joined.{joinedPrefix}
 use Rattle.formula_rules.specs.Rules.{JoinedCause}
-use Rattle.formula_rules.specs.Writing.{closing}
+use Rattle.formula_rules.specs.InnerWriting.{closing}
 use Rattle.formula_rules.proofs.Scanned.{mark-some}
 use Rattle.formula_rules.proofs.Passing.{Passes, no-more, begin, go-on, close-block, name, passes}
 use Rattle.formula_rules.proofs.Rest.{rest, rest-joined}

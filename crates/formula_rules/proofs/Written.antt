@@ -16,7 +16,7 @@ use Rattle.formula.specs.Tables.{at, opens}
 use Rattle.formula_rules.specs.Joined.{joinedPrefix}
 use Rattle.formula_rules.specs.Rules.{JoinedCause}
 use Rattle.formula_rules.specs.InnerScan.{beginsAfter}
-use Rattle.formula_rules.specs.Writing.{closing, Put}
+use Rattle.formula_rules.specs.InnerWriting.{closing, Put}
 use Rattle.formula_rules.proofs.Scanned.{mark-some}
 use Rattle.formula_rules.proofs.Passing.{starts-empty, mark-is, passes}
 use Rattle.formula_rules.proofs.Rest.{rest, rest-joined}

@@ -1,6 +1,6 @@
--- The reading rules: Joined and Rules are what to believe, InnerScan, Writing and Reading are inner.
+-- The reading rules: Joined and Rules are what to believe, the others are inner.
 pub mod Joined
 pub mod Rules
 pub mod InnerScan
-pub mod Writing
-pub mod Reading
+pub mod InnerWriting
+pub mod InnerReading

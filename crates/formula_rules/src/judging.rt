@@ -12,7 +12,7 @@ ghost use Rattle.terms.specs.Limits.{mostVariables};
 ghost use Rattle.terms.specs.Refusals.{Judged};
 ghost use Rattle.formula_rules.specs.Rules.{JoinedCause};
 ghost use Rattle.formula_rules.specs.InnerScan.{beginsAfter};
-ghost use Rattle.formula_rules.specs.Writing.{MarkFault};
+ghost use Rattle.formula_rules.specs.InnerWriting.{MarkFault};
 
 // The first cause of a refusal under rule 2 in the prefix of a formula with n variables, one block after another. `named` has a flag for each
 // variable that was named so far, so that the prefix is not searched again.

@@ -8,7 +8,7 @@ ghost use lib.ListN.{length, take};
 ghost use Rattle.terms.specs.Refusals.{None};
 ghost use Rattle.formula_rules.specs.Joined.{joinedPrefix};
 ghost use Rattle.formula_rules.specs.Rules.{JoinedCause};
-ghost use Rattle.formula_rules.specs.Writing.{closing, Put};
+ghost use Rattle.formula_rules.specs.InnerWriting.{closing, Put};
 
 // Writes an accepted prefix with its empty blocks dropped and its neighbours joined, and gives the count of entries written.
 pub fn lay_out(prefix: &[u32], out: &mut [u32]) -> usize

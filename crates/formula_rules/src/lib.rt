@@ -15,10 +15,10 @@ use terms::Verdict;
 ghost use mathlib.Core.Path.{_≡_};
 ghost use lib.ListN.{length};
 ghost use Rattle.terms.specs.Refusals.{Judged};
-ghost use Rattle.terms.specs.Limits.{joinedEntries};
+ghost use Rattle.terms.specs.InnerLimits.{joinedEntries};
 ghost use Rattle.formula.specs.Lent.{formulaIn};
 ghost use Rattle.formula_rules.specs.Rules.{ruledPrefix, readAs, checkOrder};
-ghost use Rattle.formula_rules.specs.Reading.{ReadsPrefix, ReadsFormula, AtHand};
+ghost use Rattle.formula_rules.specs.InnerReading.{ReadsPrefix, ReadsFormula, AtHand};
 
 // Refusals 23, 1, 2 and those of the prefix by a rule, which every call that takes a rule number looks at first. Beside the prefix so many
 // clause entries are lent, 0 where a call takes none.

@@ -12,12 +12,12 @@ use Rattle.terms.specs.Refusals.{None, Judged, At0}
 use Rattle.terms.specs.declared.Verdict.the-variants.{Accepted, Refused}
 use Rattle.terms.proofs.Verdicts.{at0-first, at0-none}
 use Rattle.formula.specs.Tables.{literalAt}
-use Rattle.formula.specs.Lookup.{InRows}
+use Rattle.formula.specs.InnerLookup.{InRows}
 use Rattle.forest_tables.specs.Causes.{ForestCause}
 use Rattle.forest_tables.specs.Lent.{Rows}
 use Rattle.grow_refusals.specs.Admitted.{AddedCause, outside}
 use Rattle.grow.specs.Grown.{Standing, TooShort}
-use Rattle.grow.specs.Rows.{Room}
+use Rattle.grow.specs.InnerRows.{Room}
 
 -- 14 is given where a lent table has not n rows.
 module _ (n : ℕ) (s : Standing) where

@@ -19,7 +19,8 @@ use Rattle.formula.specs.Meaning.{clauses, isZero, connected}
 use Rattle.formula.specs.Tables.{literalAt, cut, push, EndsInside}
 use Rattle.forest_tables.specs.Formula.{joined}
 use Rattle.grow_refusals.specs.Admitted.{AddedCause}
-use Rattle.grow.specs.Grown.{many, withLast}
+use Rattle.grow.specs.Grown.{withLast}
+use Rattle.grow.specs.InnerTallies.{many}
 
 nought : ℤ → Bool
 nought literal = isZero (variableOf literal)

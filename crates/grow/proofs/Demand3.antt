@@ -26,10 +26,12 @@ use Rattle.terms.specs.declared.Scheme.the-variants.{Standard}
 use Rattle.forest.specs.Answers.{EntriesBy, MembersBy}
 use Rattle.forest_tables.proofs.Agreeing.{lawful, none-formed, none-counted}
 use Rattle.forest.proofs.Demands.{universal-alone}
-use Rattle.forest_theory.specs.Reach.{Variables, Lawful, Joined, Depends, From, Reach}
+use Rattle.forest_theory.specs.Reach.{Variables, Joined, Depends, From, Reach}
+use Rattle.forest_theory.specs.InnerVariables.{Lawful}
 use Rattle.forest_theory.specs.Tables.{Table, WellFormed, joins, EntryPointOf}
 use Rattle.forest_theory.specs.Forest.{Forest}
-use Rattle.forest_theory.specs.Growth.{LeavesAlone, Added, before}
+use Rattle.forest_theory.specs.Growth.{LeavesAlone}
+use Rattle.forest_theory.specs.InnerGrowth.{before, Added}
 use Rattle.forest_theory.proofs.Reach.{reach-along, joined-added}
 use Rattle.forest_theory.proofs.Joins.{represents-itself}
 use Rattle.forest_theory.proofs.Forest.{represents-forest, represents-reach}

@@ -10,7 +10,7 @@ use Rattle.terms.specs.declared.Filled.the-variants.{Count, Refused}
 use Rattle.terms.specs.declared.Verdict.{Verdict}
 use Rattle.forest_theory.specs.Reach.{Variables, Joined}
 use Rattle.forest_theory.proofs.Growth.{forest-is}
-use Rattle.forest_tables.specs.Counting.{FormedBy}
+use Rattle.forest_tables.specs.InnerCounting.{FormedBy}
 use Rattle.forest_tables.specs.Formula.{variables}
 use Rattle.forest_tables.proofs.Agreeing.{lawful}
 use Rattle.terms.specs.declared.Tally.{Tally}
@@ -18,7 +18,7 @@ use Rattle.terms.proofs.Orders.{Carries, carry-judged}
 use Rattle.forest_tables.specs.Lent.{Rows, rows}
 use Rattle.grow.specs.Grown.{Standing, standing, Grown, Rewrites}
 use Rattle.grow.specs.InnerTallies.{SumsUp}
-use Rattle.grow_rows.specs.Rows.{Rowed, Recounted, CensusOf}
+use Rattle.grow_rows.specs.InnerRows.{Rowed, Recounted, CensusOf}
 
 module _ (n : ℕ) (es : List ℕ) {cs : List (List ℕ)} {classes parents classes′ parents′ : List ℕ}
     (r : Rowed (variables n es) (Joined cs) classes parents classes′ parents′) where

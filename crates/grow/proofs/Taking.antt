@@ -11,13 +11,14 @@ use lib.IntN.{ℤ}
 use lib.ListN.{length, length-append, length-map}
 use Rattle.terms.specs.declared.Tally.{Tally}
 use Rattle.terms.proofs.Common.{clash, by-test}
-use Rattle.forest_theory.specs.Reach.{Variables, Lawful, Joined, here}
+use Rattle.forest_theory.specs.Reach.{Variables, Joined, here}
+use Rattle.forest_theory.specs.InnerVariables.{Lawful}
 use Rattle.forest_theory.specs.Tables.{Table, ClassName, WellFormed, joins}
 use Rattle.forest_theory.specs.Forest.{Names, Forest}
-use Rattle.forest_theory.specs.Fusing.{table-of, forest-of}
-use Rattle.forest_theory.specs.Search.{has}
+use Rattle.forest_theory.specs.InnerFusing.{table-of, forest-of}
+use Rattle.forest_theory.specs.InnerSearch.{has}
 use Rattle.forest_theory.specs.Counts.{Numbered, how-many, names}
-use Rattle.forest_theory.specs.Growth.{before}
+use Rattle.forest_theory.specs.InnerGrowth.{before}
 use Rattle.forest_theory.proofs.Choice.{both}
 use Rattle.forest_theory.proofs.Counts.{names-class, names-numbered}
 use Rattle.forest_theory.proofs.Fewer.{names-fall, none-names}
@@ -30,7 +31,8 @@ use Rattle.forest_theory.proofs.Search.{has-member, member-has}
 use Rattle.formula.specs.Meaning.{clauses, connected}
 use Rattle.forest_tables.specs.Formula.{joined, Shares}
 use Rattle.grow.specs.Taken.{Taken, NamesIn, TallyOf, of-none, of-more}
-use Rattle.grow.specs.Grown.{Standing, tableOf, existentials, many, Tallies, Took}
+use Rattle.grow.specs.Grown.{Standing, tableOf, existentials, Tallies, Took}
+use Rattle.grow.specs.InnerTallies.{many}
 use Rattle.grow.specs.InnerTallies.{SumsUp, Fell}
 
 -- Tallies with the same numbers are one.

@@ -6,7 +6,7 @@ use mathlib.Core.List.{List, [], _∷_, _++_}
 use mathlib.Core.Logic.{_⊎_}
 use lib.IntN.{ℤ, pos}
 use lib.ListN.{length}
-use denote.Ref.{RefT, now}
+use denote.Ref.{RefT}
 use denote.Triple.Both.{Both}
 use Rattle.terms.specs.Says.{filledSaid}
 use Rattle.terms.specs.Answers.{Then, verdictOf}
@@ -53,10 +53,6 @@ classNames X s = how-many (names X (tableOf X s)) (X .count)
 -- how many existentials there are
 abbrev pub existentials : Variables → ℕ
 existentials X = how-many (X .ex) (X .count)
-
--- how many clauses a table holds, always-true and empty ones with them
-abbrev pub many : List ℤ → ℕ
-many ls = length (clauses ls)
 
 -- 14: a lent table shorter than n
 abbrev pub TooShort : ℕ → Standing → Type 0

@@ -4,6 +4,13 @@ use Prim.Native.Nat.{ℕ, _+_, _-_}
 use mathlib.Core.Path.{_≡_}
 use Rattle.forest_theory.specs.Reach.{Variables}
 use Rattle.grow.specs.Grown.{Standing, classNames, existentials}
+use Prim.Native.Nat.{ℕ}
+use mathlib.Core.List.{List}
+use lib.IntN.{ℤ}
+use lib.ListN.{length}
+use Rattle.formula.specs.Meaning.{clauses}
+use Rattle.forest_theory.specs.Reach.{Variables}
+use Rattle.forest_theory.specs.Counts.{names}
 
 -- All clauses are taken, the classes left are the class names, and these and the merges sum to the existentials.
 pub record SumsUp (X : Variables) (taken : ℕ) (s : Standing) : Type 0 where
@@ -16,3 +23,7 @@ pub record Fell (X : Variables) (s s′ : Standing) : Type 0 where
   pub clauses : s′ .tally .clauses ≡ s .tally .clauses + 1
   pub merges : s′ .tally .merges ≡ s .tally .merges + (classNames X s - classNames X s′)
   pub classes : s′ .tally .classes ≡ classNames X s′
+
+-- how many clauses a table holds, always-true and empty ones with them
+abbrev pub many : List ℤ → ℕ
+many ls = length (clauses ls)

@@ -2,5 +2,5 @@
 pub mod Taken
 pub mod Grown
 pub mod InnerTallies
-pub mod Rows
+pub mod InnerRows
 pub mod InnerOrders

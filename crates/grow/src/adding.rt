@@ -18,18 +18,18 @@ use terms::Verdict;
 ghost use mathlib.Core.Path.{_≡_};
 ghost use mathlib.Core.List.{[], _∷_};
 ghost use Rattle.terms.specs.Refusals.{Judged};
-ghost use Rattle.formula.specs.Levels.{SoundPrefix};
-ghost use Rattle.formula.specs.Lookup.{InRows};
+ghost use Rattle.formula.specs.InnerLevels.{SoundPrefix};
+ghost use Rattle.formula.specs.InnerLookup.{InRows};
 ghost use Rattle.forest_theory.specs.Tables.{lent};
 ghost use Rattle.forest_theory.specs.Counts.{how-many, names};
 ghost use Rattle.forest_tables.specs.Causes.{ForestCause};
-ghost use Rattle.forest_tables.specs.Counting.{FormedBy};
+ghost use Rattle.forest_tables.specs.InnerCounting.{FormedBy};
 ghost use Rattle.forest_tables.specs.Formula.{variables};
 ghost use Rattle.forest_tables.specs.Lent.{rowsIn};
 ghost use Rattle.grow.specs.Grown.{standingIn, standingOut, TallyCause, Extended, AddsBehind};
 ghost use Rattle.grow.specs.InnerOrders.{behindAdd};
-ghost use Rattle.grow_rows.specs.Rows.{Rowed, Recounted};
-ghost use Rattle.grow.specs.Rows.{Room};
+ghost use Rattle.grow_rows.specs.InnerRows.{Rowed, Recounted};
+ghost use Rattle.grow.specs.InnerRows.{Room};
 
 // Adds a clause by an accepted prefix: the clause is judged first.
 pub fn add_read(

@@ -9,15 +9,16 @@ use terms::Tallied;
 use terms::Tally;
 ghost use mathlib.Core.List.{[], _∷_};
 ghost use Rattle.terms.specs.Refusals.{At0};
-ghost use Rattle.formula.specs.Levels.{SoundPrefix};
-ghost use Rattle.formula.specs.Lookup.{SoundClauses};
+ghost use Rattle.formula.specs.InnerLevels.{SoundPrefix};
+ghost use Rattle.formula.specs.InnerLookup.{SoundClauses};
 ghost use Rattle.forest_tables.specs.Formula.{variables, Shares};
 ghost use Rattle.forest_tables.specs.Lent.{rowsOut};
-ghost use Rattle.forest_tables.specs.Rows.{Tells};
-ghost use Rattle.grow.specs.Grown.{standing, standingIn, standingOut, many, TooShort, Tallies, Rewrites};
+ghost use Rattle.forest_tables.specs.InnerRows.{Tells};
+ghost use Rattle.grow.specs.Grown.{standing, standingIn, standingOut, TooShort, Tallies, Rewrites};
+ghost use Rattle.grow.specs.InnerTallies.{many};
 ghost use Rattle.grow.specs.InnerTallies.{SumsUp};
-ghost use Rattle.grow_rows.specs.Rows.{Rowed, Recounted};
-ghost use Rattle.grow.specs.Rows.{Room};
+ghost use Rattle.grow_rows.specs.InnerRows.{Rowed, Recounted};
+ghost use Rattle.grow.specs.InnerRows.{Room};
 
 // Builds the forest of an accepted formula: all that is left to refuse is a table that is too short.
 pub fn build_read(

@@ -22,12 +22,13 @@ use Rattle.formula_rules.specs.Rules.{readAs, readBy, checkOrder}
 use Rattle.formula_rules.proofs.Orders.{clauses-sound}
 use Rattle.formula.specs.Meaning.{level, isExistential, connected}
 use Rattle.formula.specs.Tables.{literalAt}
-use Rattle.forest_theory.specs.Reach.{Variables, Lawful, Joined, Depends}
+use Rattle.forest_theory.specs.Reach.{Variables, Joined, Depends}
+use Rattle.forest_theory.specs.InnerVariables.{Lawful}
 use Rattle.forest_theory.specs.Tables.{Table, row, lent, joins, WellFormed, EntryPoint}
-use Rattle.forest_theory.specs.Climb.{Climbed, climb}
+use Rattle.forest_theory.specs.InnerClimb.{Climbed, climb}
 use Rattle.forest_theory.specs.Forest.{Forest}
-use Rattle.forest_theory.specs.Search.{has, reached, is-from, sift, set-of}
-use Rattle.forest_theory.specs.Fusing.{Rows, table-of}
+use Rattle.forest_theory.specs.InnerSearch.{has, reached, is-from, sift, set-of}
+use Rattle.forest_theory.specs.InnerFusing.{Rows, table-of}
 use Rattle.forest_theory.specs.Counts.{Counted, how-many, names}
 use Rattle.terms.specs.Listed.{Ascending, Listed}
 use Rattle.forest_theory.proofs.Choice.{choice}
@@ -50,7 +51,8 @@ use Rattle.forest_tables.proofs.Agreeing.{lawful}
 use Rattle.forest.proofs.Demands.{universal-alone, own-forest-fine, list-settled, entry-settled}
 use Rattle.forest_tables.proofs.Readings.{flag-within}
 use Rattle.grow_refusals.specs.Admitted.{AddedCause, outside, WrongTally}
-use Rattle.grow.specs.Grown.{Standing, tableOf, classNames, existentials, many, Extended, Grown, Took, Builds, Adds, withLast}
+use Rattle.grow.specs.Grown.{Standing, tableOf, classNames, existentials, Extended, Grown, Took, Builds, Adds, withLast}
+use Rattle.grow.specs.InnerTallies.{many}
 use Rattle.grow.specs.InnerTallies.{SumsUp}
 use Rattle.grow_passes.specs.Past.{Past}
 use Rattle.grow_passes.proofs.Passes.{many-most}

@@ -8,7 +8,7 @@ use lib.IntN.{ℤ}
 use lib.ListN.{length}
 use Rattle.terms.specs.Refusals.{NoneOf}
 use Rattle.formula_rules.specs.Rules.{readAs, checkOrder}
-use Rattle.forest_theory.specs.Search.{set-of}
+use Rattle.forest_theory.specs.InnerSearch.{set-of}
 use Rattle.forest_tables.specs.Formula.{universal, joined}
 use Rattle.grow.specs.Grown.{Standing, withLast}
 use Rattle.grow_cases.specs.FormulaA.{prefixA, clausesA, withClauses, standA, clause79, clause58, clause12}

@@ -10,17 +10,19 @@ use Rattle.terms.specs.Refusals.{NoneOf}
 use Rattle.formula_rules.specs.Rules.{checkOrder}
 use Rattle.formula_rules.proofs.Orders.{rule-one-accepts}
 use Rattle.forest_tables.specs.Lent.{rows}
-use Rattle.formula.specs.Meaning.{blocks, clauses, freeLevel, level, isUniversal, isExistential, opposite, denied, alwaysTrue, connected}
+use Rattle.formula.specs.Meaning.{blocks, clauses, level, isUniversal, isExistential, opposite, denied, alwaysTrue, connected}
+use Rattle.formula.specs.InnerLevels.{freeLevel}
 use Rattle.formula.specs.Tables.{cut}
 use Rattle.formula.proofs.Accepts.{goodMark, prefixPasses, clausesPass, accepts}
 use Rattle.forest_theory.specs.Reach.{Variables}
 use Rattle.forest_theory.specs.Tables.{row, lent}
-use Rattle.forest_theory.specs.Climb.{climb-by, climb}
-use Rattle.forest_theory.specs.Search.{has, meets, keep, put-back, find, see, spread, reached, is-from, sift, set-of}
-use Rattle.forest_theory.specs.Fusing.{fill, classes-up, marks, goes-before, under, fuse-class, fuse-parent, table-of, rows-by, fuse-marks, fuse, fuse-all, singles, forest-of, count-of, counts-of}
+use Rattle.forest_theory.specs.InnerClimb.{climb-by, climb}
+use Rattle.forest_theory.specs.InnerSearch.{has, meets, keep, put-back, find, see, spread, reached, is-from, sift, set-of}
+use Rattle.forest_theory.specs.InnerFusing.{fill, classes-up, marks, goes-before, under, fuse-class, fuse-parent, table-of, rows-by, fuse-marks, fuse, fuse-all, singles, forest-of, count-of, counts-of}
 use Rattle.forest_theory.specs.Counts.{how-many, names}
 use Rattle.forest_tables.specs.Formula.{variables, universal, joined}
-use Rattle.grow.specs.Grown.{Standing, standing, tableOf, many, withLast}
+use Rattle.grow.specs.Grown.{Standing, standing, tableOf, withLast}
+use Rattle.grow.specs.InnerTallies.{many}
 use Rattle.grow.specs.InnerTallies.{SumsUp}
 use Rattle.grow_cases.specs.FormulaA.{prefixA, clausesA, withClauses, tally, standA, stand79, stand12, stand-none, clause79, clause58, clause12}
 use Rattle.grow_cases.specs.Cases.{longer}

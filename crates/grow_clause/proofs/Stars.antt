@@ -13,13 +13,13 @@ use lib.ListN.{length, getD}
 use Rattle.terms.specs.Literals.{variableOf}
 use Rattle.terms.proofs.Common.{below-suc}
 use Rattle.forest_theory.specs.Reach.{Variables, From, Reach, here}
-use Rattle.forest_theory.specs.Growth.{Added, added}
+use Rattle.forest_theory.specs.InnerGrowth.{added, Added}
 use Rattle.forest_theory.proofs.Reach.{reach-one, reach-trans, reach-sym, reach-mono, from-less}
 use Rattle.forest_theory.proofs.Represent.{linked-sym}
-use Rattle.grow_union_find.specs.Loose.{Inside, ranked, links, Growing, Pending, Grew}
+use Rattle.grow_union_find.specs.InnerLoose.{Inside, ranked, links, Growing, Pending, Grew}
 use Rattle.grow_union_find.proofs.Inside.{inside-reach, inside-refl, inside-trans, inside-before, inside-clause, inside-pair, pair-step, both-sym}
 use Rattle.grow_union_find.proofs.Steps.{deep-some, some-deep}
-use Rattle.grow_clause.specs.Deepest.{variableIn, Deepest}
+use Rattle.grow_clause.specs.InnerDeepest.{variableIn, Deepest}
 
 -- The variable at an entry is one of the clause, and each of the clause stands at an entry.
 pub at-member : (ls : List ℤ) (e : ℕ) → e < length ls → List·Memᴰ (variableIn ls e) (map variableOf ls)

@@ -1,2 +1,2 @@
 -- Inner definitions, which only proofs rest on: the deepest existential of a clause.
-pub mod Deepest
+pub mod InnerDeepest

@@ -10,12 +10,12 @@ ghost use Prim.Native.Nat.{_+_};
 ghost use mathlib.Core.Path.{_≡_};
 ghost use mathlib.Core.List.{map};
 ghost use lib.ListN.{length, getD};
-ghost use Rattle.terms.specs.Limits.{variableRows};
+ghost use Rattle.terms.specs.InnerLimits.{variableRows};
 ghost use Rattle.terms.specs.Literals.{variableOf};
-ghost use Rattle.formula.specs.Lookup.{InRows, Stamps};
+ghost use Rattle.formula.specs.InnerLookup.{InRows, Stamps};
 ghost use Rattle.formula.specs.Meaning.{connected};
-ghost use Rattle.grow_union_find.specs.Loose.{Growing, Grew};
-ghost use Rattle.grow_clause.specs.Deepest.{Deepest};
+ghost use Rattle.grow_union_find.specs.InnerLoose.{Growing, Grew};
+ghost use Rattle.grow_clause.specs.InnerDeepest.{Deepest};
 
 // The deepest existential of a clause; a variable of depth 0 where it has none.
 fn deepest(depths: &[u32], clause: &[i32]) -> Variable

@@ -12,10 +12,11 @@ use lib.Dec.{ltb, leb}
 use lib.IntN.{ℤ}
 use lib.ListN.{length, getD, take, drop, set, replicate, length-replicate, length-set, length-append, drop-of-length-le, List·getD-eq-default}
 use lib.Seq.{getD-set-same, getD-set-other, set-getD}
-use Rattle.terms.specs.Limits.{mostVariables, prefixEntries, variableRows}
+use Rattle.terms.specs.Limits.{mostVariables, prefixEntries}
+use Rattle.terms.specs.InnerLimits.{variableRows}
 use Rattle.terms.proofs.Common.{below-suc}
-use Rattle.formula.specs.Levels.{SoundPrefix, Levelled}
-use Rattle.formula.specs.Lookup.{NextZero}
+use Rattle.formula.specs.InnerLevels.{SoundPrefix, Levelled}
+use Rattle.formula.specs.InnerLookup.{NextZero}
 use Rattle.formula.specs.Meaning.{clauses, level, isUniversal, isExistential, connected}
 use Rattle.formula.specs.Tables.{cut, push}
 use Rattle.formula.proofs.Lookups.{clauses-closed, clauses-unclosed}
@@ -27,9 +28,9 @@ use Rattle.forest_theory.specs.Tables.{row}
 use Rattle.forest_theory.proofs.Reach.{joined-sym}
 use Rattle.forest_theory.proofs.Rows.{row-out}
 use Rattle.forest_theory.proofs.Represent.{Link, to-class, to-parent}
-use Rattle.grow_union_find.specs.Loose.{Loose, Kept, table, ranked, Growing, Grew}
+use Rattle.grow_union_find.specs.InnerLoose.{Loose, Kept, table, ranked, Growing, Grew}
 use Rattle.grow_passes.specs.Past.{Past}
-use Rattle.grow_passes.specs.Rows.{EndsAt, depthOf, Depths, Holds, Settled, Written}
+use Rattle.grow_passes.specs.InnerRows.{EndsAt, depthOf, Depths, Holds, Settled, Written}
 use Rattle.grow_union_find.proofs.Inside.{inside-links, equal-trans, equal-snoc, equal-added}
 use Rattle.grow_union_find.proofs.Ways.{kept-none, kept-trans, halved-row}
 

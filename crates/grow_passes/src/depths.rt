@@ -6,9 +6,10 @@ ghost use Prim.Native.Nat.{ℕ, _+_, _≤_, _<_};
 ghost use mathlib.Core.Path.{_≡_};
 ghost use mathlib.Core.Bool.{false};
 ghost use lib.ListN.{length, getD};
-ghost use Rattle.terms.specs.Limits.{prefixEntries, variableRows};
-ghost use Rattle.formula.specs.Levels.{SoundPrefix};
-ghost use Rattle.grow_passes.specs.Rows.{EndsAt, depthOf, Depths};
+ghost use Rattle.terms.specs.Limits.{prefixEntries};
+ghost use Rattle.terms.specs.InnerLimits.{variableRows};
+ghost use Rattle.formula.specs.InnerLevels.{SoundPrefix};
+ghost use Rattle.grow_passes.specs.InnerRows.{EndsAt, depthOf, Depths};
 
 // Fills row v with the depth of the variable v: its level plus one for an existential, 0 for all else. The rows past n hold 0 already.
 pub fn fill_depths(n: u32, prefix: &[u32], depths: &mut [u32])

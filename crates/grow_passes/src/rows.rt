@@ -9,12 +9,13 @@ ghost use Prim.Native.Nat.{ℕ, _≤_, _<_};
 ghost use mathlib.Core.Path.{_≡_};
 ghost use mathlib.Core.List.{[]};
 ghost use lib.ListN.{length, getD};
-ghost use Rattle.terms.specs.Limits.{mostVariables, variableRows};
+ghost use Rattle.terms.specs.Limits.{mostVariables};
+ghost use Rattle.terms.specs.InnerLimits.{variableRows};
 ghost use Rattle.forest_theory.specs.Tables.{row};
 ghost use Rattle.forest_tables.specs.Formula.{joined};
-ghost use Rattle.formula.specs.Lookup.{SoundClauses};
+ghost use Rattle.formula.specs.InnerLookup.{SoundClauses};
 ghost use Rattle.formula.specs.Meaning.{clauses as Meaning·clauses};
-ghost use Rattle.grow_passes.specs.Rows.{EndsAt, Holds, Settled, Written};
+ghost use Rattle.grow_passes.specs.InnerRows.{EndsAt, Holds, Settled, Written};
 
 // The rows of no clause: each existential in a class of its own, with no parent. The rows past n, where there is none, hold 0 already.
 pub fn singles(n: u32, depths: &[u32], classes: &mut [u32], parents: &mut [u32])

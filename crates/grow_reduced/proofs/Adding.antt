@@ -16,7 +16,7 @@ use Rattle.terms.specs.declared.Filled.{Filled}
 use Rattle.formula.specs.Meaning.{connected}
 use Rattle.forest_theory.specs.Reach.{Variables, Joined}
 use Rattle.forest_theory.specs.Tables.{joins}
-use Rattle.forest_theory.specs.Growth.{Added, before, added}
+use Rattle.forest_theory.specs.InnerGrowth.{before, added, Added}
 use Rattle.forest_theory.proofs.Reach.{joined-added}
 use Rattle.forest_tables.specs.Formula.{variables}
 use Rattle.forest_tables.specs.Causes.{ForestCause}

@@ -6,7 +6,8 @@ use mathlib.Core.Bool.{Bool, true}
 use mathlib.Core.List.{List}
 use mathlib.Core.Logic.{_⊎_, inl, inr}
 use native.Mathlib.Omega.{arith}
-use Rattle.forest_theory.specs.Reach.{Variables, Lawful, From, Joined, Reach, here, Depends, Follows, StrictlyDepends}
+use Rattle.forest_theory.specs.Reach.{Variables, From, Joined, Reach, here, Depends, Follows, StrictlyDepends}
+use Rattle.forest_theory.specs.InnerVariables.{Lawful}
 use Rattle.forest_theory.specs.Tables.{Table, EntryPointOf, StrictEntryOf}
 use Rattle.forest_theory.specs.Forest.{Forest}
 use Rattle.forest_theory.proofs.Reach.{reach-one, reach-first, follows-reach, simulate}

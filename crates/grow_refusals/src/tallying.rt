@@ -4,7 +4,7 @@ use terms::Tally;
 ghost use Prim.Native.Nat.{_+_, _-_, _≤_, _<_};
 ghost use mathlib.Core.Path.{_≡_};
 ghost use Rattle.terms.specs.Limits.{mostVariables};
-ghost use Rattle.forest_tables.specs.Rows.{Tells};
+ghost use Rattle.forest_tables.specs.InnerRows.{Tells};
 ghost use Rattle.grow_refusals.specs.Admitted.{tallyClauses, WrongTally};
 
 // Whether a tally is refused as 18. Its merges and classes are never added up, since their sum might overflow.

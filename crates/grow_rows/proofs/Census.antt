@@ -7,15 +7,16 @@ use mathlib.Core.Logic.{_≢_}
 use native.Mathlib.Omega.{arith}
 use borrow.Author.Tests.{eq-eqb, ne-eqb}
 use lib.ListN.{getD}
-use Rattle.forest_theory.specs.Reach.{Variables, Lawful}
+use Rattle.forest_theory.specs.Reach.{Variables}
+use Rattle.forest_theory.specs.InnerVariables.{Lawful}
 use Rattle.forest_theory.specs.Tables.{Table, lent, WellFormed}
 use Rattle.forest_theory.specs.Counts.{how-many, names}
 use Rattle.forest_theory.proofs.Numbered.{how-many-next}
 use Rattle.forest_theory.proofs.Rows.{row-at}
-use Rattle.forest_tables.specs.Counting.{ForClasses}
+use Rattle.forest_tables.specs.InnerCounting.{ForClasses}
 use Rattle.forest_tables.specs.Formula.{variables}
 use Rattle.forest_tables.proofs.Agreeing.{lawful}
-use Rattle.grow_rows.specs.Rows.{CensusOf}
+use Rattle.grow_rows.specs.InnerRows.{CensusOf}
 
 pub census-none : (n : ℕ) (classes : List ℕ) → CensusOf n classes 0 0 0
 unfolding how-many

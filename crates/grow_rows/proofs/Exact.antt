@@ -16,14 +16,14 @@ use Rattle.forest_tables.specs.Formula.{variables}
 use Rattle.forest_tables.proofs.Agreeing.{lawful}
 use Rattle.forest_theory.specs.Reach.{Variables, From, Reach}
 use Rattle.forest_theory.specs.Tables.{Table, row, lent, ClassName, ClassRow, WellFormed}
-use Rattle.forest_theory.specs.Climb.{Represents}
+use Rattle.forest_theory.specs.InnerClimb.{Represents}
 use Rattle.forest_theory.proofs.Reach.{reach-one, reach-trans, reach-mono, allow}
 use Rattle.forest_theory.proofs.Represent.{Link, to-class, to-parent, Linked, up, down, linked-sym, linked-tops}
 use Rattle.forest_theory.proofs.Rows.{row-at, row-out}
 use Rattle.forest_theory.proofs.Forest.{represents-rows, represents-reach, represents-forest}
-use Rattle.grow_union_find.specs.Loose.{Inside, Equal, Loose, table, ranked, links, Growing}
-use Rattle.grow_passes.specs.Rows.{EndsAt, Depths, Settled, Written}
-use Rattle.grow_rows.specs.Rows.{Exact, Rowed}
+use Rattle.grow_union_find.specs.InnerLoose.{Inside, Equal, Loose, table, ranked, links, Growing}
+use Rattle.grow_passes.specs.InnerRows.{EndsAt, Depths, Settled, Written}
+use Rattle.grow_rows.specs.InnerRows.{Exact, Rowed}
 use Rattle.grow_union_find.proofs.Inside.{inside-reach, inside-links, equal-trans}
 use Rattle.grow_union_find.proofs.Steps.{no-zero}
 

@@ -5,7 +5,7 @@ use mathlib.Core.List.{List, [], _∷_, _++_}
 use native.Mathlib.Omega.{arith}
 use lib.IntN.{ℤ}
 use lib.ListN.{length, getD}
-use Rattle.terms.specs.Limits.{variableRows}
+use Rattle.terms.specs.InnerLimits.{variableRows}
 use Rattle.formula.specs.Meaning.{connected}
 use Rattle.forest_tables.specs.Formula.{variables}
 use Rattle.forest_tables.proofs.Agreeing.{lawful}
@@ -15,8 +15,8 @@ use Rattle.forest_theory.proofs.Reach.{reach-one}
 use Rattle.forest_theory.proofs.Represent.{Linked}
 use Rattle.forest_theory.proofs.Joins.{joins-linked}
 use Rattle.forest_theory.proofs.Forest.{same-rows}
-use Rattle.grow_union_find.specs.Loose.{Equal, Loose, table, ranked, links, Growing, Grew}
-use Rattle.grow_passes.specs.Rows.{Depths}
+use Rattle.grow_union_find.specs.InnerLoose.{Equal, Loose, table, ranked, links, Growing, Grew}
+use Rattle.grow_passes.specs.InnerRows.{Depths}
 use Rattle.grow_union_find.proofs.Inside.{equal-trans, equal-sym, equal-snoc, equal-added}
 use Rattle.grow_rows.proofs.Exact.{depth-existential, ex-same, equal-formula, equal-linked, depth-none}
 

@@ -10,10 +10,10 @@ use Rattle.forest_theory.specs.Reach.{Variables}
 use Rattle.forest_theory.specs.Tables.{Table, row}
 use Rattle.forest_theory.specs.Counts.{Numbered, Within, Counted}
 use Rattle.forest_theory.proofs.Rows.{row-at, row-out}
-use Rattle.forest_tables.specs.Counting.{CountsOf}
+use Rattle.forest_tables.specs.InnerCounting.{CountsOf}
 use Rattle.forest_tables.proofs.Agreeing.{lawful}
 use Rattle.grow_passes.proofs.Passes.{StoredTo, store-none, store-one}
-use Rattle.grow_rows.specs.Rows.{Copied, Recounted}
+use Rattle.grow_rows.specs.InnerRows.{Copied, Recounted}
 
 -- Rows that are stored up to `at` from a table are copied.
 copied-to : {n : ℕ} {table rows rows′ : List ℕ} {at : ℕ} → at ≤ n → StoredTo (λ u. getD table (u + 1) 0) rows at rows′ → Copied n table rows at rows′

@@ -1,2 +1,2 @@
 -- Inner definitions, which only proofs rest on: what the functions do that make exact rows in lent tables, and count.
-pub mod Rows
+pub mod InnerRows

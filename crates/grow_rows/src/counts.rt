@@ -5,10 +5,11 @@ use terms::Variable;
 ghost use Prim.Native.Nat.{_+_, _≤_, _<_};
 ghost use mathlib.Core.Path.{_≡_};
 ghost use lib.ListN.{length};
-ghost use Rattle.terms.specs.Limits.{mostVariables, variableRows};
-ghost use Rattle.formula.specs.Levels.{SoundPrefix};
-ghost use Rattle.forest_tables.specs.Counting.{FormedBy};
-ghost use Rattle.grow_rows.specs.Rows.{Copied, Recounted, CensusOf};
+ghost use Rattle.terms.specs.Limits.{mostVariables};
+ghost use Rattle.terms.specs.InnerLimits.{variableRows};
+ghost use Rattle.formula.specs.InnerLevels.{SoundPrefix};
+ghost use Rattle.forest_tables.specs.InnerCounting.{FormedBy};
+ghost use Rattle.grow_rows.specs.InnerRows.{Copied, Recounted, CensusOf};
 
 // Writes the counts of well-formed rows into the lent rows of 1 to n.
 pub fn recount(n: u32, prefix: &[u32], classes: &[u32], parents: &[u32], counts: &mut [u32])

@@ -15,16 +15,16 @@ ghost use Prim.Native.Nat.{ℕ, _≤_};
 ghost use mathlib.Core.Path.{_≡_};
 ghost use mathlib.Core.List.{List, [], _∷_, _++_};
 ghost use lib.ListN.{length};
-ghost use Rattle.formula.specs.Levels.{SoundPrefix};
-ghost use Rattle.formula.specs.Lookup.{InRows, SoundClauses};
+ghost use Rattle.formula.specs.InnerLevels.{SoundPrefix};
+ghost use Rattle.formula.specs.InnerLookup.{InRows, SoundClauses};
 ghost use Rattle.formula.specs.Meaning.{clauses as Meaning·clauses, connected};
 ghost use Rattle.forest_theory.specs.Reach.{Joined};
 ghost use Rattle.forest_theory.specs.Tables.{lent, joins};
-ghost use Rattle.forest_tables.specs.Counting.{FormedBy};
+ghost use Rattle.forest_tables.specs.InnerCounting.{FormedBy};
 ghost use Rattle.forest_tables.specs.Formula.{variables, Shares};
-ghost use Rattle.grow_union_find.specs.Loose.{links, Growing};
-ghost use Rattle.grow_passes.specs.Rows.{EndsAt, Depths};
-ghost use Rattle.grow_rows.specs.Rows.{Exact, Rowed};
+ghost use Rattle.grow_union_find.specs.InnerLoose.{links, Growing};
+ghost use Rattle.grow_passes.specs.InnerRows.{EndsAt, Depths};
+ghost use Rattle.grow_rows.specs.InnerRows.{Exact, Rowed};
 
 // The rows of classes and parents of an accepted formula: loose rows of no clause, every clause put in, and the exact rows written out.
 // Gives how many clauses there are.

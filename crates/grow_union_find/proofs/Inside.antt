@@ -5,10 +5,10 @@ use mathlib.Core.List.{List, [], _∷_, _++_, List·Memᴰ, List·Memᴰ·head, 
 use mathlib.Core.Logic.{_⊎_, inl, inr}
 use Rattle.forest_theory.specs.Reach.{Variables, From, Joined, Reach, here}
 use Rattle.forest_theory.specs.Tables.{Table}
-use Rattle.forest_theory.specs.Growth.{Added, before, added}
+use Rattle.forest_theory.specs.InnerGrowth.{before, added, Added}
 use Rattle.forest_theory.proofs.Reach.{Symmetric, reach-one, reach-sym, simulate, joined-added, added-sym}
 use Rattle.forest_theory.proofs.Represent.{Link, Linked, up, down, linked-sym}
-use Rattle.grow_union_find.specs.Loose.{Inside, Equal}
+use Rattle.grow_union_find.specs.InnerLoose.{Inside, Equal}
 
 module _ {X : Variables} where
   -- What lies inside reaches no more.

@@ -10,10 +10,10 @@ use native.Mathlib.Omega.{arith}
 use Rattle.terms.proofs.Common.{clash}
 use Rattle.forest_theory.specs.Reach.{Variables, From, Reach, here}
 use Rattle.forest_theory.specs.Tables.{Table}
-use Rattle.forest_theory.specs.Growth.{Added}
+use Rattle.forest_theory.specs.InnerGrowth.{Added}
 use Rattle.forest_theory.proofs.Reach.{reach-one, reach-trans, reach-sym, reach-mono, from-less}
 use Rattle.forest_theory.proofs.Represent.{Link, to-class, to-parent, Linked, up, down, linked-sym}
-use Rattle.grow_union_find.specs.Loose.{Equal, LooseClass, LooseParent, Loose, Kept, RootOf}
+use Rattle.grow_union_find.specs.InnerLoose.{Equal, LooseClass, LooseParent, Loose, Kept, RootOf}
 use Rattle.grow_union_find.proofs.Inside.{inside-reach, inside-refl, inside-trans, inside-before, inside-pair, inside-links, pair-step}
 use Rattle.grow_union_find.proofs.Inside.{pair-back, link-step, link-back, both-sym}
 

@@ -10,9 +10,9 @@ use borrow.Author.Tests.{ltb-true, lt-ltb, le-ltb}
 use lib.ListN.{length, getD, set, length-set, List·getD-eq-default}
 use lib.Seq.{getD-set-same, getD-set-other}
 use Rattle.forest_theory.specs.Reach.{Variables}
-use Rattle.terms.specs.Limits.{variableRows}
-use Rattle.forest_theory.specs.Growth.{Added}
-use Rattle.grow_union_find.specs.Loose.{Equal, RootOf, Falling, FindsRoot, table, ranked, links, Growing, Pending, Roots, Stepped, Grew}
+use Rattle.terms.specs.InnerLimits.{variableRows}
+use Rattle.forest_theory.specs.InnerGrowth.{Added}
+use Rattle.grow_union_find.specs.InnerLoose.{Equal, RootOf, Falling, FindsRoot, table, ranked, links, Growing, Pending, Roots, Stepped, Grew}
 use Rattle.terms.proofs.Common.{clash}
 use Rattle.grow_union_find.proofs.Inside.{inside-reach, equal-refl, equal-sym, equal-trans, pair-turned}
 use Rattle.grow_union_find.proofs.Relinked.{moved, united, united-loose, hung, hung-loose, risen, idle}

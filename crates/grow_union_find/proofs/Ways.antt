@@ -8,12 +8,12 @@ use native.Mathlib.Decide.{ℕ-discrete}
 use native.Mathlib.Omega.{arith}
 use lib.ListN.{length, getD, set, length-set}
 use lib.Seq.{getD-set-same, getD-set-other}
-use Rattle.terms.specs.Limits.{variableRows}
+use Rattle.terms.specs.InnerLimits.{variableRows}
 use Rattle.forest_theory.specs.Reach.{Variables, From, Reach, here}
 use Rattle.forest_theory.specs.Tables.{Table}
 use Rattle.forest_theory.proofs.Reach.{reach-one, reach-trans}
 use Rattle.forest_theory.proofs.Represent.{to-class, Linked, up}
-use Rattle.grow_union_find.specs.Loose.{Loose, Kept, Falling, FindsRoot, table}
+use Rattle.grow_union_find.specs.InnerLoose.{Loose, Kept, Falling, FindsRoot, table}
 use Rattle.grow_union_find.proofs.Inside.{inside-reach, equal-refl, equal-trans}
 use Rattle.grow_union_find.proofs.Relinked.{halved}
 

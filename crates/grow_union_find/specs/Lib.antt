@@ -1,2 +1,2 @@
 -- Inner definitions, which only proofs rest on: loose rows, and what joining two chains in them does.
-pub mod Loose
+pub mod InnerLoose

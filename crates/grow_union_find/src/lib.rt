@@ -9,7 +9,7 @@ ghost use mathlib.Core.Path.{_≡_};
 ghost use mathlib.Core.List.{List, [], _∷_};
 ghost use mathlib.Core.Logic.{_≢_};
 ghost use lib.ListN.{length, getD, set};
-ghost use Rattle.grow_union_find.specs.Loose.{Falling, FindsRoot, Growing, Pending, Roots, Stepped, Grew};
+ghost use Rattle.grow_union_find.specs.InnerLoose.{Falling, FindsRoot, Growing, Pending, Roots, Stepped, Grew};
 
 // The two that are left to be joined, the deeper first; the second is 0 where nothing is left.
 struct Rest(Variable, Variable);

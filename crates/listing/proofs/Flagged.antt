@@ -17,10 +17,10 @@ use Rattle.forest_tables.specs.Formula.{Shares}
 use Rattle.forest_tables.specs.Lent.{Rows, rows, variablesOf, forestOf}
 use Rattle.forest_tables.proofs.Agreeing.{lawful}
 use Rattle.forest_members.specs.declared.Asked.the-variants.{Points, Set}
-use Rattle.forest_members.specs.Picked.{pick, picked}
+use Rattle.forest_members.specs.InnerPicked.{pick, picked}
 use Rattle.forest.specs.Answers.{EntriesBy}
 use Rattle.forest.proofs.Demands.{universal-alone, members-depend}
-use Rattle.sets_occurrences.specs.Threads.{Closed, EnteredBy}
+use Rattle.sets_occurrences.specs.InnerThreads.{Closed, EnteredBy}
 use Rattle.sets.proofs.AllSets.{set-picked, points-picked}
 use Rattle.listing_lines.specs.Lines.{universalLine, LineIn}
 use Rattle.listing.specs.Listing.{Enters, LineOf}

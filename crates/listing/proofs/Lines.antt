@@ -8,7 +8,7 @@ use lib.ListN.{length}
 use Rattle.formula.specs.Lent.{Formula}
 use Rattle.forest_tables.specs.Formula.{universal}
 use Rattle.forest_tables.proofs.Agreeing.{universal-within}
-use Rattle.forest_members.specs.Picked.{picked}
+use Rattle.forest_members.specs.InnerPicked.{picked}
 use Rattle.forest_members.proofs.Picked.{Counted, count-none, count-more, count-same, count-all, picked-more, picked-same, picked-most, picked-listed}
 use Rattle.listing.specs.Listing.{LineOf, LinesOf, no-line, one-more, Lists, lists, AllPrinted}
 

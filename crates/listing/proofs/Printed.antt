@@ -15,10 +15,10 @@ use Rattle.terms.specs.Overwritten.{overwritten}
 use Rattle.terms.proofs.Listed.{listed-one}
 use Rattle.terms.proofs.Overwritten.{overwritten-room}
 use Rattle.forest_members.specs.declared.Asked.the-variants.{Points}
-use Rattle.forest_members.specs.Picked.{pick, picked, NoneUpto}
+use Rattle.forest_members.specs.InnerPicked.{pick, picked, NoneUpto}
 use Rattle.forest_members.proofs.Picked.{picked-most, picked-flag, picked-listed}
-use Rattle.sets_occurrences.specs.SoleTops.{Is}
-use Rattle.sets_subtrees.specs.Runs.{Run, only}
+use Rattle.sets_occurrences.specs.InnerSoleTops.{Is}
+use Rattle.sets_subtrees.specs.InnerRuns.{Run, only}
 use Rattle.sets_subtrees.proofs.Linked.{run-one, only-set, only-own}
 use Rattle.listing_lines.specs.Lines.{LineIn}
 use Rattle.listing_lines.specs.Inner.{Small}

@@ -12,7 +12,7 @@ use Rattle.formula.specs.Lent.{Formula}
 use Rattle.formula.proofs.Places.{prefix-place, clause-place}
 use Rattle.formula_rules.specs.Rules.{checkOrder}
 use Rattle.grow.specs.Grown.{Standing, TooShort, buildOrder}
-use Rattle.grow.specs.Rows.{Room}
+use Rattle.grow.specs.InnerRows.{Room}
 use Rattle.text_lines.specs.Format.{MayFollow, LineCause}
 use Rattle.text_lines.proofs.Places.{cause-place}
 use Rattle.text_qdimacs.specs.Reading.{TEXT-MOST, Overlong, overlong, NoRoom, no-room-prefix, no-room-clauses, readOrder}

@@ -9,9 +9,9 @@ use Rattle.forest_theory.specs.Tables.{lent}
 use Rattle.forest_theory.specs.Forest.{Forest}
 use Rattle.forest_tables.specs.Formula.{universal, Shares}
 use Rattle.forest_tables.specs.Lent.{variablesOf}
-use Rattle.forest_climb.specs.Search.{TopRows}
+use Rattle.forest_climb.specs.InnerSearch.{TopRows}
 use Rattle.forest_members.specs.declared.Asked.the-variants.{Points, Set}
-use Rattle.forest_members.specs.Picked.{pick, picked}
+use Rattle.forest_members.specs.InnerPicked.{pick, picked}
 use Rattle.listing_lines.specs.Lines.{universalLine}
 
 -- the rows are the formula's own forest

@@ -6,7 +6,7 @@ ghost use Prim.Native.Nat.{_<_, _≤_};
 ghost use mathlib.Core.List.{_++_};
 ghost use lib.ListN.{length};
 ghost use Rattle.text_write.specs.Numbers.{decimal};
-ghost use Rattle.text_write.specs.Stored.{Wrote};
+ghost use Rattle.text_write.specs.InnerBytes.{Wrote};
 ghost use Rattle.listing_lines.specs.Lines.{numbers, headLine, universalLine, refusedLine, LineIn};
 ghost use Rattle.listing_lines.specs.Inner.{lineBytes, Small, Stored};
 

@@ -12,16 +12,16 @@ use lib.ListN.{length, getD, set, take, drop, length-set}
 use lib.Seq.{getD-set-same, getD-set-other}
 use Rattle.terms.proofs.Common.{clash}
 use Rattle.terms.specs.Literals.{variableOf}
-use Rattle.formula.specs.Lookup.{NextZero}
+use Rattle.formula.specs.InnerLookup.{NextZero}
 use Rattle.formula.specs.Meaning.{clauses, alwaysTrue}
 use Rattle.formula.proofs.Lookups.{clauses-closed}
 use Rattle.formula.proofs.Signs.{connected-all}
 use Rattle.formula.specs.Tables.{at}
-use Rattle.forest_entries.specs.Flags.{Has}
+use Rattle.forest_entries.specs.InnerFlags.{Has}
 use Rattle.forest_entries.proofs.Flags.{connects-all}
 use Rattle.path_check.specs.Paths.{clauseAt, HasVariable}
 use Rattle.path_check.specs.Causes.{NumberOver}
-use Rattle.path_check.specs.Walk.{StandsFrom, Begin, idle, from, RowOf, Rows, Known, Small}
+use Rattle.path_check.specs.InnerWalk.{StandsFrom, Begin, idle, from, RowOf, Rows, Known, Small}
 
 -- What stands from start up to the 0 at z is the clause with the number k: so its row is the row of that clause.
 row-begin : {ls : List ℤ} {k start z row : ℕ} → NextZero ls start z → z < length ls → take (z - start) (drop start ls) ≡ clauseAt ls k → RowOf ls start z row → Begin ls k row

@@ -18,14 +18,14 @@ use Rattle.terms.specs.declared.Verdict.the-variants.{Accepted, Refused}
 use Rattle.formula.specs.Meaning.{alwaysTrue}
 use Rattle.formula.specs.Tables.{at}
 use Rattle.forest_theory.specs.Reach.{Variables, Deeper}
-use Rattle.forest_theory.specs.Search.{has}
+use Rattle.forest_theory.specs.InnerSearch.{has}
 use Rattle.forest_theory.proofs.Choice.{both, either, or-right}
 use Rattle.forest_theory.proofs.Search.{has-member, member-has}
-use Rattle.forest_tables.specs.Rows.{Tells}
+use Rattle.forest_tables.specs.InnerRows.{Tells}
 use Rattle.forest_tables.proofs.Readings.{told-both}
 use Rattle.path_check.specs.Paths.{clauseAt, HasVariable, Shared}
 use Rattle.path_check.specs.Causes.{PathCause, empty, always-true, without-y}
-use Rattle.path_check.specs.Walk.{Joins}
+use Rattle.path_check.specs.InnerWalk.{Joins}
 use Rattle.path_check.proofs.Following.{Clean, not-joined, no-cause, clean-more, fails-first, fails-never}
 
 -- A test tells of P, where it comes out true exactly if P holds.

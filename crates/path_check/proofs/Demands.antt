@@ -20,7 +20,8 @@ use Rattle.formula.specs.Causes.{ClauseCause}
 use Rattle.formula.specs.Lent.{Formula, formulaOf}
 use Rattle.formula.specs.Meaning.{isExistential, level}
 use Rattle.forest_theory.specs.Counts.{how-many}
-use Rattle.forest_theory.specs.Reach.{Universal, From, Deeper}
+use Rattle.forest_theory.specs.Reach.{From, Deeper}
+use Rattle.forest_theory.specs.InnerVariables.{Universal}
 use Rattle.formula_rules.specs.Rules.{readBy, ruledPrefix, checkOrder}
 use Rattle.formula_rules.proofs.Agreement.{one-to-two, two-to-one}
 use Rattle.forest_tables.specs.Formula.{variables, universal, Shares}

@@ -9,11 +9,11 @@ use lib.IntN.{ℤ}
 use lib.ListN.{length, getD, set, length-set}
 use lib.Seq.{getD-set-same, getD-set-other}
 use Rattle.terms.specs.Literals.{variableOf}
-use Rattle.formula.specs.Lookup.{NextZero}
+use Rattle.formula.specs.InnerLookup.{NextZero}
 use Rattle.formula.specs.Tables.{literalAt}
-use Rattle.forest_entries.specs.Flags.{Has}
+use Rattle.forest_entries.specs.InnerFlags.{Has}
 use Rattle.forest_entries.proofs.Flags.{has-none, has-next, next-none}
-use Rattle.path_check.specs.Walk.{Stamped}
+use Rattle.path_check.specs.InnerWalk.{Stamped}
 
 -- From start up to i stand literals only, and P holds of none of their variables.
 pub record Passing (P : ℕ → Type 0) (ls : List ℤ) (start i : ℕ) : Type 0 where

@@ -15,11 +15,11 @@ use Rattle.terms.specs.Refusals.{Causes, First, None}
 use Rattle.formula.specs.Meaning.{alwaysTrue}
 use Rattle.formula.specs.Tables.{at}
 use Rattle.forest_theory.specs.Reach.{Variables}
-use Rattle.forest_tables.specs.Rows.{Tells}
-use Rattle.forest_entries.specs.Flags.{Has}
+use Rattle.forest_tables.specs.InnerRows.{Tells}
+use Rattle.forest_entries.specs.InnerFlags.{Has}
 use Rattle.path_check.specs.Paths.{clauseAt, HasVariable, Shared}
 use Rattle.path_check.specs.Causes.{PathCause, empty, without-x, always-true, apart, without-y}
-use Rattle.path_check.specs.Walk.{StandsFrom, Joins, Meets, Stamped, Walked}
+use Rattle.path_check.specs.InnerWalk.{StandsFrom, Joins, Meets, Stamped, Walked}
 use Rattle.path_check.proofs.Beginning.{from-has}
 
 -- A flag tells of P the opposite of what it tells of Q, where one of the two holds and never both.

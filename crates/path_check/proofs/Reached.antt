@@ -13,9 +13,10 @@ use Rattle.terms.specs.Literals.{variableOf}
 use Rattle.formula.specs.Meaning.{clauses, alwaysTrue, connected}
 use Rattle.formula.specs.Tables.{at}
 use Rattle.formula.proofs.Signs.{connected-all}
-use Rattle.forest_theory.specs.Reach.{Variables, Lawful, Universal, From, Reach, here, step, Deeper}
+use Rattle.forest_theory.specs.Reach.{Variables, From, Reach, here, step, Deeper}
+use Rattle.forest_theory.specs.InnerVariables.{Lawful, Universal}
 use Rattle.forest_theory.specs.Counts.{Numbered, how-many}
-use Rattle.forest_theory.specs.Search.{has}
+use Rattle.forest_theory.specs.InnerSearch.{has}
 use Rattle.forest_theory.proofs.Numbered.{numbered-one, numbered-none, numbered-more, numbered-same, how-many-numbered, how-many-less}
 use Rattle.forest_theory.proofs.Search.{has-member, member-has}
 use Rattle.forest_tables.specs.Formula.{joined, Shares}

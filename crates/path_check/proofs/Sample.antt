@@ -16,11 +16,12 @@ use Rattle.terms.specs.Refusals.{At0, NoneOf, Judged}
 use Rattle.terms.specs.declared.Verdict.{Verdict}
 use Rattle.terms.specs.declared.Verdict.the-variants.{Accepted, Refused}
 use Rattle.formula.specs.Lent.{Formula, formulaOf}
-use Rattle.formula.specs.Meaning.{blocks, clauses, opposite, denied, alwaysTrue, freeLevel, level, isUniversal, isExistential}
+use Rattle.formula.specs.Meaning.{blocks, clauses, opposite, denied, alwaysTrue, level, isUniversal, isExistential}
+use Rattle.formula.specs.InnerLevels.{freeLevel}
 use Rattle.formula.specs.Tables.{cut}
 use Rattle.formula.proofs.Accepts.{goodMark, prefixPasses, clausesPass, accepts}
 use Rattle.forest_theory.proofs.Choice.{both}
-use Rattle.forest_theory.specs.Search.{has}
+use Rattle.forest_theory.specs.InnerSearch.{has}
 use Rattle.formula_rules.specs.Rules.{readAs, checkOrder}
 use Rattle.forest_tables.specs.Formula.{variables, universal}
 use Rattle.path_check.specs.Causes.{Misnamed, NumberOver, PathCause, PathJudged}

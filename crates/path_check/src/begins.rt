@@ -7,11 +7,11 @@ ghost use Prim.Native.Nat.{_+_, _<_};
 ghost use mathlib.Core.Path.{_≡_};
 ghost use lib.ListN.{length};
 ghost use Rattle.terms.specs.Limits.{clauseEntries};
-ghost use Rattle.formula.specs.Lookup.{NextZero, SoundClauses, Stamps};
+ghost use Rattle.formula.specs.InnerLookup.{NextZero, SoundClauses, Stamps};
 ghost use Rattle.formula.specs.Meaning.{clauses as Meaning·clauses};
-ghost use Rattle.forest_tables.specs.Rows.{Tells};
+ghost use Rattle.forest_tables.specs.InnerRows.{Tells};
 ghost use Rattle.path_check.specs.Causes.{NumberOver};
-ghost use Rattle.path_check.specs.Walk.{Rows, RowOf};
+ghost use Rattle.path_check.specs.InnerWalk.{Rows, RowOf};
 
 // Fills the row of each clause: 0 where it is always true, and else one more than the entry with which it begins. Gives the count of the clauses.
 pub fn fill_begins(clauses: &[i32], begins: &mut [u16]) -> usize

@@ -21,10 +21,10 @@ ghost use mathlib.Core.List.{List, [], _∷_};
 ghost use lib.ListN.{length};
 ghost use Rattle.terms.specs.Refusals.{At0, Judged};
 ghost use Rattle.formula.specs.Lent.{formulaOf, formulaIn};
-ghost use Rattle.formula.specs.Levels.{SoundPrefix, Levelled};
-ghost use Rattle.formula.specs.Lookup.{SoundClauses};
+ghost use Rattle.formula.specs.InnerLevels.{SoundPrefix, Levelled};
+ghost use Rattle.formula.specs.InnerLookup.{SoundClauses};
 ghost use Rattle.formula.specs.Meaning.{clauses as Meaning·clauses};
-ghost use Rattle.forest_tables.specs.Tabled.{tabled};
+ghost use Rattle.forest_tables.specs.InnerTabled.{tabled};
 ghost use Rattle.path_check.specs.Causes.{NumberOver, PathCause, PathJudged};
 ghost use Rattle.path_check.specs.InnerOrders.{pairOrder};
 

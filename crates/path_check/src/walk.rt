@@ -9,18 +9,18 @@ ghost use mathlib.Core.Path.{_≡_};
 ghost use mathlib.Core.Bool.{false};
 ghost use mathlib.Core.List.{[], _∷_};
 ghost use lib.ListN.{length, getD};
-ghost use Rattle.terms.specs.Limits.{variableRows};
+ghost use Rattle.terms.specs.InnerLimits.{variableRows};
 ghost use Rattle.terms.specs.Refusals.{Judged};
-ghost use Rattle.formula.specs.Lookup.{NextZero, SoundClauses};
+ghost use Rattle.formula.specs.InnerLookup.{NextZero, SoundClauses};
 ghost use Rattle.formula.specs.Meaning.{alwaysTrue};
 ghost use Rattle.formula.specs.Tables.{at};
-ghost use Rattle.forest_tables.specs.Tabled.{tabled};
-ghost use Rattle.forest_tables.specs.Rows.{Tells};
-ghost use Rattle.forest_entries.specs.Flags.{Has};
+ghost use Rattle.forest_tables.specs.InnerTabled.{tabled};
+ghost use Rattle.forest_tables.specs.InnerRows.{Tells};
+ghost use Rattle.forest_entries.specs.InnerFlags.{Has};
 ghost use Rattle.forest_theory.specs.Reach.{Deeper};
 ghost use Rattle.path_check.specs.Paths.{clauseAt};
 ghost use Rattle.path_check.specs.Causes.{PathCause};
-ghost use Rattle.path_check.specs.Walk.{Joins, Known, Meets, Small, Stamped, StandsFrom, Walked};
+ghost use Rattle.path_check.specs.InnerWalk.{Joins, Known, Meets, Small, Stamped, StandsFrom, Walked};
 
 // The first entry at which a path fails, every entry of which names a clause.
 pub fn follow(

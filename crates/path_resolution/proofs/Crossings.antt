@@ -11,14 +11,14 @@ use lib.ListN.{length, take, drop, drop-of-length-le}
 use Rattle.terms.specs.Literals.{variableOf}
 use Rattle.formula.specs.Tables.{literalAt, cut}
 use Rattle.formula.specs.Meaning.{clauses, alwaysTrue}
-use Rattle.formula.specs.Lookup.{NextZero}
+use Rattle.formula.specs.InnerLookup.{NextZero}
 use Rattle.formula.proofs.Lookups.{clauses-closed, clauses-unclosed}
-use Rattle.forest_entries.specs.Flags.{HasLiteral}
+use Rattle.forest_entries.specs.InnerFlags.{HasLiteral}
 use Rattle.forest_entries.proofs.Flags.{clause-literal}
-use Rattle.sets_occurrences.specs.Threads.{Begins, first, after, Inside, Closed}
+use Rattle.sets_occurrences.specs.InnerThreads.{Begins, first, after, Inside, Closed}
 use Rattle.sets_occurrences.proofs.Followed.{next-from, closed-next}
 use Rattle.path_resolution.specs.Paths.{Crosses}
-use Rattle.path_resolution.specs.Walk.{Passes}
+use Rattle.path_resolution.specs.InnerWalk.{Passes}
 use Rattle.path_resolution.proofs.Places.{inside-less, inside-has}
 
 has-inside : {ls : List ℤ} {s z : ℕ} {l : ℤ} → Begins ls s → NextZero ls s z → (h : HasLiteral ls s z l) → Inside ls s (h .place)

@@ -13,16 +13,16 @@ use Rattle.terms.specs.Literals.{variableOf}
 use Rattle.terms.specs.Refusals.{NoneOf}
 use Rattle.formula.specs.Causes.{ClauseCause}
 use Rattle.formula.specs.Lent.{Formula}
-use Rattle.formula.specs.Levels.{SoundPrefix, Levelled}
+use Rattle.formula.specs.InnerLevels.{SoundPrefix, Levelled}
 use Rattle.formula.specs.Tables.{literalAt}
 use Rattle.formula_rules.specs.Rules.{checkOrder}
 use Rattle.formula_rules.proofs.Orders.{clauses-sound}
 use Rattle.forest_tables.specs.Formula.{variables, signed}
-use Rattle.forest_tables.specs.Tabled.{tabled, universalIn}
+use Rattle.forest_tables.specs.InnerTabled.{tabled, universalIn}
 use Rattle.forest_tables.proofs.Agreeing.{lawful, same-back, tables-agree, level-agrees}
 use Rattle.forest_tables.proofs.Readings.{flag-within}
 use Rattle.forest_members.specs.declared.Asked.the-variants.{Points}
-use Rattle.forest_members.specs.Picked.{pick, picked}
+use Rattle.forest_members.specs.InnerPicked.{pick, picked}
 use Rattle.forest_members.proofs.Picked.{picked-listed}
 use Rattle.forest_entries.proofs.Flags.{literal-past}
 use Rattle.path_resolution.specs.Paths.{DependsByPaths}

@@ -8,9 +8,9 @@ use native.Mathlib.Omega.{arith}
 use lib.IntN.{ℤ, pos, negsuc, negℤ}
 use lib.ListN.{length, getD, set}
 use Rattle.terms.specs.Literals.{variableOf}
-use Rattle.terms.specs.LiteralRows.{rowOf, otherRow}
+use Rattle.terms.specs.InnerLiteralRows.{rowOf, otherRow}
 use Rattle.terms.proofs.Common.{clash}
-use Rattle.path_resolution.specs.Walk.{unmarked}
+use Rattle.path_resolution.specs.InnerWalk.{unmarked}
 
 -- A row is of one literal, and so is an other row.
 pub row-one : (a b : ℤ) → rowOf a ≡ rowOf b → a ≡ b

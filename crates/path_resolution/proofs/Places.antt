@@ -10,13 +10,13 @@ use lib.IntN.{ℤ}
 use lib.ListN.{length, take, drop}
 use Rattle.terms.specs.Literals.{variableOf}
 use Rattle.formula.specs.Tables.{literalAt}
-use Rattle.formula.specs.Lookup.{NextZero}
+use Rattle.formula.specs.InnerLookup.{NextZero}
 use Rattle.formula.proofs.Signs.{connected-all}
 use Rattle.forest_tables.specs.Formula.{signed}
-use Rattle.forest_entries.specs.Flags.{HasLiteral}
+use Rattle.forest_entries.specs.InnerFlags.{HasLiteral}
 use Rattle.forest_entries.proofs.Flags.{literal-past, next-none, clause-literal}
 use Rattle.forest_entries.proofs.Sides.{sign-of, one-sign}
-use Rattle.sets_occurrences.specs.Threads.{Inside, Connecting}
+use Rattle.sets_occurrences.specs.InnerThreads.{Inside, Connecting}
 
 -- An entry of a clause is one of the table, and stands before the clause's 0.
 pub inside-less : {ls : List ℤ} {s p : ℕ} → Inside ls s p → p < length ls

@@ -10,19 +10,19 @@ use lib.IntN.{ℤ, pos, negsuc}
 use lib.ListN.{length, getD, set, replicate, length-set, getD-replicate}
 use lib.Seq.{getD-set-same, getD-set-other}
 use Rattle.terms.specs.Literals.{variableOf}
-use Rattle.terms.specs.LiteralRows.{rowOf}
+use Rattle.terms.specs.InnerLiteralRows.{rowOf}
 use Rattle.terms.proofs.Common.{clash}
 use Rattle.formula.specs.Tables.{literalAt}
 use Rattle.forest_theory.specs.Reach.{Variables, Deeper}
-use Rattle.forest_tables.specs.Tabled.{existentialIn, tabled}
+use Rattle.forest_tables.specs.InnerTabled.{existentialIn, tabled}
 use Rattle.forest_tables.specs.Formula.{signed}
-use Rattle.forest_tables.specs.Rows.{Tells}
+use Rattle.forest_tables.specs.InnerRows.{Tells}
 use Rattle.forest_tables.proofs.Readings.{flag-within}
 use Rattle.forest_tables.proofs.Agreeing.{Same, deeper-same}
 use Rattle.forest_entries.proofs.Sides.{signed-variable}
-use Rattle.sets_occurrences.specs.Threads.{Threaded}
+use Rattle.sets_occurrences.specs.InnerThreads.{Threaded}
 use Rattle.path_resolution.specs.Paths.{Crosses, Path, enters, goes-on, DependsByPaths}
-use Rattle.path_resolution.specs.Walk.{marked, Passes, Walk, starts, steps, Walked, Chained, Rowed}
+use Rattle.path_resolution.specs.InnerWalk.{marked, Passes, Walk, starts, steps, Walked, Chained, Rowed}
 use Rattle.path_resolution.specs.InnerEnds.{Barred, ReadClauses, Ends, Pairs}
 use Rattle.path_resolution.proofs.Places.{inside-less}
 use Rattle.path_resolution.proofs.Crossings.{passes-crosses}

@@ -12,7 +12,8 @@ use Rattle.terms.specs.Literals.{variableOf}
 use Rattle.terms.proofs.Common.{clash}
 use Rattle.formula.specs.Lent.{Formula, formulaOf}
 use Rattle.formula.specs.Tables.{cut}
-use Rattle.formula.specs.Meaning.{blocks, clauses, opposite, denied, alwaysTrue, connected, freeLevel, level, isUniversal, isExistential}
+use Rattle.formula.specs.Meaning.{blocks, clauses, opposite, denied, alwaysTrue, connected, level, isUniversal, isExistential}
+use Rattle.formula.specs.InnerLevels.{freeLevel}
 use Rattle.forest_theory.specs.Reach.{Variables, From, Reach, here, step, Deeper}
 use Rattle.terms.specs.Listed.{Listed}
 use Rattle.forest_tables.specs.Formula.{signed, SharesBy}

@@ -11,12 +11,12 @@ use lib.IntN.{ℤ, negℤ}
 use lib.ListN.{length, getD, set, length-set}
 use lib.Seq.{getD-set-same, getD-set-other}
 use Rattle.terms.specs.Literals.{variableOf}
-use Rattle.terms.specs.LiteralRows.{rowOf, otherRow}
+use Rattle.terms.specs.InnerLiteralRows.{rowOf, otherRow}
 use Rattle.terms.proofs.Common.{clash}
 use Rattle.formula.specs.Tables.{literalAt}
-use Rattle.sets_occurrences.specs.Threads.{LastZero, Inside, Connecting, linkAt, On, Noted}
+use Rattle.sets_occurrences.specs.InnerThreads.{LastZero, Inside, Connecting, linkAt, On, Noted}
 use Rattle.sets_occurrences.proofs.Chains.{last-one, inside-one, on-some, on-here, on-later, on-cases}
-use Rattle.path_resolution.specs.Walk.{marked, Leaves, Passes, Walk, starts, steps, Grown, Walked, Chained}
+use Rattle.path_resolution.specs.InnerWalk.{marked, Leaves, Passes, Walk, starts, steps, Grown, Walked, Chained}
 use Rattle.path_resolution.proofs.Marks.{row-one, row-complement, complement-row, complement-variable}
 use Rattle.path_resolution.proofs.Places.{one-literal}
 

@@ -12,13 +12,13 @@ use Rattle.terms.specs.Refusals.{Causes}
 use Rattle.terms.specs.declared.Filled.{Filled}
 use Rattle.formula.specs.Lent.{Formula}
 use Rattle.formula.specs.Tables.{literalAt}
-use Rattle.formula.specs.Lookup.{SoundClauses}
+use Rattle.formula.specs.InnerLookup.{SoundClauses}
 use Rattle.forest_theory.specs.Reach.{Variables, Deeper}
 use Rattle.forest_tables.specs.Formula.{signed}
 use Rattle.forest_tables.specs.Lent.{variablesOf}
 use Rattle.forest.specs.Causes.{AskedCause, OutputCause}
-use Rattle.sets_occurrences.specs.Threads.{Closed}
-use Rattle.path_resolution.specs.Walk.{marked}
+use Rattle.sets_occurrences.specs.InnerThreads.{Closed}
+use Rattle.path_resolution.specs.InnerWalk.{marked}
 use Rattle.path_resolution.specs.Paths.{Path, DependsByPaths, ResolutionCause}
 
 -- the literals of the variables up to n that a path may not pass are marked, and no other of them

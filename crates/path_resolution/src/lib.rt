@@ -16,7 +16,7 @@ use terms::Variable;
 ghost use Prim.Native.Nat.{ℕ};
 ghost use mathlib.Core.List.{List};
 ghost use Rattle.formula.specs.Lent.{formulaOf, formulaIn};
-ghost use Rattle.formula.specs.Levels.{SoundPrefix, Levelled};
+ghost use Rattle.formula.specs.InnerLevels.{SoundPrefix, Levelled};
 ghost use Rattle.path_resolution.specs.Paths.{ResolutionListed};
 ghost use Rattle.path_resolution.specs.InnerEnds.{ReadClauses, SoundListed};
 

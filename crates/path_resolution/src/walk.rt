@@ -10,8 +10,8 @@ ghost use mathlib.Core.Path.{_≡_};
 ghost use lib.IntN.{negℤ};
 ghost use lib.ListN.{length};
 ghost use Rattle.terms.specs.Literals.{variableOf};
-ghost use Rattle.sets_occurrences.specs.Threads.{LastZero, linkAt};
-ghost use Rattle.path_resolution.specs.Walk.{Leaves, Passes, Walked, Chained, Rowed, InClause};
+ghost use Rattle.sets_occurrences.specs.InnerThreads.{LastZero, linkAt};
+ghost use Rattle.path_resolution.specs.InnerWalk.{Leaves, Passes, Walked, Chained, Rowed, InClause};
 
 // From a literal to its complement: every clause that has the complement is entered by it, along the occurrence list of the variable.
 pub fn literal_step(clauses: &[i32], first: &[u32], next: &[u32], from: Literal, marks: &mut [bool])

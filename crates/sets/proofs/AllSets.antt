@@ -27,14 +27,14 @@ use Rattle.forest_tables.specs.Formula.{variables, universal, SharesBy}
 use Rattle.forest_tables.specs.Causes.{ForestCause}
 use Rattle.forest_tables.specs.Lent.{Rows, rows}
 use Rattle.forest.specs.Answers.{EntriesBy, MembersBy}
-use Rattle.forest_climb.specs.Search.{TopRows}
-use Rattle.forest_entries.specs.Flags.{Takes, Via, Entering}
-use Rattle.forest_members.specs.Picked.{pick, picked}
+use Rattle.forest_climb.specs.InnerSearch.{TopRows}
+use Rattle.forest_entries.specs.InnerFlags.{Takes, Via, Entering}
+use Rattle.forest_members.specs.InnerPicked.{pick, picked}
 use Rattle.sets.specs.Sets.{AllSetsBy, SetsTooLong}
 use Rattle.sets.specs.InnerOrders.{behindSets}
-use Rattle.sets_occurrences.specs.Threads.{Closed, Together, EnteredBy}
-use Rattle.sets_record.specs.Put.{PutSet, RoomFor}
-use Rattle.sets.specs.Passed.{SetsUpto, RoomUpto, PutAll, Fills}
+use Rattle.sets_occurrences.specs.InnerThreads.{Closed, Together, EnteredBy}
+use Rattle.sets_record.specs.InnerPut.{PutSet, RoomFor}
+use Rattle.sets.specs.InnerPassed.{SetsUpto, RoomUpto, PutAll, Fills}
 use Rattle.forest_entries.proofs.Flags.{via-as}
 use Rattle.forest_members.proofs.Picked.{picked-listed}
 use Rattle.forest.proofs.Entered.{of-within}

@@ -1,4 +1,4 @@
--- The call for all sets: Sets is what to believe, Passed and InnerOrders are inner.
+-- The call for all sets: Sets is what to believe, the others are inner.
 pub mod Sets
-pub mod Passed
+pub mod InnerPassed
 pub mod InnerOrders

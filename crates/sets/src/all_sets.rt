@@ -18,13 +18,13 @@ ghost use mathlib.Core.Bool.{Bool, true};
 ghost use mathlib.Core.List.{List};
 ghost use lib.ListN.{length};
 ghost use Rattle.formula.specs.Meaning.{level};
-ghost use Rattle.formula.specs.Levels.{SoundPrefix, Levelled};
-ghost use Rattle.formula.specs.Lookup.{SoundClauses};
-ghost use Rattle.forest_tables.specs.Counting.{FormedBy};
-ghost use Rattle.sets_subtrees.specs.Runs.{Floored};
-ghost use Rattle.sets_record.specs.Places.{Placed};
-ghost use Rattle.sets_occurrences.specs.Threads.{Closed};
-ghost use Rattle.sets.specs.Passed.{SetsUpto, Ready, RoomUpto, TellsRoom, PutAll, Fills};
+ghost use Rattle.formula.specs.InnerLevels.{SoundPrefix, Levelled};
+ghost use Rattle.formula.specs.InnerLookup.{SoundClauses};
+ghost use Rattle.forest_tables.specs.InnerCounting.{FormedBy};
+ghost use Rattle.sets_subtrees.specs.InnerRuns.{Floored};
+ghost use Rattle.sets_record.specs.InnerPlaces.{Placed};
+ghost use Rattle.sets_occurrences.specs.InnerThreads.{Closed};
+ghost use Rattle.sets.specs.InnerPassed.{SetsUpto, Ready, RoomUpto, TellsRoom, PutAll, Fills};
 
 // A pass over all universals among n variables: by which scheme, and whether it writes their sets or only counts.
 struct Pass {

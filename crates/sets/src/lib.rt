@@ -15,14 +15,14 @@ use terms::Verdict;
 ghost use mathlib.Core.List.{[]};
 ghost use Rattle.terms.specs.Answers.{Filling};
 ghost use Rattle.formula.specs.Lent.{formulaIn};
-ghost use Rattle.formula.specs.Levels.{SoundPrefix};
-ghost use Rattle.formula.specs.Lookup.{SoundClauses};
-ghost use Rattle.forest_tables.specs.Counting.{FormedBy};
+ghost use Rattle.formula.specs.InnerLevels.{SoundPrefix};
+ghost use Rattle.formula.specs.InnerLookup.{SoundClauses};
+ghost use Rattle.forest_tables.specs.InnerCounting.{FormedBy};
 ghost use Rattle.forest_tables.specs.Lent.{rows, rowsIn};
-ghost use Rattle.sets.specs.Passed.{Fills};
+ghost use Rattle.sets.specs.InnerPassed.{Fills};
 ghost use Rattle.sets.specs.Sets.{AllSetsBy, SetsListed};
 ghost use Rattle.sets.specs.InnerOrders.{behindSets};
-ghost use Rattle.sets_occurrences.specs.Threads.{Closed};
+ghost use Rattle.sets_occurrences.specs.InnerThreads.{Closed};
 
 // The sets of all universals by a scheme, written into `out`: for each universal ascending its number, the count of its set and its set
 // ascending; with the count of all entries.

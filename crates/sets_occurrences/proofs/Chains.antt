@@ -11,12 +11,12 @@ use lib.IntN.{ℤ}
 use lib.ListN.{length, getD, set, take, drop}
 use lib.Seq.{getD-set-same, getD-set-other}
 use Rattle.terms.specs.Literals.{variableOf}
-use Rattle.terms.specs.Pairs.{lowOf, highOf}
+use Rattle.terms.specs.InnerPairs.{lowOf, highOf}
 use Rattle.terms.proofs.Common.{clash}
 use Rattle.formula.specs.Tables.{literalAt}
 use Rattle.formula.specs.Meaning.{alwaysTrue}
-use Rattle.formula.specs.Lookup.{NextZero}
-use Rattle.sets_occurrences.specs.Threads.{LastZero, Begins, first, after, Inside, Connecting, Skipping, linkAt, startAt, On, here, later, Noted, Threaded}
+use Rattle.formula.specs.InnerLookup.{NextZero}
+use Rattle.sets_occurrences.specs.InnerThreads.{LastZero, Begins, first, after, Inside, Connecting, Skipping, linkAt, startAt, On, here, later, Noted, Threaded}
 use Rattle.forest_entries.proofs.Flags.{next-one}
 
 -- A clause begins with the first entry or behind a 0, so that an entry stands in one clause, which the last 0 before it opens.

@@ -12,13 +12,13 @@ use lib.ListN.{length, getD, drop, drop-of-length-le}
 use Rattle.terms.specs.Literals.{variableOf}
 use Rattle.formula.specs.Tables.{literalAt, cut}
 use Rattle.formula.specs.Meaning.{clauses}
-use Rattle.formula.specs.Lookup.{NextZero}
+use Rattle.formula.specs.InnerLookup.{NextZero}
 use Rattle.formula.proofs.Lookups.{clauses-unclosed}
 use Rattle.forest_tables.specs.Formula.{signed, SharesBy}
 use Rattle.forest_entries.specs.declared.Side.{Side}
 use Rattle.forest_entries.specs.declared.Signs.{Signs}
-use Rattle.forest_entries.specs.Flags.{Has, HasLiteral, Sided, By, sideBy, Connects, Via}
-use Rattle.sets_occurrences.specs.Threads.{Begins, first, after, Inside, Connecting, Beside, Together, linkAt, startAt, On, Noted, Threaded, Tied, Closed}
+use Rattle.forest_entries.specs.InnerFlags.{Has, HasLiteral, Sided, By, sideBy, Connects, Via}
+use Rattle.sets_occurrences.specs.InnerThreads.{Begins, first, after, Inside, Connecting, Beside, Together, linkAt, startAt, On, Noted, Threaded, Tied, Closed}
 use Rattle.sets_occurrences.proofs.Chains.{inside-one, on-some, on-here, on-later, on-cases}
 use Rattle.forest_entries.proofs.Sides.{signed-variable, sign-of, side-has, side-not}
 use Rattle.forest_entries.proofs.Flags.{unclosed-none, unclosed-zero, unclosed-end, literal-past, next-none, via-as}

@@ -13,15 +13,15 @@ use lib.IntN.{ℤ}
 use lib.ListN.{length, getD, set}
 use lib.Seq.{getD-set-same, getD-set-other}
 use Rattle.terms.specs.Literals.{variableOf}
-use Rattle.terms.specs.Limits.{literalRows}
+use Rattle.terms.specs.InnerLimits.{literalRows}
 use Rattle.terms.proofs.Common.{clash}
 use Rattle.formula.specs.Tables.{literalAt, cut, push}
 use Rattle.formula.specs.Meaning.{isZero, blocks, has, names, markOf, universalOf, isUniversal}
-use Rattle.formula.specs.Levels.{Levelled}
-use Rattle.formula.specs.Lookup.{NextZero, Stamps, SoundClauses}
+use Rattle.formula.specs.InnerLevels.{Levelled}
+use Rattle.formula.specs.InnerLookup.{NextZero, Stamps, SoundClauses}
 use Rattle.formula.proofs.Signs.{stamps-more}
 use Rattle.forest_entries.proofs.Flags.{next-none}
-use Rattle.sets_occurrences.specs.Threads.{Inside, Skipping, Recalled, Covered, marked, Gathered, Threaded}
+use Rattle.sets_occurrences.specs.InnerThreads.{Inside, Skipping, Recalled, Covered, marked, Gathered, Threaded}
 use Rattle.sets_occurrences.proofs.Chains.{inside-one, threaded-none, threaded-jump, Passing, passing-zero, passing-more}
 
 -- What is marked is a flagged variable, and no 0.

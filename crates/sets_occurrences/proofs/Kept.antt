@@ -11,9 +11,9 @@ use lib.ListN.{length, getD, set, length-set, List·getD-eq-default}
 use lib.Seq.{getD-set-same, getD-set-other}
 use Rattle.terms.proofs.Common.{clash}
 use Rattle.terms.specs.declared.Scheme.the-variants.{Strict}
-use Rattle.forest_entries.specs.Flags.{Flagged, Via, Blank}
+use Rattle.forest_entries.specs.InnerFlags.{Flagged, Via, Blank}
 use Rattle.forest_entries.proofs.Taken.{flags-are}
-use Rattle.sets_occurrences.specs.Threads.{Together, EnteredBy, Common}
+use Rattle.sets_occurrences.specs.InnerThreads.{Together, EnteredBy, Common}
 
 -- Up to entry i those flags are left that the other table has too, and from it on all.
 pub record Keeping (other old flags : List Bool) (i : ℕ) : Type 0 where

@@ -4,10 +4,10 @@ use mathlib.Core.Path.{_≡_, refl, sym, ap, _∙_}
 use mathlib.Core.List.{List}
 use mathlib.Core.Logic.{_≢_, _⊎_, inl, inr, ⊎-elim, _↔_}
 use Rattle.forest_theory.specs.Tables.{row}
-use Rattle.forest_entries.specs.Flags.{Via}
+use Rattle.forest_entries.specs.InnerFlags.{Via}
 use Rattle.forest_entries.proofs.Flags.{via-as, via-or}
 use Rattle.sets_occurrences.specs.declared.soles.Sole.{Sole}
-use Rattle.sets_occurrences.specs.SoleTops.{Is, SoleOf}
+use Rattle.sets_occurrences.specs.InnerSoleTops.{Is, SoleOf}
 
 -- The same tops by an equivalent condition.
 pub sole-as : {P Q : ℕ → Type 0} → ((e : ℕ) → P e ↔ Q e) → (r : Sole) → SoleOf r P → SoleOf r Q

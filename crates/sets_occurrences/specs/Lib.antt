@@ -1,3 +1,3 @@
 -- What the inner functions of this crate promise; nothing of it is cited by a call.
-pub mod Threads
-pub mod SoleTops
+pub mod InnerThreads
+pub mod InnerSoleTops

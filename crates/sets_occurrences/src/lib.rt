@@ -26,10 +26,10 @@ ghost use lib.ListN.{length, getD};
 ghost use Rattle.terms.specs.Literals.{variableOf};
 ghost use Rattle.terms.specs.Limits.{clauseEntries};
 ghost use Rattle.formula.specs.Tables.{literalAt};
-ghost use Rattle.formula.specs.Lookup.{SoundClauses};
+ghost use Rattle.formula.specs.InnerLookup.{SoundClauses};
 ghost use Rattle.terms.specs.declared.Scheme.the-variants.{Strict};
-ghost use Rattle.forest_entries.specs.Flags.{By, Flagged, Via, Blank};
-ghost use Rattle.sets_occurrences.specs.Threads.{Inside, Connecting, Skipping, Recalled, Covered, marked, Gathered, Together, EnteredBy, Common, Threaded, Tied};
+ghost use Rattle.forest_entries.specs.InnerFlags.{By, Flagged, Via, Blank};
+ghost use Rattle.sets_occurrences.specs.InnerThreads.{Inside, Connecting, Skipping, Recalled, Covered, marked, Gathered, Together, EnteredBy, Common, Threaded, Tied};
 
 // Builds the chains of all universals, clauses that are always true left out. A small clause table takes short tables, which are cleared sooner.
 pub fn thread(clauses: &[i32], universals: &[bool], first: &mut [u32], next: &mut [u32])

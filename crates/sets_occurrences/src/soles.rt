@@ -11,11 +11,11 @@ use terms::Variable;
 use terms::pairs::unpack;
 ghost use Prim.Native.Nat.{ℕ};
 ghost use mathlib.Core.Logic.{_⊎_};
-ghost use Rattle.formula.specs.Lookup.{NextZero};
+ghost use Rattle.formula.specs.InnerLookup.{NextZero};
 ghost use Rattle.terms.specs.declared.Scheme.the-variants.{Strict};
-ghost use Rattle.forest_entries.specs.Flags.{Has, By, Takes, Via};
-ghost use Rattle.sets_occurrences.specs.Threads.{Together, Tied};
-ghost use Rattle.sets_occurrences.specs.SoleTops.{Is, SoleOf};
+ghost use Rattle.forest_entries.specs.InnerFlags.{Has, By, Takes, Via};
+ghost use Rattle.sets_occurrences.specs.InnerThreads.{Together, Tied};
+ghost use Rattle.sets_occurrences.specs.InnerSoleTops.{Is, SoleOf};
 
 // The tops that some variables have: at most one, 0 for none, or perhaps several.
 pub enum Sole {

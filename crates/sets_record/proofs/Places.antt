@@ -10,9 +10,9 @@ use native.Mathlib.Omega.{arith}
 use lib.ListN.{length, getD, set, take, length-set}
 use lib.Seq.{sets, set-out, getD-set-same, getD-set-other, take-suc, length-take-le}
 use Rattle.forest_members.proofs.Picked.{sets-more}
-use Rattle.sets_subtrees.specs.Runs.{having}
-use Rattle.sets_record.specs.Places.{Standing, Placed, Noting}
-use Rattle.sets_record.specs.Put.{PutList}
+use Rattle.sets_subtrees.specs.InnerRuns.{having}
+use Rattle.sets_record.specs.InnerPlaces.{Standing, Placed, Noting}
+use Rattle.sets_record.specs.InnerPut.{PutList}
 
 -- Entries in front of a run of stores, and those of the run.
 before-sets : (out : List ℕ) (at : ℕ) (list : List ℕ) (j : ℕ) → j < at → getD (sets out at list) j 0 ≡ getD out j 0

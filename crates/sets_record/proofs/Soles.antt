@@ -14,12 +14,12 @@ use lib.Seq.{sets, set-comm}
 use Rattle.terms.specs.declared.Scheme.{Scheme}
 use Rattle.forest_theory.specs.Tables.{row}
 use Rattle.forest_members.specs.declared.Asked.the-variants.{Set}
-use Rattle.forest_members.specs.Picked.{pick, NoneUpto}
-use Rattle.forest_climb.specs.Search.{Topless}
-use Rattle.forest_entries.specs.Flags.{Takes, Via, Entering}
-use Rattle.sets_occurrences.specs.Threads.{Together, EnteredBy}
-use Rattle.sets_occurrences.specs.SoleTops.{Is}
-use Rattle.sets_subtrees.specs.Runs.{only, Within}
+use Rattle.forest_members.specs.InnerPicked.{pick, NoneUpto}
+use Rattle.forest_climb.specs.InnerSearch.{Topless}
+use Rattle.forest_entries.specs.InnerFlags.{Takes, Via, Entering}
+use Rattle.sets_occurrences.specs.InnerThreads.{Together, EnteredBy}
+use Rattle.sets_occurrences.specs.InnerSoleTops.{Is}
+use Rattle.sets_subtrees.specs.InnerRuns.{only, Within}
 use Rattle.sets_subtrees.proofs.Linked.{only-set, only-own}
 
 -- The flag of the sole top tells of which numbers P holds.

@@ -1,3 +1,3 @@
 -- What the inner functions of this crate promise; nothing of it is cited by a call.
-pub mod Places
-pub mod Put
+pub mod InnerPlaces
+pub mod InnerPut

@@ -20,12 +20,12 @@ ghost use mathlib.Core.Logic.{_≢_};
 ghost use lib.ListN.{length, getD, set};
 ghost use lib.Seq.{sets};
 ghost use Rattle.forest_members.specs.declared.Asked.the-variants.{Set};
-ghost use Rattle.forest_members.specs.Picked.{pick, picked, NoneUpto};
-ghost use Rattle.forest_climb.specs.Search.{Topless};
-ghost use Rattle.sets_occurrences.specs.Threads.{Tied};
-ghost use Rattle.sets_subtrees.specs.Runs.{Within, Leads, Led};
-ghost use Rattle.sets_record.specs.Places.{Standing, Placed, Noting};
-ghost use Rattle.sets_record.specs.Put.{PutList, Put, PutDraft, RoomForDraft};
+ghost use Rattle.forest_members.specs.InnerPicked.{pick, picked, NoneUpto};
+ghost use Rattle.forest_climb.specs.InnerSearch.{Topless};
+ghost use Rattle.sets_occurrences.specs.InnerThreads.{Tied};
+ghost use Rattle.sets_subtrees.specs.InnerRuns.{Within, Leads, Led};
+ghost use Rattle.sets_record.specs.InnerPlaces.{Standing, Placed, Noting};
+ghost use Rattle.sets_record.specs.InnerPut.{PutList, Put, PutDraft, RoomForDraft};
 
 // A record that is to be put: that of the universal x by a scheme, among n variables of which none up to `from` has a top, from the entry `at` on,
 // written or only counted.

@@ -8,21 +8,23 @@ use native.Mathlib.Decide.{ℕ-discrete, decLt}
 use native.Mathlib.Omega.{arith}
 use lib.ListN.{length, getD, set, replicate, length-set, length-append, length-replicate}
 use lib.Seq.{sets, getD-set-same, getD-set-other}
-use Rattle.terms.specs.Limits.{mostVariables, variableRows}
-use Rattle.terms.specs.Pairs.{lowOf, highOf}
+use Rattle.terms.specs.Limits.{mostVariables}
+use Rattle.terms.specs.InnerLimits.{variableRows}
+use Rattle.terms.specs.InnerPairs.{lowOf, highOf}
 use Rattle.terms.proofs.Common.{clash}
-use Rattle.forest_theory.specs.Reach.{Variables, Lawful}
+use Rattle.forest_theory.specs.Reach.{Variables}
+use Rattle.forest_theory.specs.InnerVariables.{Lawful}
 use Rattle.forest_theory.specs.Tables.{Table, row, lent, WellFormed}
 use Rattle.forest_theory.proofs.Climb.{above-class}
 use Rattle.forest_members.specs.declared.Asked.the-variants.{Set}
 use Rattle.forest_tables.specs.Formula.{variables}
 use Rattle.forest_tables.proofs.Readings.{new-zero}
-use Rattle.forest_climb.specs.Search.{TopRows, TopsOver, Topless}
+use Rattle.forest_climb.specs.InnerSearch.{TopRows, TopsOver, Topless}
 use Rattle.forest_climb.proofs.Tops.{tops-over}
-use Rattle.forest_members.specs.Picked.{pick, picked}
+use Rattle.forest_members.specs.InnerPicked.{pick, picked}
 use Rattle.forest_members.proofs.Picked.{picked-more, picked-same, picked-none, sets-more}
 use Rattle.forest_entries.proofs.Flags.{fresh, flag-long}
-use Rattle.sets_subtrees.specs.Runs.{Run, Leads, only, having, Within, Led, Floored}
+use Rattle.sets_subtrees.specs.InnerRuns.{Run, Leads, only, having, Within, Led, Floored}
 
 -- From a number there is one run, and from one that is not 0 it goes on.
 pub run-one : (after : List ℕ) (v : ℕ) (list other : List ℕ) → Run after v list → Run after v other → list ≡ other

@@ -17,10 +17,10 @@ ghost use mathlib.Core.List.{List};
 ghost use lib.ListN.{length, getD};
 ghost use lib.Seq.{sets};
 ghost use Rattle.formula.specs.Meaning.{level};
-ghost use Rattle.formula.specs.Levels.{SoundPrefix, Levelled};
-ghost use Rattle.forest_tables.specs.Counting.{FormedBy};
-ghost use Rattle.forest_climb.specs.Search.{Topless};
-ghost use Rattle.sets_subtrees.specs.Runs.{Run, Within, Led, Floored};
+ghost use Rattle.formula.specs.InnerLevels.{SoundPrefix, Levelled};
+ghost use Rattle.forest_tables.specs.InnerCounting.{FormedBy};
+ghost use Rattle.forest_climb.specs.InnerSearch.{Topless};
+ghost use Rattle.sets_subtrees.specs.InnerRuns.{Run, Within, Led, Floored};
 
 // Refills the tops and links their runs anew, if the level of x is another than that which they are over; gives the floor that they are over now.
 pub fn refloor(

@@ -12,8 +12,8 @@ use Rattle.text_write.specs.Texts.{TEXT-MOST, Overlong, overlong}
 use Rattle.terms.specs.declared.ListedReading.{ListedReading}
 use Rattle.dqbf_text.specs.Format.{ListLine, d-line, ListedText, ListedFollow}
 use Rattle.dqbf_text.specs.Reading.{Tables, NoRoom, no-room-prefix, no-room-clauses, no-room-lists, readOrder, ReadInto, ReadIs}
-use Rattle.c_answers.specs.Cells.{Fits, Laid}
-use Rattle.c_answers.specs.Formulas.{ThreeInCells, listedSaid}
+use Rattle.c_answers.specs.InnerCells.{Fits, Laid}
+use Rattle.c_answers.specs.InnerFormulas.{ThreeInCells, listedSaid}
 use Rattle.snowcoddle.specs.Told.{Told}
 use Rattle.snowcoddle.proofs.Places.{Small, small-then, small-within}
 use Rattle.snowcoddle.proofs.Telling.{fits-known, tell-known}

@@ -11,8 +11,8 @@ use Rattle.forest.specs.Causes.{NotUniversal}
 use Rattle.expand.specs.Promise.{ResultTables, OfExpanded, ManyVariables, Long, Short, expandOrder, Leaves, Expands}
 use Rattle.expand.specs.InnerOrders.{behindExpand}
 use Rattle.expand.proofs.Tight.{expand-settled}
-use Rattle.c_answers.specs.Cells.{Fits, Any, Laid}
-use Rattle.c_answers.specs.Formulas.{expandedSaid}
+use Rattle.c_answers.specs.InnerCells.{Fits, Any, Laid}
+use Rattle.c_answers.specs.InnerFormulas.{expandedSaid}
 use Rattle.snowcoddle.specs.Told.{Told}
 use Rattle.snowcoddle.proofs.Places.{Small, small-then, small-none, small-zero, small-check}
 use Rattle.snowcoddle.proofs.Telling.{fits-known, tell-known}

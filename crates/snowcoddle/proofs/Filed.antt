@@ -16,14 +16,14 @@ use Rattle.file_format.specs.Causes.{fileBytes, TooLarge, RecordCause, OrderCau
 use Rattle.file_format.specs.Causes.{Lent, NoRoom, FileTooLarge, FileTooLong, loadOrder, storeOrder}
 use Rattle.file_format.specs.InnerOrders.{fileOrder, tableOrder, behindStore}
 use Rattle.file_format.specs.Promises.{Loads}
-use Rattle.file_layout.specs.Laid.{Laid}
+use Rattle.file_layout.specs.InnerLaid.{Laid}
 use Rattle.file_format.proofs.Passing.{passed-reached}
 use Rattle.file_layout.proofs.Walks.{record-cause, reached-within}
 use Rattle.file_layout.proofs.Spans.{laid-ends}
 use Rattle.file_layout.proofs.Laying.{file-laid}
 use Rattle.c_answers.specs.Codes.{tellsSets}
-use Rattle.c_answers.specs.Cells.{Fits, Laid as InCells}
-use Rattle.c_answers.specs.Formulas.{LoadedInCells, loadedCells}
+use Rattle.c_answers.specs.InnerCells.{Fits, Laid as InCells}
+use Rattle.c_answers.specs.InnerFormulas.{LoadedInCells, loadedCells}
 use Rattle.snowcoddle.specs.Told.{Told}
 use Rattle.snowcoddle.specs.Filed.{Given}
 use Rattle.snowcoddle.proofs.Places.{Small, small-then, small-within, small-at0, small-none, small-zero, small-check}

@@ -15,7 +15,7 @@ use Rattle.formula_rules.specs.Rules.{readAs, readBy}
 use Rattle.forest_tables.specs.Lent.{Rows, variablesOf}
 use Rattle.grow.specs.Grown.{Standing, standing, tableOf, buildOrder, addOrder, Extended, Grown, Tallies, Took, Rewrites, Builds, Adds}
 use Rattle.c_answers.specs.Codes.{tallyIn}
-use Rattle.c_answers.specs.Cells.{Fits, Any, Laid, filledSaid, builtSaid, addedSaid}
+use Rattle.c_answers.specs.InnerCells.{Fits, Any, Laid, filledSaid, builtSaid, addedSaid}
 use Rattle.snowcoddle.specs.Told.{Told, Left}
 use Rattle.snowcoddle.proofs.Places.{Small, small-build, small-add}
 use Rattle.snowcoddle.proofs.Telling.{tell-known}

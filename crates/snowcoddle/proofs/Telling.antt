@@ -9,7 +9,7 @@ use Rattle.terms.specs.Refusals.{Causes, FirstOf, NoneOf, Judged}
 use Rattle.terms.specs.declared.EntryAnswer.{EntryAnswer}
 use Rattle.terms.specs.declared.Scheme.{Scheme}
 use Rattle.terms.specs.Answers.{Settles, Answered, Numbered, InFront, Filling}
-use Rattle.c_answers.specs.Cells.{Said, gives, refuses, numberOf, Fits, Any, Laid, given, placed, verdictSaid, filledSaid, entrySaid}
+use Rattle.c_answers.specs.InnerCells.{Said, gives, refuses, numberOf, Fits, Any, Laid, given, placed, verdictSaid, filledSaid, entrySaid}
 use Rattle.snowcoddle.specs.Told.{Told, accepted, refused}
 use Rattle.snowcoddle.proofs.Places.{Small}
 

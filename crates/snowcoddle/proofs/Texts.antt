@@ -12,8 +12,8 @@ use Rattle.text_lines.specs.Format.{QuantifierLine, e-line, a-line, ClauseLine,
 use Rattle.text_lines.specs.Format.{placeAfter, LineCause}
 use Rattle.text_lines.proofs.Places.{pieces-place, place-append, place-few, cause-place}
 use Rattle.text_qdimacs.specs.Reading.{TEXT-MOST, Overlong, overlong, NoRoom, no-room-prefix, no-room-clauses, readOrder, ReadInto, ReadIs}
-use Rattle.c_answers.specs.Cells.{Fits, Laid}
-use Rattle.c_answers.specs.Formulas.{TwoInCells, readingSaid}
+use Rattle.c_answers.specs.InnerCells.{Fits, Laid}
+use Rattle.c_answers.specs.InnerFormulas.{TwoInCells, readingSaid}
 use Rattle.snowcoddle.specs.Told.{Told}
 use Rattle.snowcoddle.proofs.Places.{Small, small-then, small-within}
 use Rattle.snowcoddle.proofs.Telling.{fits-known, tell-known}

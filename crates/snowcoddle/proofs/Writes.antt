@@ -8,7 +8,7 @@ use Rattle.terms.specs.declared.Filled.{Filled}
 use Rattle.text_write.specs.Texts.{Overlong}
 use Rattle.text_write.specs.Stored.{ShortOut, short-out, Stored}
 use Rattle.text_write.specs.InnerOrders.{writeOrder, WritesAfter}
-use Rattle.c_answers.specs.Cells.{Fits, Any, Laid, filledSaid}
+use Rattle.c_answers.specs.InnerCells.{Fits, Any, Laid, filledSaid}
 use Rattle.snowcoddle.specs.Told.{Told}
 use Rattle.snowcoddle.proofs.Places.{Small, small-then, small-within}
 use Rattle.snowcoddle.proofs.Telling.{fits-known, tell-known}

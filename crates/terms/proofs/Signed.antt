@@ -12,8 +12,9 @@ use lib.Dec.{T, lit<}
 use mir.Syntax.{w32}
 use mir.Val.{SFits, Fits, toZ, ofZ}
 use mir.Facts.{toZ-pos, toZ-neg, toZ-ofZ}
-use Rattle.terms.specs.Literals.{mostLiteral, variableOf}
-use Rattle.terms.specs.LiteralRows.{rowBy, rowOf, otherRow}
+use Rattle.terms.specs.Literals.{variableOf}
+use Rattle.terms.specs.InnerLiteralRows.{mostLiteral}
+use Rattle.terms.specs.InnerLiteralRows.{rowBy, rowOf, otherRow}
 
 -- x, read back from a complement, is not negative, fits with one added, and is then the magnitude of z
 pub record Complement (z x : ℤ) : Type 0 where

@@ -7,5 +7,6 @@ pub mod Listed
 pub mod Overwritten
 pub mod Answers
 -- Inner, which nobody needs to believe.
-pub mod LiteralRows
-pub mod Pairs
+pub mod InnerLiteralRows
+pub mod InnerPairs
+pub mod InnerLimits

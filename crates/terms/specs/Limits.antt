@@ -17,25 +17,6 @@ prefixEntries = 8192
 abbrev pub clauseEntries : ℕ
 clauseEntries = 16384
 
--- the rows of a table with one for each variable up to the limit, and row 0
-abbrev pub variableRows : ℕ
-variableRows = 4097
-
--- the rows of a table with two for each of these, one for each literal
-abbrev pub literalRows : ℕ
-literalRows = 8194
-
--- the most entries of a prefix whose neighbouring blocks are joined: all variables, and a mark and a 0 for each block
-abbrev pub joinedEntries : ℕ
-joinedEntries = 4224
-
 -- the largest variable count of a formula of which resolution paths are asked
 abbrev pub mostResolutionVariables : ℕ
 mostResolutionVariables = 512
-
--- the rows of a table with one for each variable of such a formula and row 0, and of one with two for each of these, one for each literal
-abbrev pub resolutionRows : ℕ
-resolutionRows = 513
-
-abbrev pub resolutionLiteralRows : ℕ
-resolutionLiteralRows = 1026

@@ -5,8 +5,9 @@ pub mod pairs;
 ghost use Prim.Native.Nat.{_≤_};
 ghost use mathlib.Core.Path.{_≡_};
 ghost use lib.IntN.{pos, negℤ};
-ghost use Rattle.terms.specs.Literals.{mostLiteral, variableOf};
-ghost use Rattle.terms.specs.LiteralRows.{rowBy, rowOf, otherRow};
+ghost use Rattle.terms.specs.Literals.{variableOf};
+ghost use Rattle.terms.specs.InnerLiteralRows.{mostLiteral};
+ghost use Rattle.terms.specs.InnerLiteralRows.{rowBy, rowOf, otherRow};
 
 // A variable by its number, from 1 on; 0 stands for none.
 pub struct Variable(pub u32);

@@ -2,7 +2,7 @@
 
 ghost use Prim.Native.Nat.{_<_, _/_, _%_};
 ghost use mathlib.Core.Path.{_≡_};
-ghost use Rattle.terms.specs.Pairs.{lowOf, highOf};
+ghost use Rattle.terms.specs.InnerPairs.{lowOf, highOf};
 
 // The two numbers of a row, each less than 65,536.
 pub struct Pair {

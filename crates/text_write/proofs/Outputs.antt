@@ -13,7 +13,8 @@ use Rattle.terms.proofs.Overwritten.{stored-overwritten, overwritten-front}
 use Rattle.terms.specs.declared.Filled.{Filled}
 use Rattle.terms.specs.declared.Filled.the-variants.{Count, Refused}
 use Rattle.text_write.specs.Texts.{TEXT-MOST, Overlong, overlong}
-use Rattle.text_write.specs.Stored.{Wrote, ShortOut, short-out, Stored}
+use Rattle.text_write.specs.Stored.{ShortOut, short-out, Stored}
+use Rattle.text_write.specs.InnerBytes.{Wrote}
 use Rattle.text_write.specs.InnerOrders.{writeOrder, WriteIs, WritesAfter}
 
 -- A text that is too long, read or to be written, and one that is not.

@@ -20,7 +20,7 @@ use Rattle.text_write.specs.Texts.{LF, SPACE, MINUS, LETTER-A, LETTER-E}
 use Rattle.text_write.specs.Numbers.{decimal}
 use Rattle.text_write.specs.Written.{markWord, literalWord, problemLine}
 use Rattle.text_write.specs.InnerText.{spaced, ended, prefixText, clauseText, clauseCount}
-use Rattle.text_write.specs.Stored.{Wrote}
+use Rattle.text_write.specs.InnerBytes.{Wrote}
 use Rattle.text_write.specs.InnerBytes.{SmallEntries, entryBytes, literalBytes, nextFirst}
 use Rattle.text_write.proofs.Decimal.{digits-most}
 

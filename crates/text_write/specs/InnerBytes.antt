@@ -10,6 +10,11 @@ use Rattle.text_write.specs.Texts.{SPACE}
 use Rattle.text_write.specs.Numbers.{decimal}
 use Rattle.text_write.specs.Written.{markWord, literalWord}
 use Rattle.text_write.specs.InnerText.{spaced, ended}
+use Prim.Native.Nat.{ℕ, _+_, _<_}
+use mathlib.Core.Path.{_≡_}
+use mathlib.Core.List.{List}
+use lib.ListN.{length}
+use lib.Seq.{sets}
 
 -- The bytes of one entry, at the beginning of a line or after it.
 unfoldable pub entryBytes : Bool → ℕ → List ℕ
@@ -35,3 +40,8 @@ Writable n prefix clauses =
 unfoldable pub nextFirst : Bool → ℕ → Bool
 nextFirst true mark = false
 nextFirst false entry = eqb entry 0
+
+-- Bytes that were stored in a buffer from a place on, as far as it has room, and the place after them.
+pub record Wrote (bytes before after : List ℕ) (at next : ℕ) : Type 0 where
+  pub end : next ≡ at + length bytes
+  pub stored : after ≡ sets before at bytes

@@ -1,20 +1,13 @@
--- What writing promises: of bytes that are stored, and of a text, which stands in front in the lent buffer, or the first cause is given in an order that
--- ends with 15 and 14 (rule 7.5, rule 8.2).
-use Prim.Native.Nat.{ℕ, _+_, _<_}
+-- What writing a text promises: it stands in front in the lent buffer, or the first cause is given in an order that ends with 15 and 14 (rule 7.5, rule 8.2).
+use Prim.Native.Nat.{ℕ, _<_}
 use mathlib.Core.Path.{_≡_}
 use mathlib.Core.List.{List}
 use lib.ListN.{length}
-use lib.Seq.{sets}
 use Rattle.terms.specs.Overwritten.{overwritten}
 use Rattle.terms.specs.Says.{filledSaid}
 use Rattle.terms.specs.Answers.{Settles}
 use Rattle.terms.specs.Refusals.{Causes}
 use Rattle.terms.specs.declared.Filled.{Filled}
-
--- Bytes that were stored in a buffer from a place on, as far as it has room, and the place after them.
-pub record Wrote (bytes before after : List ℕ) (at next : ℕ) : Type 0 where
-  pub end : next ≡ at + length bytes
-  pub stored : after ≡ sets before at bytes
 
 -- 14: the buffer is shorter than the text.
 pub data ShortOut (text out : List ℕ) : ℕ → ℕ → Type 0 where

@@ -7,7 +7,7 @@ ghost use mathlib.Core.Path.{_≡_};
 ghost use mathlib.Core.List.{[], _∷_};
 ghost use lib.ListN.{length};
 ghost use Rattle.text_write.specs.Numbers.{decimal};
-ghost use Rattle.text_write.specs.Stored.{Wrote};
+ghost use Rattle.text_write.specs.InnerBytes.{Wrote};
 
 // Stores a byte if the buffer has room for it.
 pub fn put_byte(out: &mut [u8], at: usize, byte: u8) -> usize

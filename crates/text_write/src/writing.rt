@@ -25,7 +25,7 @@ ghost use Rattle.text_write.specs.InnerText.{spaced, prefixText, clauseT
 ghost use Rattle.terms.specs.Limits.{prefixEntries, clauseEntries};
 ghost use Rattle.text_write.specs.InnerBytes.{nextFirst, entryBytes, literalBytes, SmallEntries, SmallLiterals, Writable};
 ghost use Rattle.text_write.specs.InnerOrders.{WriteIs};
-ghost use Rattle.text_write.specs.Stored.{Wrote};
+ghost use Rattle.text_write.specs.InnerBytes.{Wrote};
 ghost use mathlib.Core.Bool.{true};
 
 // Writes the text of tables that were accepted into a lent buffer. The length is found first, in a buffer of its own that no one sees, so that

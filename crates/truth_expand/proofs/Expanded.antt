@@ -13,7 +13,7 @@ use Rattle.terms.specs.Refusals.{None}
 use Rattle.terms.proofs.Common.{clash}
 use Rattle.formula.specs.Causes.{ClauseCause}
 use Rattle.formula.specs.Lent.{Formula}
-use Rattle.formula.specs.Levels.{SoundPrefix}
+use Rattle.formula.specs.InnerLevels.{SoundPrefix}
 use Rattle.formula.specs.Meaning.{blocks, level, isUniversal, isExistential, clauses}
 use Rattle.forest_tables.specs.Formula.{universal}
 use Rattle.forest_tables.proofs.Readings.{flag-none, flag-over, flag-in, flag-within}
@@ -21,7 +21,7 @@ use Rattle.forest_tables.proofs.Agreeing.{universal-within}
 use Rattle.forest.proofs.Demands.{universal-alone}
 use Rattle.expand_clauses.specs.InnerCopies.{copyOf, withCopy, placed, expandedBlock, expandedPrefix}
 use Rattle.expand.specs.Promise.{expandedBy}
-use Rattle.expand.specs.Writing.{expandedWith}
+use Rattle.expand.specs.InnerWriting.{expandedWith}
 use Rattle.expand.proofs.Outcome.{expanded-same}
 use Rattle.expand.proofs.Accepted.{numbered}
 use Rattle.truth.specs.Game.{Earlier, Distinct}

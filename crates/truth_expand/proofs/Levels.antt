@@ -10,7 +10,8 @@ use borrow.Author.Tests.{eq-eqb, ne-eqb}
 use lib.Dec.{eqb}
 use lib.ListN.{drop}
 use Rattle.terms.proofs.Common.{clash}
-use Rattle.formula.specs.Meaning.{blocks, has, names, markOf, numberFrom, firstMark, universalOf, freeLevel, level, isUniversal}
+use Rattle.formula.specs.Meaning.{blocks, has, names, markOf, numberFrom, firstMark, universalOf, level, isUniversal}
+use Rattle.formula.specs.InnerLevels.{freeLevel}
 use Rattle.forest_theory.proofs.Choice.{choice}
 use Rattle.truth.specs.Game.{Earlier, Distinct}
 use Rattle.truth.proofs.Decisions.{member?}

@@ -8,7 +8,7 @@ use native.Mathlib.Decide.{ℕ-discrete}
 use native.Mathlib.Omega.{arith}
 use borrow.Author.Tests.{eq-eqb, ne-eqb}
 use Rattle.terms.proofs.Common.{clash}
-use Rattle.formula.specs.Levels.{SoundPrefix}
+use Rattle.formula.specs.InnerLevels.{SoundPrefix}
 use Rattle.formula.specs.Meaning.{has, blocks}
 use Rattle.formula.specs.Tables.{cut, push}
 use Rattle.formula_rules.proofs.Agreement.{also-accepted}

@@ -12,12 +12,13 @@ use Rattle.terms.specs.declared.Scheme.the-variants.{Standard}
 use Rattle.terms.proofs.Common.{clash}
 use Rattle.formula.specs.Causes.{ClauseCause}
 use Rattle.formula.specs.Lent.{Formula}
-use Rattle.formula.specs.Meaning.{blocks, clauses, opposite, denied, alwaysTrue, connected, freeLevel, level, isUniversal, isExistential}
+use Rattle.formula.specs.Meaning.{blocks, clauses, opposite, denied, alwaysTrue, connected, level, isUniversal, isExistential}
+use Rattle.formula.specs.InnerLevels.{freeLevel}
 use Rattle.formula.specs.Tables.{cut}
 use Rattle.formula.proofs.Accepts.{prefixPasses, clausesPass, accepts}
 use Rattle.formula_rules.specs.Joined.{inFront, joinedBlocks, tableOf}
 use Rattle.forest_theory.specs.Reach.{Reach, From}
-use Rattle.forest_theory.specs.Search.{has, meets, keep, put-back, find, see, spread, reached, reaches, is-from, sift, set-of}
+use Rattle.forest_theory.specs.InnerSearch.{has, meets, keep, put-back, find, see, spread, reached, reaches, is-from, sift, set-of}
 use Rattle.forest_theory.proofs.Search.{cons-all, has-member, member-has, reaches-true, from-test, set-of-depends}
 use Rattle.forest_tables.specs.Formula.{joined, Shares}
 use Rattle.forest_tables.specs.Lent.{variablesOf}

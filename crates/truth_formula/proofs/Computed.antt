@@ -9,7 +9,8 @@ use Rattle.terms.specs.Refusals.{None}
 use Rattle.terms.proofs.Common.{clash}
 use Rattle.formula.specs.Causes.{ClauseCause}
 use Rattle.formula.specs.Lent.{Formula, formulaOf}
-use Rattle.formula.specs.Meaning.{blocks, clauses, freeLevel, level, isUniversal, isExistential}
+use Rattle.formula.specs.Meaning.{blocks, clauses, level, isUniversal, isExistential}
+use Rattle.formula.specs.InnerLevels.{freeLevel}
 use Rattle.formula.specs.Tables.{cut}
 use Rattle.formula.proofs.Accepts.{prefixPasses, clausesPass, accepts}
 use Rattle.truth.specs.Game.{put, insertTurn, turnsOf}

@@ -6,7 +6,7 @@ use mathlib.Core.List.{[], List·Memᴰ·not-nil}
 use mathlib.Core.Logic.{_↔_, inl, ⊎-elim}
 use native.Mathlib.Omega.{arith}
 use Rattle.formula.specs.Lent.{Formula}
-use Rattle.formula.specs.Levels.{SoundPrefix}
+use Rattle.formula.specs.InnerLevels.{SoundPrefix}
 use Rattle.formula.specs.Meaning.{isExistential}
 use Rattle.formula.specs.Tables.{cut}
 use Rattle.formula.proofs.Ordered.{deeper-named}

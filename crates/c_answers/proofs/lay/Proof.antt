@@ -2,7 +2,7 @@
 use mathlib.Core.Path.{refl, ap, subst}
 use borrow.Author.Needs.{needs}
 use Rattle.terms.specs.declared.Filled.{Filled}
-use Rattle.c_answers.specs.Cells.{Fits, filledSaid, Any}
+use Rattle.c_answers.specs.InnerCells.{Fits, filledSaid, Any}
 use Rattle.c_answers.proofs.Laying.{laid-given, laid-refused}
 use Rattle.c_answers.proofs.lay.Statement.{statement}
 use Rattle.c_answers.proofs.lay.Tie as tie

@@ -2,7 +2,7 @@
 use mathlib.Core.Path.{refl, ap, subst}
 use borrow.Author.Needs.{needs}
 use Rattle.terms.specs.declared.EntryAnswer.{EntryAnswer}
-use Rattle.c_answers.specs.Cells.{Fits, entrySaid, Any}
+use Rattle.c_answers.specs.InnerCells.{Fits, entrySaid, Any}
 use Rattle.c_answers.proofs.Laying.{laid-given, laid-refused}
 use Rattle.c_answers.proofs.lay_entry.Statement.{statement}
 use Rattle.c_answers.proofs.lay_entry.Tie as tie

@@ -2,7 +2,7 @@
 use mathlib.Core.Path.{refl, ap, subst}
 use borrow.Author.Needs.{needs}
 use Rattle.terms.specs.declared.Verdict.{Verdict}
-use Rattle.c_answers.specs.Cells.{Fits, Any, verdictSaid}
+use Rattle.c_answers.specs.InnerCells.{Fits, Any, verdictSaid}
 use Rattle.c_answers.proofs.Laying.{laid-given, laid-refused}
 use Rattle.c_answers.proofs.lay_verdict.Statement.{statement}
 use Rattle.c_answers.proofs.lay_verdict.Tie as tie

@@ -10,7 +10,7 @@ use Rattle.terms.proofs.Verdicts.{refused-first}
 use Rattle.formula.specs.Lent.{Formula, formulaOf}
 use Rattle.forest_tables.specs.Formula.{universal}
 use Rattle.forest_members.specs.declared.Asked.the-variants.{Set}
-use Rattle.forest_members.specs.Picked.{pick}
+use Rattle.forest_members.specs.InnerPicked.{pick}
 use Rattle.forest.proofs.Listings.{picks-listing}
 use Rattle.dqbf_lists.specs.Lists.{ListHas}
 use Rattle.dqbf_sets.specs.Depends.{DependsOnBy}

@@ -4,11 +4,12 @@ use mathlib.Core.Path.{fun-ext, subst}
 use native.Mathlib.Omega.{arith}
 use borrow.Author.Needs.{needs}
 use lib.ListN.{length, length-replicate}
-use Rattle.terms.specs.Limits.{mostVariables, variableRows}
+use Rattle.terms.specs.Limits.{mostVariables}
+use Rattle.terms.specs.InnerLimits.{variableRows}
 use Rattle.formula.specs.Lent.{Formula, formulaOf}
 use Rattle.forest_tables.proofs.Readings.{new-zero}
 use Rattle.expand.specs.Promise.{ResultTables, resultTables}
-use Rattle.expand.specs.Writing.{expandedWith, Fits}
+use Rattle.expand.specs.InnerWriting.{expandedWith, Fits}
 use Rattle.expand.proofs.Outcome.{expanded-same, few-members, low-members, right-copies, expand-many, expand-filled}
 use Rattle.expand.proofs.expand_set.Statement.{statement}
 use Rattle.expand.proofs.expand_set.Tie as tie

@@ -8,9 +8,9 @@ use lib.ListN.{length}
 use Rattle.terms.proofs.Overwritten.{stored-overwritten}
 use Rattle.terms.proofs.Verdicts.{at0-first, at0-none}
 use Rattle.formula.specs.Lent.{Formula, formulaOf}
-use Rattle.expand_clauses.specs.Copied.{tabled}
+use Rattle.expand_clauses.specs.InnerCopied.{tabled}
 use Rattle.expand.specs.Promise.{ResultTables, resultTables, Long, Short}
-use Rattle.expand.specs.Writing.{expandedWith}
+use Rattle.expand.specs.InnerWriting.{expandedWith}
 use Rattle.expand.proofs.fill.Statement.{statement}
 use Rattle.expand.proofs.fill.Tie as tie
 

@@ -8,7 +8,7 @@ use native.Mathlib.Omega.{arith}
 use borrow.Author.Needs.{needs}
 use borrow.Author.Tests.{not-true, not-false}
 use lib.ListN.{length-replicate}
-use Rattle.terms.specs.Limits.{variableRows}
+use Rattle.terms.specs.InnerLimits.{variableRows}
 use Rattle.terms.specs.Refusals.{At0}
 use Rattle.terms.proofs.Common.{clash}
 use Rattle.terms.proofs.Orders.{behind-none}

@@ -11,7 +11,7 @@ use Rattle.forest_tables.specs.Lent.{rows}
 use Rattle.file_format.specs.Places.{formulaHeld}
 use Rattle.file_format.specs.Causes.{Lent, NoRoom, lentTables}
 use Rattle.file_format.proofs.Orders.{carry-loading}
-use Rattle.file_verify.specs.Verified.{verifyOrder, Verifies}
+use Rattle.file_verify.specs.InnerVerified.{verifyOrder, Verifies}
 use Rattle.file_verify.proofs.Disagree.{own-rows}
 use Rattle.file_verify.proofs.Judging.{verified-laid}
 use Rattle.file_read.proofs.load.Statement.{statement}

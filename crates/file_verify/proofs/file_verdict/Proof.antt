@@ -6,7 +6,7 @@ use Rattle.terms.specs.Refusals.{Judged}
 use Rattle.forest_tables.proofs.Readings.{told, told-not}
 use Rattle.file_format.specs.InnerOrders.{fileOrder}
 use Rattle.file_layout.proofs.Laying.{file-laid}
-use Rattle.file_verify.specs.Verified.{IsRule}
+use Rattle.file_verify.specs.InnerVerified.{IsRule}
 use Rattle.file_verify.proofs.Judging.{no-rule, records-refused, records-then}
 use Rattle.file_verify.proofs.file_verdict.Statement.{statement}
 use Rattle.file_verify.proofs.file_verdict.Tie as tie

@@ -9,7 +9,7 @@ use Rattle.formula.specs.Lent.{Formula, formulaOf}
 use Rattle.forest_tables.specs.Lent.{Rows, rows}
 use Rattle.file_format.specs.Layout.{ForestRows}
 use Rattle.file_format.proofs.Taken.{taken, rows-taken}
-use Rattle.file_write.specs.Parts.{Small}
+use Rattle.file_write.specs.InnerParts.{Small}
 use Rattle.file_write.proofs.Filed.{of-formula}
 use Rattle.file_write.proofs.store_read.Statement.{statement}
 use Rattle.file_write.proofs.store_read.Tie as tie

@@ -12,7 +12,7 @@ use Rattle.formula_rules.specs.Rules.{checkOrder, readAs}
 use Rattle.formula_rules.proofs.Reading.{refused-read, hand-read, sound-read, more-read, behind-read}
 use Rattle.forest_tables.specs.Lent.{Rows, rows}
 use Rattle.forest.specs.InnerOrders.{behindCheck}
-use Rattle.forest.specs.Wanted.{Wanted}
+use Rattle.forest.specs.InnerWanted.{Wanted}
 use Rattle.forest.proofs.list_asked.Statement.{statement}
 use Rattle.forest.proofs.list_asked.Tie as tie
 

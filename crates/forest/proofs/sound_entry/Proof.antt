@@ -7,11 +7,11 @@ use borrow.Author.Needs.{needs}
 use Rattle.terms.specs.Refusals.{At0, None, Judged}
 use Rattle.terms.proofs.Verdicts.{at0-first, at0-none, refused-first}
 use Rattle.forest_theory.specs.Tables.{WellFormed}
-use Rattle.forest_tables.specs.Tabled.{tabled}
+use Rattle.forest_tables.specs.InnerTabled.{tabled}
 use Rattle.forest_tables.specs.Causes.{ForestCause}
 use Rattle.forest_tables.specs.Lent.{Rows, rows}
-use Rattle.forest_tables.specs.Rows.{rowsOf}
-use Rattle.forest_climb.specs.Search.{Finds}
+use Rattle.forest_tables.specs.InnerRows.{rowsOf}
+use Rattle.forest_climb.specs.InnerSearch.{Finds}
 use Rattle.forest.specs.Causes.{NotUniversal, NotDeeper}
 use Rattle.forest.proofs.Entered.{tabled-formed, sound-universal, sound-not-universal, sound-found, sound-nowhere}
 use Rattle.forest.proofs.sound_entry.Statement.{statement}

@@ -7,9 +7,9 @@ use Rattle.terms.specs.Refusals.{At0, Judged}
 use Rattle.terms.proofs.Verdicts.{refused-first}
 use Rattle.formula.specs.Lent.{Formula, formulaOf}
 use Rattle.forest_tables.specs.Lent.{Rows, rows}
-use Rattle.forest_members.specs.Picked.{pick}
+use Rattle.forest_members.specs.InnerPicked.{pick}
 use Rattle.forest.specs.InnerOrders.{behindCheck}
-use Rattle.forest.specs.Wanted.{Enters, Wanted}
+use Rattle.forest.specs.InnerWanted.{Enters, Wanted}
 use Rattle.forest.proofs.Listings.{picks-listing, asked-listed}
 use Rattle.forest.proofs.sound_list.Statement.{statement}
 use Rattle.forest.proofs.sound_list.Tie as tie

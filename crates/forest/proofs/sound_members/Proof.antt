@@ -5,7 +5,7 @@ use borrow.Author.Needs.{needs}
 use Rattle.formula.specs.Lent.{formulaOf}
 use Rattle.forest_tables.specs.Lent.{rows}
 use Rattle.forest_members.specs.declared.Asked.the-variants.{Set}
-use Rattle.forest_members.specs.Picked.{pick, picked}
+use Rattle.forest_members.specs.InnerPicked.{pick, picked}
 use Rattle.forest_members.proofs.Picked.{picked-most}
 use Rattle.forest.proofs.Listings.{members-picked}
 use Rattle.forest.proofs.sound_members.Statement.{statement}

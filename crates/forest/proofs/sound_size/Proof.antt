@@ -6,7 +6,7 @@ use Rattle.formula.specs.Lent.{Formula, formulaOf}
 use Rattle.forest_tables.specs.Lent.{Rows, rows}
 use Rattle.forest.specs.InnerOrders.{behindCheck}
 use Rattle.forest.specs.Answers.{SizeBy}
-use Rattle.forest.specs.Wanted.{Enters}
+use Rattle.forest.specs.InnerWanted.{Enters}
 use Rattle.forest.proofs.Listings.{entries-sized, counts-small}
 use Rattle.forest.proofs.sound_size.Statement.{statement}
 use Rattle.forest.proofs.sound_size.Tie as tie

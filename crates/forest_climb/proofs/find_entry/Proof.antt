@@ -6,8 +6,8 @@ use borrow.Author.Needs.{needs}
 use lib.ListN.{getD}
 use Rattle.terms.proofs.Common.{clash}
 use Rattle.forest_theory.specs.Tables.{lent, EntryPoint}
-use Rattle.forest_tables.specs.Tabled.{tabled}
-use Rattle.forest_tables.specs.Rows.{rowsOf}
+use Rattle.forest_tables.specs.InnerTabled.{tabled}
+use Rattle.forest_tables.specs.InnerRows.{rowsOf}
 use Rattle.forest_climb.proofs.Climbing.{formed-falls, formed-block, searched-rows, searched-entry}
 use Rattle.forest_climb.proofs.find_entry.Statement.{statement}
 use Rattle.forest_climb.proofs.find_entry.Tie as tie

@@ -7,7 +7,7 @@ use lib.ListN.{length, length-set}
 use Rattle.formula.specs.Tables.{at, marksBefore}
 use Rattle.forest_theory.specs.Tables.{row, lent}
 use Rattle.forest_tables.specs.Formula.{variables}
-use Rattle.forest_climb.specs.Search.{topBy, TopRows}
+use Rattle.forest_climb.specs.InnerSearch.{topBy, TopRows}
 use Rattle.forest_climb.proofs.Tops.{Passing, passing-from, passing-mark, passing-close, passing-top, topping-all, named-within}
 use borrow.Author.Needs.{needs}
 use Rattle.forest_climb.proofs.top_blocks.Statement.{statement}

@@ -5,7 +5,7 @@ use mathlib.Core.Logic.{by-cases}
 use native.Mathlib.Decide.{ℕ-discrete}
 use native.Mathlib.Omega.{arith}
 use Rattle.forest_theory.specs.Tables.{row}
-use Rattle.forest_climb.specs.Search.{Topless}
+use Rattle.forest_climb.specs.InnerSearch.{Topless}
 use borrow.Author.Needs.{needs}
 use Rattle.forest_climb.proofs.topless.Statement.{statement}
 use Rattle.forest_climb.proofs.topless.Tie as tie

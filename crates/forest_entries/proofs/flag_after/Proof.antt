@@ -3,7 +3,7 @@ use Prim.Native.Nat.{_-_}
 use native.Mathlib.Omega.{arith}
 use borrow.Author.Needs.{needs}
 use lib.ListN.{length}
-use Rattle.forest_entries.specs.Flags.{Has, Via, Flagged}
+use Rattle.forest_entries.specs.InnerFlags.{Has, Via, Flagged}
 use Rattle.forest_entries.proofs.Flags.{Unclosed, unclosed-none, unclosed-more, unclosed-zero, unclosed-end}
 use Rattle.forest_entries.proofs.Flags.{flag-nothing, has-none, has-next, tops-none, tops-one}
 use Rattle.forest_entries.proofs.flag_after.Statement.{statement}

@@ -3,7 +3,7 @@ use mathlib.Core.Path.{sym, _∙_, subst}
 use native.Mathlib.Omega.{arith}
 use Rattle.formula.proofs.Lookups.{part-rows}
 use Rattle.formula.proofs.Signs.{stamps-more}
-use Rattle.forest_entries.specs.Flags.{Has, Via, Flagged}
+use Rattle.forest_entries.specs.InnerFlags.{Has, Via, Flagged}
 use Rattle.forest_entries.proofs.Flags.{next-one, flag-connected, flag-unconnected}
 use borrow.Author.Needs.{needs}
 use Rattle.forest_entries.proofs.flag_clause.Statement.{statement}

@@ -3,7 +3,7 @@ use Prim.Native.Nat.{ℕ}
 use mathlib.Core.Path.{sym, _∙_, subst}
 use mathlib.Core.Bool.{Bool}
 use Rattle.forest_tables.specs.Formula.{SharesBy}
-use Rattle.forest_entries.specs.Flags.{Blank, SharedBy}
+use Rattle.forest_entries.specs.InnerFlags.{Blank, SharedBy}
 use Rattle.forest_entries.proofs.Taken.{entering-either}
 use borrow.Author.Needs.{needs}
 use Rattle.forest_entries.proofs.flag_entries.Statement.{statement}

@@ -5,13 +5,13 @@ use mathlib.Core.Path.{sym, ap, _∙_}
 use mathlib.Core.Bool.{Bool}
 use native.Mathlib.Omega.{arith}
 use lib.ListN.{length, drop-of-length-le}
-use Rattle.formula.specs.Lookup.{Stamps}
+use Rattle.formula.specs.InnerLookup.{Stamps}
 use Rattle.formula.specs.Meaning.{clauses}
 use Rattle.formula.specs.Tables.{cut}
 use Rattle.formula.proofs.Lookups.{clauses-unclosed}
 use Rattle.formula.proofs.Signs.{stamps-more, stamps-none}
 use Rattle.forest_tables.specs.Formula.{signed}
-use Rattle.forest_entries.specs.Flags.{HasLiteral}
+use Rattle.forest_entries.specs.InnerFlags.{HasLiteral}
 use Rattle.forest_entries.proofs.Sides.{side-has, side-not}
 use Rattle.forest_entries.proofs.Flags.{Sharing, share-none, share-has, share-not, share-all, sides-apart}
 use borrow.Author.Needs.{needs}

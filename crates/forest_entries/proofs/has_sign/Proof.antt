@@ -1,6 +1,6 @@
 -- Each arm is a case of sideBy.
 use mathlib.Core.Path.{sym, ap, ap₂, _∙_}
-use Rattle.forest_entries.specs.Flags.{sideBy}
+use Rattle.forest_entries.specs.InnerFlags.{sideBy}
 use Rattle.forest_entries.proofs.Sides.{side-neither}
 use borrow.Author.Needs.{needs}
 use Rattle.forest_entries.proofs.has_sign.Statement.{statement}

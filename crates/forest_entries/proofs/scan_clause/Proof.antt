@@ -6,7 +6,7 @@ use borrow.Author.Needs.{needs}
 use lib.ListN.{length}
 use Rattle.terms.specs.Literals.{variableOf}
 use Rattle.forest_tables.specs.Formula.{signed}
-use Rattle.forest_entries.specs.Flags.{HasLiteral, Sided}
+use Rattle.forest_entries.specs.InnerFlags.{HasLiteral, Sided}
 use Rattle.forest_entries.proofs.Sides.{sided-none, sided-here, sided-past}
 use Rattle.forest_entries.proofs.Flags.{Unclosed, unclosed-none, unclosed-more, unclosed-zero, unclosed-end}
 use Rattle.forest_entries.proofs.scan_clause.Statement.{statement}

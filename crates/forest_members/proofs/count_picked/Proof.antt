@@ -5,7 +5,7 @@ use mathlib.Core.Bool.{Bool}
 use native.Mathlib.Omega.{arith}
 use borrow.Author.Needs.{needs}
 use lib.ListN.{length}
-use Rattle.forest_members.specs.Picked.{pick, picked}
+use Rattle.forest_members.specs.InnerPicked.{pick, picked}
 use Rattle.forest_members.proofs.Picked.{Counted, picked-most, count-none, count-more, count-same, count-all}
 use Rattle.forest_members.proofs.count_picked.Statement.{statement}
 use Rattle.forest_members.proofs.count_picked.Tie as tie

@@ -1,6 +1,6 @@
 -- No more are picked than there are numbers; where there is room for less they are counted.
 use native.Mathlib.Omega.{arith}
-use Rattle.forest_members.specs.Picked.{pick}
+use Rattle.forest_members.specs.InnerPicked.{pick}
 use Rattle.forest_members.proofs.Picked.{picked-most}
 use borrow.Author.Needs.{needs}
 use Rattle.forest_members.proofs.has_room.Statement.{statement}

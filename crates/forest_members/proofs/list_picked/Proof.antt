@@ -6,7 +6,7 @@ use native.Mathlib.Omega.{arith}
 use borrow.Author.Needs.{needs}
 use borrow.Author.Tests.{not-true, not-false}
 use lib.ListN.{length}
-use Rattle.forest_members.specs.Picked.{pick, picked}
+use Rattle.forest_members.specs.InnerPicked.{pick, picked}
 use Rattle.forest_tables.proofs.Readings.{told, told-not}
 use Rattle.forest_members.proofs.Picked.{picked-most}
 use Rattle.forest_members.proofs.list_picked.Statement.{statement}

@@ -3,7 +3,7 @@ use mathlib.Core.Path.{sym, ap, _∙_}
 use mathlib.Core.Bool.{false}
 use borrow.Author.Needs.{needs}
 use lib.ListN.{getD}
-use Rattle.forest_members.specs.Picked.{pick}
+use Rattle.forest_members.specs.InnerPicked.{pick}
 use Rattle.forest_members.proofs.picks.Statement.{statement}
 use Rattle.forest_members.proofs.picks.Tie as tie
 

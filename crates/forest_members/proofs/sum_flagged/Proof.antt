@@ -7,7 +7,7 @@ use borrow.Author.Needs.{needs}
 use lib.ListN.{getD}
 use Rattle.forest_theory.specs.Tables.{row}
 use Rattle.forest_theory.specs.Counts.{sum}
-use Rattle.forest_members.specs.Picked.{picked}
+use Rattle.forest_members.specs.InnerPicked.{picked}
 use Rattle.forest_members.proofs.Picked.{Summed, sum-none, sum-more-flagged, sum-same}
 use Rattle.forest_members.proofs.sum_flagged.Statement.{statement}
 use Rattle.forest_members.proofs.sum_flagged.Tie as tie

@@ -7,7 +7,7 @@ use native.Mathlib.Omega.{arith}
 use borrow.Author.Needs.{needs}
 use lib.ListN.{length}
 use lib.Seq.{sets, length-sets}
-use Rattle.forest_members.specs.Picked.{pick, picked}
+use Rattle.forest_members.specs.InnerPicked.{pick, picked}
 use Rattle.forest_members.proofs.Picked.{Counted, picked-none, count-none, count-more, count-same, count-room, count-all, write-more, write-same}
 use Rattle.forest_members.proofs.write_picked.Statement.{statement}
 use Rattle.forest_members.proofs.write_picked.Tie as tie

@@ -10,7 +10,7 @@ use borrow.Rule.Slice.Shared.{bySize}
 use borrow.Author.Needs.{needs}
 use Rattle.terms.specs.Refusals.{Judged}
 use Rattle.formula.specs.Causes.{clauseOrder}
-use Rattle.formula.specs.Lookup.{Stands}
+use Rattle.formula.specs.InnerLookup.{Stands}
 use Rattle.formula.specs.Clause.{accepted, refused}
 use Rattle.formula.specs.declared.clauses.Span.the-variants.{At}
 use Rattle.formula_checks.proofs.clause.Statement.{statement}

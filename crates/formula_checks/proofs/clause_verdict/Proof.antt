@@ -12,7 +12,7 @@ use Rattle.terms.specs.declared.Verdict.the-variants.{Accepted, Refused}
 use Rattle.terms.specs.Refusals.{Causes, At0, Judged}
 use Rattle.terms.proofs.Verdicts.{at0-first, at0-none, refused-first, accepted-then}
 use Rattle.formula.specs.Causes.{VariableCount, ClausesLong, ClauseCause, clauseOrder}
-use Rattle.formula.specs.Lookup.{Stands}
+use Rattle.formula.specs.InnerLookup.{Stands}
 use Rattle.formula.specs.Meaning.{clauses}
 use Rattle.formula_checks.proofs.clause_verdict.Statement.{statement}
 use Rattle.formula_checks.proofs.clause_verdict.Tie as tie

@@ -5,7 +5,7 @@ use mathlib.Core.Bool.{false}
 use native.Mathlib.Omega.{arith}
 use lib.ListN.{getD, length-set}
 use Rattle.terms.proofs.Common.{filled-more}
-use Rattle.formula.specs.Levels.{LevelRows}
+use Rattle.formula.specs.InnerLevels.{LevelRows}
 use Rattle.formula_levels.proofs.all_free.Statement.{statement}
 use Rattle.formula_levels.proofs.all_free.Tie as tie
 

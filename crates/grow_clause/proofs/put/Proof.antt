@@ -2,7 +2,7 @@
 use mathlib.Core.Path.{sym, _∙_, subst}
 use borrow.Author.Needs.{needs}
 use Rattle.formula.proofs.Signs.{connected-none, connected-all}
-use Rattle.grow_union_find.specs.Loose.{Grew}
+use Rattle.grow_union_find.specs.InnerLoose.{Grew}
 use Rattle.grow_clause.proofs.Stars.{grew-none}
 use Rattle.grow_clause.proofs.put.Statement.{statement}
 use Rattle.grow_clause.proofs.put.Tie as tie

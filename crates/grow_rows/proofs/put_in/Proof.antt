@@ -4,7 +4,7 @@ use Prim.Native.Nat.{ℕ}
 use mathlib.Core.Path.{_∙_}
 use borrow.Author.Needs.{needs}
 use lib.ListN.{length-replicate}
-use Rattle.terms.specs.Limits.{variableRows}
+use Rattle.terms.specs.InnerLimits.{variableRows}
 use Rattle.grow_passes.proofs.Passes.{ends-new}
 use Rattle.grow_rows.proofs.Exact.{depth-ends, exact-forest}
 use Rattle.grow_rows.proofs.Extending.{Loaded, loaded, extended}

@@ -3,7 +3,7 @@ use Prim.Native.Nat.{_<_}
 use native.Mathlib.Omega.{arith}
 use borrow.Author.Needs.{needs}
 use lib.ListN.{getD}
-use Rattle.terms.specs.Limits.{variableRows}
+use Rattle.terms.specs.InnerLimits.{variableRows}
 use Rattle.grow_union_find.proofs.Steps.{parent-inside, step-rows, step-hang, step-rise}
 use Rattle.grow_union_find.proofs.hang.Statement.{statement}
 use Rattle.grow_union_find.proofs.hang.Tie as tie

@@ -7,14 +7,14 @@ use mathlib.Core.List.{List}
 use mathlib.Core.Logic.{_↔_}
 use native.Mathlib.Omega.{arith}
 use lib.ListN.{length}
-use Rattle.terms.specs.Pairs.{lowOf, highOf}
+use Rattle.terms.specs.InnerPairs.{lowOf, highOf}
 use Rattle.terms.specs.declared.Scheme.the-variants.{Strict}
 use Rattle.forest_members.specs.declared.Asked.the-variants.{Set}
-use Rattle.forest_members.specs.Picked.{pick}
-use Rattle.forest_entries.specs.Flags.{Takes, Via}
-use Rattle.sets_occurrences.specs.Threads.{Together, EnteredBy}
-use Rattle.sets_occurrences.specs.SoleTops.{Is, SoleOf}
-use Rattle.sets_subtrees.specs.Runs.{Run, only, having}
+use Rattle.forest_members.specs.InnerPicked.{pick}
+use Rattle.forest_entries.specs.InnerFlags.{Takes, Via}
+use Rattle.sets_occurrences.specs.InnerThreads.{Together, EnteredBy}
+use Rattle.sets_occurrences.specs.InnerSoleTops.{Is, SoleOf}
+use Rattle.sets_subtrees.specs.InnerRuns.{Run, only, having}
 use Rattle.sets_record.proofs.Soles.{sole-entering, sole-within}
 use Rattle.listing_lines.specs.Lines.{universalLine, LineIn}
 use Rattle.listing.proofs.Printed.{picked-small, sole-picked}

@@ -8,15 +8,15 @@ use Rattle.terms.specs.Refusals.{FirstOf, NoneOf}
 use Rattle.terms.specs.declared.Filled.{Filled}
 use Rattle.terms.specs.declared.Filled.the-variants.{Count, Refused}
 use Rattle.formula.specs.Lent.{Formula, formulaOf}
-use Rattle.formula.specs.Levels.{SoundPrefix}
-use Rattle.formula.specs.Lookup.{SoundClauses}
+use Rattle.formula.specs.InnerLevels.{SoundPrefix}
+use Rattle.formula.specs.InnerLookup.{SoundClauses}
 use Rattle.formula.proofs.Sound.{sound-check}
 use Rattle.formula_rules.specs.Rules.{readAs, checkOrder}
 use Rattle.formula_rules.proofs.Orders.{clauses-sound}
-use Rattle.sets_occurrences.specs.Threads.{Closed}
+use Rattle.sets_occurrences.specs.InnerThreads.{Closed}
 use Rattle.sets.proofs.AllSets.{sound-closed}
 use Rattle.grow.specs.Grown.{Standing, Builds}
-use Rattle.grow.specs.Rows.{Room}
+use Rattle.grow.specs.InnerRows.{Room}
 use Rattle.listing.specs.Listing.{not-accepted, listing}
 use Rattle.listing.specs.Inner.{OwnForest}
 use Rattle.listing.proofs.Refusals.{build-check}

@@ -8,13 +8,13 @@ use native.Mathlib.Omega.{arith}
 use lib.ListN.{length, getD, length-replicate}
 use lib.Seq.{length-take-le}
 use Rattle.forest_tables.specs.Formula.{variables}
-use Rattle.forest_tables.specs.Tabled.{universalIn}
+use Rattle.forest_tables.specs.InnerTabled.{universalIn}
 use Rattle.forest_tables.proofs.Agreeing.{lawful, level-agrees, universal-agrees}
 use Rattle.forest_tables.proofs.Readings.{flag-within}
 use Rattle.formula.specs.Lent.{formulaOf}
 use Rattle.formula.proofs.Ordered.{marks-within, level-most}
-use Rattle.sets_occurrences.specs.Threads.{Tied}
-use Rattle.sets_subtrees.specs.Runs.{Floored}
+use Rattle.sets_occurrences.specs.InnerThreads.{Tied}
+use Rattle.sets_subtrees.specs.InnerRuns.{Floored}
 use Rattle.sets_subtrees.proofs.Linked.{floored-none}
 use Rattle.listing_lines.specs.Inner.{lineBytes}
 use Rattle.listing.specs.Inner.{OwnTops}

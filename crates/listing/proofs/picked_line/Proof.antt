@@ -7,7 +7,7 @@ use native.Mathlib.Omega.{arith}
 use lib.Seq.{length-take-le}
 use Rattle.forest_members.specs.declared.Asked.{Asked}
 use Rattle.forest_members.specs.declared.Asked.the-variants.{Points, Set}
-use Rattle.forest_members.specs.Picked.{pick}
+use Rattle.forest_members.specs.InnerPicked.{pick}
 use Rattle.listing_lines.specs.Lines.{universalLine, LineIn}
 use Rattle.listing_lines.specs.Inner.{Small}
 use Rattle.listing.proofs.Printed.{picked-small, picked-room, picked-front}

@@ -8,10 +8,10 @@ use Rattle.terms.specs.Refusals.{At0}
 use Rattle.terms.specs.declared.Verdict.the-variants.{Accepted}
 use Rattle.terms.proofs.Verdicts.{at0-first, at0-none, accepted-then}
 use Rattle.formula.specs.Meaning.{clauses}
-use Rattle.forest_tables.specs.Tabled.{tabled}
+use Rattle.forest_tables.specs.InnerTabled.{tabled}
 use Rattle.forest_tables.proofs.Readings.{told, told-not}
 use Rattle.path_check.specs.Causes.{NumberOver, PathCause}
-use Rattle.path_check.specs.Walk.{Rows}
+use Rattle.path_check.specs.InnerWalk.{Rows}
 use Rattle.path_check.proofs.Beginning.{not-over}
 use Rattle.path_check.proofs.known_pair.Statement.{statement}
 use Rattle.path_check.proofs.known_pair.Tie as tie

@@ -8,14 +8,15 @@ use native.Mathlib.Omega.{arith}
 use borrow.Author.Needs.{needs}
 use borrow.Author.Tests.{not-true, not-false}
 use lib.ListN.{length-replicate}
-use Rattle.terms.specs.Limits.{mostResolutionVariables, resolutionRows}
+use Rattle.terms.specs.Limits.{mostResolutionVariables}
+use Rattle.terms.specs.InnerLimits.{resolutionRows}
 use Rattle.terms.specs.Refusals.{Causes, At0, NoneOf}
 use Rattle.terms.proofs.Common.{clash}
 use Rattle.terms.proofs.Verdicts.{at0-first, at0-none}
-use Rattle.forest_tables.specs.Tabled.{universalIn}
+use Rattle.forest_tables.specs.InnerTabled.{universalIn}
 use Rattle.forest_tables.proofs.Agreeing.{universal-agrees}
 use Rattle.forest_members.specs.declared.Asked.the-variants.{Points}
-use Rattle.forest_members.specs.Picked.{pick}
+use Rattle.forest_members.specs.InnerPicked.{pick}
 use Rattle.forest.specs.Causes.{NotUniversal}
 use Rattle.forest.proofs.Listings.{picks-listing}
 use Rattle.path_resolution.proofs.Listing.{universal-upto, dependents-listed}

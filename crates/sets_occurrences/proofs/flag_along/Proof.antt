@@ -6,7 +6,7 @@ use mathlib.Core.Bool.{true, false}
 use native.Mathlib.Omega.{arith}
 use borrow.Author.Needs.{needs}
 use lib.ListN.{length, getD}
-use Rattle.sets_occurrences.specs.Threads.{linkAt}
+use Rattle.sets_occurrences.specs.InnerThreads.{linkAt}
 use Rattle.sets_occurrences.proofs.Followed.{Tracing, trace-none, trace-link, trace-more, trace-past, trace-all}
 use Rattle.sets_occurrences.proofs.flag_along.Statement.{statement}
 use Rattle.sets_occurrences.proofs.flag_along.Tie as tie

@@ -2,7 +2,7 @@
 use mathlib.Core.Path.{sym, subst}
 use mathlib.Core.Bool.{Bool}
 use Rattle.forest_entries.proofs.Taken.{entering-either}
-use Rattle.sets_occurrences.specs.Threads.{Together, EnteredBy}
+use Rattle.sets_occurrences.specs.InnerThreads.{Together, EnteredBy}
 use borrow.Author.Needs.{needs}
 use Rattle.sets_occurrences.proofs.flag_points.Statement.{statement}
 use Rattle.sets_occurrences.proofs.flag_points.Tie as tie

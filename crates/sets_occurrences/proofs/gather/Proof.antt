@@ -10,7 +10,7 @@ use lib.ListN.{length, length-set, set}
 use Rattle.terms.specs.Literals.{variableOf}
 use Rattle.terms.specs.Limits.{clauseEntries}
 use Rattle.formula.specs.Tables.{literalAt}
-use Rattle.sets_occurrences.specs.Threads.{marked, Gathered}
+use Rattle.sets_occurrences.specs.InnerThreads.{marked, Gathered}
 use Rattle.sets_occurrences.proofs.Chains.{Passing, passing-none, passing-inside}
 use Rattle.sets_occurrences.proofs.Gathering.{marked-some, counts-most, gathered-none, gathered-more, passing-begun}
 use Rattle.sets_occurrences.proofs.gather.Statement.{statement}

@@ -10,7 +10,7 @@ use lib.ListN.{length, getD}
 use Rattle.terms.specs.Literals.{variableOf}
 use Rattle.formula.specs.Tables.{literalAt}
 use Rattle.formula.proofs.Signs.{stamps-none}
-use Rattle.sets_occurrences.specs.Threads.{Gathered}
+use Rattle.sets_occurrences.specs.InnerThreads.{Gathered}
 use Rattle.forest_entries.proofs.Flags.{flag-long}
 use Rattle.sets_occurrences.proofs.Chains.{threaded-skip}
 use Rattle.sets_occurrences.proofs.Gathering.{marked-flag, Tying, tying-none, tying-here, tying-end}

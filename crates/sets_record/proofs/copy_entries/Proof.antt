@@ -5,7 +5,7 @@ use mathlib.Core.List.{List}
 use native.Mathlib.Omega.{arith}
 use lib.ListN.{length, take, length-set}
 use lib.Seq.{sets, take-all}
-use Rattle.sets_record.specs.Places.{Standing}
+use Rattle.sets_record.specs.InnerPlaces.{Standing}
 use Rattle.sets_record.proofs.Places.{copy-more}
 use Rattle.sets_record.proofs.copy_entries.Statement.{statement}
 use Rattle.sets_record.proofs.copy_entries.Tie as tie

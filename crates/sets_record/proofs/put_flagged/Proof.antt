@@ -9,7 +9,7 @@ use borrow.Author.Tests.{not-true, not-false}
 use lib.ListN.{length}
 use lib.Seq.{sets}
 use Rattle.forest_members.specs.declared.Asked.the-variants.{Set}
-use Rattle.forest_members.specs.Picked.{pick, picked, NoneUpto}
+use Rattle.forest_members.specs.InnerPicked.{pick, picked, NoneUpto}
 use Rattle.forest_entries.proofs.Flags.{fresh}
 use Rattle.sets_record.proofs.Soles.{topless-none}
 use Rattle.sets_record.proofs.put_flagged.Statement.{statement}

@@ -7,15 +7,15 @@ use mathlib.Core.List.{List}
 use mathlib.Core.Logic.{_↔_}
 use native.Mathlib.Omega.{arith}
 use borrow.Author.Needs.{needs}
-use Rattle.terms.specs.Pairs.{lowOf}
-use Rattle.forest_entries.specs.Flags.{Takes, Via}
+use Rattle.terms.specs.InnerPairs.{lowOf}
+use Rattle.forest_entries.specs.InnerFlags.{Takes, Via}
 use Rattle.forest_members.specs.declared.Asked.the-variants.{Set}
-use Rattle.forest_members.specs.Picked.{pick, picked}
-use Rattle.sets_occurrences.specs.Threads.{Together, EnteredBy}
-use Rattle.sets_occurrences.specs.SoleTops.{Is, SoleOf}
-use Rattle.sets_subtrees.specs.Runs.{Leads, only, having}
+use Rattle.forest_members.specs.InnerPicked.{pick, picked}
+use Rattle.sets_occurrences.specs.InnerThreads.{Together, EnteredBy}
+use Rattle.sets_occurrences.specs.InnerSoleTops.{Is, SoleOf}
+use Rattle.sets_subtrees.specs.InnerRuns.{Leads, only, having}
 use Rattle.sets_subtrees.proofs.Linked.{run-one}
-use Rattle.sets_record.specs.Put.{PutList}
+use Rattle.sets_record.specs.InnerPut.{PutList}
 use Rattle.sets_record.proofs.Soles.{sole-entering, sole-within}
 use Rattle.sets_record.proofs.Places.{placed-on, placed-top}
 use Rattle.sets_record.proofs.put_set.Statement.{statement}

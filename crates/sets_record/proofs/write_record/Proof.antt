@@ -7,7 +7,7 @@ use borrow.Author.Needs.{needs}
 use lib.ListN.{length}
 use lib.Seq.{length-sets}
 use Rattle.forest_members.specs.declared.Asked.the-variants.{Set}
-use Rattle.forest_members.specs.Picked.{pick, picked}
+use Rattle.forest_members.specs.InnerPicked.{pick, picked}
 use Rattle.forest_members.proofs.Picked.{picked-most}
 use Rattle.sets_record.proofs.Soles.{record-stored}
 use Rattle.sets_record.proofs.write_record.Statement.{statement}

@@ -5,9 +5,9 @@ use mathlib.Core.Logic.{inl, inr}
 use native.Mathlib.Omega.{arith}
 use borrow.Author.Needs.{needs}
 use lib.ListN.{length}
-use Rattle.sets_subtrees.specs.Runs.{Run}
+use Rattle.sets_subtrees.specs.InnerRuns.{Run}
 use Rattle.sets_subtrees.proofs.Linked.{run-one}
-use Rattle.sets_record.specs.Places.{Standing}
+use Rattle.sets_record.specs.InnerPlaces.{Standing}
 use Rattle.sets_record.proofs.write_top.Statement.{statement}
 use Rattle.sets_record.proofs.write_top.Tie as tie
 

@@ -5,7 +5,7 @@ use mathlib.Core.Path.{_≡_, refl, ap, _∙_}
 use native.Mathlib.Omega.{arith}
 use borrow.Author.Needs.{needs}
 use lib.ListN.{length, getD, length-set}
-use Rattle.terms.specs.Pairs.{highOf}
+use Rattle.terms.specs.InnerPairs.{highOf}
 use Rattle.forest_theory.specs.Tables.{row}
 use Rattle.sets_subtrees.proofs.Linked.{Linking, over-none, link-more, link-all}
 use Rattle.sets_subtrees.proofs.link_runs.Statement.{statement}

@@ -3,7 +3,7 @@ use mathlib.Core.Path.{_≡_, refl, sym, _∙_}
 use native.Mathlib.Omega.{arith}
 use Rattle.formula.specs.Meaning.{level}
 use Rattle.forest_tables.proofs.Agreeing.{lawful}
-use Rattle.sets_subtrees.specs.Runs.{Within}
+use Rattle.sets_subtrees.specs.InnerRuns.{Within}
 use Rattle.sets_subtrees.proofs.Linked.{tops-within}
 use borrow.Author.Needs.{needs}
 use Rattle.sets_subtrees.proofs.refloor.Statement.{statement}

@@ -8,7 +8,7 @@ use lib.ListN.{length, take, drop, length-drop}
 use lib.Seq.{length-take-le}
 use Rattle.terms.specs.Refusals.{Judged}
 use Rattle.formula.specs.Causes.{clauseOrder}
-use Rattle.formula.specs.Lookup.{Stands}
+use Rattle.formula.specs.InnerLookup.{Stands}
 use Rattle.formula.specs.declared.clauses.Span.the-variants.{At}
 use Rattle.snowcoddle.proofs.Places.{small-clause}
 use Rattle.snowcoddle.proofs.Telling.{tell-accepted, tell-refused, named}

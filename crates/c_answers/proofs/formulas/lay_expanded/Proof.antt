@@ -2,8 +2,8 @@
 use mathlib.Core.Path.{refl, ap, subst}
 use borrow.Author.Needs.{needs}
 use Rattle.terms.specs.declared.Expanded.{Expanded}
-use Rattle.c_answers.specs.Cells.{Fits, Any}
-use Rattle.c_answers.specs.Formulas.{expandedSaid}
+use Rattle.c_answers.specs.InnerCells.{Fits, Any}
+use Rattle.c_answers.specs.InnerFormulas.{expandedSaid}
 use Rattle.c_answers.proofs.Laying.{laid-given, laid-refused}
 use Rattle.c_answers.proofs.formulas.lay_expanded.Statement.{statement}
 use Rattle.c_answers.proofs.formulas.lay_expanded.Tie as tie

@@ -2,8 +2,8 @@
 use mathlib.Core.Path.{refl, ap, subst}
 use borrow.Author.Needs.{needs}
 use Rattle.terms.specs.declared.ListedReading.{ListedReading}
-use Rattle.c_answers.specs.Cells.{Fits}
-use Rattle.c_answers.specs.Formulas.{listedSaid, ThreeInCells}
+use Rattle.c_answers.specs.InnerCells.{Fits}
+use Rattle.c_answers.specs.InnerFormulas.{listedSaid, ThreeInCells}
 use Rattle.c_answers.proofs.Laying.{laid-given, laid-refused}
 use Rattle.c_answers.proofs.formulas.lay_listed.Statement.{statement}
 use Rattle.c_answers.proofs.formulas.lay_listed.Tie as tie

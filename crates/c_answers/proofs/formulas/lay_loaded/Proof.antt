@@ -2,8 +2,8 @@
 use mathlib.Core.Path.{refl, ap, subst}
 use borrow.Author.Needs.{needs}
 use Rattle.terms.specs.declared.Loaded.{Loaded}
-use Rattle.c_answers.specs.Cells.{Fits}
-use Rattle.c_answers.specs.Formulas.{loadedCells, LoadedInCells}
+use Rattle.c_answers.specs.InnerCells.{Fits}
+use Rattle.c_answers.specs.InnerFormulas.{loadedCells, LoadedInCells}
 use Rattle.c_answers.proofs.Laying.{laid-given, laid-refused, fourth-is}
 use Rattle.c_answers.proofs.formulas.lay_loaded.Statement.{statement}
 use Rattle.c_answers.proofs.formulas.lay_loaded.Tie as tie

@@ -2,8 +2,8 @@
 use mathlib.Core.Path.{refl, ap, subst}
 use borrow.Author.Needs.{needs}
 use Rattle.terms.specs.declared.Reading.{Reading}
-use Rattle.c_answers.specs.Cells.{Fits}
-use Rattle.c_answers.specs.Formulas.{readingSaid, TwoInCells}
+use Rattle.c_answers.specs.InnerCells.{Fits}
+use Rattle.c_answers.specs.InnerFormulas.{readingSaid, TwoInCells}
 use Rattle.c_answers.proofs.Laying.{laid-given, laid-refused}
 use Rattle.c_answers.proofs.formulas.lay_reading.Statement.{statement}
 use Rattle.c_answers.proofs.formulas.lay_reading.Tie as tie

@@ -1,7 +1,7 @@
 -- The three cells are those of the tally; without a count nothing is stored.
 use mathlib.Core.Path.{refl, sym, subst}
 use borrow.Author.Needs.{needs}
-use Rattle.c_answers.specs.Cells.{TallyLaid, filledSaid}
+use Rattle.c_answers.specs.InnerCells.{TallyLaid, filledSaid}
 use Rattle.c_answers.specs.Codes.{cellsOf}
 use Rattle.c_answers.proofs.tallies.lay_tally.Statement.{statement}
 use Rattle.c_answers.proofs.tallies.lay_tally.Tie as tie

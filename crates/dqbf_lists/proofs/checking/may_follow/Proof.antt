@@ -5,7 +5,7 @@ use native.Mathlib.Omega.{arith}
 use borrow.Author.Needs.{needs}
 use borrow.Author.Tests.{not-true, not-false}
 use Rattle.terms.proofs.Common.{clash}
-use Rattle.forest_tables.specs.Tabled.{universalIn}
+use Rattle.forest_tables.specs.InnerTabled.{universalIn}
 use Rattle.dqbf_lists.proofs.Checked.{in-row}
 use Rattle.dqbf_lists.proofs.checking.may_follow.Statement.{statement}
 use Rattle.dqbf_lists.proofs.checking.may_follow.Tie as tie

@@ -4,7 +4,7 @@ use Prim.Native.Nat.{_-_}
 use mathlib.Core.Path.{_∙_}
 use native.Mathlib.Omega.{arith}
 use lib.ListN.{length}
-use Rattle.expand_clauses.specs.Copied.{tabled}
+use Rattle.expand_clauses.specs.InnerCopied.{tabled}
 use Rattle.expand_clauses.proofs.Storing.{onward-length}
 use Rattle.expand.proofs.Laying.{Laid, laid-none, laid-mark, laid-close, laid-x, begun-few, laid-variable-on, laid-all}
 use borrow.Author.Needs.{needs}

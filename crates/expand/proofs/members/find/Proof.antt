@@ -4,7 +4,7 @@ use mathlib.Core.List.{[]}
 use native.Mathlib.Omega.{arith}
 use borrow.Author.Needs.{needs}
 use lib.ListN.{length-replicate}
-use Rattle.terms.specs.Limits.{variableRows}
+use Rattle.terms.specs.InnerLimits.{variableRows}
 use Rattle.terms.specs.declared.Scheme.the-variants.{Standard}
 use Rattle.terms.proofs.Answers.{listed-as}
 use Rattle.formula.specs.Lent.{formulaOf}

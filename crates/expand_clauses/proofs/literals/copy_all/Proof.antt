@@ -3,10 +3,10 @@
 use Prim.Native.Nat.{_+_, _-_}
 use native.Mathlib.Omega.{arith}
 use lib.ListN.{length}
-use Rattle.formula.specs.Lookup.{Stamps}
+use Rattle.formula.specs.InnerLookup.{Stamps}
 use Rattle.formula.proofs.Lookups.{part-rows}
 use Rattle.formula.proofs.Signs.{stamps-more, stamps-none}
-use Rattle.expand_clauses.specs.Copied.{tabled}
+use Rattle.expand_clauses.specs.InnerCopied.{tabled}
 use Rattle.expand_clauses.proofs.Storing.{onward-length}
 use Rattle.expand_clauses.proofs.Copying.{Clauses, clauses-none, clauses-more, clauses-open, clauses-all, part-short}
 use borrow.Author.Needs.{needs}

@@ -1,7 +1,7 @@
 -- A clause that has a copy has its literals and a 0 stored; one that has none leaves the table as it is.
 use mathlib.Core.Path.{sym, _∙_}
 use borrow.Author.Needs.{needs}
-use Rattle.expand_clauses.specs.Copied.{tabled}
+use Rattle.expand_clauses.specs.InnerCopied.{tabled}
 use Rattle.expand_clauses.proofs.Storing.{stored-as, stored-none}
 use Rattle.expand_clauses.proofs.Copying.{one-copied, none-copied}
 use Rattle.expand_clauses.proofs.literals.copy_clause.Statement.{statement}

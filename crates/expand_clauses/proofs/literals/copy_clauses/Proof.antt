@@ -1,6 +1,6 @@
 -- The copies with x false, and behind them those with x true, are the table of the definition (copied-both).
 use native.Mathlib.Omega.{arith}
-use Rattle.expand_clauses.specs.Copied.{tabled}
+use Rattle.expand_clauses.specs.InnerCopied.{tabled}
 use Rattle.expand_clauses.proofs.Copying.{copied-both}
 use borrow.Author.Needs.{needs}
 use Rattle.expand_clauses.proofs.literals.copy_clauses.Statement.{statement}

@@ -9,7 +9,7 @@ use mir.Syntax.{w32}
 use mir.Facts.{toZ-ofZ}
 use Rattle.terms.specs.Literals.{variableOf}
 use Rattle.expand_clauses.specs.InnerCopies.{named}
-use Rattle.expand_clauses.specs.Copied.{tabled}
+use Rattle.expand_clauses.specs.InnerCopied.{tabled}
 use Rattle.expand_clauses.proofs.Storing.{onward-length}
 use Rattle.expand_clauses.proofs.Copying.{Literals, literals-none, literals-x, literals-more, literals-all}
 use borrow.Author.Needs.{needs}

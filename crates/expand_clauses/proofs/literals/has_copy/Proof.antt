@@ -1,6 +1,6 @@
 -- The tests of the definition in its order: always true, satisfied, and with x true whether x or a member is there.
 use mathlib.Core.Path.{sym, _∙_}
-use Rattle.expand_clauses.specs.Copied.{tabled}
+use Rattle.expand_clauses.specs.InnerCopied.{tabled}
 use Rattle.expand_clauses.proofs.Testing.{copy-always, copy-satisfied, copy-touched, copy-first}
 use borrow.Author.Needs.{needs}
 use Rattle.expand_clauses.proofs.literals.has_copy.Statement.{statement}

@@ -5,7 +5,7 @@ use mathlib.Core.Path.{_≡_, refl, sym, ap, _∙_}
 use native.Mathlib.Omega.{arith}
 use lib.ListN.{length, drop}
 use borrow.Author.Needs.{needs}
-use Rattle.expand_clauses.specs.Copied.{tabled}
+use Rattle.expand_clauses.specs.InnerCopied.{tabled}
 use Rattle.expand_clauses.proofs.Testing.{touched, touched-x, touched-member, touched-more, touched-none}
 use Rattle.expand_clauses.proofs.literals.is_touched.Statement.{statement}
 use Rattle.expand_clauses.proofs.literals.is_touched.Tie as tie

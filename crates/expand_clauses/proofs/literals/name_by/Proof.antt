@@ -1,7 +1,7 @@
 -- With x true the name is the copy's, with x false it stays: the two cases of `named`.
 use mathlib.Core.Path.{sym, ap, _∙_}
 use Rattle.expand_clauses.specs.InnerCopies.{named}
-use Rattle.expand_clauses.specs.Copied.{tabled}
+use Rattle.expand_clauses.specs.InnerCopied.{tabled}
 use borrow.Author.Needs.{needs}
 use Rattle.expand_clauses.proofs.literals.name_by.Statement.{statement}
 use Rattle.expand_clauses.proofs.literals.name_by.Tie as tie

@@ -5,7 +5,7 @@ use native.Mathlib.Omega.{arith}
 use mir.Syntax.{w32}
 use mir.Facts.{toZ-ofZ}
 use Rattle.terms.specs.Literals.{variableOf}
-use Rattle.expand_clauses.specs.Copied.{tabled, expandedVariables}
+use Rattle.expand_clauses.specs.InnerCopied.{tabled, expandedVariables}
 use Rattle.expand_clauses.proofs.Naming.{renamed-negative, renamed-positive, renamed-same}
 use borrow.Author.Needs.{needs}
 use Rattle.expand_clauses.proofs.literals.rename.Statement.{statement}

@@ -5,7 +5,7 @@ use Prim.Native.Nat.{_+_, _-_, _≤_}
 use lib.ListN.{getD}
 use mathlib.Core.Path.{sym, _∙_}
 use Rattle.terms.specs.Limits.{mostVariables}
-use Rattle.expand_clauses.specs.Copied.{expandedVariables}
+use Rattle.expand_clauses.specs.InnerCopied.{expandedVariables}
 use Rattle.expand_clauses.proofs.Numbering.{Numbers, numbers-none, numbers-more, numbers-all}
 use borrow.Author.Needs.{needs}
 use Rattle.expand_clauses.proofs.numbers.number.Statement.{statement}

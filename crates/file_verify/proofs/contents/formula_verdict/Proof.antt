@@ -7,7 +7,7 @@ use Rattle.formula_rules.specs.Rules.{readBy, checkOrder}
 use Rattle.formula_rules.proofs.Reading.{refused-read, hand-read, none-read, sound-read, more-read, behind-read}
 use Rattle.sets.proofs.AllSets.{sound-closed}
 use Rattle.file_format.specs.Causes.{ForestFileCause}
-use Rattle.file_verify.specs.Verified.{Finds}
+use Rattle.file_verify.specs.InnerVerified.{Finds}
 use Rattle.file_verify.proofs.Judging.{carry-finds}
 use Rattle.file_verify.proofs.contents.formula_verdict.Statement.{statement}
 use Rattle.file_verify.proofs.contents.formula_verdict.Tie as tie

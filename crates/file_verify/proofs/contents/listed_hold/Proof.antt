@@ -12,9 +12,9 @@ use Rattle.terms.specs.declared.Scheme.the-variants.{Standard}
 use Rattle.formula.specs.Lent.{Formula, formulaOf}
 use Rattle.forest_theory.proofs.Growth.{forest-is}
 use Rattle.forest_tables.specs.Lent.{Rows, rows}
-use Rattle.forest_tables.specs.Rows.{Tells}
+use Rattle.forest_tables.specs.InnerRows.{Tells}
 use Rattle.forest_tables.proofs.Agreeing.{lawful}
-use Rattle.sets.specs.Passed.{Fills}
+use Rattle.sets.specs.InnerPassed.{Fills}
 use Rattle.sets.specs.Sets.{AllSetsBy}
 use Rattle.sets.proofs.Settled.{sets-are-dependencies}
 use Rattle.file_format.specs.Layout.{StandardSets}

@@ -10,7 +10,7 @@ use borrow.Author.Needs.{needs}
 use Rattle.formula.specs.Lent.{Formula, formulaOf}
 use Rattle.file_format.specs.Places.{prefixIn, clausesIn, formulaHeld}
 use Rattle.file_format.proofs.Short.{take-stored}
-use Rattle.file_verify.specs.Verified.{Judges}
+use Rattle.file_verify.specs.InnerVerified.{Judges}
 use Rattle.file_verify.proofs.contents.read_verdict.Statement.{statement}
 use Rattle.file_verify.proofs.contents.read_verdict.Tie as tie
 

@@ -1,8 +1,8 @@
 -- Tables that are too short come first, then the first bad row, and once no row is bad the tables are well formed (formed), and the counts tell.
 use mathlib.Core.Path.{subst}
 use mathlib.Core.Logic.{inl, inr}
-use Rattle.forest_tables.specs.Rows.{RightRow, FirstBad}
-use Rattle.forest_tables.specs.Counting.{FormedBy}
+use Rattle.forest_tables.specs.InnerRows.{RightRow, FirstBad}
+use Rattle.forest_tables.specs.InnerCounting.{FormedBy}
 use Rattle.forest_tables.proofs.Formed.{forest-short, forest-bad, forest-miscounted, forest-fine}
 use Rattle.forest_tables.proofs.Agreeing.{bad-rows, fine-rows}
 use borrow.Author.Needs.{needs}

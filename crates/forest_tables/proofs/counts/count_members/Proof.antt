@@ -4,7 +4,7 @@ use mathlib.Core.Path.{_≡_, sym, ap, _∙_, subst}
 use native.Mathlib.Omega.{arith}
 use lib.ListN.{length, getD, length-set}
 use Rattle.forest_theory.specs.Tables.{row}
-use Rattle.forest_tables.specs.Counting.{ForClasses, MembersTo}
+use Rattle.forest_tables.specs.InnerCounting.{ForClasses, MembersTo}
 use Rattle.forest_tables.proofs.Counting.{class-small, members-none, members-over, members-more, members-most}
 use borrow.Author.Needs.{needs}
 use Rattle.forest_tables.proofs.counts.count_members.Statement.{statement}

@@ -9,9 +9,9 @@ use Rattle.formula.specs.Tables.{at, VariableAt}
 use Rattle.formula.proofs.Levelling.{variable-small}
 use Rattle.formula.proofs.Ordered.{NamedFrom}
 use Rattle.forest_theory.specs.Tables.{row, lent}
-use Rattle.forest_theory.specs.Passing.{WithinBy}
+use Rattle.forest_theory.specs.InnerPassing.{WithinBy}
 use Rattle.forest_tables.specs.Formula.{variables}
-use Rattle.forest_tables.specs.Counting.{Counting, FormedBy, MembersTo, passedUp}
+use Rattle.forest_tables.specs.InnerCounting.{Counting, FormedBy, MembersTo, passedUp}
 use Rattle.forest_tables.proofs.Readings.{told, told-not}
 use Rattle.forest_tables.proofs.Counting.{passing-most, passing-none, passing-over, passing-up, passing-all, parent-small}
 use borrow.Author.Needs.{needs}

@@ -2,7 +2,7 @@
 use Prim.Native.Nat.{ℕ}
 use mathlib.Core.Path.{sym, ap, _∙_}
 use native.Mathlib.Omega.{arith}
-use Rattle.forest_tables.specs.Counting.{passedUp}
+use Rattle.forest_tables.specs.InnerCounting.{passedUp}
 use Rattle.forest_tables.proofs.Counting.{passed-none, passed-some}
 use borrow.Author.Needs.{needs}
 use Rattle.forest_tables.proofs.counts.pass_up.Statement.{statement}

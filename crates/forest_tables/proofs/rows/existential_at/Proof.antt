@@ -3,7 +3,7 @@ use mathlib.Core.Path.{sym, _∙_, ap}
 use mathlib.Core.Bool.{false, not}
 use borrow.Author.Needs.{needs}
 use lib.ListN.{getD}
-use Rattle.forest_tables.specs.Tabled.{existentialIn}
+use Rattle.forest_tables.specs.InnerTabled.{existentialIn}
 use Rattle.forest_tables.proofs.Readings.{flag-none, flag-over, flag-in}
 use Rattle.forest_tables.proofs.rows.existential_at.Statement.{statement}
 use Rattle.forest_tables.proofs.rows.existential_at.Tie as tie

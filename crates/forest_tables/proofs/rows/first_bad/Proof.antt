@@ -3,7 +3,7 @@ use Prim.Native.Nat.{_-_}
 use native.Mathlib.Omega.{arith}
 use borrow.Author.Needs.{needs}
 use borrow.Author.Tests.{not-true, not-false}
-use Rattle.forest_tables.specs.Rows.{RightRow}
+use Rattle.forest_tables.specs.InnerRows.{RightRow}
 use Rattle.forest_tables.proofs.Readings.{told, told-not}
 use Rattle.forest_tables.proofs.Formed.{Right, right-none, right-more, bad-here, bad-none}
 use Rattle.forest_tables.proofs.rows.first_bad.Statement.{statement}

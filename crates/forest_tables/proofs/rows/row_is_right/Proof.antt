@@ -7,8 +7,8 @@ use mathlib.Core.Logic.{_≢_}
 use borrow.Author.Tests.{not-true, not-false}
 use borrow.Author.Needs.{needs}
 use Rattle.forest_theory.specs.Tables.{lent, ClassRow}
-use Rattle.forest_tables.specs.Tabled.{existentialIn, tabled}
-use Rattle.forest_tables.specs.Rows.{rowsOf, RightParent, RightRow}
+use Rattle.forest_tables.specs.InnerTabled.{existentialIn, tabled}
+use Rattle.forest_tables.specs.InnerRows.{rowsOf, RightParent, RightRow}
 use Rattle.forest_tables.proofs.Readings.{told-both}
 use Rattle.forest_tables.proofs.Formed.{class-own, class-alone, existential-right, universal-right, universal-class, row-parent}
 use Rattle.forest_tables.proofs.rows.row_is_right.Statement.{statement}

@@ -3,7 +3,7 @@ use mathlib.Core.Path.{sym, _∙_}
 use mathlib.Core.Bool.{false}
 use borrow.Author.Needs.{needs}
 use lib.ListN.{getD}
-use Rattle.forest_tables.specs.Tabled.{universalIn}
+use Rattle.forest_tables.specs.InnerTabled.{universalIn}
 use Rattle.forest_tables.proofs.Readings.{flag-none, flag-over, flag-in}
 use Rattle.forest_tables.proofs.rows.universal_at.Statement.{statement}
 use Rattle.forest_tables.proofs.rows.universal_at.Tie as tie

@@ -7,7 +7,7 @@ use borrow.Author.Count.{below-more}
 use borrow.Author.Needs.{needs}
 use lib.ListN.{length}
 use Rattle.terms.proofs.Common.{clash}
-use Rattle.formula.specs.Scan.{AllUpto}
+use Rattle.formula.specs.InnerScan.{AllUpto}
 use Rattle.formula.proofs.clauses.any_over.Statement.{statement}
 use Rattle.formula.proofs.clauses.any_over.Tie as tie
 

@@ -5,7 +5,7 @@ use borrow.Author.Count.{below-more}
 use borrow.Author.Needs.{needs}
 use borrow.Author.Tests.{not-true}
 use lib.ListN.{length}
-use Rattle.formula.specs.Scan.{AllUpto}
+use Rattle.formula.specs.InnerScan.{AllUpto}
 use Rattle.formula.proofs.clauses.first_over.Statement.{statement}
 use Rattle.formula.proofs.clauses.first_over.Tie as tie
 

@@ -5,7 +5,7 @@ use mathlib.Core.Path.{sym, ap, _∙_}
 use native.Mathlib.Omega.{arith}
 use lib.ListN.{length}
 use borrow.Author.Needs.{needs}
-use Rattle.terms.specs.LiteralRows.{rowOf, otherRow}
+use Rattle.terms.specs.InnerLiteralRows.{rowOf, otherRow}
 use Rattle.formula.proofs.Signs.{Passed, row-below, other-below, passed-none, passed-found, passed-more, passed-all}
 use Rattle.formula.proofs.truth.always_true.Statement.{statement}
 use Rattle.formula.proofs.truth.always_true.Tie as tie

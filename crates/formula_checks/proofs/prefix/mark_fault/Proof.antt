@@ -1,7 +1,7 @@
 -- One case of `MarkFault` for each way out; the pattern `1 | 2` is a test of the range from 1 to 2 (is-mark).
 use mathlib.Core.Path.{refl}
 use native.Mathlib.Omega.{arith}
-use Rattle.formula.specs.Scan.{IsMark, fine, no-mark, same-mark, too-many}
+use Rattle.formula.specs.InnerScan.{IsMark, fine, no-mark, same-mark, too-many}
 use Rattle.formula.proofs.Scanned.{is-mark}
 use Rattle.formula_checks.proofs.prefix.mark_fault.Statement.{statement}
 use Rattle.formula_checks.proofs.prefix.mark_fault.Tie as tie

@@ -2,7 +2,7 @@
 use mathlib.Core.Path.{refl}
 use native.Mathlib.Omega.{arith}
 use borrow.Author.Needs.{needs}
-use Rattle.formula.specs.Scan.{fresh, outside, named-before}
+use Rattle.formula.specs.InnerScan.{fresh, outside, named-before}
 use Rattle.formula_checks.proofs.prefix.name_fault.Statement.{statement}
 use Rattle.formula_checks.proofs.prefix.name_fault.Tie as tie
 

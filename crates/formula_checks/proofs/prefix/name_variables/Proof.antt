@@ -6,7 +6,7 @@ use native.Mathlib.Omega.{arith}
 use borrow.Author.Needs.{needs}
 use lib.ListN.{length}
 use Rattle.formula.specs.Tables.{at}
-use Rattle.formula.specs.Scan.{NameFault, NamedTo, no-name, one-name, closed, faulty, unclosed}
+use Rattle.formula.specs.InnerScan.{NameFault, NamedTo, no-name, one-name, closed, faulty, unclosed}
 use Rattle.formula_checks.proofs.prefix.name_variables.Statement.{statement}
 use Rattle.formula_checks.proofs.prefix.name_variables.Tie as tie
 

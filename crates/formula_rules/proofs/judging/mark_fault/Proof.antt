@@ -2,9 +2,9 @@
 use mathlib.Core.Path.{refl}
 use mathlib.Core.Logic.{inl, inr}
 use native.Mathlib.Omega.{arith}
-use Rattle.formula.specs.Scan.{IsMark}
+use Rattle.formula.specs.InnerScan.{IsMark}
 use Rattle.formula.proofs.Scanned.{is-mark}
-use Rattle.formula_rules.specs.Writing.{fine, no-mark, too-many}
+use Rattle.formula_rules.specs.InnerWriting.{fine, no-mark, too-many}
 use Rattle.formula_rules.proofs.judging.mark_fault.Statement.{statement}
 use Rattle.formula_rules.proofs.judging.mark_fault.Tie as tie
 

@@ -5,7 +5,7 @@ use mathlib.Core.Path.{sym, _∙_}
 use native.Mathlib.Omega.{arith}
 use borrow.Author.Needs.{needs}
 use lib.ListN.{length}
-use Rattle.formula_rules.specs.Writing.{closing}
+use Rattle.formula_rules.specs.InnerWriting.{closing}
 use Rattle.formula_rules.proofs.Written.{Writing, write-none, mark-room, closed-room, write-mark, write-no-mark, write-close, name-room, write-variable}
 use Rattle.formula_rules.proofs.Written.{last-room, written-all}
 use Rattle.formula_rules.proofs.laying.lay_out.Statement.{statement}

@@ -9,7 +9,7 @@ use Rattle.forest_tables.proofs.Readings.{told, told-not}
 use Rattle.grow.specs.Grown.{Standing, standing, TooShort, Tallies}
 use Rattle.grow.proofs.Taking.{sum-tallies}
 use Rattle.forest_tables.proofs.Agreeing.{lawful}
-use Rattle.grow.specs.Rows.{Room}
+use Rattle.grow.specs.InnerRows.{Room}
 use Rattle.grow.proofs.Accepted.{build-short, build-accepted}
 use Rattle.grow.proofs.Standings.{rowed-grown, refusal, acceptance}
 use Rattle.grow.proofs.building.build_read.Statement.{statement}

@@ -4,7 +4,7 @@ use mathlib.Core.Path.{sym, _∙_}
 use mathlib.Core.Bool.{false}
 use native.Mathlib.Omega.{arith}
 use lib.ListN.{getD}
-use Rattle.grow_passes.specs.Rows.{depthOf}
+use Rattle.grow_passes.specs.InnerRows.{depthOf}
 use Rattle.grow_passes.proofs.Passes.{FilledTo, fill-none, fill-one, fill-all, depth-past}
 use Rattle.grow_passes.proofs.depths.rank.Statement.{statement}
 use Rattle.grow_passes.proofs.depths.rank.Tie as tie

@@ -5,7 +5,7 @@ use mathlib.Core.Path.{sym, _∙_}
 use native.Mathlib.Omega.{arith}
 use borrow.Author.Needs.{needs}
 use lib.ListN.{length}
-use Rattle.formula.specs.Lookup.{Stamps}
+use Rattle.formula.specs.InnerLookup.{Stamps}
 use Rattle.formula.proofs.Lookups.{part-rows}
 use Rattle.formula.proofs.Signs.{stamps-more, stamps-none}
 use Rattle.grow_passes.proofs.Passes.{PutSome, put-none, put-clause, put-over, put-open}

@@ -4,7 +4,8 @@ use Prim.Native.Nat.{_+_, _-_, _<_}
 use mathlib.Core.Path.{refl}
 use native.Mathlib.Omega.{arith}
 use lib.ListN.{getD}
-use Rattle.terms.specs.Limits.{mostVariables, variableRows}
+use Rattle.terms.specs.Limits.{mostVariables}
+use Rattle.terms.specs.InnerLimits.{variableRows}
 use Rattle.grow_passes.proofs.Passes.{WrittenTo, write-none, write-one, written}
 use Rattle.grow_passes.proofs.rows.write_out.Statement.{statement}
 use Rattle.grow_passes.proofs.rows.write_out.Tie as tie

@@ -3,7 +3,7 @@ use Prim.Native.Nat.{_+_, _-_, _<_}
 use mathlib.Core.Path.{refl}
 use native.Mathlib.Omega.{arith}
 use Rattle.terms.specs.Limits.{mostVariables}
-use Rattle.grow_rows.specs.Rows.{Copied}
+use Rattle.grow_rows.specs.InnerRows.{Copied}
 use Rattle.grow_rows.proofs.Recounted.{copy-none, copy-one, copied}
 use Rattle.grow_rows.proofs.counts.copy_out.Statement.{statement}
 use Rattle.grow_rows.proofs.counts.copy_out.Tie as tie

@@ -1,7 +1,7 @@
 -- The counts that `fill_counts` leaves in a new table, copied out, are those of the lent rows.
 use Prim.Native.Nat.{ℕ}
 use lib.ListN.{length-replicate}
-use Rattle.terms.specs.Limits.{variableRows}
+use Rattle.terms.specs.InnerLimits.{variableRows}
 use Rattle.forest_tables.proofs.Readings.{new-zero}
 use Rattle.grow_rows.proofs.Recounted.{recounted}
 use borrow.Author.Needs.{needs}

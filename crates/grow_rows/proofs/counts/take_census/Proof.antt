@@ -2,7 +2,7 @@
 -- grows as the number does.
 use Prim.Native.Nat.{_-_}
 use native.Mathlib.Omega.{arith}
-use Rattle.grow_rows.specs.Rows.{CensusOf}
+use Rattle.grow_rows.specs.InnerRows.{CensusOf}
 use Rattle.grow_rows.proofs.Census.{census-none, census-universal, census-member, census-name, census-all}
 use Rattle.grow_rows.proofs.counts.take_census.Statement.{statement}
 use Rattle.grow_rows.proofs.counts.take_census.Tie as tie

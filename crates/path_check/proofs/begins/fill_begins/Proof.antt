@@ -4,7 +4,7 @@ use mathlib.Core.Path.{sym, ap, _∙_}
 use native.Mathlib.Omega.{arith}
 use borrow.Author.Needs.{needs}
 use lib.ListN.{length, drop-of-length-le}
-use Rattle.formula.specs.Lookup.{Stamps}
+use Rattle.formula.specs.InnerLookup.{Stamps}
 use Rattle.formula.specs.Meaning.{clauses}
 use Rattle.formula.specs.Tables.{cut}
 use Rattle.formula.proofs.Lookups.{clauses-unclosed}

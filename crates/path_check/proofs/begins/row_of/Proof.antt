@@ -5,7 +5,7 @@ use native.Mathlib.Omega.{arith}
 use borrow.Author.Needs.{needs}
 use Rattle.formula.proofs.Lookups.{part-rows}
 use Rattle.formula.proofs.Signs.{stamps-more}
-use Rattle.path_check.specs.Walk.{RowOf}
+use Rattle.path_check.specs.InnerWalk.{RowOf}
 use Rattle.path_check.proofs.begins.row_of.Statement.{statement}
 use Rattle.path_check.proofs.begins.row_of.Tie as tie
 

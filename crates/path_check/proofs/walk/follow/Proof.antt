@@ -6,9 +6,9 @@ use native.Mathlib.Omega.{arith}
 use borrow.Author.Needs.{needs}
 use lib.ListN.{length}
 use Rattle.forest_tables.proofs.Readings.{told, told-not}
-use Rattle.forest_tables.specs.Tabled.{tabled}
+use Rattle.forest_tables.specs.InnerTabled.{tabled}
 use Rattle.path_check.specs.Causes.{PathCause, empty}
-use Rattle.path_check.specs.Walk.{Walked}
+use Rattle.path_check.specs.InnerWalk.{Walked}
 use Rattle.path_check.proofs.Following.{Clean, clean-more, plain-clause, fails-first, fails-never, walk-none}
 use Rattle.path_check.proofs.walk.follow.Statement.{statement}
 use Rattle.path_check.proofs.walk.follow.Tie as tie

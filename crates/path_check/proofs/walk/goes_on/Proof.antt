@@ -3,7 +3,7 @@ use Prim.Native.Nat.{_-_}
 use mathlib.Core.Path.{refl}
 use native.Mathlib.Omega.{arith}
 use borrow.Author.Needs.{needs}
-use Rattle.forest_tables.specs.Tabled.{tabled}
+use Rattle.forest_tables.specs.InnerTabled.{tabled}
 use Rattle.path_check.proofs.Following.{joins-first, joins-next}
 use Rattle.path_check.proofs.walk.goes_on.Statement.{statement}
 use Rattle.path_check.proofs.walk.goes_on.Tie as tie

@@ -5,7 +5,7 @@ use native.Mathlib.Omega.{arith}
 use borrow.Author.Needs.{needs}
 use lib.ListN.{length}
 use Rattle.forest_entries.proofs.Flags.{literal-past}
-use Rattle.forest_entries.specs.Flags.{Has}
+use Rattle.forest_entries.specs.InnerFlags.{Has}
 use Rattle.path_check.proofs.Entries.{Passing, pass-none, pass-more, passed-all, passed-one}
 use Rattle.path_check.proofs.walk.has_variable.Statement.{statement}
 use Rattle.path_check.proofs.walk.has_variable.Tie as tie

@@ -6,7 +6,7 @@ use borrow.Author.Needs.{needs}
 use lib.ListN.{length, getD}
 use Rattle.forest_entries.proofs.Flags.{literal-past}
 use Rattle.forest_tables.proofs.Readings.{told, told-not}
-use Rattle.forest_tables.specs.Tabled.{tabled}
+use Rattle.forest_tables.specs.InnerTabled.{tabled}
 use Rattle.forest_theory.specs.Reach.{Deeper}
 use Rattle.path_check.proofs.Entries.{Passing, pass-none, pass-more, passed-all, passed-one}
 use Rattle.path_check.proofs.walk.meets.Statement.{statement}

@@ -5,8 +5,8 @@ use native.Mathlib.Omega.{arith}
 use borrow.Author.Needs.{needs}
 use lib.ListN.{length}
 use Rattle.forest_entries.proofs.Flags.{literal-past}
-use Rattle.forest_entries.specs.Flags.{Has}
-use Rattle.path_check.specs.Walk.{Stamped}
+use Rattle.forest_entries.specs.InnerFlags.{Has}
+use Rattle.path_check.specs.InnerWalk.{Stamped}
 use Rattle.path_check.proofs.Entries.{Passing, pass-none, pass-more, ends-here, stamped-none, stamped-more}
 use Rattle.path_check.proofs.walk.stamp_entries.Statement.{statement}
 use Rattle.path_check.proofs.walk.stamp_entries.Tie as tie

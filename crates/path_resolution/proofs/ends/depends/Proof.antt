@@ -3,7 +3,7 @@ use Prim.Native.Nat.{_+_}
 use mathlib.Core.Path.{refl}
 use borrow.Author.Needs.{needs}
 use borrow.Author.Tests.{not-true, not-false}
-use Rattle.forest_tables.specs.Tabled.{tabled}
+use Rattle.forest_tables.specs.InnerTabled.{tabled}
 use Rattle.forest_tables.proofs.Readings.{told, told-not, told-both}
 use Rattle.forest_theory.specs.Reach.{Deeper}
 use Rattle.path_resolution.specs.InnerEnds.{Pairs}

@@ -6,7 +6,8 @@ use native.Mathlib.Omega.{arith}
 use borrow.Author.Needs.{needs}
 use lib.ListN.{replicate, length-replicate, length-set}
 use lib.Seq.{getD-set-same}
-use Rattle.terms.specs.Limits.{clauseEntries, resolutionRows}
+use Rattle.terms.specs.Limits.{clauseEntries}
+use Rattle.terms.specs.InnerLimits.{resolutionRows}
 use Rattle.forest_tables.proofs.Readings.{new-zero}
 use Rattle.path_resolution.proofs.Reaching.{threads-chained}
 use Rattle.path_resolution.proofs.ends.flag_dependent.Statement.{statement}

@@ -6,9 +6,9 @@ use native.Mathlib.Omega.{arith}
 use borrow.Author.Needs.{needs}
 use lib.IntN.{ℤ, negℤ}
 use lib.ListN.{length-replicate}
-use Rattle.terms.specs.Limits.{resolutionLiteralRows}
+use Rattle.terms.specs.InnerLimits.{resolutionLiteralRows}
 use Rattle.terms.specs.Literals.{variableOf}
-use Rattle.forest_tables.specs.Tabled.{tabled}
+use Rattle.forest_tables.specs.InnerTabled.{tabled}
 use Rattle.forest_tables.specs.Formula.{signed}
 use Rattle.forest_entries.proofs.Sides.{signed-variable}
 use Rattle.path_resolution.specs.InnerEnds.{Ends}

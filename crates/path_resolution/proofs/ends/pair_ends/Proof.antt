@@ -4,9 +4,9 @@ use mathlib.Core.Path.{_≡_, sym, _∙_, subst}
 use native.Mathlib.Omega.{arith}
 use borrow.Author.Needs.{needs}
 use lib.ListN.{length, length-set}
-use Rattle.terms.specs.Limits.{resolutionRows}
-use Rattle.forest_tables.specs.Tabled.{tabled}
-use Rattle.forest_tables.specs.Rows.{Tells}
+use Rattle.terms.specs.InnerLimits.{resolutionRows}
+use Rattle.forest_tables.specs.InnerTabled.{tabled}
+use Rattle.forest_tables.specs.InnerRows.{Tells}
 use Rattle.forest_theory.specs.Reach.{Deeper}
 use Rattle.path_resolution.specs.InnerEnds.{Pairs, Flags}
 use Rattle.path_resolution.proofs.Reaching.{flag-more}

@@ -8,9 +8,9 @@ use borrow.Author.Needs.{needs}
 use lib.IntN.{ℤ, negℤ}
 use lib.ListN.{length, getD, set, length-set}
 use Rattle.terms.specs.Literals.{variableOf}
-use Rattle.terms.specs.LiteralRows.{rowOf, otherRow}
+use Rattle.terms.specs.InnerLiteralRows.{rowOf, otherRow}
 use Rattle.forest_entries.proofs.Flags.{literal-past}
-use Rattle.path_resolution.specs.Walk.{unmarked, Passes, Walked}
+use Rattle.path_resolution.specs.InnerWalk.{unmarked, Passes, Walked}
 use Rattle.path_resolution.proofs.Marks.{other-one, unmarked-less, unmarked-set}
 use Rattle.path_resolution.proofs.Steps.{Stepping, step-none, step-noted, step-within, step-other, step-clause, step-end, Leaving, leave-none, leave-past, leave-new, leave-end}
 use borrow.Fn.Kinds.{In}

@@ -7,10 +7,10 @@ use native.Mathlib.Omega.{arith}
 use lib.ListN.{length, getD, length-replicate}
 use Rattle.forest_theory.specs.Reach.{Variables}
 use Rattle.forest_tables.specs.Formula.{variables, universal}
-use Rattle.forest_tables.specs.Tabled.{universalIn}
-use Rattle.sets_subtrees.specs.Runs.{Floored}
-use Rattle.sets_record.specs.Places.{Placed}
-use Rattle.sets.specs.Passed.{SetsUpto, PutAll}
+use Rattle.forest_tables.specs.InnerTabled.{universalIn}
+use Rattle.sets_subtrees.specs.InnerRuns.{Floored}
+use Rattle.sets_record.specs.InnerPlaces.{Placed}
+use Rattle.sets.specs.InnerPassed.{SetsUpto, PutAll}
 use Rattle.forest_tables.proofs.Readings.{flag-within, new-zero}
 use Rattle.forest_tables.proofs.Agreeing.{lawful, level-agrees, universal-agrees}
 use Rattle.sets.proofs.AllSets.{put-length, sets-small, put-room, put-next, put-other, put-none}

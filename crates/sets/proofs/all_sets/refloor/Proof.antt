@@ -2,7 +2,7 @@
 -- the places.
 use mathlib.Core.Path.{sym, subst}
 use native.Mathlib.Omega.{arith}
-use Rattle.sets_record.specs.Places.{Placed}
+use Rattle.sets_record.specs.InnerPlaces.{Placed}
 use borrow.Author.Needs.{needs}
 use Rattle.sets.proofs.all_sets.refloor.Statement.{statement}
 use Rattle.sets.proofs.all_sets.refloor.Tie as tie

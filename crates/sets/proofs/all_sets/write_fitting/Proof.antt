@@ -7,7 +7,7 @@ use native.Mathlib.Omega.{arith}
 use borrow.Author.Tests.{not-true, not-false}
 use lib.ListN.{length}
 use lib.Seq.{sets}
-use Rattle.sets.specs.Passed.{SetsUpto, TellsRoom}
+use Rattle.sets.specs.InnerPassed.{SetsUpto, TellsRoom}
 use Rattle.sets.proofs.AllSets.{sets-small}
 use borrow.Author.Needs.{needs}
 use Rattle.sets.proofs.all_sets.write_fitting.Statement.{statement}

@@ -6,10 +6,10 @@ use mathlib.Core.Logic.{_⊎_, inl, ⊎-elim, _↔_}
 use native.Mathlib.Omega.{arith}
 use borrow.Author.Needs.{needs}
 use lib.ListN.{length}
-use Rattle.formula.specs.Lookup.{NextZero}
-use Rattle.forest_entries.specs.Flags.{Has, Via}
+use Rattle.formula.specs.InnerLookup.{NextZero}
+use Rattle.forest_entries.specs.InnerFlags.{Has, Via}
 use Rattle.forest_entries.proofs.Flags.{Unclosed, unclosed-none, unclosed-more, unclosed-zero, unclosed-end, has-none, has-next, next-one}
-use Rattle.sets_occurrences.specs.SoleTops.{Is, SoleOf}
+use Rattle.sets_occurrences.specs.InnerSoleTops.{Is, SoleOf}
 use Rattle.sets_occurrences.proofs.SoleTops.{sole-next}
 use Rattle.sets_occurrences.proofs.soles.sole_after.Statement.{statement}
 use Rattle.sets_occurrences.proofs.soles.sole_after.Tie as tie

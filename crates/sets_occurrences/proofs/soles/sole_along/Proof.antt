@@ -5,9 +5,9 @@ use mathlib.Core.Logic.{_⊎_, inr, ⊎-elim}
 use native.Mathlib.Omega.{arith}
 use borrow.Author.Needs.{needs}
 use lib.ListN.{length}
-use Rattle.forest_entries.specs.Flags.{Has, Via}
-use Rattle.sets_occurrences.specs.Threads.{linkAt}
-use Rattle.sets_occurrences.specs.SoleTops.{Is, SoleOf}
+use Rattle.forest_entries.specs.InnerFlags.{Has, Via}
+use Rattle.sets_occurrences.specs.InnerThreads.{linkAt}
+use Rattle.sets_occurrences.specs.InnerSoleTops.{Is, SoleOf}
 use Rattle.sets_occurrences.proofs.Followed.{Tracing, trace-none, trace-link, trace-clause, trace-more, trace-past, trace-all}
 use Rattle.sets_occurrences.proofs.soles.sole_along.Statement.{statement}
 use Rattle.sets_occurrences.proofs.soles.sole_along.Tie as tie

@@ -2,9 +2,9 @@
 use Prim.Native.Nat.{ℕ}
 use mathlib.Core.Path.{subst}
 use mathlib.Core.Bool.{Bool, true, false}
-use Rattle.forest_entries.specs.Flags.{Via}
-use Rattle.sets_occurrences.specs.Threads.{Together}
-use Rattle.sets_occurrences.specs.SoleTops.{SoleOf}
+use Rattle.forest_entries.specs.InnerFlags.{Via}
+use Rattle.sets_occurrences.specs.InnerThreads.{Together}
+use Rattle.sets_occurrences.specs.InnerSoleTops.{SoleOf}
 use Rattle.sets_occurrences.proofs.SoleTops.{both-none, both-same, both-differ}
 use borrow.Author.Needs.{needs}
 use Rattle.sets_occurrences.proofs.soles.sole_both.Statement.{statement}

@@ -3,11 +3,11 @@ use mathlib.Core.Path.{sym, subst}
 use mathlib.Core.Bool.{Bool}
 use mathlib.Core.Logic.{inl, inr, ⊎-elim}
 use Rattle.terms.specs.declared.Scheme.{Scheme}
-use Rattle.forest_entries.specs.Flags.{Takes, Via}
+use Rattle.forest_entries.specs.InnerFlags.{Takes, Via}
 use Rattle.forest_entries.proofs.Flags.{via-as, via-or}
-use Rattle.sets_occurrences.specs.Threads.{Together}
+use Rattle.sets_occurrences.specs.InnerThreads.{Together}
 use Rattle.sets_occurrences.specs.declared.soles.Sole.{Sole}
-use Rattle.sets_occurrences.specs.SoleTops.{SoleOf}
+use Rattle.sets_occurrences.specs.InnerSoleTops.{SoleOf}
 use Rattle.sets_occurrences.proofs.SoleTops.{sole-as}
 use borrow.Author.Needs.{needs}
 use Rattle.sets_occurrences.proofs.soles.sole_point.Statement.{statement}

@@ -5,13 +5,14 @@ use mathlib.Core.Bool.{Bool, true, false}
 use mathlib.Core.List.{List, [], _∷_}
 use mathlib.Core.Logic.{_≢_}
 use lib.ListN.{length, getD, set, replicate}
-use Rattle.terms.specs.Limits.{mostVariables, variableRows}
-use Rattle.terms.specs.Pairs.{lowOf, highOf}
+use Rattle.terms.specs.Limits.{mostVariables}
+use Rattle.terms.specs.InnerLimits.{variableRows}
+use Rattle.terms.specs.InnerPairs.{lowOf, highOf}
 use Rattle.forest_members.specs.declared.Asked.the-variants.{Set}
 use Rattle.forest_theory.specs.Tables.{row, lent}
 use Rattle.forest_tables.specs.Formula.{variables}
-use Rattle.forest_members.specs.Picked.{pick, picked}
-use Rattle.forest_climb.specs.Search.{Known, TopsOver}
+use Rattle.forest_members.specs.InnerPicked.{pick, picked}
+use Rattle.forest_climb.specs.InnerSearch.{Known, TopsOver}
 
 -- the table leads from v over the numbers of the list, from each to the next, and ends with 0
 abbrev pub Run : List ℕ → ℕ → List ℕ → Type 0

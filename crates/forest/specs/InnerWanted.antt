@@ -12,8 +12,8 @@ use Rattle.forest_members.specs.declared.Asked.the-variants.{Points, Set}
 use Rattle.terms.specs.declared.Verdict.{Verdict}
 use Rattle.terms.specs.declared.Verdict.the-variants.{Accepted}
 use Rattle.formula.specs.Lent.{Formula}
-use Rattle.forest_climb.specs.Search.{EntryRows}
-use Rattle.forest_entries.specs.Flags.{Entering}
+use Rattle.forest_climb.specs.InnerSearch.{EntryRows}
+use Rattle.forest_entries.specs.InnerFlags.{Entering}
 use Rattle.forest_tables.specs.Lent.{Rows, variablesOf, forestOf}
 use Rattle.forest.specs.Answers.{EntriesBy, MembersBy}
 

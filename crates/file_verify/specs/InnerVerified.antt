@@ -7,14 +7,14 @@ use Rattle.terms.specs.Refusals.{Causes, Judged}
 use Rattle.terms.specs.declared.Verdict.{Verdict}
 use Rattle.terms.specs.declared.Verdict.the-variants.{Accepted, Refused}
 use Rattle.formula.specs.Lent.{Formula}
-use Rattle.formula.specs.Levels.{SoundPrefix}
-use Rattle.formula.specs.Lookup.{SoundClauses}
+use Rattle.formula.specs.InnerLevels.{SoundPrefix}
+use Rattle.formula.specs.InnerLookup.{SoundClauses}
 use Rattle.formula_rules.specs.Rules.{RuleCause, readBy, checkOrder}
 use Rattle.forest_theory.specs.Tables.{lent}
 use Rattle.forest_theory.specs.Forest.{Forest}
 use Rattle.forest_tables.specs.Formula.{Shares}
 use Rattle.forest_tables.specs.Lent.{Rows, rows, variablesOf}
-use Rattle.sets_occurrences.specs.Threads.{Closed}
+use Rattle.sets_occurrences.specs.InnerThreads.{Closed}
 use Rattle.file_format.specs.Numbers.{numbersAt}
 use Rattle.file_format.specs.Places.{payloadAt, thirdAt, countIn, formulaHeld}
 use Rattle.file_format.specs.Causes.{RightRows, ForestFileCause}

@@ -8,15 +8,15 @@ use lib.ListN.{length}
 use lib.Seq.{sets}
 use Rattle.terms.specs.declared.Filled.{Filled}
 use Rattle.terms.specs.declared.Filled.the-variants.{Count, Refused}
-use Rattle.formula.specs.Levels.{SoundPrefix, Levelled}
+use Rattle.formula.specs.InnerLevels.{SoundPrefix, Levelled}
 use Rattle.formula.specs.Lent.{formulaOf}
 use Rattle.forest_tables.specs.Formula.{universal}
 use Rattle.forest_tables.specs.Lent.{rows}
 use Rattle.terms.specs.declared.Scheme.{Scheme}
 use Rattle.forest.specs.Answers.{MembersBy}
-use Rattle.forest_tables.specs.Counting.{FormedBy}
+use Rattle.forest_tables.specs.InnerCounting.{FormedBy}
 use Rattle.sets.specs.Sets.{Records}
-use Rattle.sets_occurrences.specs.Threads.{Threaded, Closed}
+use Rattle.sets_occurrences.specs.InnerThreads.{Threaded, Closed}
 
 -- the sets of the universals 1 to m by a scheme
 abbrev pub SetsUpto : Scheme → ℕ → List ℕ → List ℤ → List ℕ → List ℕ → ℕ → List ℕ → Type 0

@@ -7,9 +7,9 @@ use mathlib.Core.Logic.{_≢_}
 use lib.IntN.{ℤ, negℤ}
 use lib.ListN.{length, getD}
 use Rattle.terms.specs.Literals.{variableOf}
-use Rattle.terms.specs.LiteralRows.{rowOf}
+use Rattle.terms.specs.InnerLiteralRows.{rowOf}
 use Rattle.formula.specs.Tables.{literalAt}
-use Rattle.sets_occurrences.specs.Threads.{Inside, Connecting, On, Noted}
+use Rattle.sets_occurrences.specs.InnerThreads.{Inside, Connecting, On, Noted}
 
 -- whether a literal is marked, in a table with a row for each literal
 abbrev pub marked : List Bool → ℤ → Bool

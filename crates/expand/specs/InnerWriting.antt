@@ -10,7 +10,7 @@ use Rattle.terms.specs.Refusals.{Causes, At0}
 use Rattle.terms.specs.declared.Expanded.{Expanded}
 use Rattle.formula.specs.Lent.{Formula, formulaOf}
 use Rattle.expand_clauses.specs.InnerCopies.{expandedPrefix, expandedClauses}
-use Rattle.formula_rules.specs.Writing.{closing}
+use Rattle.formula_rules.specs.InnerWriting.{closing}
 use Rattle.expand.specs.Promise.{ResultTables, Long, Short, Leaves}
 
 -- what is written in front of a variable: where its block has not begun, the 0 that closes the block before, and its mark

@@ -5,7 +5,7 @@ use mathlib.Core.Bool.{Bool, true, false}
 use mathlib.Core.List.{List, []}
 use mathlib.Core.Logic.{_≢_}
 use Rattle.forest_theory.specs.Tables.{Table, row, lent, ClassRow, ParentRow, Row}
-use Rattle.forest_tables.specs.Tabled.{existentialIn, tabled}
+use Rattle.forest_tables.specs.InnerTabled.{existentialIn, tabled}
 
 -- a flag tells whether P holds
 abbrev pub Tells : Bool → Type 0 → Type 0

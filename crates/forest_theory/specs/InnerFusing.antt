@@ -6,7 +6,7 @@ use lib.Dec.{eqb, ltb}
 use Rattle.forest_theory.specs.Reach.{Variables}
 use Rattle.forest_theory.specs.Tables.{Table, lent}
 use Rattle.forest_theory.specs.Counts.{how-many}
-use Rattle.forest_theory.specs.Search.{has}
+use Rattle.forest_theory.specs.InnerSearch.{has}
 
 -- f of n numbers from s on.
 unfoldable pub fill : ℕ → ℕ → (ℕ → ℕ) → List ℕ

@@ -5,10 +5,11 @@ use mathlib.Core.Bool.{Bool, false, cond, not, _&&_}
 use mathlib.Core.List.{List}
 use lib.Dec.{leb}
 use lib.ListN.{length, getD}
-use Rattle.terms.specs.Limits.{mostVariables, variableRows}
+use Rattle.terms.specs.Limits.{mostVariables}
+use Rattle.terms.specs.InnerLimits.{variableRows}
 use Rattle.forest_theory.specs.Reach.{Variables, Joined}
 use Rattle.formula.specs.Meaning.{level, isExistential}
-use Rattle.grow_union_find.specs.Loose.{Equal, Loose, Kept, table, ranked, links, Growing}
+use Rattle.grow_union_find.specs.InnerLoose.{Equal, Loose, Kept, table, ranked, links, Growing}
 use Rattle.grow_passes.specs.Past.{Past}
 
 -- A table with a row for each number up to the limit, of which those past n hold 0.

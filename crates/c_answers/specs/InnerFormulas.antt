@@ -5,7 +5,7 @@ use mathlib.Core.Bool.{Bool}
 use Rattle.terms.specs.declared.Loaded.{Loaded}
 pub use Rattle.terms.specs.Says.{readingSaid, listedSaid, expandedSaid, loadedSaid}
 use Rattle.c_answers.specs.Codes.{tellsSets}
-use Rattle.c_answers.specs.Cells.{Said, saidBy, InCell}
+use Rattle.c_answers.specs.InnerCells.{Said, saidBy, InCell}
 
 -- a file that was read, with whether sets were there as a cell has it
 abbrev pub loadedCells : Loaded → Said (ℕ × ℕ × ℕ × ℕ)

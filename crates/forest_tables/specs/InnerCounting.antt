@@ -6,10 +6,10 @@ use mathlib.Core.Bool.{cond}
 use mathlib.Core.List.{List}
 use lib.Dec.{eqb}
 use lib.ListN.{length, getD, set}
-use Rattle.terms.specs.Limits.{variableRows}
+use Rattle.terms.specs.InnerLimits.{variableRows}
 use Rattle.forest_theory.specs.Tables.{WellFormed, row, lent}
 use Rattle.forest_theory.specs.Counts.{CountRow, Counted}
-use Rattle.forest_theory.specs.Passing.{RowsCount, Placed}
+use Rattle.forest_theory.specs.InnerPassing.{RowsCount, Placed}
 use Rattle.forest_tables.specs.Formula.{variables}
 
 -- the rows of a table count the v of which P c v holds, in row c

@@ -4,7 +4,7 @@ use mathlib.Core.Path.{_≡_}
 use mathlib.Core.List.{List}
 use mathlib.Core.Logic.{_≢_, _⊎_}
 use lib.ListN.{length, getD, set}
-use Rattle.sets_subtrees.specs.Runs.{having}
+use Rattle.sets_subtrees.specs.InnerRuns.{having}
 
 -- a list stands in a table from an entry on, before another
 pub record Standing (out : List ℕ) (place : ℕ) (list : List ℕ) (end : ℕ) : Type 0 where

@@ -8,11 +8,11 @@ use mathlib.Core.Logic.{_⊎_}
 use lib.IntN.{ℤ}
 use lib.ListN.{length, getD, take, drop}
 use Rattle.terms.specs.Limits.{clauseEntries}
-use Rattle.formula.specs.Lookup.{NextZero}
+use Rattle.formula.specs.InnerLookup.{NextZero}
 use Rattle.formula.specs.Meaning.{clauses, alwaysTrue}
 use Rattle.formula.specs.Tables.{at}
 use Rattle.forest_theory.specs.Reach.{Variables, Deeper}
-use Rattle.forest_entries.specs.Flags.{Has}
+use Rattle.forest_entries.specs.InnerFlags.{Has}
 use Rattle.path_check.specs.Paths.{clauseAt, HasVariable, Shared}
 
 -- the clause with the number k stands from `start` up to the 0 at `end`, and is not always true

@@ -8,8 +8,8 @@ use lib.ListN.{length}
 use lib.Seq.{sets}
 use Rattle.terms.specs.declared.Scheme.{Scheme}
 use Rattle.forest_members.specs.declared.Asked.the-variants.{Set}
-use Rattle.forest_members.specs.Picked.{pick, picked}
-use Rattle.sets_occurrences.specs.Threads.{EnteredBy}
+use Rattle.forest_members.specs.InnerPicked.{pick, picked}
+use Rattle.sets_occurrences.specs.InnerThreads.{EnteredBy}
 use Rattle.sets_record.specs.declared.Draft.{Draft}
 
 -- the record of x with a set, written or only counted: `end` is the entry behind it

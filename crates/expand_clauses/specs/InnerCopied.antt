@@ -6,7 +6,7 @@ use mathlib.Core.List.{List, [], _∷_, _++_, map}
 use lib.IntN.{ℤ, pos}
 use lib.ListN.{length, getD}
 use lib.Seq.{sets}
-use Rattle.terms.specs.Limits.{variableRows}
+use Rattle.terms.specs.InnerLimits.{variableRows}
 use Rattle.expand_clauses.specs.Expansion.{without, clauseTable}
 use Rattle.expand_clauses.specs.InnerCopies.{named, copies}
 

@@ -7,13 +7,13 @@ use mathlib.Core.Logic.{_⊎_, _≢_, _↔_}
 use lib.IntN.{ℤ, pos}
 use lib.ListN.{length, getD, take, drop}
 use Rattle.terms.specs.Literals.{variableOf}
-use Rattle.terms.specs.Pairs.{lowOf, highOf}
+use Rattle.terms.specs.InnerPairs.{lowOf, highOf}
 use Rattle.formula.specs.Tables.{literalAt, EndsInside}
 use Rattle.formula.specs.Meaning.{alwaysTrue}
-use Rattle.formula.specs.Lookup.{NextZero, Stamps}
+use Rattle.formula.specs.InnerLookup.{NextZero, Stamps}
 use Rattle.forest_tables.specs.Formula.{signed}
 use Rattle.terms.specs.declared.Scheme.{Scheme}
-use Rattle.forest_entries.specs.Flags.{Takes, Via, Entering}
+use Rattle.forest_entries.specs.InnerFlags.{Takes, Via, Entering}
 
 -- a clause begins with entry s: the first, or one behind the 0 of a clause
 pub data Begins (ls : List ℤ) : ℕ → Type 0 where

@@ -12,7 +12,7 @@ use Rattle.forest_theory.specs.Tables.{Table, row, lent, Above, EntryPoint}
 use Rattle.forest_climb.specs.declared.Found.{Found}
 use Rattle.forest_climb.specs.declared.Found.the-variants.{At, Nowhere}
 use Rattle.forest_tables.specs.Formula.{variables}
-use Rattle.forest_tables.specs.Tabled.{tabled}
+use Rattle.forest_tables.specs.InnerTabled.{tabled}
 
 -- the parent rows alone, as a table
 abbrev pub parentTable : ℕ → List ℕ → Table

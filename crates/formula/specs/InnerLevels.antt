@@ -5,10 +5,15 @@ use mathlib.Core.Path.{_≡_}
 use mathlib.Core.Bool.{Bool, false}
 use mathlib.Core.List.{List}
 use lib.ListN.{length, getD}
-use Rattle.terms.specs.Limits.{mostVariables, variableRows, prefixEntries}
+use Rattle.terms.specs.Limits.{mostVariables, prefixEntries}
+use Rattle.terms.specs.InnerLimits.{variableRows}
 use Rattle.terms.specs.Refusals.{None}
 use Rattle.formula.specs.Causes.{PrefixCause}
-use Rattle.formula.specs.Meaning.{level, isUniversal}
+use Rattle.formula.specs.Meaning.{level, isUniversal, blocks, freeLevelOf}
+use Prim.Native.Nat.{ℕ}
+use mathlib.Core.Bool.{Bool, false}
+use mathlib.Core.List.{List}
+use lib.ListN.{getD}
 
 -- A variable count and a prefix that check accepts.
 pub record SoundPrefix (n : ℕ) (es : List ℕ) : Type 0 where
@@ -30,3 +35,7 @@ pub record Levelled (es : List ℕ) (levels : List ℕ) (universals : List Bool)
   pub sizes : LevelRows levels universals
   pub level-is : (v : ℕ) → v ≤ mostVariables → getD levels v 0 ≡ level es v
   pub universal-is : (v : ℕ) → v ≤ mostVariables → getD universals v false ≡ isUniversal es v
+
+-- so by the blocks of a prefix
+unfoldable pub freeLevel : List ℕ → ℕ
+freeLevel es = freeLevelOf (blocks es)

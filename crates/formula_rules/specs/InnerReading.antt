@@ -8,8 +8,8 @@ use Rattle.terms.specs.Refusals.{Causes, FirstOf, NoneOf}
 use Rattle.terms.specs.declared.Filled.{Filled}
 use Rattle.terms.specs.declared.Filled.the-variants.{Count, Refused}
 use Rattle.formula.specs.Lent.{Formula}
-use Rattle.formula.specs.Levels.{SoundPrefix}
-use Rattle.formula.specs.Lookup.{SoundClauses}
+use Rattle.formula.specs.InnerLevels.{SoundPrefix}
+use Rattle.formula.specs.InnerLookup.{SoundClauses}
 use Rattle.formula_rules.specs.Rules.{readAs, ruledPrefix, checkOrder}
 
 -- the prefix as the rule reads it is at hand: it is the lent one, or stands at the front of a table

@@ -6,7 +6,7 @@ use mathlib.Core.List.{List, [], _∷_, _++_}
 use mathlib.Core.Logic.{_⊎_, _≢_}
 use lib.ListN.{length, take}
 use Rattle.terms.specs.Limits.{mostBlocks}
-use Rattle.formula.specs.Scan.{IsMark}
+use Rattle.formula.specs.InnerScan.{IsMark}
 
 -- The number of what is wrong with an entry as a mark, or 0: `new` says whether it begins a block, and `count` blocks have begun already.
 pub data MarkFault (entry : ℕ) (new : Bool) (count number : ℕ) : Type 0 where

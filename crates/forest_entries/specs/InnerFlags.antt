@@ -8,7 +8,7 @@ use mathlib.Core.Logic.{_⊎_, _≢_, _↔_}
 use lib.IntN.{ℤ}
 use lib.ListN.{length, getD, take, drop}
 use Rattle.terms.specs.Literals.{variableOf}
-use Rattle.terms.specs.Limits.{variableRows}
+use Rattle.terms.specs.InnerLimits.{variableRows}
 use Rattle.formula.specs.Meaning.{connected}
 use Rattle.formula.specs.Tables.{literalAt}
 use Rattle.forest_theory.specs.Tables.{row}

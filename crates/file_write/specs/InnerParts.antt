@@ -12,7 +12,7 @@ use Rattle.formula.specs.Lent.{Formula}
 use Rattle.forest_tables.specs.Lent.{Rows}
 use Rattle.file_format.specs.Layout.{prefixRecord, clausesRecord, rowsRecord, closingRecord, FileWith}
 use Rattle.file_format.specs.InnerOrders.{behindStore}
-use Rattle.file_bytes.specs.Parts.{closing}
+use Rattle.file_bytes.specs.InnerParts.{closing}
 
 -- the records of the formula
 unfoldable pub formulaPart : Formula → List ℕ

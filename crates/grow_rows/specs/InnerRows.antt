@@ -5,11 +5,11 @@ use mathlib.Core.List.{List}
 use lib.ListN.{getD}
 use Rattle.forest_theory.specs.Reach.{Variables}
 use Rattle.forest_theory.specs.Tables.{row, lent}
-use Rattle.forest_theory.specs.Climb.{Represents}
+use Rattle.forest_theory.specs.InnerClimb.{Represents}
 use Rattle.forest_theory.specs.Forest.{Forest}
 use Rattle.forest_theory.specs.Counts.{Counted, how-many, names}
 use Rattle.forest_tables.specs.Formula.{variables}
-use Rattle.forest_tables.specs.Counting.{ForClasses}
+use Rattle.forest_tables.specs.InnerCounting.{ForClasses}
 use Rattle.grow_passes.specs.Past.{Past}
 
 -- The rows of classes and parents of 1 to n come to represent the joins J; those past n stay.

@@ -2,6 +2,8 @@
 use Prim.Native.Nat.{ℕ, suc, _+_}
 use mathlib.Core.Bool.{Bool, cond}
 use lib.IntN.{ℤ, pos, negsuc}
+use Prim.Native.Nat.{ℕ}
+use lib.IntN.{ℤ}
 
 -- the two rows of a variable: 2v, and the next
 abbrev pub rowBy : ℕ → Bool → ℕ
@@ -16,3 +18,7 @@ rowOf (negsuc v) = suc (suc v + suc v)
 unfoldable pub otherRow : ℤ → ℕ
 otherRow (pos v) = suc (v + v)
 otherRow (negsuc v) = suc v + suc v
+
+-- the largest variable that has a literal of 32 bits
+abbrev pub mostLiteral : ℕ
+mostLiteral = 2147483647

@@ -7,10 +7,11 @@ use mathlib.Core.List.{List, [], _∷_}
 use mathlib.Core.Logic.{_≢_}
 use lib.ListN.{length, getD}
 use lib.Dec.{ltb}
-use Rattle.terms.specs.Limits.{mostVariables, variableRows}
+use Rattle.terms.specs.Limits.{mostVariables}
+use Rattle.terms.specs.InnerLimits.{variableRows}
 use Rattle.forest_theory.specs.Reach.{Variables, From, Reach}
 use Rattle.forest_theory.specs.Tables.{Table}
-use Rattle.forest_theory.specs.Growth.{Added}
+use Rattle.forest_theory.specs.InnerGrowth.{Added}
 use Rattle.forest_theory.proofs.Represent.{Linked}
 
 module _ (X : Variables) where

@@ -6,7 +6,8 @@ use mathlib.Core.List.{List, []}
 use mathlib.Core.Logic.{_≢_}
 use lib.ListN.{length, getD, take, drop}
 use lib.IntN.{ℤ}
-use Rattle.terms.specs.Limits.{mostVariables, clauseEntries, literalRows}
+use Rattle.terms.specs.Limits.{mostVariables, clauseEntries}
+use Rattle.terms.specs.InnerLimits.{literalRows}
 use Rattle.terms.specs.Literals.{variableOf}
 use Rattle.formula.specs.declared.clauses.Span.{Span}
 use Rattle.formula.specs.declared.clauses.Span.the-variants.{At, Nowhere}
