@@ -1,4 +1,4 @@
--- The DQDIMACS format (document 02, request 12): that of QDIMACS, and after the quantifier lines come lines `d y x1 .. 0`, each with the universals on
+-- The DQDIMACS format (rule 13.4): that of QDIMACS, and after the quantifier lines come lines `d y x1 .. 0`, each with the universals on
 -- which an existential may depend.
 use Prim.Native.Nat.{ℕ}
 use mathlib.Core.Path.{_≡_}

@@ -1,4 +1,4 @@
--- What reading a text promises (document 01, "Refusal numbers", and document 02, request 12): n and the tables of the text, or the first cause
+-- What reading a text promises (rule 13.4, rule 8.3): n and the tables of the text, or the first cause
 -- in the order 15, then 16 and 17 by the earliest line, 16 first at one line, then 14.
 use Prim.Native.Nat.{ℕ, _<_}
 use mathlib.Core.Path.{_≡_}

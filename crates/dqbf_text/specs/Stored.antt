@@ -1,4 +1,4 @@
--- What writing promises (document 01, "Refusal numbers", and document 02, request 12): the text of a formula and its lists stands in front in the lent
+-- What writing promises (rule 13.4, rule 8.2): the text of a formula and its lists stands in front in the lent
 -- buffer, or the first cause in the order of the check of lists under the rule, then 15, then 14.
 use Prim.Native.Nat.{ℕ}
 use mathlib.Core.List.{List, [], _∷_}

@@ -1,4 +1,4 @@
--- The text that is written for a formula with lists (document 02, request 12): that of QDIMACS, with a line `d y x1 .. 0` for each list between the
+-- The text that is written for a formula with lists (rule 13.4): that of QDIMACS, with a line `d y x1 .. 0` for each list between the
 -- lines of the blocks and those of the clauses.
 use Prim.Native.Nat.{ℕ}
 use mathlib.Core.List.{List, [], _∷_, _++_, map, flatten}

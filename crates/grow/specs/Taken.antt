@@ -1,4 +1,4 @@
--- To be believed: the tally beside a forest (document 02, request 3): what a clause that is taken makes of it, and the tally of a list, as if each clause had
+-- To be believed: the tally beside a forest (rule 4.3, rule 4.4): what a clause that is taken makes of it, and the tally of a list, as if each clause had
 -- been added from none.
 use Prim.Native.Nat.{ℕ, _+_}
 use mathlib.Core.Path.{_≡_}

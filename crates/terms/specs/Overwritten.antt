@@ -1,4 +1,4 @@
--- What a call leaves in a lent table that it fills (document 01, "Calls": rows or bytes past those written stay).
+-- What a call leaves in a lent table that it fills (rule 7.5): rows or bytes past those written stay.
 use mathlib.Core.List.{List, _++_}
 use lib.ListN.{length, drop}
 

@@ -1,4 +1,4 @@
--- What each answer of a call says, as document 01 numbers it ("Refusal numbers"): 0 is accepted, with the values that the call gives; a refusal is its
+-- What each answer of a call says, as the table of refusals numbers it (rule 8.1, rule 18.9): 0 is accepted, with the values that the call gives; a refusal is its
 -- number and its place, and gives no value.
 use Prim.Native.Nat.{ℕ}
 use mathlib.Core.Bool.{Bool}

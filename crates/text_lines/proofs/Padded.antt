@@ -1,4 +1,4 @@
--- Worked examples of request 1, numbers padded with zeros: what the format makes of its own line and words, from both sides.
+-- Worked examples of numbers padded with zeros (rule 9.3): what the format makes of its own line and words, from both sides.
 use mathlib.Core.Path.{_≡_, refl}
 use mathlib.Core.List.{List, [], _∷_}
 use Prim.Native.Nat.{ℕ}

@@ -1,4 +1,4 @@
--- The QDIMACS format (document 01, "QDIMACS lines" and "Refusal numbers"): the kinds of line and what they say, which text is the text of which tables,
+-- The QDIMACS format (rule 9.1, rule 9.3; 16 and 17 of rule 8.1): the kinds of line and what they say, which text is the text of which tables,
 -- and what is wrong with a text, and where. A text and a line are lists of bytes.
 use Prim.Native.Nat.{ℕ, suc, _+_, _<_}
 use mathlib.Core.Path.{_≡_}

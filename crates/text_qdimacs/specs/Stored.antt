@@ -1,4 +1,4 @@
--- What write promises (document 01, "Refusal numbers" and "Calls"): the text is that of the formula as it is lent, so that it reads back as that, and the
+-- What write promises (rule 7.5, rule 8.2): the text is that of the formula as it is lent, so that it reads back as that, and the
 -- order that of check under the rule, then 15 and 14.
 use Prim.Native.Nat.{ℕ}
 use mathlib.Core.List.{List, [], _∷_}

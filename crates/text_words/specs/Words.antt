@@ -1,4 +1,4 @@
--- Lines, words and numbers of a text (document 01, "QDIMACS lines"; document 02, request 1). A text, a line and a word are lists of bytes.
+-- Lines, words and numbers of a text (rule 9.2, rule 9.3). A text, a line and a word are lists of bytes.
 use Prim.Native.Nat.{ℕ, _≤_}
 use mathlib.Core.Bool.{cond}
 use mathlib.Core.List.{List, [], _∷_}

@@ -1,4 +1,4 @@
--- Numbers as digits (document 01, "QDIMACS lines"): which number digits spell, and the digits that are written for a number.
+-- Numbers as digits (rule 9.3, rule 9.4): which number digits spell, and the digits that are written for a number.
 use Prim.Native.Nat.{ℕ, zero, suc, _+_, _*_, _/_, _%_, _<_, _≤_}
 use mathlib.Core.Bool.{true, false}
 use mathlib.Core.List.{List, [], _∷_, _++_}

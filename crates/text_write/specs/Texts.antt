@@ -1,4 +1,4 @@
--- The bytes that a text is made of, and how many it may have (document 01, "QDIMACS lines" and "Refusal numbers"). A text is a list of bytes.
+-- The bytes that a text is made of, and how many it may have (rule 9.1; 15 of rule 8.1). A text is a list of bytes.
 use Prim.Native.Nat.{ℕ, _<_}
 use mathlib.Core.List.{List}
 use lib.ListN.{length}

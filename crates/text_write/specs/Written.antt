@@ -1,4 +1,4 @@
--- The text that is written for a formula (document 01, "QDIMACS lines"): the problem line, a line for each block and a line for each clause, with no
+-- The text that is written for a formula (rule 9.4): the problem line, a line for each block and a line for each clause, with no
 -- comments, single spaces and no stray ones.
 use Prim.Native.Nat.{ℕ, suc}
 use mathlib.Core.Bool.{cond}
