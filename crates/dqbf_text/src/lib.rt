@@ -15,7 +15,7 @@ ghost use Rattle.dqbf_text.specs.Reading.{ReadIs};
 ghost use Rattle.dqbf_text.specs.Stored.{WritesListed};
 ghost use Rattle.formula.specs.Lent.{formulaIn};
 
-// Reads a text into three lent tables: n and the counts of entries, or the refusal. A first scan stores in tables of its own that no one sees,
+// Reads a text into three lent tables: n and the counts of entries, or the refusal. A first scan stores in scratch tables of one row,
 // so that nothing is written before it is known that the text is within the rules and that all three tables have room.
 pub fn read(
     text: &[u8],

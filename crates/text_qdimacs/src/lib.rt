@@ -20,7 +20,7 @@ const SHORT_TEXT: usize = 4096;
 
 const SHORT_ROWS: usize = 2048;
 
-// Reads a text into two lent tables: n and the counts of entries, or the refusal. It goes by way of tables of its own, which no one sees: of the
+// Reads a text into two lent tables: n and the counts of entries, or the refusal. It goes by way of scratch tables: of the
 // size that formulas within the limits need, or for a short text of fewer rows, which cost less to clear.
 pub fn read(text: &[u8], prefix: &mut [u32], clauses: &mut [i32]) -> Reading
     ensures answered { λ r. ⌜ ReadIs (now (text .entry)) (now (prefix .entry)) (now (prefix .exit)) (now (clauses .entry)) (now (clauses .exit)) r ⌝ }

@@ -12,7 +12,7 @@ use borrow.Author.Needs.{needs}
 use Rattle.dqbf_text.proofs.read.Statement.{statement}
 use Rattle.dqbf_text.proofs.read.Tie as tie
 
--- the tables that no one sees
+-- the scratch tables of the first scan
 abbrev unseen : Tables
 unseen = (0 ∷ [], pos 0 ∷ [], 0 ∷ [])
 

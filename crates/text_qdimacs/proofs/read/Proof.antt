@@ -1,4 +1,4 @@
--- A text that is too long is refused for it; any other is read by way of tables that no one sees, whatever their length.
+-- A text that is too long is refused for it; any other is read by way of scratch tables, whatever their length.
 use mathlib.Core.Path.{refl}
 use mathlib.Core.Logic.{inl}
 use Rattle.text_qdimacs.proofs.Readings.{first-overlong}
