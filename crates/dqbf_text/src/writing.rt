@@ -21,7 +21,7 @@ ghost use Rattle.dqbf_text.specs.InnerText.{lettered, listText, listByte
 // The letter that list lines begin with.
 pub const LETTER_D: u8 = 100;
 
-// Writes the text of tables that were accepted into a lent buffer. The length is found first, by writing into a buffer with no room, so that
+// Writes the text of tables that were accepted into a lent buffer. The length is found first, by writing into a scratch buffer of one byte, so that
 // nothing is written where the text is too long or does not fit.
 pub fn write_accepted(
     n: u32,

@@ -28,7 +28,7 @@ ghost use Rattle.text_write.specs.InnerOrders.{WriteIs};
 ghost use Rattle.text_write.specs.InnerBytes.{Wrote};
 ghost use mathlib.Core.Bool.{true};
 
-// Writes the text of tables that were accepted into a lent buffer. The length is found first, by writing into a buffer with no room, so that
+// Writes the text of tables that were accepted into a lent buffer. The length is found first, by writing into a scratch buffer of one byte, so that
 // nothing is written where the text is too long or does not fit.
 pub fn write_accepted(n: u32, prefix: &[u32], clauses: &[i32], out: &mut [u8]) -> Filled
     requires writable { ⌜ Writable n (now prefix) (now clauses) ⌝ }
