@@ -36,7 +36,7 @@ use Rattle.text_qdimacs.specs.Stored.{Writes}
 use Rattle.dqbf_lists.specs.Answers.{ListsChecked}
 use Rattle.dqbf_lists.specs.Lists.{listEntries}
 use Rattle.dqbf_sets.specs.Answers.{SetByLists}
-use Rattle.dqbf_text.specs.Reading.{Tables, ReadIs}
+use Rattle.dqbf_text.specs.Reading.{Tables, ListedReadIs}
 use Rattle.dqbf_text.specs.Stored.{WritesListed}
 use Rattle.path_check.specs.Causes.{PathJudged}
 use Rattle.path_resolution.specs.Paths.{ResolutionListed}
@@ -205,7 +205,7 @@ ListedTextReadsBack =
     (rule : ℕ) (f : Formula) (lists out out′ : List ℕ) (bytes : ℕ) (before after : Tables) (answer : ListedReading)
     → WritesListed rule f lists out out′ (Count bytes)
     → length (f .prefix) ≤ length (before .0) → length (f .clauses) ≤ length (before .1) → length lists ≤ length (before .2)
-    → ReadIs (take bytes out′) before after answer
+    → ListedReadIs (take bytes out′) before after answer
     → (answer ≡ Read (f .n) (length (f .prefix)) (length (f .clauses)) (length lists)) × (after .0 ≡ overwritten (f .prefix) (before .0))
     × (after .1 ≡ overwritten (f .clauses) (before .1)) × (after .2 ≡ overwritten lists (before .2))
 

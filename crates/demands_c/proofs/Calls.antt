@@ -19,7 +19,7 @@ use Rattle.grow.specs.Grown.{standing}
 use Rattle.file_format.specs.Places.{hasSets}
 use Rattle.c_answers.specs.Codes.{tallyIn}
 use Rattle.snowcoddle.specs.Told.{Told, accepted, refused}
-use Rattle.snowcoddle.specs.Promises.{Cell, Kept, Tells}
+use Rattle.snowcoddle.specs.Promises.{LentCell, Kept, Tells}
 use Rattle.demands_c.specs.Calls.{Reads, ReadsCount, TellsWhatIsPromised}
 
 -- What is told is one of two.
@@ -29,14 +29,14 @@ by-told take leave (accepted none holds zero same) = take none holds zero same
 by-told take leave (refused first stays) = leave first stays
 
 -- A verdict, with whatever else is given and kept.
-verdict-told : (order : List Causes) (given kept : Type 0) (place : Cell) (returned : ℕ) → Tells order given kept place returned
+verdict-told : (order : List Causes) (given kept : Type 0) (place : LentCell) (returned : ℕ) → Tells order given kept place returned
     → (verdict : Verdict) × Judged order verdict × Reads (verdictSaid verdict) (λ none. given) kept place returned
 verdict-told order given kept place returned =
     by-told (λ none holds zero same. (Verdict.Accepted, none, (zero, same, holds)))
     (λ first stays. (Verdict.Refused returned (now (place .exit)), first, (refl, refl, stays)))
 
 -- A number in a cell, of which P holds, with what is kept beside it.
-count-told : (order : List Causes) (P : ℕ → Type 0) (kept : Type 0) (count place : Cell) (returned : ℕ)
+count-told : (order : List Causes) (P : ℕ → Type 0) (kept : Type 0) (count place : LentCell) (returned : ℕ)
     → Tells order (P (now (count .exit))) (Kept count × kept) place returned
     → (answer : Filled) × Settles order P kept (filledSaid answer) × ReadsCount answer count place returned
 count-told order P kept count place returned =

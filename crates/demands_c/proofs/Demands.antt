@@ -20,7 +20,7 @@ use Rattle.grow.specs.Grown.{Standing, standing, Rewrites, Builds, Adds}
 use Rattle.dqbf_sets.specs.Depends.{DependsOnBy}
 use Rattle.expand.specs.Promise.{resultIn}
 use Rattle.c_answers.specs.Codes.{schemeOf, cellsOf, tallyIn}
-use Rattle.snowcoddle.specs.Promises.{Cell, Table, Kept, lentStanding, BuildTold}
+use Rattle.snowcoddle.specs.Promises.{LentCell, LentTable, Kept, lentStanding, BuildTold}
 use Rattle.snowcoddle.specs.Told.{Told, accepted, refused}
 use Rattle.demands.specs.Words.{Built, Puts, with-room, no-room}
 use Rattle.demands.specs.Demand2.{Demand2}
@@ -43,14 +43,14 @@ zero-is {order} {returned = returned} {place′ = place′} free (refused first 
 
 -- Where 0 is returned, build and add counted rows.
 counted : {order : List Causes} {X : Variables} {J : ℕ → ℕ → Type 0} {T : Standing → Type 0} {s s′ : Standing} → ZeroFree order → (answer : Filled)
-    → Rewrites order X J T s s′ answer → (cells : ℕ → Type 0) (kept : Type 0) (place : Cell) (returned : ℕ)
+    → Rewrites order X J T s s′ answer → (cells : ℕ → Type 0) (kept : Type 0) (place : LentCell) (returned : ℕ)
     → Reads (filledSaid answer) cells kept place returned → returned ≡ 0 → (rows : ℕ) × (answer ≡ Count rows) × cells rows
 counted free (Count rows) rewrites cells kept place returned reads zero = (rows, refl, reads .2)
 counted {order} free (Refused number at) rewrites cells kept place returned reads zero =
     absurd (first-some order free number at (rewrites .judged) (sym (reads .0) ∙ zero))
 
 -- So what snow_build left is what the library's build may leave, with the tally that stands in its cells.
-module _ (rule : ℕ) (f : Formula) (classes parents counts tally : Table) (rows place : Cell) (told : BuildTold rule f classes parents counts tally rows place 0) where
+module _ (rule : ℕ) (f : Formula) (classes parents counts tally : LentTable) (rows place : LentCell) (told : BuildTold rule f classes parents counts tally rows place 0) where
   abbrev lent : Standing
   lent = lentStanding classes parents counts tally
 
@@ -70,7 +70,7 @@ module _ (rule : ℕ) (f : Formula) (classes parents counts tally : Table) (rows
   built-lent = refl
 
 -- What the library put, as C reads it.
-put : (L : List ℕ → Type 0) (out : Table) (count place : Cell) (returned : ℕ) (answer : Filled) → ReadsCount answer count place returned
+put : (L : List ℕ → Type 0) (out : LentTable) (count place : LentCell) (returned : ℕ) (answer : Filled) → ReadsCount answer count place returned
     → Puts L (now (out .entry)) (now (out .exit)) answer → PutsForC L out count place returned
 put L out count place returned answer reads (with-room list is fits q left) =
     let r = subst (λ (a : Filled). ReadsCount a count place returned) q reads in

@@ -19,7 +19,7 @@ use Rattle.forest_tables.specs.Formula.{universal}
 use Rattle.forest_tables.specs.InnerTabled.{universalIn}
 use Rattle.forest_tables.proofs.Agreeing.{universal-within}
 use Rattle.forest_tables.proofs.Readings.{flag-within}
-use Rattle.dqbf_lists.specs.Lists.{InBlock}
+use Rattle.dqbf_lists.specs.Lists.{Bound}
 use Rattle.dqbf_lists.specs.Causes.{ListCause, outside, in-block, listed-before, no-universal, twice, ends-inside}
 use Rattle.dqbf_lists.specs.Inner.{Places, MayOpen, PassedTo, none-passed, one-passed, Passes}
 
@@ -49,8 +49,8 @@ pub record Checked (n : ℕ) (es ds : List ℕ) (i : ℕ) (opening : Bool) (plac
   pub clean : (e : ℕ) → e < i → Clean n es ds e
   pub opening-is : opening ≡ opens ds i
   pub sizes : (length placed ≡ 4097) × (length last ≡ 4097)
-  pub placed-each : (v : ℕ) → getD placed v false ≡ true → InBlock es v ⊎ OpenedBefore ds i v
-  pub placed-block : (v : ℕ) → InBlock es v → getD placed v false ≡ true
+  pub placed-each : (v : ℕ) → getD placed v false ≡ true → Bound es v ⊎ OpenedBefore ds i v
+  pub placed-block : (v : ℕ) → Bound es v → getD placed v false ≡ true
   pub placed-list : (b : ℕ) → b < i → MarkAt ds b → getD placed (at ds b) false ≡ true
   pub last-each : (v : ℕ) → getD last v 0 ≢ 0 → (b : ℕ) × (getD last v 0 ≡ suc b) × (b < i) × VariableAt ds b × (at ds b ≡ v)
   pub last-all : (b : ℕ) → b < i → VariableAt ds b → suc b ≤ getD last (at ds b) 0
@@ -73,7 +73,7 @@ check-none n es ds placed last places size blank =
 module _ {n : ℕ} {es ds : List ℕ} {i : ℕ} {opening : Bool} {placed : List Bool} {last : List ℕ} (s : Checked n es ds i opening placed last)
     (more : i < length ds) where
   -- what is known of entries before this one is known before the next
-  opened-later : (v : ℕ) → InBlock es v ⊎ OpenedBefore ds i v → InBlock es v ⊎ OpenedBefore ds (suc i) v
+  opened-later : (v : ℕ) → Bound es v ⊎ OpenedBefore ds i v → Bound es v ⊎ OpenedBefore ds (suc i) v
   opened-later v (inl b) = inl b
   opened-later v (inr (b, l, m, q)) = inr (b, omega arith, m, q)
 
@@ -129,7 +129,7 @@ module _ {n : ℕ} {es ds : List ℕ} {i : ℕ} {opening : Bool} {placed : List 
       kept v t (yes q) = ap (λ w. getD placed′ w false) q ∙ stored
       kept v t (no other) = getD-set-other placed (at ds i) v true false other ∙ t
 
-      by-dec : (v : ℕ) → getD placed′ v false ≡ true → Dec (v ≡ at ds i) → InBlock es v ⊎ OpenedBefore ds (suc i) v
+      by-dec : (v : ℕ) → getD placed′ v false ≡ true → Dec (v ≡ at ds i) → Bound es v ⊎ OpenedBefore ds (suc i) v
       by-dec v t (yes q) = inr (i, omega arith, (more, open′), sym q)
       by-dec v t (no other) = opened-later v (s .placed-each v (sym (getD-set-other placed (at ds i) v true false other) ∙ t))
 

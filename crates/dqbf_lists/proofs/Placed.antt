@@ -15,7 +15,7 @@ use Rattle.formula.specs.InnerLevels.{SoundPrefix}
 use Rattle.formula.proofs.InBlocks.{place-of, block-of}
 use Rattle.formula.proofs.Levelling.{mark-there, variable-small}
 use Rattle.formula.proofs.Named.{Named, named-skip, named-more}
-use Rattle.dqbf_lists.specs.Lists.{InBlock}
+use Rattle.dqbf_lists.specs.Lists.{Bound}
 use Rattle.dqbf_lists.specs.Inner.{Places}
 
 -- The flags tell what is named before entry i.
@@ -72,6 +72,6 @@ place-all {placed = placed} s done =
     }
 
 -- A universal is in a block, and so at a place of it.
-pub universal-named : (es : List ℕ) (v : ℕ) → isUniversal es v ≡ true → InBlock es v
+pub universal-named : (es : List ℕ) (v : ℕ) → isUniversal es v ≡ true → Bound es v
 universal-named es v u =
     ⊎-elim (λ b. let (e, there, is, marks) = place-of es (b .1) in (e, there, is)) (λ none. absurd (clash u (none .2))) (block-of es v)

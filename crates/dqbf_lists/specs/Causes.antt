@@ -11,7 +11,7 @@ use Rattle.formula.specs.Causes.{VariableCount, PrefixLong, ClausesLong, Clause
 use Rattle.formula.specs.Lent.{Formula}
 use Rattle.forest_tables.specs.Formula.{universal}
 use Rattle.formula_rules.specs.Rules.{readAs, RuleCause, PrefixCauseBy}
-use Rattle.dqbf_lists.specs.Lists.{listEntries, OneList, InBlock}
+use Rattle.dqbf_lists.specs.Lists.{listEntries, OneList, Bound}
 
 -- 2: table of lists over 16,384 entries
 abbrev pub ListsLong : ℕ → Type 0
@@ -26,7 +26,7 @@ pub data ListCause (n : ℕ) (es ds : List ℕ) (number e : ℕ) : Type 0 where
   -- 25: y out of range
   outside : number ≡ 25 → MarkAt ds e → (at ds e ≡ 0) ⊎ (n < at ds e) → ListCause n es ds number e
   -- 25: y already placed, in a block or with a list before
-  in-block : number ≡ 25 → MarkAt ds e → InBlock es (at ds e) → ListCause n es ds number e
+  in-block : number ≡ 25 → MarkAt ds e → Bound es (at ds e) → ListCause n es ds number e
   listed-before : (b : ℕ) → number ≡ 25 → MarkAt ds e → b < e → MarkAt ds b → at ds b ≡ at ds e → ListCause n es ds number e
   -- 26: an x that is not a universal
   no-universal : number ≡ 26 → VariableAt ds e → universal n es (at ds e) ≡ false → ListCause n es ds number e

@@ -15,7 +15,7 @@ use Rattle.formula.specs.Tables.{at, MarkAt, VariableAt}
 use Rattle.forest_tables.specs.InnerTabled.{universalIn}
 use Rattle.formula_rules.specs.InnerReading.{Reads}
 use Rattle.formula_rules.specs.Rules.{RuleCause, PrefixCauseBy}
-use Rattle.dqbf_lists.specs.Lists.{listEntries, OneList, InBlock}
+use Rattle.dqbf_lists.specs.Lists.{listEntries, OneList, Bound}
 use Rattle.dqbf_lists.specs.Causes.{ListedLengthCause}
 
 -- what is looked for before the lists, where so many entries of them are lent: 23, 1, 2, prefix from the left; and then clause literals from the left
@@ -46,8 +46,8 @@ pub record GivenAt (ds : List ℕ) (x y : ℕ) : Type 0 where
 -- the flags tell which variables are in a block
 pub record Places (es : List ℕ) (placed : List Bool) : Type 0 where
   pub size : length placed ≡ variableRows
-  pub each : (v : ℕ) → getD placed v false ≡ true → InBlock es v
-  pub all : (v : ℕ) → InBlock es v → getD placed v false ≡ true
+  pub each : (v : ℕ) → getD placed v false ≡ true → Bound es v
+  pub all : (v : ℕ) → Bound es v → getD placed v false ≡ true
 
 -- y may open a list: it is a variable of the formula that is not placed yet
 abbrev pub MayOpen : ℕ → List Bool → ℕ → Type 0

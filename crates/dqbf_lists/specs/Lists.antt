@@ -21,8 +21,8 @@ abbrev pub OneList : List ℕ → ℕ → ℕ → Type 0
 OneList ds b e = (b < e) × ((c : ℕ) → b < c → c ≤ e → opens ds c ≡ false)
 
 -- v is in a block
-abbrev pub InBlock : List ℕ → ℕ → Type 0
-InBlock es v = (e : ℕ) × VariableAt es e × (at es e ≡ v)
+abbrev pub Bound : List ℕ → ℕ → Type 0
+Bound es v = (e : ℕ) × VariableAt es e × (at es e ≡ v)
 
 -- y has a list of its own, and it has x
 pub record Given (ds : List ℕ) (x y : ℕ) : Type 0 where
@@ -33,4 +33,4 @@ pub record Given (ds : List ℕ) (x y : ℕ) : Type 0 where
 -- y is an existential whose list has x: one in a block has all universals before it, any other those of a list of its own, and so a free one none
 pub record ListHas (n : ℕ) (es ds : List ℕ) (x y : ℕ) : Type 0 where
   pub existential : isExistential n es y ≡ true
-  pub listed : (InBlock es y × (level es x < level es y)) ⊎ Given ds x y
+  pub listed : (Bound es y × (level es x < level es y)) ⊎ Given ds x y

@@ -21,7 +21,7 @@ use Rattle.forest_tables.specs.Formula.{universal}
 use Rattle.forest_tables.specs.InnerTabled.{existentialIn}
 use Rattle.forest_tables.proofs.Readings.{row-none, row-over, flag-in, flag-within, row-stored, row-kept}
 use Rattle.forest_tables.proofs.Agreeing.{tables-agree, level-agrees, lawful, universal-within}
-use Rattle.dqbf_lists.specs.Lists.{InBlock, ListHas}
+use Rattle.dqbf_lists.specs.Lists.{Bound, ListHas}
 use Rattle.dqbf_lists.specs.Inner.{GivenAt}
 use Rattle.dqbf_lists.specs.Causes.{ListCause, outside, in-block, ends-inside}
 use Rattle.dqbf_lists.proofs.Listed.{given-at, given-by}
@@ -219,7 +219,7 @@ module _ {n : ℕ} {es ds levels : List ℕ} {universals : List Bool} (sound : S
       let some : y ≢ 0 = λ z. listed 25 (g .begin) (outside refl there (inl (is ∙ z))) in
       let over : ¬ (n < at ds (g .begin)) = λ k. listed 25 (g .begin) (outside refl there (inr k)) in
       let low : y ≤ n = omega arith in
-      let blocked : InBlock es y → ⊥ = λ b. listed 25 (g .begin) (in-block refl there (subst (InBlock es) (sym is) b)) in
+      let blocked : Bound es y → ⊥ = λ b. listed 25 (g .begin) (in-block refl there (subst (Bound es) (sym is) b)) in
       let free : isUniversal es y ≡ false = not-eq-not {b = false} .0 (λ t. blocked (universal-named es y t)) in
       flag-in n y (not (isUniversal es y)) some low ∙ ap not free
 

@@ -24,7 +24,7 @@ use Rattle.text_write.proofs.Outputs.{text-front}
 use Rattle.text_qdimacs.proofs.Accepted.{groups-from, small, holdable}
 use Rattle.dqbf_lists.specs.Causes.{ListCause, checkListsOrder}
 use Rattle.terms.specs.declared.ListedReading.{ListedReading}
-use Rattle.dqbf_text.specs.Reading.{Tables, ReadIs}
+use Rattle.dqbf_text.specs.Reading.{Tables, ListedReadIs}
 use Rattle.dqbf_text.specs.InnerText.{listedByEntries, WritableLists}
 use Rattle.dqbf_text.specs.Stored.{listedText, WritesListed}
 use Rattle.dqbf_text.proofs.Holdable.{Lists, no-list, list, list-end, member}
@@ -89,7 +89,7 @@ module _ (rule : ℕ) (f : Formula) (ds : List ℕ) (none : NoneOf (checkListsOr
 -- What write leaves in front in the buffer reads back as the tables that were lent.
 pub written-reads-back : (rule : ℕ) (f : Formula) (ds : List ℕ) (before after : Tables) → length (f .prefix) ≤ length (before .0)
     → length (f .clauses) ≤ length (before .1) → length ds ≤ length (before .2)
-    → (out out′ : List ℕ) (count : ℕ) → WritesListed rule f ds out out′ (Count count) → (r : ListedReading) → ReadIs (take count out′) before after r
+    → (out out′ : List ℕ) (count : ℕ) → WritesListed rule f ds out out′ (Count count) → (r : ListedReading) → ListedReadIs (take count out′) before after r
     → ReadsBack (f .n) (f .prefix) (f .clauses) ds before after r
 written-reads-back rule f ds before after p c l out out′ count w r read =
     let none = w .0 in
@@ -97,4 +97,4 @@ written-reads-back rule f ds before after p c l out out′ count w r read =
     (none .0, (none .1 .0, (none .1 .1 .0, (none .1 .1 .1 .0, (none .1 .1 .1 .1 .0, (none .1 .1 .1 .1 .1 .0, tt)))))) in
     let fits : ¬ (TEXT-MOST < length (listedText f ds)) = λ long. none .1 .1 .1 .1 .1 .1 .0 15 TEXT-MOST (overlong long) in
     text-reads-back (f .n) (f .prefix) (f .clauses) ds before after p c l (holdable rule f (without rule f ds accepted)) (lists-held rule f ds accepted)
-    (omega arith) r (subst (λ (t : List ℕ). ReadIs t before after r) (text-front (w .1)) read)
+    (omega arith) r (subst (λ (t : List ℕ). ListedReadIs t before after r) (text-front (w .1)) read)

@@ -10,7 +10,7 @@ use native.Mathlib.Omega.{arith}
 use lib.IntN.{ℤ}
 use Rattle.terms.specs.Refusals.{First, None}
 use Rattle.terms.proofs.Verdicts.{firstOf-same}
-use Rattle.text_words.specs.Words.{LF, pieces, words, Variables, closing, entry}
+use Rattle.text_words.specs.Words.{LF, pieces, words, VariableWords, closing, entry}
 use Rattle.text_words.specs.InnerPlaces.{front}
 use Rattle.text_words.proofs.Lines.{front-later}
 use Rattle.text_words.proofs.Spelled.{variables-read, read-variables}
@@ -39,36 +39,36 @@ list? line = go (words line) refl
     letterless : (w : List ℕ) (more : List (List ℕ)) → words line ≡ w ∷ more → w ≢ LETTER-D ∷ [] → IsList line → ⊥
     letterless w more e other (_, x) = let q = list-words x .begins in other cc
 
-    rowless : (w : List ℕ) (more : List (List ℕ)) → words line ≡ w ∷ more → ((entries : List ℕ) × Variables more entries → ⊥) → IsList line → ⊥
+    rowless : (w : List ℕ) (more : List (List ℕ)) → words line ≡ w ∷ more → ((entries : List ℕ) × VariableWords more entries → ⊥) → IsList line → ⊥
     rowless w more e none (l, x) =
         let v = list-words x in
         let q = v .begins in
         let same : v .more ≡ more = cc in
-        none (l, subst (λ (ws : List (List ℕ)). Variables ws l) same (read-variables (v .read)))
+        none (l, subst (λ (ws : List (List ℕ)). VariableWords ws l) same (read-variables (v .read)))
 
     -- the entries that are said are those of the list
-    short : (w : List ℕ) (more : List (List ℕ)) (a : ℕ) → words line ≡ w ∷ more → Variables more (a ∷ []) → IsList line → ⊥
+    short : (w : List ℕ) (more : List (List ℕ)) (a : ℕ) → words line ≡ w ∷ more → VariableWords more (a ∷ []) → IsList line → ⊥
     short w more a e r (l, x) =
         let v = list-words x in
         let q = v .begins in
         let same : v .more ≡ more = cc in
         let one = variables-read r in
-        let two = variables-read (subst (λ (ws : List (List ℕ)). Variables ws l) same (read-variables (v .read))) in
+        let two = variables-read (subst (λ (ws : List (List ℕ)). VariableWords ws l) same (read-variables (v .read))) in
         let are = v .are in
         let no : _≡_ {A = ℕ} 0 1 = cc in
         omega arith
 
-    none-said : {ws : List (List ℕ)} {es : List ℕ} → Variables ws es → es ≡ [] → ⊥
+    none-said : {ws : List (List ℕ)} {es : List ℕ} → VariableWords ws es → es ≡ [] → ⊥
     none-said (closing s) e = let no : _≡_ {A = ℕ} 0 1 = cc in omega arith
     none-said (entry s r) e = let no : _≡_ {A = ℕ} 0 1 = cc in omega arith
 
-    row : (w : List ℕ) (more : List (List ℕ)) → words line ≡ w ∷ more → w ≡ LETTER-D ∷ [] → (entries : List ℕ) → Variables more entries → Dec (IsList line)
+    row : (w : List ℕ) (more : List (List ℕ)) → words line ≡ w ∷ more → w ≡ LETTER-D ∷ [] → (entries : List ℕ) → VariableWords more entries → Dec (IsList line)
     row w more e d [] r = absurd (none-said r refl)
     row w more e d (y ∷ []) r = no (short w more y e r)
     row w more e d (y ∷ next ∷ others) r =
         yes (y ∷ next ∷ others, list-line (e ∙ ap (λ (x : List ℕ). x ∷ more) d) (variables-read r))
 
-    letter : (w : List ℕ) (more : List (List ℕ)) → words line ≡ w ∷ more → Dec (w ≡ LETTER-D ∷ []) → Dec ((entries : List ℕ) × Variables more entries)
+    letter : (w : List ℕ) (more : List (List ℕ)) → words line ≡ w ∷ more → Dec (w ≡ LETTER-D ∷ []) → Dec ((entries : List ℕ) × VariableWords more entries)
         → Dec (IsList line)
     letter w more e (yes d) (yes (entries, r)) = row w more e d entries r
     letter w more e (yes d) (no none) = no (rowless w more e none)

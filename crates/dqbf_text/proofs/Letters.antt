@@ -7,7 +7,7 @@ use native.Mathlib.Omega.{arith}
 use lib.IntN.{ℤ}
 use Rattle.text_lines.specs.declared.Stage.{Stage}
 use Rattle.text_lines.specs.declared.Stage.the-variants.{Body}
-use Rattle.text_words.specs.Words.{LETTER-A, LETTER-C, LETTER-E, LETTER-P, words, VariableWord, Variables, closing, entry}
+use Rattle.text_words.specs.Words.{LETTER-A, LETTER-C, LETTER-E, LETTER-P, words, VariableWord, VariableWords, closing, entry}
 use Rattle.text_words.specs.InnerNumbers.{entriesOf, variables}
 use Rattle.text_words.proofs.Spelled.{variables-read, read-variables}
 use Rattle.text_lines.specs.Format.{CommentLine, ProblemLine, p-cnf, QuantifierLine, e-line, a-line, ClauseLine}
@@ -16,13 +16,13 @@ use Rattle.text_lines.proofs.Apart.{lettered-clause, comment-words}
 use Rattle.dqbf_text.specs.Format.{LETTER-D, ListLine, d-line}
 
 -- The numbers of a list line are two at least.
-two-at-least : {ws : List (List ℕ)} {es : List ℕ} (line : List ℕ) (y next : ℕ) (others : List ℕ) → words line ≡ (LETTER-D ∷ []) ∷ ws → Variables ws es
+two-at-least : {ws : List (List ℕ)} {es : List ℕ} (line : List ℕ) (y next : ℕ) (others : List ℕ) → words line ≡ (LETTER-D ∷ []) ∷ ws → VariableWords ws es
     → es ≡ y ∷ next ∷ others → ListLine line (y ∷ next ∷ others)
 two-at-least line y next others begins (closing s) e = let no : _≡_ {A = ℕ} 0 1 = cc in let no : ⊥ = omega arith in absurd no
 two-at-least line y next others begins (entry {word = word} {more = more} {a = a} {later = later} s r) e =
     let q : a ≡ y = cc in
     let w : later ≡ next ∷ others = cc in
-    d-line begins (subst (VariableWord word) q s) (subst (Variables more) w r)
+    d-line begins (subst (VariableWord word) q s) (subst (VariableWords more) w r)
 
 pub list-line : {line : List ℕ} {y next : ℕ} {others : List ℕ} {more : List (List ℕ)} → words line ≡ (LETTER-D ∷ []) ∷ more
     → entriesOf variables more ≡ some (y ∷ next ∷ others) → ListLine line (y ∷ next ∷ others)
@@ -42,7 +42,7 @@ record OneAtLeast (es : List ℕ) : Type 0 where
   rest : List ℕ
   are : es ≡ first ∷ rest
 
-one-at-least : {ws : List (List ℕ)} {es : List ℕ} → Variables ws es → OneAtLeast es
+one-at-least : {ws : List (List ℕ)} {es : List ℕ} → VariableWords ws es → OneAtLeast es
 one-at-least (closing s) = record { first = 0; rest = []; are = refl }
 one-at-least (entry {a = a} {later = later} s r) = record { first = a; rest = later; are = refl }
 

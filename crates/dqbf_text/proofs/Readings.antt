@@ -16,7 +16,7 @@ use Rattle.terms.specs.declared.ListedReading.the-variants.{Read, Refused}
 use Rattle.text_lines.specs.Format.{LineCause}
 use Rattle.dqbf_text.specs.Format.{ListedText, ListedFollow}
 use Rattle.dqbf_text.specs.InnerSteps.{Adds, ScanIs}
-use Rattle.dqbf_text.specs.Reading.{Tables, NoRoom, no-room-prefix, no-room-clauses, no-room-lists, readOrder, FrontFilled, ReadIs}
+use Rattle.dqbf_text.specs.Reading.{Tables, NoListedRoom, no-room-prefix, no-room-clauses, no-room-lists, listedReadOrder, FrontFilled, ListedReadIs}
 use Rattle.dqbf_text.proofs.Scans.{adds-length}
 use Rattle.dqbf_text.proofs.Unique.{text-same}
 use Rattle.dqbf_text.proofs.Causes.{no-cause}
@@ -28,35 +28,35 @@ module _ {A : Type 0} {P before after : List A} {count : ℕ} (adds : Adds P 0 c
 
 module _ (text : List ℕ) (before : Tables) (short : length text ≤ TEXT-MOST) where
   -- a fault
-  pub first-fault : (number place : ℕ) → First (LineCause ListedFollow text) number place → FirstOf (readOrder text before) number place
+  pub first-fault : (number place : ℕ) → First (LineCause ListedFollow text) number place → FirstOf (listedReadOrder text before) number place
   first-fault number place f = inr (not-overlong text short, inl f)
 
   module _ {n : ℕ} {P L : List ℕ} {C : List ℤ} (text-of : ListedText n P L C text) where
     -- no room
-    pub first-room : NoRoom text before 14 0 → FirstOf (readOrder text before) 14 0
+    pub first-room : NoListedRoom text before 14 0 → FirstOf (listedReadOrder text before) 14 0
     first-room room =
         inr (
           not-overlong text short,
           inr (no-cause text-of, inl (record { holds = room; leftmost = λ number place c. omega arith; lowest = λ number c. lowest c })),
         )
       where
-        lowest : {number place : ℕ} → NoRoom text before number place → 14 ≤ number
+        lowest : {number place : ℕ} → NoListedRoom text before number place → 14 ≤ number
         lowest (no-room-prefix t h) = omega arith
         lowest (no-room-clauses t h) = omega arith
         lowest (no-room-lists t h) = omega arith
 
     -- nothing
-    pub nothing-wrong : length P ≤ length (before .0) → length C ≤ length (before .1) → length L ≤ length (before .2) → NoneOf (readOrder text before)
+    pub nothing-wrong : length P ≤ length (before .0) → length C ≤ length (before .1) → length L ≤ length (before .2) → NoneOf (listedReadOrder text before)
     nothing-wrong p c l = (not-overlong text short, (no-cause text-of, (room, tt)))
       where
-        room : None (NoRoom text before)
+        room : None (NoListedRoom text before)
         room number place (no-room-prefix t h) = let same = ap length (text-same text-of t .prefix) in omega arith
         room number place (no-room-clauses t h) = let same = ap length (text-same text-of t .clauses) in omega arith
         room number place (no-room-lists t h) = let same = ap length (text-same text-of t .lists) in omega arith
 
     -- the answer of the second scan, where the text is known to be within the rules and to fit
     pub read-all : length P ≤ length (before .0) → length C ≤ length (before .1) → length L ≤ length (before .2) → (after : Tables) (r : ListedReading)
-        → ScanIs text before after r → ReadIs text before after r
+        → ScanIs text before after r → ListedReadIs text before after r
     read-all p c l after (Refused number place) f = absurd (no-cause text-of number place (f .holds))
     read-all p c l after (Read n′ entries literals rows) s =
         let same = text-same text-of (s .text-of) in

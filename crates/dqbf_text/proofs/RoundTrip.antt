@@ -11,7 +11,7 @@ use Rattle.text_write.specs.Texts.{TEXT-MOST}
 use Rattle.text_qdimacs.proofs.Holdable.{Holdable}
 use Rattle.terms.specs.declared.ListedReading.{ListedReading}
 use Rattle.terms.specs.declared.ListedReading.the-variants.{Read, Refused}
-use Rattle.dqbf_text.specs.Reading.{Tables, readOrder, FrontFilled, ReadIs}
+use Rattle.dqbf_text.specs.Reading.{Tables, listedReadOrder, FrontFilled, ListedReadIs}
 use Rattle.dqbf_text.specs.Written.{listedTextOf}
 use Rattle.dqbf_text.proofs.Unique.{text-same}
 use Rattle.dqbf_text.proofs.Readings.{nothing-wrong}
@@ -32,10 +32,10 @@ filled-as {count = count} {before = before} {after = after} same = subst (λ (ro
 module _ (n : ℕ) (P : List ℕ) (C : List ℤ) (L : List ℕ) (before after : Tables) (p : length P ≤ length (before .0)) (c : length C ≤ length (before .1))
     (l : length L ≤ length (before .2)) where
   pub text-reads-back : Holdable n P C → Lists true L → length (listedTextOf n P C L) ≤ TEXT-MOST → (r : ListedReading)
-      → ReadIs (listedTextOf n P C L) before after r → ReadsBack n P C L before after r
+      → ListedReadIs (listedTextOf n P C L) before after r → ReadsBack n P C L before after r
   text-reads-back h d short (Refused number place) a =
       absurd
-      (first-or-none (readOrder (listedTextOf n P C L) before) number place (a .0)
+      (first-or-none (listedReadOrder (listedTextOf n P C L) before) number place (a .0)
       (nothing-wrong (listedTextOf n P C L) before short (written n P C L h d) p c l))
   text-reads-back h d short (Read n′ e f g) a =
       let into = a .1 in

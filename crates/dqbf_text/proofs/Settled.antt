@@ -11,7 +11,7 @@ use Rattle.text_qdimacs.proofs.Settled as writing
 use Rattle.formula.specs.Lent.{Formula}
 use Rattle.dqbf_lists.specs.Causes.{checkListsOrder}
 use Rattle.terms.specs.declared.ListedReading.{ListedReading}
-use Rattle.dqbf_text.specs.Reading.{Tables, readOrder, FrontFilled, ReadInto, ReadIs}
+use Rattle.dqbf_text.specs.Reading.{Tables, listedReadOrder, FrontFilled, ListedReadInto, ListedReadIs}
 use Rattle.dqbf_text.specs.Stored.{listedText, WritesListed}
 use Rattle.dqbf_text.proofs.Unique.{text-same}
 
@@ -31,7 +31,7 @@ module _ {A : Type 0} {P P′ before x y : List A} {k k′ : ℕ} (a : FrontFill
   table-same = a .left ∙ ap (λ (rows : List A). overwritten rows before) same ∙ sym (b .left)
 
 module _ (text : List ℕ) (before : Tables) where
-  into-same : {n e l d n′ e′ l′ d′ : ℕ} {after after′ : Tables} → ReadInto n e l d text before after → ReadInto n′ e′ l′ d′ text before after′
+  into-same : {n e l d n′ e′ l′ d′ : ℕ} {after after′ : Tables} → ListedReadInto n e l d text before after → ListedReadInto n′ e′ l′ d′ text before after′
       → SameAnswer (ListedReading.Read n e l d) (ListedReading.Read n′ e′ l′ d′) after after′
   into-same {n} {e} {l} {d} {n′} {e′} {l′} {d′} a b =
       let same = text-same (a .text-of) (b .text-of) in
@@ -46,12 +46,12 @@ module _ (text : List ℕ) (before : Tables) where
         list-rows = table-same (a .lists-filled) (b .lists-filled) (same .lists);
       }
 
-  pub read-settled : (after after′ : Tables) (r r′ : ListedReading) → ReadIs text before after r → ReadIs text before after′ r′ → SameAnswer r r′ after after′
+  pub read-settled : (after after′ : Tables) (r r′ : ListedReading) → ListedReadIs text before after r → ListedReadIs text before after′ r′ → SameAnswer r r′ after after′
   read-settled after after′ (ListedReading.Read n e l d) (ListedReading.Read n′ e′ l′ d′) a b = into-same (a .1) (b .1)
-  read-settled after after′ (ListedReading.Read n e l d) (ListedReading.Refused k q) a b = absurd (first-or-none (readOrder text before) k q (b .0) (a .0))
-  read-settled after after′ (ListedReading.Refused k q) (ListedReading.Read n e l d) a b = absurd (first-or-none (readOrder text before) k q (a .0) (b .0))
+  read-settled after after′ (ListedReading.Read n e l d) (ListedReading.Refused k q) a b = absurd (first-or-none (listedReadOrder text before) k q (b .0) (a .0))
+  read-settled after after′ (ListedReading.Refused k q) (ListedReading.Read n e l d) a b = absurd (first-or-none (listedReadOrder text before) k q (a .0) (b .0))
   read-settled after after′ (ListedReading.Refused k q) (ListedReading.Refused k′ q′) a b =
-      let same = firstOf-same (readOrder text before) k q k′ q′ (a .0) (b .0) in
+      let same = firstOf-same (listedReadOrder text before) k q k′ q′ (a .0) (b .0) in
       record {
         answer = ap₂ ListedReading.Refused (same .0) (same .1);
         prefix-rows = a .1 .0 ∙ sym (b .1 .0);

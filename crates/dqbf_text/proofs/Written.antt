@@ -7,7 +7,7 @@ use native.Mathlib.Omega.{arith}
 use lib.IntN.{ℤ}
 use Rattle.text_lines.specs.declared.Stage.{Stage}
 use Rattle.text_lines.specs.declared.Stage.the-variants.{Body}
-use Rattle.text_words.specs.Words.{LF, SPACE, ZERO, onto, pieces, words, Variables}
+use Rattle.text_words.specs.Words.{LF, SPACE, ZERO, onto, pieces, words, VariableWords}
 use Rattle.text_words.proofs.Spelled.{decimal-spells, variables-read}
 use Rattle.text_lines.specs.Format.{p-cnf}
 use Rattle.text_lines.specs.InnerGrammar.{the-problem}
@@ -41,7 +41,7 @@ module _ (n m : ℕ) (rest : List ℕ) where
     lines : List (List ℕ)
     is : es ≡ first ∷ (others ++ after)
     cut : pieces LF (listText false es ++ rest) ≡ spaced false body ∷ (lines ++ pieces LF rest)
-    read : Variables (words body) (first ∷ others)
+    read : VariableWords (words body) (first ∷ others)
     then : Bool → Bool
     follow : (b : Bool) → ListedLines b (Body n m 0) lines (then b) (Body n m 0) [] after []
 
@@ -63,7 +63,7 @@ module _ (n m : ℕ) (rest : List ℕ) where
       (pieces-front LF (listText false more ++ rest) (SPACE ∷ r .body) (r .lines ++ pieces LF rest) (decimal-without v LF (omega arith)) (r .cut))
 
   member-read : (v : ℕ) (more : List ℕ) → (v ≡ 0 → ⊥) → v < 100000 → (r : ListRest more)
-      → Variables (words (memberBody v r)) (v ∷ r .first ∷ r .others)
+      → VariableWords (words (memberBody v r)) (v ∷ r .first ∷ r .others)
   member-read v more positive small r = variable-taken v (r .body) (r .first ∷ r .others) positive small (r .read)
 
   -- the letter in front of the first

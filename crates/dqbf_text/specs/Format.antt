@@ -5,7 +5,7 @@ use mathlib.Core.Path.{_≡_}
 use mathlib.Core.List.{List, [], _∷_, _++_}
 use lib.ListN.{length}
 use lib.IntN.{ℤ}
-use Rattle.text_words.specs.Words.{words, VariableWord, Variables}
+use Rattle.text_words.specs.Words.{words, VariableWord, VariableWords}
 use Rattle.text_lines.specs.Format.{QuantifierLine, ClauseLine, Some, Say, TextWith, IsQuantifier, IsClause, Announced, MayFollow}
 
 -- The letter that list lines begin with.
@@ -15,7 +15,7 @@ LETTER-D = 100
 -- A list line `d y x1 .. 0`, and its entries in the table of lists: y, its universals or none, 0. So `d 0` is no list line.
 pub data ListLine : List ℕ → List ℕ → Type 0 where
   d-line : {line word : List ℕ} {more : List (List ℕ)} {y : ℕ} {universals : List ℕ} → words line ≡ (LETTER-D ∷ []) ∷ word ∷ more
-      → VariableWord word y → Variables more universals → ListLine line (y ∷ universals)
+      → VariableWord word y → VariableWords more universals → ListLine line (y ∷ universals)
 
 -- The text of n and three tables: quantifier lines, list lines, and as many clause lines as announced.
 pub record ListedText (n : ℕ) (prefix lists : List ℕ) (table : List ℤ) (text : List ℕ) : Type 0 where

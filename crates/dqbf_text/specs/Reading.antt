@@ -19,13 +19,13 @@ abbrev pub Tables : Type 0
 Tables = List ℕ × List ℤ × List ℕ
 
 -- 14: the text is that of tables of which one does not fit where it is to be stored.
-pub data NoRoom (text : List ℕ) (before : Tables) : ℕ → ℕ → Type 0 where
-  no-room-prefix : {n : ℕ} {P L : List ℕ} {C : List ℤ} → ListedText n P L C text → length (before .0) < length P → NoRoom text before 14 0
-  no-room-clauses : {n : ℕ} {P L : List ℕ} {C : List ℤ} → ListedText n P L C text → length (before .1) < length C → NoRoom text before 14 0
-  no-room-lists : {n : ℕ} {P L : List ℕ} {C : List ℤ} → ListedText n P L C text → length (before .2) < length L → NoRoom text before 14 0
+pub data NoListedRoom (text : List ℕ) (before : Tables) : ℕ → ℕ → Type 0 where
+  no-room-prefix : {n : ℕ} {P L : List ℕ} {C : List ℤ} → ListedText n P L C text → length (before .0) < length P → NoListedRoom text before 14 0
+  no-room-clauses : {n : ℕ} {P L : List ℕ} {C : List ℤ} → ListedText n P L C text → length (before .1) < length C → NoListedRoom text before 14 0
+  no-room-lists : {n : ℕ} {P L : List ℕ} {C : List ℤ} → ListedText n P L C text → length (before .2) < length L → NoListedRoom text before 14 0
 
-abbrev pub readOrder : List ℕ → Tables → List Causes
-readOrder text before = Overlong text ∷ LineCause ListedFollow text ∷ NoRoom text before ∷ []
+abbrev pub listedReadOrder : List ℕ → Tables → List Causes
+listedReadOrder text before = Overlong text ∷ LineCause ListedFollow text ∷ NoListedRoom text before ∷ []
 
 -- so many rows stand in front in a table, with nothing past them changed
 pub record FrontFilled {A : Type 0} (rows : List A) (count : ℕ) (before after : List A) : Type 0 where
@@ -33,7 +33,7 @@ pub record FrontFilled {A : Type 0} (rows : List A) (count : ℕ) (before after 
   pub left : after ≡ overwritten rows before
 
 -- The text is that of n and of three tables, which now stand in front in the lent ones.
-pub record ReadInto (n entries literals rows : ℕ) (text : List ℕ) (before after : Tables) : Type 0 where
+pub record ListedReadInto (n entries literals rows : ℕ) (text : List ℕ) (before after : Tables) : Type 0 where
   pub P : List ℕ
   pub C : List ℤ
   pub L : List ℕ
@@ -43,7 +43,7 @@ pub record ReadInto (n entries literals rows : ℕ) (text : List ℕ) (before af
   pub lists-filled : FrontFilled L rows (before .2) (after .2)
 
 -- Each answer: accepted, with n and the three counts, or refused, with the tables as they were.
-abbrev pub ReadIs : List ℕ → Tables → Tables → ListedReading → Type 0
-ReadIs text before after answer =
-    Settles (readOrder text before) (λ (counts : ℕ × ℕ × ℕ × ℕ). ReadInto (counts .0) (counts .1) (counts .2) (counts .3) text before after)
+abbrev pub ListedReadIs : List ℕ → Tables → Tables → ListedReading → Type 0
+ListedReadIs text before after answer =
+    Settles (listedReadOrder text before) (λ (counts : ℕ × ℕ × ℕ × ℕ). ListedReadInto (counts .0) (counts .1) (counts .2) (counts .3) text before after)
     ((after .0 ≡ before .0) × (after .1 ≡ before .1) × (after .2 ≡ before .2)) (listedSaid answer)

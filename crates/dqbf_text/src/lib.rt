@@ -11,7 +11,7 @@ use terms::Verdict;
 use text_lines::Stage;
 use text_write::TEXT_MOST;
 use writing::write_accepted;
-ghost use Rattle.dqbf_text.specs.Reading.{ReadIs};
+ghost use Rattle.dqbf_text.specs.Reading.{ListedReadIs};
 ghost use Rattle.dqbf_text.specs.Stored.{WritesListed};
 ghost use Rattle.formula.specs.Lent.{formulaIn};
 
@@ -23,7 +23,7 @@ pub fn read(
     clauses: &mut [i32],
     lists: &mut [u32],
 ) -> ListedReading
-    ensures answered { λ r. ⌜ ReadIs (now (text .entry)) (now (prefix .entry), now (clauses .entry), now (lists .entry))
+    ensures answered { λ r. ⌜ ListedReadIs (now (text .entry)) (now (prefix .entry), now (clauses .entry), now (lists .entry))
         (now (prefix .exit), now (clauses .exit), now (lists .exit)) r ⌝ }
 {
     if TEXT_MOST < text.len() {

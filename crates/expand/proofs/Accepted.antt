@@ -36,7 +36,7 @@ use Rattle.formula_rules.proofs.Orders.{accepted-two}
 use Rattle.formula_rules.proofs.Agreement.{also-accepted, both-accept}
 use Rattle.expand_clauses.specs.Expansion.{without, clauseTable}
 use Rattle.expand_clauses.specs.InnerCopies.{copyFrom, copyOf, withCopy, expandedPrefix, renamed, named, hasCopy, copies, expandedList, expandedClauses}
-use Rattle.expand.specs.Promise.{ResultTables, expandedBy, ManyVariables, Long, Leaves, Expands}
+use Rattle.expand.specs.Promise.{ResultTables, expandedBy, ManyVariables, Long, LeavesFormula, Expands}
 use Rattle.expand.specs.InnerWriting.{beginning}
 use Rattle.expand.proofs.Blocking.{begin-none, begin-new}
 use Rattle.expand.proofs.Laying.{left, left-expanded}
@@ -403,7 +403,7 @@ abbrev pub written : ResultTables → ℕ → ℕ → ℕ → Formula
 written out count entries literals = formulaOf count (take entries (out .prefix)) (take literals (out .clauses))
 
 -- What the call leaves where it accepts is the formula with x expanded.
-pub result-is : (out out′ : ResultTables) (count entries literals : ℕ) (g : Formula) → Leaves out out′ count entries literals g
+pub result-is : (out out′ : ResultTables) (count entries literals : ℕ) (g : Formula) → LeavesFormula out out′ count entries literals g
     → g ≡ written out′ count entries literals
 result-is out out′ count entries literals g leaves =
     let front : take entries (out′ .prefix) ≡ g .prefix =

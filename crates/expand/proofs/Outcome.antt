@@ -25,7 +25,7 @@ use Rattle.forest_tables.proofs.Agreeing.{lawful}
 use Rattle.forest.specs.InnerWanted.{Lists}
 use Rattle.expand_clauses.specs.InnerCopies.{copyFrom, copyOf}
 use Rattle.expand_clauses.specs.InnerCopied.{tabled, Copies}
-use Rattle.expand.specs.Promise.{ResultTables, Leaves, SetOf, expandedBy, OfExpanded, ManyVariables, Long, Short, ExpandsBy}
+use Rattle.expand.specs.Promise.{ResultTables, LeavesFormula, SetOf, expandedBy, OfExpanded, ManyVariables, Long, Short, ExpandsBy}
 use Rattle.expand.specs.InnerOrders.{resultOrder}
 use Rattle.expand.specs.InnerWriting.{expandedWith, writeOrder, Fits}
 use Rattle.expand_clauses.proofs.Tied.{prefix-same, clauses-same}
@@ -78,7 +78,7 @@ module _ (f : Formula) (x : ℕ) (sound : SoundPrefix (f .n) (f .prefix)) {befor
 pub carry-expands : (f : Formula) (x : ℕ) (out out′ : ResultTables) (r : Expanded) (order order′ : List Causes)
     → Carries order order′ → ExpandsBy order f x out out′ r → ExpandsBy order′ f x out out′ r
 carry-expands f x out out′ r =
-    carry-settles (λ (counts : ℕ × ℕ × ℕ). OfExpanded f x (Leaves out out′ (counts .0) (counts .1) (counts .2))) (out′ ≡ out) (expandedSaid r)
+    carry-settles (λ (counts : ℕ × ℕ × ℕ). OfExpanded f x (LeavesFormula out out′ (counts .0) (counts .1) (counts .2))) (out′ ≡ out) (expandedSaid r)
 
 module _ (f : Formula) (x : ℕ) {members : List ℕ} (set : SetOf f x members) (out : ResultTables) where
   abbrev result : Formula

@@ -11,7 +11,7 @@ use Rattle.terms.specs.declared.Expanded.{Expanded}
 use Rattle.formula.specs.Lent.{Formula, formulaOf}
 use Rattle.expand_clauses.specs.InnerCopies.{expandedPrefix, expandedClauses}
 use Rattle.formula_rules.specs.InnerWriting.{closing}
-use Rattle.expand.specs.Promise.{ResultTables, Long, Short, Leaves}
+use Rattle.expand.specs.Promise.{ResultTables, Long, Short, LeavesFormula}
 
 -- what is written in front of a variable: where its block has not begun, the 0 that closes the block before, and its mark
 unfoldable pub beginning : ℕ → ℕ → List ℕ
@@ -28,4 +28,4 @@ writeOrder out g = At0 2 (Long g) ∷ At0 14 (Short out g) ∷ []
 -- A formula is written and counted, or it passes a limit or is longer than a table.
 abbrev pub Fits : Formula → ResultTables → ResultTables → Expanded → Type 0
 Fits g out out′ answer =
-    Settles (writeOrder out g) (λ (counts : ℕ × ℕ × ℕ). Leaves out out′ (counts .0) (counts .1) (counts .2) g) (out′ ≡ out) (expandedSaid answer)
+    Settles (writeOrder out g) (λ (counts : ℕ × ℕ × ℕ). LeavesFormula out out′ (counts .0) (counts .1) (counts .2) g) (out′ ≡ out) (expandedSaid answer)

@@ -81,7 +81,7 @@ expandOrder rule f x out =
     ∷ ResultLengthCause (readBy rule f) x ∷ ResultOutputCause (readBy rule f) x out ∷ []
 
 -- What is left of a formula that is written: n and the two counts of entries, and both tables in front, with nothing past them changed.
-pub record Leaves (out out′ : ResultTables) (count entries literals : ℕ) (g : Formula) : Type 0 where
+pub record LeavesFormula (out out′ : ResultTables) (count entries literals : ℕ) (g : Formula) : Type 0 where
   pub count-is : count ≡ g .n
   pub entries-is : entries ≡ length (g .prefix)
   pub literals-is : literals ≡ length (g .clauses)
@@ -91,7 +91,7 @@ pub record Leaves (out out′ : ResultTables) (count entries literals : ℕ) (g 
 -- What the call answers by an order of refusals, and by the formula as it is read; a refusal leaves both tables.
 abbrev pub ExpandsBy : List Causes → Formula → ℕ → ResultTables → ResultTables → Expanded → Type 0
 ExpandsBy order f x out out′ answer =
-    Settles order (λ (counts : ℕ × ℕ × ℕ). OfExpanded f x (Leaves out out′ (counts .0) (counts .1) (counts .2))) (out′ ≡ out) (expandedSaid answer)
+    Settles order (λ (counts : ℕ × ℕ × ℕ). OfExpanded f x (LeavesFormula out out′ (counts .0) (counts .1) (counts .2))) (out′ ≡ out) (expandedSaid answer)
 
 -- What the call promises.
 abbrev pub Expands : ℕ → Formula → ℕ → ResultTables → ResultTables → Expanded → Type 0

@@ -16,8 +16,8 @@ use Rattle.formula.specs.Lent.{Formula, formulaOf}
 use Rattle.formula_rules.specs.Rules.{readAs, RuleCause, PrefixCauseBy, ruledPrefix}
 use Rattle.formula_rules.proofs.Agreement.{both-accept, one-to-two, two-to-one}
 use Rattle.file_format.specs.Layout.{FileWith}
-use Rattle.file_format.specs.Places.{countIn, prefixIn, clausesIn, formulaHeld}
-use Rattle.file_format.specs.Causes.{ForestFileCause, Lent, NoRoom}
+use Rattle.file_format.specs.Places.{countIn, prefixHeld, clausesIn, formulaHeld}
+use Rattle.file_format.specs.Causes.{ForestFileCause, Lent, NoFileRoom}
 use Rattle.file_format.specs.InnerOrders.{fileOrder, behindStore}
 use Rattle.file_format.specs.Promises.{Stores, Loading, Loads}
 use Rattle.file_format.proofs.Orders.{carry-loading}
@@ -34,25 +34,25 @@ store-agrees f none before after r =
 -- Reading has the causes of the records of the file between 23 and the others, under both rules alike.
 module _ (file : List ℕ) (lent lent′ : Lent) (answer : Loaded) where
   abbrev front : ℕ → List Causes
-  front rule = ruledPrefix rule (countIn file) (prefixIn file) (length (clausesIn file))
+  front rule = ruledPrefix rule (countIn file) (prefixHeld file) (length (clausesIn file))
 
   -- the order of the prefix without 23
   abbrev unruled : ℕ → List Causes
-  unruled rule = VariableCount (countIn file) ∷ LengthCause (prefixIn file) (length (clausesIn file)) ∷ PrefixCauseBy rule (countIn file) (prefixIn file) ∷ []
+  unruled rule = VariableCount (countIn file) ∷ LengthCause (prefixHeld file) (length (clausesIn file)) ∷ PrefixCauseBy rule (countIn file) (prefixHeld file) ∷ []
 
   abbrev as-read : List ℕ → Formula
   as-read es = formulaOf (countIn file) es (clausesIn file)
 
   abbrev later : List ℕ → List Causes
-  later es = ClauseCause (countIn file) (clausesIn file) ∷ ForestFileCause (as-read es) file ∷ At0 14 (NoRoom (formulaHeld file) lent) ∷ []
+  later es = ClauseCause (countIn file) (clausesIn file) ∷ ForestFileCause (as-read es) file ∷ At0 14 (NoFileRoom (formulaHeld file) lent) ∷ []
 
   abbrev order : ℕ → List ℕ → List Causes
   order rule es = RuleCause rule ∷ (fileOrder file ++ (unruled rule ++ later es))
 
-  load-too : (rule other : ℕ) → NoneOf (front rule) → NoneOf (front other) → readAs rule (prefixIn file) ≡ readAs other (prefixIn file)
+  load-too : (rule other : ℕ) → NoneOf (front rule) → NoneOf (front other) → readAs rule (prefixHeld file) ≡ readAs other (prefixHeld file)
       → Loads rule file lent lent′ answer → Loads other file lent lent′ answer
   load-too rule other from to same loads =
-      let es = readAs other (prefixIn file) in
+      let es = readAs other (prefixHeld file) in
       carry-loading (as-read es) file lent lent′ answer (order rule es) (order other es)
       (one-more (RuleCause rule) (RuleCause other) (λ k p c. absurd (from .0 k p c)) (λ k p c. absurd (to .0 k p c))
       (behind (fileOrder file) (exchanged (unruled rule) (unruled other) (later es) (from .1) (to .1))))
@@ -60,5 +60,5 @@ module _ (file : List ℕ) (lent lent′ : Lent) (answer : Loaded) where
 
   pub load-agrees : NoneOf (front 1) → Loads 1 file lent lent′ answer ↔ Loads 2 file lent lent′ answer
   load-agrees none =
-      let (also, same) = both-accept (countIn file) (prefixIn file) (length (clausesIn file)) none in
+      let (also, same) = both-accept (countIn file) (prefixHeld file) (length (clausesIn file)) none in
       (load-too 1 2 none also (sym same), load-too 2 1 also none same)

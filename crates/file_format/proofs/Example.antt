@@ -6,7 +6,7 @@ use mathlib.Core.List.{List, [], _∷_, _++_}
 use lib.IntN.{ℤ, pos, negsuc}
 use Rattle.file_format.specs.Numbers.{numberAt, numbersAt, numberBytes, bytesOf, literalNumber, literalOf, wordSum}
 use Rattle.file_format.specs.Layout.{setsKind, recordBytes, prefixRecord, clausesRecord, rowsRecord, closingRecord, SumsToZero}
-use Rattle.file_format.specs.Places.{sizeAt, kindAt, nextAt, secondAt, thirdAt, fourthAt, hasSets, countIn, prefixIn, clausesIn}
+use Rattle.file_format.specs.Places.{sizeAt, kindAt, nextAt, secondAt, thirdAt, fourthAt, hasSets, countIn, prefixHeld, clausesIn}
 use Rattle.file_format.specs.Promises.{WithoutSets, refitted}
 
 abbrev pub prefixE : List ℕ
@@ -69,8 +69,8 @@ pub count-in : countIn fileE ≡ 2
 unfolding countIn numberAt
 count-in = refl
 
-pub prefix-in : prefixIn fileE ≡ prefixE
-unfolding prefixIn sizeAt numbersAt numberAt
+pub prefix-in : prefixHeld fileE ≡ prefixE
+unfolding prefixHeld sizeAt numbersAt numberAt
 prefix-in = refl
 
 pub clauses-in : clausesIn fileE ≡ clausesE

@@ -15,7 +15,7 @@ use Rattle.terms.proofs.Common.{clash, by-test}
 use Rattle.terms.proofs.Orders.{Carries}
 use Rattle.forest_theory.proofs.Choice.{either, or-right}
 use Rattle.file_format.specs.Layout.{prefixKind, clausesKind, rowsKind, setsKind, closingKind}
-use Rattle.file_format.specs.Places.{kindAt, nextAt, Passed, RecordAt, Whole, Begins}
+use Rattle.file_format.specs.Places.{kindAt, nextAt, Passed, RecordAt, Whole, KindsInOrder}
 use Rattle.file_format.specs.Causes.{OrderCause}
 use Rattle.file_format.specs.InnerPlaces.{Reached, mayFollow, lastOf, StepCause}
 
@@ -64,7 +64,7 @@ data Stage (kinds : List ℕ) : Type 0 where
 other-length : {xs ys : List ℕ} {A : Type 0} → length xs ≢ length ys → xs ≡ ys → A
 other-length differ q = absurd (differ (ap length q))
 
-stage : (kinds : List ℕ) → Begins kinds → Stage kinds
+stage : (kinds : List ℕ) → KindsInOrder kinds → Stage kinds
 stage [] b = none refl
 stage (a ∷ []) b = ⊎-elim (λ q. one q) (λ q. one q) b
 stage (a ∷ b′ ∷ []) b = ⊎-elim (λ q. two q) (λ q. two q) b
@@ -78,13 +78,13 @@ nth : (i : ℕ) {xs ys : List ℕ} → xs ≡ ys → getD xs i 0 ≡ getD ys i 0
 nth i q = ap (λ (xs : List ℕ). getD xs i 0) q
 
 abbrev Steps : List ℕ → Type 0
-Steps kinds = (k : ℕ) → (mayFollow (lastOf 0 kinds) k ≡ true) ↔ Begins (kinds ++ (k ∷ []))
+Steps kinds = (k : ℕ) → (mayFollow (lastOf 0 kinds) k ≡ true) ↔ KindsInOrder (kinds ++ (k ∷ []))
 
 -- where one kind alone may follow
-sole : (before allowed : ℕ) (more : ℕ → List ℕ) → ((k : ℕ) → mayFollow before k ≡ eqb k allowed) → (Begins (more allowed))
-    → ((k : ℕ) → Begins (more k) → k ≡ allowed) → (k : ℕ) → (mayFollow before k ≡ true) ↔ Begins (more k)
+sole : (before allowed : ℕ) (more : ℕ → List ℕ) → ((k : ℕ) → mayFollow before k ≡ eqb k allowed) → (KindsInOrder (more allowed))
+    → ((k : ℕ) → KindsInOrder (more k) → k ≡ allowed) → (k : ℕ) → (mayFollow before k ≡ true) ↔ KindsInOrder (more k)
 sole before allowed more is begins only k =
-    (λ t. subst (λ (j : ℕ). Begins (more j)) (sym (eqb-true k allowed (sym (is k) ∙ t))) begins, λ b. is k ∙ eq-eqb k allowed (only k b))
+    (λ t. subst (λ (j : ℕ). KindsInOrder (more j)) (sym (eqb-true k allowed (sym (is k) ∙ t))) begins, λ b. is k ∙ eq-eqb k allowed (only k b))
 
 stage-step : {kinds : List ℕ} → Stage kinds → Steps kinds
 stage-step (none q) = subst Steps (sym q)
@@ -171,9 +171,9 @@ module _ (file : List ℕ) where
   record-reached r on = let (kinds, passed, _) = reached-passed r in record { kinds = kinds; passed = passed; goes-on = on }
 
   -- Where each kind up to a limit may follow, the kinds passed up to there are the first of a file's.
-  module _ (limit : ℕ) (may : (kinds : List ℕ) (p : ℕ) → Passed file kinds p → p < limit → p < length file → Begins kinds
+  module _ (limit : ℕ) (may : (kinds : List ℕ) (p : ℕ) → Passed file kinds p → p < limit → p < length file → KindsInOrder kinds
       → mayFollow (lastOf 0 kinds) (kindAt file p) ≡ true) where
-    begun : (kinds : List ℕ) (p : ℕ) → Passed file kinds p → p ≤ limit → Begins kinds
+    begun : (kinds : List ℕ) (p : ℕ) → Passed file kinds p → p ≤ limit → KindsInOrder kinds
     begun _ q (Passed.start z) l = inl refl
     begun _ q (Passed.behind kinds p passed fits at) l =
         let past = next-past p in
@@ -181,12 +181,12 @@ module _ (file : List ℕ) where
         stage-step (stage kinds b) (kindAt file p) .0 (may kinds p passed (omega arith) (omega arith) b)
 
   -- So they are where no place before has a cause, of either kind.
-  begun-steps : (e : ℕ) → ((p : ℕ) → p < e → (j : ℕ) → StepCause file j p → ⊥) → (kinds : List ℕ) → Passed file kinds e → Begins kinds
+  begun-steps : (e : ℕ) → ((p : ℕ) → p < e → (j : ℕ) → StepCause file j p → ⊥) → (kinds : List ℕ) → Passed file kinds e → KindsInOrder kinds
   begun-steps e clean kinds passed = begun e
       (λ ks p r l on b. by-test (mayFollow (lastOf 0 ks) (kindAt file p)) (λ t. t) (λ f. absurd (clean p l 20 (StepCause.wrong (lastOf 0 ks) refl (passed-reached r) on f))))
       kinds e passed (omega arith)
 
-  begun-orders : (e : ℕ) → ((p : ℕ) → p < e → (j : ℕ) → OrderCause file j p → ⊥) → (kinds : List ℕ) → Passed file kinds e → Begins kinds
+  begun-orders : (e : ℕ) → ((p : ℕ) → p < e → (j : ℕ) → OrderCause file j p → ⊥) → (kinds : List ℕ) → Passed file kinds e → KindsInOrder kinds
   begun-orders e clean kinds passed = begun e
       (λ ks p r l on b.
       let k = kindAt file p in
@@ -195,7 +195,7 @@ module _ (file : List ℕ) where
       kinds e passed (omega arith)
 
   -- And where they are, the causes there are the same.
-  step-order : {k e : ℕ} → ((kinds : List ℕ) → Passed file kinds e → Begins kinds) → StepCause file k e → OrderCause file k e
+  step-order : {k e : ℕ} → ((kinds : List ℕ) → Passed file kinds e → KindsInOrder kinds) → StepCause file k e → OrderCause file k e
   step-order {k} {e} begins (StepCause.wrong before n r on no′) =
       let (kinds, passed, last) = reached-passed r in
       OrderCause.wrong kinds n passed on
@@ -204,7 +204,7 @@ module _ (file : List ℕ) where
       let (kinds, passed, last) = reached-passed r in
       OrderCause.missing kinds n passed end (λ w. other (sym last ∙ whole-closing kinds w))
 
-  order-step : {k e : ℕ} → ((kinds : List ℕ) → Passed file kinds e → Begins kinds) → OrderCause file k e → StepCause file k e
+  order-step : {k e : ℕ} → ((kinds : List ℕ) → Passed file kinds e → KindsInOrder kinds) → OrderCause file k e → StepCause file k e
   order-step {k} {e} begins (OrderCause.wrong kinds n passed on no′) =
       let at = stage kinds (begins kinds passed) in
       by-test (mayFollow (lastOf 0 kinds) (kindAt file e)) (λ t. absurd (no′ (stage-step at (kindAt file e) .0 t)))

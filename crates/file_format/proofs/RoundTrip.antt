@@ -21,8 +21,8 @@ use Rattle.forest_tables.specs.Lent.{Rows}
 use Rattle.file_format.specs.Numbers.{numberBytes, bytesOf, numbersAt, literalNumber, literalOf}
 use Rattle.file_format.specs.Layout.{prefixKind, clausesKind, rowsKind, setsKind, closingKind, prefixRecord, clausesRecord, rowsRecord}
 use Rattle.file_format.specs.Layout.{closingRecord, recordBytes, ForestRows, StandardSets, SetsRecord, FileWith}
-use Rattle.file_format.specs.Places.{sizeAt, kindAt, secondAt, thirdAt, fourthAt, hasSets, countIn, prefixIn, clausesIn, formulaHeld, Holds}
-use Rattle.file_format.specs.Causes.{fileBytes, RightRows, RightSets, ForestFileCause, Lent, NoRoom, Roomy, loadOrder}
+use Rattle.file_format.specs.Places.{sizeAt, kindAt, secondAt, thirdAt, fourthAt, hasSets, countIn, prefixHeld, clausesIn, formulaHeld, HoldsNumbers}
+use Rattle.file_format.specs.Causes.{fileBytes, RightRows, RightSets, ForestFileCause, Lent, NoFileRoom, Roomy, loadOrder}
 use Rattle.file_format.specs.InnerOrders.{fileOrder, tableOrder, behindStore}
 use Rattle.file_format.specs.Promises.{Stores, storedIn, Loads}
 use Rattle.file_format.proofs.Orders.{none-first}
@@ -35,7 +35,7 @@ use Rattle.file_format.proofs.Walked.{Run, run-good, file-run, no-recor
 
 -- a record's numbers, once it is known where it stands
 stands-holds : {file : List ℕ} {p kind : ℕ} (width : ℕ) (numbers : List ℕ) → StandsAt file p kind (bytesOf width numbers)
-    → Fit width numbers → Holds width file p numbers
+    → Fit width numbers → HoldsNumbers width file p numbers
 stands-holds {p = p} width numbers stands fit =
     record {
       size = stands .size ∙ bytes-length width numbers;
@@ -127,8 +127,8 @@ module _ (rule : ℕ) (f : Formula) (there : Bool) (file : List ℕ) (none : Non
       (first .is ∙ ap (λ (xs : List ℕ). first .front ++ xs) (append-assoc (numberBytes 2 n) (bytesOf 2 es) (first .back))) (first .at)
       (prefix-fits rule f none .0)
 
-  prefix-is : prefixIn file ≡ es
-  unfolding prefixIn bytesOf
+  prefix-is : prefixHeld file ≡ es
+  unfolding prefixHeld bytesOf
   prefix-is =
       let inner = first .is ∙ ap (λ (xs : List ℕ). first .front ++ xs) (append-assoc (numberBytes 2 n) (bytesOf 2 es) (first .back)) in
       let is = inner ∙ sym (append-assoc (first .front) (numberBytes 2 n) (bytesOf 2 es ++ first .back)) in
@@ -185,12 +185,12 @@ module _ (rule : ℕ) (f : Formula) (there : Bool) (file : List ℕ) (none : Non
     abbrev told-sets : (hasSets file ≡ there) × (there ≡ true → RightSets read file)
     told-sets = sets-told there (g .sets-are)
 
-    roomy : NoRoom (formulaHeld file) lent → ⊥
+    roomy : NoFileRoom (formulaHeld file) lent → ⊥
     roomy short =
         let (a, b, d, e, k) = room in
         ⊎-elim (λ over. omega arith)
         (⊎-elim (λ over. omega arith) (⊎-elim (λ over. omega arith) (⊎-elim (λ over. omega arith) (λ over. omega arith))))
-        (subst (λ (h : Formula). NoRoom h lent) held short)
+        (subst (λ (h : Formula). NoFileRoom h lent) held short)
 
     no-disagreement : None (ForestFileCause read file)
     no-disagreement number place (ForestFileCause.rows-disagree q p wrong) = wrong (g .rows) right-rows
@@ -205,7 +205,7 @@ module _ (rule : ℕ) (f : Formula) (there : Bool) (file : List ℕ) (none : Non
 
     pub clear : NoneOf (loadOrder rule file lent)
     clear =
-        let later = ForestFileCause read file ∷ At0 14 (NoRoom (formulaHeld file) lent) ∷ [] in
+        let later = ForestFileCause read file ∷ At0 14 (NoFileRoom (formulaHeld file) lent) ∷ [] in
         let order = tableOrder rule (formulaHeld file) in (
           none .0,
           accepted-then (fileOrder file) (order ++ later) Accepted refl file-clear

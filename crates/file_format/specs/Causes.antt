@@ -15,7 +15,7 @@ use Rattle.formula.specs.Lent.{Formula}
 use Rattle.formula_rules.specs.Rules.{readAs, readBy, RuleCause, PrefixCauseBy}
 use Rattle.forest_tables.specs.Lent.{Rows, rowsIn, rowsOut}
 use Rattle.file_format.specs.Layout.{prefixKind, clausesKind, closingKind, ForestRows, StandardSets, FileWith, SumsToZero}
-use Rattle.file_format.specs.Places.{sizeAt, kindAt, nextAt, Passed, RecordAt, Whole, Begins, thirdAt, fourthAt, hasSets, formulaHeld, Holds}
+use Rattle.file_format.specs.Places.{sizeAt, kindAt, nextAt, Passed, RecordAt, Whole, KindsInOrder, thirdAt, fourthAt, hasSets, formulaHeld, HoldsNumbers}
 
 -- the most bytes that a file may have
 abbrev pub fileBytes : ℕ
@@ -44,7 +44,7 @@ pub data RecordCause (file : List ℕ) (number place : ℕ) : Type 0 where
 -- 20: the place is where the record begins, or would if it is missing
 pub data OrderCause (file : List ℕ) (number place : ℕ) : Type 0 where
   -- unknown kind or wrong order: the kinds so far, with this one, are not the first of a file's
-  wrong : (kinds : List ℕ) → number ≡ 20 → Passed file kinds place → place < length file → (Begins (kinds ++ (kindAt file place ∷ [])) → ⊥)
+  wrong : (kinds : List ℕ) → number ≡ 20 → Passed file kinds place → place < length file → (KindsInOrder (kinds ++ (kindAt file place ∷ [])) → ⊥)
       → OrderCause file number place
   -- a kind missing: the file ends, and its kinds are not all
   missing : (kinds : List ℕ) → number ≡ 20 → Passed file kinds place → place ≡ length file → (Whole kinds → ⊥) → OrderCause file number place
@@ -55,10 +55,10 @@ SumCause file = At0 21 (SumsToZero file → ⊥)
 
 -- the rows, and the sets, that kinds 3 and 4 have are those of a formula, in number and value
 abbrev pub RightRows : Formula → List ℕ → Rows → Type 0
-RightRows f file r = ForestRows f r × Holds 4 file (thirdAt file) (r .classes ++ (r .parents ++ r .counts))
+RightRows f file r = ForestRows f r × HoldsNumbers 4 file (thirdAt file) (r .classes ++ (r .parents ++ r .counts))
 
 abbrev pub RightSets : Formula → List ℕ → Type 0
-RightSets f file = (sets : List ℕ) × StandardSets f sets × Holds 2 file (fourthAt file) sets
+RightSets f file = (sets : List ℕ) × StandardSets f sets × HoldsNumbers 2 file (fourthAt file) sets
 
 -- 22: rows or sets disagree with the formula; the place is where the record begins
 pub data ForestFileCause (f : Formula) (file : List ℕ) (number place : ℕ) : Type 0 where
@@ -84,8 +84,8 @@ abbrev pub lentOut : {P L C Q N : Type 0}
 lentOut prefix clauses classes parents counts = lentTables (now (prefix .exit)) (now (clauses .exit)) (rowsOut classes parents counts)
 
 -- 14, for reading: a lent table is shorter than what a formula and its rows have for it
-abbrev pub NoRoom : Formula → Lent → Type 0
-NoRoom f lent =
+abbrev pub NoFileRoom : Formula → Lent → Type 0
+NoFileRoom f lent =
     (length (lent .prefix) < length (f .prefix))
     ⊎ ((length (lent .clauses) < length (f .clauses))
     ⊎ ((length (lent .rows .classes) < f .n) ⊎ ((length (lent .rows .parents) < f .n) ⊎ (length (lent .rows .counts) < f .n))))
@@ -97,7 +97,7 @@ Roomy f lent =
     × (f .n ≤ length (lent .rows .classes)) × (f .n ≤ length (lent .rows .parents)) × (f .n ≤ length (lent .rows .counts))
 
 abbrev pub RoomCause : Formula → Lent → Causes
-RoomCause f lent = At0 14 (NoRoom f lent)
+RoomCause f lent = At0 14 (NoFileRoom f lent)
 
 -- the order of reading: 23, which comes before all others, 19 (too long), 19, 20, 21, of the formula in the file 1, 2, prefix from the left and clause
 -- literals from the left, 22, 14

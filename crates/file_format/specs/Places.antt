@@ -48,8 +48,8 @@ withoutSets = prefixKind ∷ clausesKind ∷ rowsKind ∷ closingKind ∷ []
 abbrev pub Whole : List ℕ → Type 0
 Whole kinds = (kinds ≡ withSets) ⊎ (kinds ≡ withoutSets)
 
-abbrev pub Begins : List ℕ → Type 0
-Begins kinds = (kinds ≡ take (length kinds) withSets) ⊎ (kinds ≡ take (length kinds) withoutSets)
+abbrev pub KindsInOrder : List ℕ → Type 0
+KindsInOrder kinds = (kinds ≡ take (length kinds) withSets) ⊎ (kinds ≡ take (length kinds) withoutSets)
 
 -- where the records of kinds 2 and 3 begin in a file with the kinds in their order, and the record behind them, which may be of kind 4; that of kind
 -- 1 begins at 0
@@ -69,17 +69,17 @@ hasSets file = eqb (kindAt file (fourthAt file)) setsKind
 unfoldable pub countIn : List ℕ → ℕ
 countIn file = numberAt 2 file (payloadAt 0)
 
-unfoldable pub prefixIn : List ℕ → List ℕ
-prefixIn file = numbersAt 2 file (payloadAt 0 + 2) ((sizeAt file 0 - 2) / 2)
+unfoldable pub prefixHeld : List ℕ → List ℕ
+prefixHeld file = numbersAt 2 file (payloadAt 0 + 2) ((sizeAt file 0 - 2) / 2)
 
 unfoldable pub clausesIn : List ℕ → List ℤ
 clausesIn file = map literalOf (numbersAt 4 file (payloadAt (secondAt file)) (sizeAt file (secondAt file) / 4))
 
 -- the formula that a file holds
 abbrev pub formulaHeld : List ℕ → Formula
-formulaHeld file = formulaOf (countIn file) (prefixIn file) (clausesIn file)
+formulaHeld file = formulaOf (countIn file) (prefixHeld file) (clausesIn file)
 
 -- The record at p has just these numbers, in number and value, each of so many bytes.
-pub record Holds (width : ℕ) (file : List ℕ) (p : ℕ) (numbers : List ℕ) : Type 0 where
+pub record HoldsNumbers (width : ℕ) (file : List ℕ) (p : ℕ) (numbers : List ℕ) : Type 0 where
   pub size : sizeAt file p ≡ width * length numbers
   pub values : numbersAt width file (payloadAt p) (length numbers) ≡ numbers

@@ -13,7 +13,7 @@ use lib.ListN.{length, getD, drop, List·getD-eq-default}
 use lib.Seq.{drop-cons}
 use Rattle.file_format.specs.Numbers.{numberAt, numbersAt, numberBytes, bytesOf, literalNumber, literalOf}
 use Rattle.file_format.specs.Layout.{recordBytes}
-use Rattle.file_format.specs.Places.{sizeAt, kindAt, nextAt, Holds}
+use Rattle.file_format.specs.Places.{sizeAt, kindAt, nextAt, HoldsNumbers}
 use Rattle.file_format.proofs.Changed.{Bytes}
 use Rattle.file_format.proofs.Lengths.{bytes-length}
 
@@ -78,7 +78,7 @@ module _ (file : List ℕ) (bytes : Bytes file) where
       ∙ sym (append-assoc one others (drop (p + width * suc many) file))
 
   -- a record with just these numbers, which the end of the file does not cut, and what comes behind it
-  pub record-stands : (width p : ℕ) (numbers : List ℕ) → Holds width file p numbers → nextAt file p ≤ length file
+  pub record-stands : (width p : ℕ) (numbers : List ℕ) → HoldsNumbers width file p numbers → nextAt file p ≤ length file
       → drop p file ≡ recordBytes (kindAt file p) (bytesOf width numbers) ++ drop (nextAt file p) file
   unfolding recordBytes sizeAt kindAt nextAt
   record-stands width p numbers holds within =

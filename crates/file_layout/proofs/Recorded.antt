@@ -12,7 +12,7 @@ use lib.ListN.{length, drop, length-append, length-drop, drop-of-length-le}
 use Rattle.terms.specs.Refusals.{NoneOf}
 use Rattle.file_format.specs.Numbers.{numberAt, numbersAt, numberBytes, bytesOf, literalNumber}
 use Rattle.file_format.specs.Layout.{rowsKind, setsKind, closingKind, recordBytes, prefixRecord, clausesRecord, rowsRecord, closingRecord}
-use Rattle.file_format.specs.Places.{sizeAt, kindAt, nextAt, payloadAt, secondAt, thirdAt, fourthAt, hasSets, countIn, prefixIn, clausesIn, Holds}
+use Rattle.file_format.specs.Places.{sizeAt, kindAt, nextAt, payloadAt, secondAt, thirdAt, fourthAt, hasSets, countIn, prefixHeld, clausesIn, HoldsNumbers}
 use Rattle.file_format.specs.InnerPlaces.{Reached, start, wrong}
 use Rattle.file_format.proofs.Passing.{record-reached, after-rows, after-sets, after-other}
 use Rattle.file_format.specs.Causes.{odd, part-literal, no-word}
@@ -32,8 +32,8 @@ module _ (file : List ℕ) (bytes : Bytes file) (none : NoneOf (fileOrder file))
       (λ o. absurd (none .1 .0 19 place (odd refl (record-reached file r on) o)))
 
   -- what the records of kinds 1 and 2 hold
-  prefix-held : Holds 2 file 0 (countIn file ∷ prefixIn file)
-  unfolding countIn prefixIn numbersAt
+  prefix-held : HoldsNumbers 2 file 0 (countIn file ∷ prefixHeld file)
+  unfolding countIn prefixHeld numbersAt
   prefix-held =
       let counted = file-laid file none .counted in
       let even = even-size (start refl refl) (follows file none (start refl refl) (λ q. omega arith) .goes-on) in
@@ -49,7 +49,7 @@ module _ (file : List ℕ) (bytes : Bytes file) (none : NoneOf (fileOrder file))
       by-cases (ℕ-discrete (sizeAt file (secondAt file) % 4) 0) (λ e. e) (λ o. absurd (none .1 .0 19 (secondAt file)
       (part-literal refl (record-reached file (second-reached file none) (f .goes-on)) (second-kind file none) o)))
 
-  clauses-held : Holds 4 file (secondAt file) (map literalNumber (clausesIn file))
+  clauses-held : HoldsNumbers 4 file (secondAt file) (map literalNumber (clausesIn file))
   unfolding clausesIn
   clauses-held =
       let many = sizeAt file (secondAt file) / 4 in
@@ -63,7 +63,7 @@ module _ (file : List ℕ) (bytes : Bytes file) (none : NoneOf (fileOrder file))
 
   -- the last record
   closing-held : {before place : ℕ} → Reached file before place → place < length file → kindAt file place ≡ closingKind
-      → Holds 2 file place (numberAt 2 file (payloadAt place) ∷ [])
+      → HoldsNumbers 2 file place (numberAt 2 file (payloadAt place) ∷ [])
   unfolding numbersAt
   closing-held {before} {place} r on is =
       record {
@@ -105,7 +105,7 @@ module _ (file : List ℕ) (bytes : Bytes file) (none : NoneOf (fileOrder file))
       let numbers = numbersAt 2 file (payloadAt (fourthAt file)) many in
       let long = numbers-length 2 file (payloadAt (fourthAt file)) many in
       let even = even-size four (f .goes-on) in
-      let held : Holds 2 file (fourthAt file) numbers = record { size = omega arith; values = ap (numbersAt 2 file (payloadAt (fourthAt file))) long } in
+      let held : HoldsNumbers 2 file (fourthAt file) numbers = record { size = omega arith; values = ap (numbersAt 2 file (payloadAt (fourthAt file))) long } in
       let five = next-reached file none four f kind (nextAt file (fourthAt file)) refl in
       let g = follows file none five (λ q. omega arith) in
       let last = eqb-true (kindAt file (nextAt file (fourthAt file))) closingKind
@@ -124,14 +124,14 @@ module _ (file : List ℕ) (bytes : Bytes file) (none : NoneOf (fileOrder file))
       go kind other may = eqb-true kind closingKind (ap (λ (b : Bool). b || eqb kind closingKind) (sym other) ∙ may)
 
   -- The records of kinds 1 to 3 stand in front, whatever the rows that the third holds.
-  module _ (classes parents counts : List ℕ) (held : Holds 4 file (thirdAt file) (classes ++ (parents ++ counts))) where
+  module _ (classes parents counts : List ℕ) (held : HoldsNumbers 4 file (thirdAt file) (classes ++ (parents ++ counts))) where
     abbrev pub head : List ℕ
-    head = prefixRecord (countIn file) (prefixIn file) ++ (clausesRecord (clausesIn file) ++ rowsRecord classes parents counts)
+    head = prefixRecord (countIn file) (prefixHeld file) ++ (clausesRecord (clausesIn file) ++ rowsRecord classes parents counts)
 
     pub head-then : (back : List ℕ)
-        → head ++ back ≡ prefixRecord (countIn file) (prefixIn file) ++ (clausesRecord (clausesIn file) ++ (rowsRecord classes parents counts ++ back))
+        → head ++ back ≡ prefixRecord (countIn file) (prefixHeld file) ++ (clausesRecord (clausesIn file) ++ (rowsRecord classes parents counts ++ back))
     head-then back =
-        let p = prefixRecord (countIn file) (prefixIn file) in
+        let p = prefixRecord (countIn file) (prefixHeld file) in
         let c = clausesRecord (clausesIn file) in
         let r = rowsRecord classes parents counts in
         append-assoc p (c ++ r) back ∙ ap (λ (xs : List ℕ). p ++ xs) (append-assoc c r back)
@@ -142,12 +142,12 @@ module _ (file : List ℕ) (bytes : Bytes file) (none : NoneOf (fileOrder file))
         let one = follows file none (start refl refl) (λ q. omega arith) in
         let two = follows file none (second-reached file none) (λ q. omega arith) in
         let three = follows file none (third-reached file none) (λ q. omega arith) in
-        let first = record-stands file bytes 2 0 (countIn file ∷ prefixIn file) prefix-held (one .fits) in
+        let first = record-stands file bytes 2 0 (countIn file ∷ prefixHeld file) prefix-held (one .fits) in
         let second = record-stands file bytes 4 (secondAt file) (map literalNumber (clausesIn file)) clauses-held (two .fits) in
         let third = record-stands file bytes 4 (thirdAt file) (classes ++ (parents ++ counts)) held (three .fits) in
         first
-        ∙ ap (λ (k : ℕ). recordBytes k (bytesOf 2 (countIn file ∷ prefixIn file)) ++ drop (nextAt file 0) file) (first-kind file none)
-        ∙ ap (λ (xs : List ℕ). prefixRecord (countIn file) (prefixIn file) ++ xs)
+        ∙ ap (λ (k : ℕ). recordBytes k (bytesOf 2 (countIn file ∷ prefixHeld file)) ++ drop (nextAt file 0) file) (first-kind file none)
+        ∙ ap (λ (xs : List ℕ). prefixRecord (countIn file) (prefixHeld file) ++ xs)
         (ap (λ (k : ℕ). drop k file) (sym (second-is file))
         ∙ second
         ∙ ap (λ (k : ℕ). recordBytes k (bytesOf 4 (map literalNumber (clausesIn file))) ++ drop (nextAt file (secondAt file)) file) (second-kind file none)

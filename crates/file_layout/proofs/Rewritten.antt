@@ -20,8 +20,8 @@ use Rattle.formula_rules.specs.Rules.{readAs, readBy, checkOrder}
 use Rattle.formula_rules.proofs.Orders.{limits}
 use Rattle.forest_tables.specs.Lent.{Rows}
 use Rattle.file_format.specs.Layout.{setsKind, recordBytes, prefixRecord, clausesRecord, rowsRecord, closingRecord, SumsToZero, FileOf}
-use Rattle.file_format.specs.Places.{fourthAt, hasSets, countIn, prefixIn, clausesIn, formulaHeld}
-use Rattle.file_format.specs.Causes.{RightRows, ForestFileCause, Lent, NoRoom, storeOrder}
+use Rattle.file_format.specs.Places.{fourthAt, hasSets, countIn, prefixHeld, clausesIn, formulaHeld}
+use Rattle.file_format.specs.Causes.{RightRows, ForestFileCause, Lent, NoFileRoom, storeOrder}
 use Rattle.file_format.specs.InnerOrders.{fileOrder, tableOrder, behindStore}
 use Rattle.file_format.specs.Promises.{Stores, Loads, WithoutSets, as-it-is, refitted}
 use Rattle.file_format.proofs.Orders.{none-first}
@@ -43,14 +43,14 @@ module _ (rule : ℕ) (file : List ℕ) (bytes : Bytes file) (none : NoneOf (fil
   -- the front, in the order of the records
   in-order : (back : List ℕ)
       → front ++ back
-      ≡ prefixRecord (countIn file) (prefixIn file) ++ (clausesRecord (clausesIn file) ++ (rowsRecord (r .classes) (r .parents) (r .counts) ++ back))
+      ≡ prefixRecord (countIn file) (prefixHeld file) ++ (clausesRecord (clausesIn file) ++ (rowsRecord (r .classes) (r .parents) (r .counts) ++ back))
   in-order = head-then file bytes none (r .classes) (r .parents) (r .counts) (right .1)
 
   written : (w : List ℕ) (g : FileOf rule (formulaHeld file) w) → w ≡ front ++ closingRecord (g .word)
   written w g =
       let same = rows-unique (readBy rule (formulaHeld file)) (g .right) (right .0) in
       plain-bytes g
-      ∙ ap (λ (q : Rows). prefixRecord (countIn file) (prefixIn file)
+      ∙ ap (λ (q : Rows). prefixRecord (countIn file) (prefixHeld file)
       ++ (clausesRecord (clausesIn file) ++ (rowsRecord (q .classes) (q .parents) (q .counts) ++ closingRecord (g .word)))) same
       ∙ sym (in-order (closingRecord (g .word)))
 
@@ -72,7 +72,7 @@ module _ (rule : ℕ) (file : List ℕ) (bytes : Bytes file) (none : NoneOf (fil
             bytes = front-then (closingRecord word) is ∙ in-order (closingRecord word);
             sum = sum;
           } in
-          as-it-is (file-unique (formulaHeld file) (readAs rule (prefixIn file)) w file g own)
+          as-it-is (file-unique (formulaHeld file) (readAs rule (prefixHeld file)) w file g own)
 
 without-length : {file without : List ℕ} {there : Bool} → WithoutSets file there without → length without ≤ length file
 without-length (as-it-is same) = let l = ap length same in omega arith
@@ -94,7 +94,7 @@ module _ (rule : ℕ) (file : List ℕ) (bytes : Bytes file) (lent lent′ : Len
   order = checkOrder rule f
 
   abbrev last : List Causes
-  last = ForestFileCause (readBy rule f) file ∷ At0 14 (NoRoom f lent) ∷ []
+  last = ForestFileCause (readBy rule f) file ∷ At0 14 (NoFileRoom f lent) ∷ []
 
   laid : NoneOf (fileOrder file)
   laid = none-first (fileOrder file) (tableOrder rule f ++ last) (loads .0 .1)
@@ -105,7 +105,7 @@ module _ (rule : ℕ) (file : List ℕ) (bytes : Bytes file) (lent lent′ : Len
   accepted : NoneOf order
   accepted = (loads .0 .0, none-first (tableOrder rule f) last held)
 
-  roomy : ¬ (NoRoom f lent)
+  roomy : ¬ (NoFileRoom f lent)
   roomy short = none-later (tableOrder rule f) last held .1 .0 14 0 (refl, refl, short)
 
   without : (w : List ℕ) → FileOf rule f w → WithoutSets file (hasSets file) w
@@ -118,14 +118,14 @@ module _ (rule : ℕ) (file : List ℕ) (bytes : Bytes file) (lent lent′ : Len
   held-back : back ≡ f
   held-back =
       let prefix = ap (λ (l : Lent). take entries (l .prefix)) (loads .1 .4 .left)
-      ∙ take-at (prefixIn file) (drop (length (prefixIn file)) (lent .prefix)) entries (sym (loads .1 .1)) in
+      ∙ take-at (prefixHeld file) (drop (length (prefixHeld file)) (lent .prefix)) entries (sym (loads .1 .1)) in
       let clauses = ap (λ (l : Lent). take literals (l .clauses)) (loads .1 .4 .left)
       ∙ take-at (clausesIn file) (drop (length (clausesIn file)) (lent .clauses)) literals (sym (loads .1 .2)) in
       λ i. formulaOf (loads .1 .0 i) (prefix i) (clauses i)
 
   never-refused : (before : List ℕ) → length file ≤ length before → NoneOf (storeOrder rule f before)
   never-refused before room =
-      let read = readAs rule (prefixIn file) in
+      let read = readAs rule (prefixHeld file) in
       accepted-then order (behindStore f read before) Accepted refl accepted (
         at0-none 19 (never-too-large f read (limits rule f accepted)),
         (at0-none 14 (λ over. let l = without-length (without (over .0) (over .1)) in let m = over .2 in omega arith), tt),

@@ -6,7 +6,7 @@ use native.Mathlib.Omega.{arith}
 use lib.Dec.{eqb}
 use lib.ListN.{length, length-map}
 use Rattle.file_format.specs.Numbers.{numberAt, numbersAt, literalOf}
-use Rattle.file_format.specs.Places.{sizeAt, kindAt, nextAt, payloadAt, secondAt, thirdAt, fourthAt, hasSets, countIn, prefixIn, clausesIn}
+use Rattle.file_format.specs.Places.{sizeAt, kindAt, nextAt, payloadAt, secondAt, thirdAt, fourthAt, hasSets, countIn, prefixHeld, clausesIn}
 use Rattle.file_format.specs.Layout.{setsKind}
 use Rattle.file_format.specs.Causes.{fileBytes}
 use Rattle.file_layout.specs.InnerLaid.{Laid}
@@ -41,8 +41,8 @@ module _ (file : List ℕ) where
   sets-read = refl
 
   -- how long prefix and clauses are
-  pub prefix-length : length (prefixIn file) ≡ (sizeAt file 0 - 2) / 2
-  unfolding prefixIn
+  pub prefix-length : length (prefixHeld file) ≡ (sizeAt file 0 - 2) / 2
+  unfolding prefixHeld
   prefix-length = numbers-length 2 file 8 ((sizeAt file 0 - 2) / 2)
 
   pub clauses-length : length (clausesIn file) ≡ sizeAt file (secondAt file) / 4

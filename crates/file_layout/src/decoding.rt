@@ -14,7 +14,7 @@ ghost use lib.ListN.{length};
 ghost use lib.Seq.{sets};
 ghost use Rattle.forest_tables.specs.InnerRows.{Tells};
 ghost use Rattle.file_format.specs.Numbers.{numberAt, numbersAt, literalOf};
-ghost use Rattle.file_format.specs.Places.{prefixIn, clausesIn};
+ghost use Rattle.file_format.specs.Places.{prefixHeld, clausesIn};
 ghost use Rattle.file_layout.specs.InnerLaid.{Laid};
 ghost use Rattle.file_layout.specs.InnerWidths.{Width};
 
@@ -61,9 +61,9 @@ fn fill_literals(file: &[u8], from: usize, many: usize, table: &mut [i32])
 
 // Stores the prefix and the clauses of the file in front in tables.
 pub fn fill_formula(file: &[u8], prefix: &mut [u32], clauses: &mut [i32])
-    requires room { ⌜ Laid (now file) × (length (prefixIn (now file)) ≤ length (now prefix))
+    requires room { ⌜ Laid (now file) × (length (prefixHeld (now file)) ≤ length (now prefix))
         × (length (clausesIn (now file)) ≤ length (now clauses)) ⌝ }
-    ensures prefix { λ r. ⌜ now (prefix .exit) ≡ sets (now (prefix .entry)) 0 (prefixIn (now (file .entry))) ⌝ }
+    ensures prefix { λ r. ⌜ now (prefix .exit) ≡ sets (now (prefix .entry)) 0 (prefixHeld (now (file .entry))) ⌝ }
     ensures clauses { λ r. ⌜ now (clauses .exit) ≡ sets (now (clauses .entry)) 0 (clausesIn (now (file .entry))) ⌝ }
 {
     let entries = prefix_entries(file);

@@ -7,7 +7,7 @@ use file_format::numbers::two_at;
 ghost use Prim.Native.Nat.{_<_};
 ghost use mathlib.Core.Path.{_≡_};
 ghost use lib.ListN.{length};
-ghost use Rattle.file_format.specs.Places.{sizeAt, kindAt, nextAt, secondAt, thirdAt, fourthAt, prefixIn, clausesIn, hasSets};
+ghost use Rattle.file_format.specs.Places.{sizeAt, kindAt, nextAt, secondAt, thirdAt, fourthAt, prefixHeld, clausesIn, hasSets};
 ghost use Rattle.file_layout.specs.InnerLaid.{Laid};
 
 // How many bytes the payload of the record that begins at a place has.
@@ -64,7 +64,7 @@ pub fn fourth_at(file: &[u8]) -> usize
 // How many entries the prefix has.
 pub fn prefix_entries(file: &[u8]) -> usize
     requires laid { ⌜ Laid (now file) ⌝ }
-    ensures counted { λ r. ⌜ r ≡ length (prefixIn (now (file .entry))) ⌝ }
+    ensures counted { λ r. ⌜ r ≡ length (prefixHeld (now (file .entry))) ⌝ }
 {
     let size = size_at(file, 0) as usize;
     (size - 2) / 2

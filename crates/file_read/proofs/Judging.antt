@@ -14,14 +14,14 @@ use Rattle.terms.proofs.Verdicts.{at0-none}
 use Rattle.formula.specs.Lent.{Formula}
 use Rattle.forest_tables.specs.Lent.{rows}
 use Rattle.file_format.specs.Numbers.{numbersAt}
-use Rattle.file_format.specs.Places.{payloadAt, thirdAt, countIn, prefixIn, clausesIn, formulaHeld}
-use Rattle.file_format.specs.Causes.{Lent, lentTables, NoRoom, Roomy}
+use Rattle.file_format.specs.Places.{payloadAt, thirdAt, countIn, prefixHeld, clausesIn, formulaHeld}
+use Rattle.file_format.specs.Causes.{Lent, lentTables, NoFileRoom, Roomy}
 use Rattle.file_format.specs.Promises.{storedIn}
 use Rattle.file_verify.specs.InnerVerified.{classesIn, parentsIn, countsIn, rowsHeld}
 use Rattle.file_layout.proofs.Spans.{numbers-length}
 use Rattle.file_read.specs.Inner.{saidOf, LoadsRight}
 
-pub no-room : (f : Formula) (lent : Lent) → (Roomy f lent → ⊥) → NoRoom f lent
+pub no-room : (f : Formula) (lent : Lent) → (Roomy f lent → ⊥) → NoFileRoom f lent
 no-room f lent full =
     by-cases (decLt (length (lent .prefix)) (length (f .prefix))) (λ l. inl l) (λ a.
     by-cases (decLt (length (lent .clauses)) (length (f .clauses))) (λ l. inr (inl l)) (λ b.
@@ -30,13 +30,13 @@ no-room f lent full =
     by-cases (decLt (length (lent .rows .counts)) (f .n)) (λ l. inr (inr (inr (inr l)))) (λ g.
     absurd (full (omega arith, omega arith, omega arith, omega arith, omega arith)))))))
 
-roomy-none : (f : Formula) (lent : Lent) → Roomy f lent → NoRoom f lent → ⊥
+roomy-none : (f : Formula) (lent : Lent) → Roomy f lent → NoFileRoom f lent → ⊥
 roomy-none f lent (a, b, d, e, g) =
     ⊎-elim (λ l. omega arith) (⊎-elim (λ l. omega arith) (⊎-elim (λ l. omega arith) (⊎-elim (λ l. omega arith) (λ l. omega arith))))
 
 -- What is stored row after row in each table stands in front there, for there is room.
 pub stored-in : (file : List ℕ) (lent : Lent) → Roomy (formulaHeld file) lent
-    → lentTables (sets (lent .prefix) 0 (prefixIn file)) (sets (lent .clauses) 0 (clausesIn file))
+    → lentTables (sets (lent .prefix) 0 (prefixHeld file)) (sets (lent .clauses) 0 (clausesIn file))
     (rows (sets (lent .rows .classes) 0 (classesIn file)) (sets (lent .rows .parents) 0 (parentsIn file)) (sets (lent .rows .counts) 0 (countsIn file)))
     ≡ storedIn lent (formulaHeld file) (rowsHeld file)
 unfolding classesIn parentsIn countsIn
@@ -46,7 +46,7 @@ stored-in file lent (prefix, clauses, classes, parents, counts) =
     let stored : (at : ℕ) (table : List ℕ) → n ≤ length table → sets table 0 (numbersAt 4 file at n) ≡ overwritten (numbersAt 4 file at n) table =
     λ at table room. let many = numbers-length 4 file at n in stored-overwritten (numbersAt 4 file at n) table (omega arith) in
     λ i.
-    lentTables (stored-overwritten (prefixIn file) (lent .prefix) prefix i) (stored-overwritten (clausesIn file) (lent .clauses) clauses i)
+    lentTables (stored-overwritten (prefixHeld file) (lent .prefix) prefix i) (stored-overwritten (clausesIn file) (lent .clauses) clauses i)
     (rows (stored from (lent .rows .classes) classes i) (stored (from + 4 * n) (lent .rows .parents) parents i)
     (stored (from + 4 * n + 4 * n) (lent .rows .counts) counts i))
 

@@ -10,7 +10,7 @@ use lib.Seq.{take-append-seam, take-at, drop-at}
 use Rattle.forest_tables.specs.InnerRows.{Tells}
 use Rattle.forest_tables.proofs.Readings.{told-both}
 use Rattle.file_format.specs.Numbers.{numberAt, numbersAt}
-use Rattle.file_format.specs.Places.{sizeAt, payloadAt, thirdAt, countIn, Holds}
+use Rattle.file_format.specs.Places.{sizeAt, payloadAt, thirdAt, countIn, HoldsNumbers}
 use Rattle.file_layout.proofs.Spans.{numbers-length}
 use Rattle.file_verify.specs.InnerVerified.{classesIn, parentsIn, countsIn}
 
@@ -82,11 +82,11 @@ module _ (file : List ℕ) (p : ℕ) (cs ps ks : List ℕ) where
 
 -- Whether a record holds just some numbers: of another length it does not; of the right one it does if they agree.
 module _ (width : ℕ) (file : List ℕ) {p q : ℕ} (at : q ≡ p) (xs : List ℕ) where
-  pub other-size : {size : ℕ} → size ≡ sizeAt file q → size ≢ width * length xs → Holds width file p xs → ⊥
+  pub other-size : {size : ℕ} → size ≡ sizeAt file q → size ≢ width * length xs → HoldsNumbers width file p xs → ⊥
   other-size is other h = other (is ∙ ap (sizeAt file) at ∙ h .size)
 
   pub holds-both : {size : ℕ} → size ≡ sizeAt file q → size ≡ width * length xs
-      → (numbersAt width file (q + 6) (length xs) ≡ xs) ↔ Holds width file p xs
+      → (numbersAt width file (q + 6) (length xs) ≡ xs) ↔ HoldsNumbers width file p xs
   holds-both is same =
       let values : numbersAt width file (q + 6) (length xs) ≡ numbersAt width file (payloadAt p) (length xs) =
       ap (λ (k : ℕ). numbersAt width file (k + 6) (length xs)) at in
@@ -97,7 +97,7 @@ pub three-length : (cs ps ks : List ℕ) → length (cs ++ (ps ++ ks)) ≡ lengt
 three-length cs ps ks = let a = length-append cs (ps ++ ks) in let b = length-append ps ks in omega arith
 
 pub three-holds : (file : List ℕ) {p q : ℕ} → q ≡ p → (cs ps ks : List ℕ) {size : ℕ} → size ≡ sizeAt file q
-    → size ≡ 4 * (length cs + length ps + length ks) → Holds 4 file p (cs ++ (ps ++ ks)) ↔ Three file (q + 6) cs ps ks
+    → size ≡ 4 * (length cs + length ps + length ks) → HoldsNumbers 4 file p (cs ++ (ps ++ ks)) ↔ Three file (q + 6) cs ps ks
 three-holds file {p} {q} at cs ps ks is same =
     let both = holds-both 4 file at (cs ++ (ps ++ ks)) is (same ∙ sym (ap (λ (k : ℕ). 4 * k) (three-length cs ps ks))) in
     let parted = three file (q + 6) cs ps ks in

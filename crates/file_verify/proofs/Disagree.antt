@@ -11,7 +11,7 @@ use Rattle.formula.specs.Lent.{Formula}
 use Rattle.forest_tables.specs.Lent.{Rows, rows}
 use Rattle.file_format.specs.Layout.{ForestRows, StandardSets}
 use Rattle.file_format.specs.Numbers.{numbersAt}
-use Rattle.file_format.specs.Places.{payloadAt, thirdAt, fourthAt, hasSets, countIn, Holds}
+use Rattle.file_format.specs.Places.{payloadAt, thirdAt, fourthAt, hasSets, countIn, HoldsNumbers}
 use Rattle.file_format.specs.Causes.{RightRows, RightSets, ForestFileCause, rows-disagree, sets-disagree}
 use Rattle.file_format.proofs.Unique.{rows-unique, sets-unique}
 use Rattle.file_layout.specs.InnerLaid.{Laid}
@@ -38,15 +38,15 @@ module _ (f : Formula) (file : List ℕ) where
       subst (RightRows f file) same right
 
   -- No rows are right where those of the forest are not held.
-  pub no-rows : {r : Rows} → ForestRows f r → (Holds 4 file (thirdAt file) (r .classes ++ (r .parents ++ r .counts)) → ⊥)
+  pub no-rows : {r : Rows} → ForestRows f r → (HoldsNumbers 4 file (thirdAt file) (r .classes ++ (r .parents ++ r .counts)) → ⊥)
       → (r′ : Rows) → RightRows f file r′ → ⊥
   no-rows own not r′ right =
       not
-      (subst (λ (q : Rows). Holds 4 file (thirdAt file) (q .classes ++ (q .parents ++ q .counts))) (rows-unique f (right .0) own) (right .1))
+      (subst (λ (q : Rows). HoldsNumbers 4 file (thirdAt file) (q .classes ++ (q .parents ++ q .counts))) (rows-unique f (right .0) own) (right .1))
 
   -- The sets are right exactly if the record has the standard sets.
-  pub right-sets : (list : List ℕ) → StandardSets f list → Holds 2 file (fourthAt file) list ↔ RightSets f file
-  right-sets list s = (λ h. (list, s, h), λ r. subst (Holds 2 file (fourthAt file)) (sets-unique f (r .0) list (r .1) s) (r .2))
+  pub right-sets : (list : List ℕ) → StandardSets f list → HoldsNumbers 2 file (fourthAt file) list ↔ RightSets f file
+  right-sets list s = (λ h. (list, s, h), λ r. subst (HoldsNumbers 2 file (fourthAt file)) (sets-unique f (r .0) list (r .1) s) (r .2))
 
   -- Sets that need more room than the longest file has are not right.
   pub long-sets : (list : List ℕ) → Laid file → StandardSets f list → setNumbers < length list → RightSets f file → ⊥

@@ -29,7 +29,7 @@ ghost use Rattle.formula.specs.Lent.{formulaOf, formulaIn};
 ghost use Rattle.forest_tables.specs.Lent.{rows};
 ghost use Rattle.forest_tables.specs.InnerRows.{Tells};
 ghost use Rattle.file_format.specs.Layout.{ForestRows};
-ghost use Rattle.file_format.specs.Places.{thirdAt, fourthAt, Holds, formulaHeld};
+ghost use Rattle.file_format.specs.Places.{thirdAt, fourthAt, HoldsNumbers, formulaHeld};
 ghost use Rattle.file_format.specs.Causes.{RightSets};
 ghost use Rattle.file_layout.specs.InnerLaid.{Laid};
 ghost use Rattle.file_verify.specs.InnerVerified.{IsRule, SoundFormula, OwnForest, Judges, JudgesRows, setNumbers};
@@ -137,7 +137,7 @@ fn rows_verdict(
 fn rows_hold(file: &[u8], classes: &[u32], parents: &[u32], counts: &[u32]) -> bool
     requires small { ⌜ Laid (now file) × (length (now classes) ≤ mostVariables) × (length (now parents) ≤ mostVariables)
         × (length (now counts) ≤ mostVariables) ⌝ }
-    ensures told { λ r. ⌜ Tells r (Holds 4 (now (file .entry)) (thirdAt (now (file .entry)))
+    ensures told { λ r. ⌜ Tells r (HoldsNumbers 4 (now (file .entry)) (thirdAt (now (file .entry)))
         (now (classes .entry) ++ (now (parents .entry) ++ now (counts .entry)))) ⌝ }
 {
     let third = third_at(file);
@@ -199,7 +199,7 @@ fn listed_hold(
 // Whether the record behind that of kind 3 has just these numbers, two bytes each.
 fn list_holds(file: &[u8], list: &[u32]) -> bool
     requires small { ⌜ Laid (now file) × (length (now list) ≤ setNumbers) ⌝ }
-    ensures told { λ r. ⌜ Tells r (Holds 2 (now (file .entry)) (fourthAt (now (file .entry))) (now (list .entry))) ⌝ }
+    ensures told { λ r. ⌜ Tells r (HoldsNumbers 2 (now (file .entry)) (fourthAt (now (file .entry))) (now (list .entry))) ⌝ }
 {
     let fourth = fourth_at(file);
     let size = size_at(file, fourth) as usize;

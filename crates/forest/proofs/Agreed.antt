@@ -4,7 +4,7 @@ use Prim.Native.Nat.{ℕ}
 use mathlib.Core.List.{List, [], _∷_, _++_}
 use mathlib.Core.Logic.{_↔_}
 use lib.ListN.{length}
-use Rattle.terms.specs.Answers.{Answered, Numbered, Listing, TooLong}
+use Rattle.terms.specs.Answers.{Answered, AnsweredNumber, Listing, TooLong}
 use Rattle.terms.specs.Listed.{Listed}
 use Rattle.terms.specs.Refusals.{At0, NoneOf}
 use Rattle.terms.specs.declared.Filled.{Filled}
@@ -39,6 +39,6 @@ module _ (f : Formula) (r : Rows) (x : ℕ) where
 
     pub size-agrees : (scheme : Scheme) (a : Filled) → Sized 1 scheme f r x a ↔ Sized 2 scheme f r x a
     size-agrees scheme a =
-        rules-agree (λ order read. Numbered order (SizeBy scheme (with read) r x) a)
+        rules-agree (λ order read. AnsweredNumber order (SizeBy scheme (with read) r x) a)
         (λ order order′ read. carry-numbered (SizeBy scheme (with read) r x) a order order′)
         (λ read. ClauseCause (f .n) (f .clauses) ∷ behindCheck (f .n) read r x) (f .n) (f .prefix) (length (f .clauses)) none

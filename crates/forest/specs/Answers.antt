@@ -3,7 +3,7 @@ use Prim.Native.Nat.{ℕ, _≤_}
 use mathlib.Core.Path.{_≡_}
 use mathlib.Core.List.{List}
 use lib.IntN.{ℤ}
-use Rattle.terms.specs.Answers.{Answered, Numbered, Listing}
+use Rattle.terms.specs.Answers.{Answered, AnsweredNumber, Listing}
 use Rattle.terms.specs.Listed.{Listed}
 use Rattle.terms.specs.declared.Filled.{Filled}
 use Rattle.terms.specs.declared.EntryAnswer.{EntryAnswer}
@@ -61,4 +61,4 @@ abbrev pub SetListed : ℕ → Scheme → Formula → Rows → ℕ → List ℕ 
 SetListed rule scheme f r x = ListedFor rule f r x (λ read. MembersBy scheme read r x)
 
 abbrev pub Sized : ℕ → Scheme → Formula → Rows → ℕ → Filled → Type 0
-Sized rule scheme f r x = Numbered (askOrder rule f r x) (SizeBy scheme (readBy rule f) r x)
+Sized rule scheme f r x = AnsweredNumber (askOrder rule f r x) (SizeBy scheme (readBy rule f) r x)

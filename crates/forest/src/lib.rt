@@ -28,7 +28,7 @@ ghost use mathlib.Core.Path.{_≡_};
 ghost use mathlib.Core.List.{[], _∷_, _++_};
 ghost use lib.ListN.{length};
 ghost use Rattle.terms.specs.Limits.{mostVariables};
-ghost use Rattle.terms.specs.Answers.{Answered, Numbered, Listing, TooLong};
+ghost use Rattle.terms.specs.Answers.{Answered, AnsweredNumber, Listing, TooLong};
 ghost use Rattle.terms.specs.Refusals.{At0};
 ghost use Rattle.formula.specs.Lent.{formulaIn, prefixIn};
 ghost use Rattle.formula.specs.Meaning.{level};
@@ -270,7 +270,7 @@ fn sound_size(
     x: Variable,
 ) -> Filled
     requires sound { ⌜ SoundPrefix n (now prefix) × SoundClauses (now clauses) ⌝ }
-    ensures sized { λ r. ⌜ Numbered (behindCheck n (now (prefix .entry)) (rowsIn classes parents counts) (x .0))
+    ensures sized { λ r. ⌜ AnsweredNumber (behindCheck n (now (prefix .entry)) (rowsIn classes parents counts) (x .0))
         (SizeBy scheme (formulaIn n prefix clauses) (rowsIn classes parents counts) (x .0)) r ⌝ }
 {
     let mut tops = [0u32; Variable::ROWS];

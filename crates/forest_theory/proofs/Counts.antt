@@ -12,25 +12,25 @@ use Rattle.forest_theory.specs.Reach.{Variables}
 use Rattle.forest_theory.specs.InnerVariables.{Lawful}
 use Rattle.forest_theory.specs.Tables.{Table, ClassName, WellFormed, EntryPointOf, MemberBy}
 use Rattle.terms.specs.Listed.{Ascending, Listed}
-use Rattle.forest_theory.specs.Counts.{Numbered, Within, CountRow, Counted, sum, how-many, names}
+use Rattle.forest_theory.specs.Counts.{Numbered, Within, CountRow, Counted, sum, how-many, namesItself}
 use Rattle.forest_theory.specs.InnerPassing.{RowsCount}
 use Rattle.forest_theory.proofs.Choice.{both}
 use Rattle.forest_theory.proofs.Climb.{Ends, above-class, entry-ends, ends-one}
 use Rattle.forest_theory.proofs.Numbered.{numbered-one, numbered-most, numbered-none, numbered-same, numbered-plus, how-many-numbered}
 
 -- The test tells the class names.
-pub names-class : {X : Variables} {W : Table} {v : ℕ} → (names X W v ≡ true) ↔ ClassName X W v
-unfolding names
+pub names-class : {X : Variables} {W : Table} {v : ℕ} → (namesItself X W v ≡ true) ↔ ClassName X W v
+unfolding namesItself
 names-class {X} {W} {v} = (
   λ t. let (e, i) = both (X .ex v) (eqb (W .cls v) v) t in record { existential = e; itself = eqb-true (W .cls v) v i },
   λ n. rw (n .existential) (eq-eqb (W .cls v) v (n .itself)),
 )
 
 -- So there are as many class names as pass it: the classes left, in a tally (rule 4.3).
-pub names-numbered : {X : Variables} {W : Table} → Lawful X → Numbered (ClassName X W) (how-many (names X W) (X .count))
+pub names-numbered : {X : Variables} {W : Table} → Lawful X → Numbered (ClassName X W) (how-many (namesItself X W) (X .count))
 names-numbered {X} {W} lawful = numbered-same
     (λ v. (λ p. names-class .0 (p .2), λ n. let (a, b) = lawful .within v (n .existential) in (a, b, names-class .1 n)))
-    (how-many-numbered (names X W) (X .count))
+    (how-many-numbered (namesItself X W) (X .count))
 
 -- The sum over a list with one number more.
 pub sum-more : (f : ℕ → ℕ) (list : List ℕ) (a : ℕ) → sum f (list ++ (a ∷ [])) ≡ sum f list + f a
@@ -52,11 +52,11 @@ module _ {X : Variables} {W : Table} (formed : WellFormed X W) where
   -- So a row is right exactly if it is the number of variables in it and below, class name or not ...
   pub row-number : {counts : ℕ → ℕ} {v : ℕ} → CountRow X W counts v ↔ Numbered (Within X W v) (counts v)
   row-number {counts} {v} = (
-    λ r. told r (names X W v) refl,
+    λ r. told r (namesItself X W v) refl,
     λ n. record { class = λ c. n; none = λ not. numbered-one n (numbered-none (λ u w. not (within-name w))) },
   )
     where
-      told : CountRow X W counts v → (b : Bool) → names X W v ≡ b → Numbered (Within X W v) (counts v)
+      told : CountRow X W counts v → (b : Bool) → namesItself X W v ≡ b → Numbered (Within X W v) (counts v)
       told r true t = r .class (names-class .0 t)
       told r false t =
           let not : ClassName X W v → ⊥ = λ c. false≢true (sym t ∙ names-class .1 c) in

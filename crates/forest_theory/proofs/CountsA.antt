@@ -5,7 +5,7 @@ use mathlib.Core.List.{List, [], _∷_}
 use Rattle.forest_theory.specs.Reach.{Joined}
 use Rattle.forest_theory.specs.Tables.{row, lent}
 use Rattle.forest_theory.specs.Forest.{Forest}
-use Rattle.forest_theory.specs.Counts.{Counted, how-many, names}
+use Rattle.forest_theory.specs.Counts.{Counted, how-many, namesItself}
 use Rattle.forest_theory.specs.InnerSearch.{has}
 use Rattle.forest_theory.specs.InnerFusing.{fill, classes-up, marks, goes-before, under, fuse-class, fuse-parent, Rows, table-of, rows-by}
 use Rattle.forest_theory.specs.InnerFusing.{fuse-marks, fuse, fuse-all, singles, forest-of, count-of, counts-of}
@@ -25,15 +25,15 @@ rows-12 = record { classes = 1 ∷ 1 ∷ 0 ∷ 4 ∷ 5 ∷ 0 ∷ 7 ∷ 8 ∷ 9 �
 record Computed : Type 0 where
   forest-A : forest-of A clauses ≡ rows-A
   counts-A : counts-of A (table-of A rows-A) ≡ 3 ∷ 1 ∷ 0 ∷ 3 ∷ 2 ∷ 0 ∷ 1 ∷ 1 ∷ 1 ∷ []
-  names-A : how-many (names A (table-of A rows-A)) 9 ≡ 7
+  names-A : how-many (namesItself A (table-of A rows-A)) 9 ≡ 7
   forest-12 : forest-of A (with (1 ∷ 2 ∷ [])) ≡ rows-12
   counts-12 : counts-of A (table-of A rows-12) ≡ 4 ∷ 0 ∷ 0 ∷ 3 ∷ 2 ∷ 0 ∷ 1 ∷ 1 ∷ 1 ∷ []
-  names-12 : how-many (names A (table-of A rows-12)) 9 ≡ 6
+  names-12 : how-many (namesItself A (table-of A rows-12)) 9 ≡ 6
 
 -- It computes so.
 computed : Computed
 unfolding has fill classes-up marks goes-before under fuse-class fuse-parent table-of lent row rows-by fuse-marks fuse fuse-all singles forest-of
-    count-of counts-of how-many names
+    count-of counts-of how-many namesItself
 computed = record { forest-A = refl; counts-A = refl; names-A = refl; forest-12 = refl; counts-12 = refl; names-12 = refl }
 
 -- The counts are what was computed.
@@ -45,10 +45,10 @@ counts-by R f e = subst (λ (l : List ℕ). Counted A (table-of A R) (row 9 l)) 
 pub record CountsOfA : Type 0 where
   pub forest : Forest A (Joined clauses) (table-of A rows-A)
   pub counts : Counted A (table-of A rows-A) (row 9 (3 ∷ 1 ∷ 0 ∷ 3 ∷ 2 ∷ 0 ∷ 1 ∷ 1 ∷ 1 ∷ []))
-  pub classes : how-many (names A (table-of A rows-A)) 9 ≡ 7
+  pub classes : how-many (namesItself A (table-of A rows-A)) 9 ≡ 7
   pub forest-12 : Forest A (Joined (with (1 ∷ 2 ∷ []))) (table-of A rows-12)
   pub counts-12 : Counted A (table-of A rows-12) (row 9 (4 ∷ 0 ∷ 0 ∷ 3 ∷ 2 ∷ 0 ∷ 1 ∷ 1 ∷ 1 ∷ []))
-  pub classes-12 : how-many (names A (table-of A rows-12)) 9 ≡ 6
+  pub classes-12 : how-many (namesItself A (table-of A rows-12)) 9 ≡ 6
 
 -- They are so.
 pub counts-of-A : CountsOfA

@@ -42,5 +42,5 @@ how-many f zero = 0
 how-many f (suc m) = how-many f m + cond (f (suc m)) 1 0
 
 -- The test of a class name.
-unfoldable pub names : Variables → Table → ℕ → Bool
-names X W v = X .ex v && eqb (W .cls v) v
+unfoldable pub namesItself : Variables → Table → ℕ → Bool
+namesItself X W v = X .ex v && eqb (W .cls v) v

@@ -16,7 +16,7 @@ use Rattle.terms.proofs.Common.{clash, by-test}
 use Rattle.formula.specs.Meaning.{blocks, markOf, isZero}
 use Rattle.formula.specs.Tables.{at, opens, cut, push}
 use Rattle.formula_rules.specs.Joined.{inFront, joinedBlocks, NoneEmpty}
-use Rattle.formula_rules.specs.Rules.{joinedBefore, endMark, Begins}
+use Rattle.formula_rules.specs.Rules.{joinedBefore, endMark, BlockBegins}
 use Rattle.formula_rules.specs.InnerScan.{emptyAt, beginsAfter, lastMark, begins, begunBefore}
 use Rattle.formula_rules.proofs.Blocks.{AllWhole, blocks-whole, joined-whole}
 use Rattle.formula_rules.proofs.Joining.{front-cases, joined-joins}
@@ -265,7 +265,7 @@ module _ (es : List ℕ) (e : ℕ) (within : e ≤ length es) (marks : (i : ℕ)
       omega arith
 
   -- A mark begins a block in the scan exactly if it begins one by the rule.
-  pub scan-begins : e < length es → beginsAfter es e (lastMark es e) ≡ true → Begins es e
+  pub scan-begins : e < length es → beginsAfter es e (lastMark es e) ≡ true → BlockBegins es e
   scan-begins more t =
       by-test (emptyAt es e) (λ empty. absurd (clash t (ap (λ b. not b && not (eqb (at es e) (lastMark es e))) empty)))
       (λ full. record { full = next full; another = λ q. other full (sym (last-joined ∙ q)) })
@@ -277,7 +277,7 @@ module _ (es : List ℕ) (e : ℕ) (within : e ≤ length es) (marks : (i : ℕ)
       other full q =
           clash t (ap₂ (λ a b. not a && not b) full (eq-eqb (at es e) (lastMark es e) q))
 
-  pub begins-scan : Begins es e → beginsAfter es e (lastMark es e) ≡ true
+  pub begins-scan : BlockBegins es e → beginsAfter es e (lastMark es e) ≡ true
   begins-scan b =
       by-test (emptyAt es e) (λ empty. absurd (has-next (ltb (suc e) (length es)) (eqb (at es (suc e)) 0) refl refl empty))
       (λ full. ap₂ (λ a b. not a && not b) full (ne-eqb (at es e) (lastMark es e) (λ q. b .another (sym (q ∙ last-joined)))))

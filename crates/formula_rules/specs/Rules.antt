@@ -36,7 +36,7 @@ endMark (block ∷ next ∷ later) = endMark (next ∷ later)
 
 -- The mark at entry e begins a block, once empty ones are dropped and neighbours joined: 0 does not directly follow it, and the last block before
 -- has another mark.
-pub record Begins (es : List ℕ) (e : ℕ) : Type 0 where
+pub record BlockBegins (es : List ℕ) (e : ℕ) : Type 0 where
   pub full : suc e < length es → at es (suc e) ≢ 0
   pub another : endMark (joinedBefore es e) ≢ at es e
 
@@ -47,7 +47,7 @@ pub data JoinedCause (n : ℕ) (es : List ℕ) (number e : ℕ) : Type 0 where
   -- 4: mark not 1 or 2
   no-mark : number ≡ 4 → MarkAt es e → at es e ≢ 1 → at es e ≢ 2 → JoinedCause n es number e
   -- 6: mark of a 65th block, counted after dropping and joining
-  too-many-blocks : number ≡ 6 → MarkAt es e → Begins es e → length (joinedBefore es e) ≡ mostBlocks → JoinedCause n es number e
+  too-many-blocks : number ≡ 6 → MarkAt es e → BlockBegins es e → length (joinedBefore es e) ≡ mostBlocks → JoinedCause n es number e
   -- 7: prefix variable outside 1 to n
   outside : number ≡ 7 → VariableAt es e → n < at es e → JoinedCause n es number e
   -- 8: variable named before

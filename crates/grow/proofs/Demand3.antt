@@ -40,7 +40,7 @@ use Rattle.forest_theory.proofs.Fewer.{fewer-added, none-names}
 use Rattle.forest_theory.proofs.Sets.{set-members}
 use Rattle.forest_theory.proofs.Alone.{set-stays, entries-stay}
 use Rattle.grow_refusals.specs.Admitted.{AddedCause, WrongTally}
-use Rattle.grow.specs.Grown.{Standing, standing, tableOf, classNames, existentials, buildOrder, Grown, Tallies, Builds, Adds, withLast}
+use Rattle.grow.specs.Grown.{Standing, standing, forestIn, classNames, existentials, buildOrder, Grown, Tallies, Builds, Adds, withLast}
 use Rattle.grow.specs.InnerTallies.{Fell}
 use Rattle.grow_passes.specs.Past.{Past}
 use Rattle.grow_passes.proofs.Passes.{many-most}
@@ -85,7 +85,7 @@ module _ (rule n : ℕ) (es : List ℕ) where
     agrees : WrongTally (s .tally) (classNames X s) (existentials X) → ⊥
     agrees wrong = added .judged .1 .1 .1 .1 .1 .1 .0 18 0 (refl, refl, wrong)
 
-    formed : WellFormed X (tableOf X s)
+    formed : WellFormed X (forestIn X s)
     formed = none-formed (added .judged .1 .1 .1 .1 .1 .0)
 
     pub adding-fell : Fell X s s′
@@ -112,7 +112,7 @@ module _ (rule n : ℕ) (es : List ℕ) where
         }) .1
       where
         W : Table
-        W = tableOf X s
+        W = forestIn X s
 
         stays : (rows : List ℕ) → Past n rows rows
         stays rows = record { size = refl; stays = λ u l. refl }
@@ -144,8 +144,8 @@ module _ (rule n : ℕ) (es : List ℕ) where
     first = added .judged .1 .1 .1 .1 .0
 
     -- What add leaves is the forest of the longer list ...
-    pub added-forest : Forest X (Shares (withLast ls clause)) (tableOf X s″)
-    added-forest = subst (λ (ds : List (List ℕ)). Forest X (Joined ds) (tableOf X s″)) (sym (joined-last accepted first))
+    pub added-forest : Forest X (Shares (withLast ls clause)) (forestIn X s″)
+    added-forest = subst (λ (ds : List (List ℕ)). Forest X (Joined ds) (forestIn X s″)) (sym (joined-last accepted first))
         (extends (connected clause) (built .leaves .1 .forest) (added .leaves .1 .forest))
 
     -- ... with its counts, and the tally is that of the longer list.
@@ -192,7 +192,7 @@ module _ (rule n : ℕ) (es : List ℕ) where
       -- ... and so do its entry points.
       pub adding-entries : {e : ℕ} → EntriesBy Standard (readBy rule (with ls)) (s′ .rows) x e ↔ EntriesBy Standard (readBy rule (with (withLast ls clause))) (s″ .rows) x e
       adding-entries {e} =
-          subst (λ (ds : List (List ℕ)). EntryPointOf X (tableOf X s′) (Shares ls) x e ↔ EntryPointOf X (tableOf X s″) (Joined ds) x e) (sym (joined-last accepted first))
+          subst (λ (ds : List (List ℕ)). EntryPointOf X (forestIn X s′) (Shares ls) x e ↔ EntryPointOf X (forestIn X s″) (Joined ds) x e) (sym (joined-last accepted first))
           (entries-stay law (built .leaves .1 .forest) (extends (connected clause) (built .leaves .1 .forest) (added .leaves .1 .forest)) (universal-alone n read x u) alone)
 
   -- The built forest and its tally are taken by add: neither 12 nor 18 refuses a clause with no cause of its own, where the longer list is within the

@@ -17,7 +17,7 @@ use Rattle.forest_theory.specs.Tables.{Table, ClassName, WellFormed, joins}
 use Rattle.forest_theory.specs.Forest.{Names, Forest}
 use Rattle.forest_theory.specs.InnerFusing.{table-of, forest-of}
 use Rattle.forest_theory.specs.InnerSearch.{has}
-use Rattle.forest_theory.specs.Counts.{Numbered, how-many, names}
+use Rattle.forest_theory.specs.Counts.{Numbered, how-many, namesItself}
 use Rattle.forest_theory.specs.InnerGrowth.{before}
 use Rattle.forest_theory.proofs.Choice.{both}
 use Rattle.forest_theory.proofs.Counts.{names-class, names-numbered}
@@ -31,7 +31,7 @@ use Rattle.forest_theory.proofs.Search.{has-member, member-has}
 use Rattle.formula.specs.Meaning.{clauses, connected}
 use Rattle.forest_tables.specs.Formula.{joined, Shares}
 use Rattle.grow.specs.Taken.{Taken, NamesIn, TallyOf, of-none, of-more}
-use Rattle.grow.specs.Grown.{Standing, tableOf, existentials, Tallies, Took}
+use Rattle.grow.specs.Grown.{Standing, forestIn, existentials, Tallies, Took}
 use Rattle.grow.specs.InnerTallies.{many}
 use Rattle.grow.specs.InnerTallies.{SumsUp, Fell}
 
@@ -60,19 +60,19 @@ module _ {X : Variables} (law : Lawful X) where
 
   -- how many class names of one table are none of another
   abbrev lost : Table → Table → ℕ
-  lost W W′ = how-many (λ v. names X W v && not (names X W′ v)) (X .count)
+  lost W W′ = how-many (λ v. namesItself X W v && not (namesItself X W′ v)) (X .count)
 
   lost-numbered : (W W′ : Table) → Numbered (λ c. ClassName X W c × (ClassName X W′ c → ⊥)) (lost W W′)
   lost-numbered W W′ = numbered-same
       (λ v. (
         λ p.
-            let (t, n) = both (names X W v) (not (names X W′ v)) (p .2) in
-            (names-class .0 t, λ c. clash (names-class .1 c) (not-true (names X W′ v) n)),
+            let (t, n) = both (namesItself X W v) (not (namesItself X W′ v)) (p .2) in
+            (names-class .0 t, λ c. clash (names-class .1 c) (not-true (namesItself X W′ v) n)),
         λ p.
             let (a, b) = law .within v (p .0 .existential) in
-            (a, b, kept (names X W v) (names X W′ v) (names-class .1 (p .0)) (λ t. p .1 (names-class .0 t))),
+            (a, b, kept (namesItself X W v) (namesItself X W′ v) (names-class .1 (p .0)) (λ t. p .1 (names-class .0 t))),
       ))
-      (how-many-numbered (λ v. names X W v && not (names X W′ v)) (X .count))
+      (how-many-numbered (λ v. namesItself X W v && not (namesItself X W′ v)) (X .count))
     where
       kept : (a b : Bool) → a ≡ true → (b ≡ true → ⊥) → (a && not b) ≡ true
       kept true true t f = absurd (f refl)
@@ -80,7 +80,7 @@ module _ {X : Variables} (law : Lawful X) where
       kept false b t f = t
 
   -- What an add makes of a tally, where no class is new.
-  module _ (s s′ : Standing) (fall : (c : ℕ) → ClassName X (tableOf X s′) c → ClassName X (tableOf X s) c) where
+  module _ (s s′ : Standing) (fall : (c : ℕ) → ClassName X (forestIn X s′) c → ClassName X (forestIn X s) c) where
     pub took-fell : Took X s s′ → Fell X s s′
     took-fell took =
         let classes = numbered-one (took .classes) (names-numbered law) in
@@ -89,21 +89,21 @@ module _ {X : Variables} (law : Lawful X) where
 
     pub fell-took : Fell X s s′ → Took X s s′
     fell-took fell =
-        let vanished = lost-numbered (tableOf X s) (tableOf X s′) in
+        let vanished = lost-numbered (forestIn X s) (forestIn X s′) in
         let fewer = fallen fall (names-numbered law) (names-numbered law) vanished in
         record {
-          gone = lost (tableOf X s) (tableOf X s′);
+          gone = lost (forestIn X s) (forestIn X s′);
           disappeared = vanished;
           clauses = fell .clauses;
           merges = omega (arith, fell .merges);
-          classes = subst (Numbered (ClassName X (tableOf X s′))) (sym (fell .classes)) (names-numbered law);
+          classes = subst (Numbered (ClassName X (forestIn X s′))) (sym (fell .classes)) (names-numbered law);
         }
 
   -- The names of the forest of a list are the class names of its table.
   list-names : (cs : List (List ℕ)) {W : Table} → Forest X (Joined cs) W → (c : ℕ) → ClassName X W c ↔ NamesIn X cs c
   list-names cs f c = (class-names (f .class) .1, class-names (f .class) .0)
 
-  list-numbered : (cs : List (List ℕ)) {W : Table} → Forest X (Joined cs) W → Numbered (NamesIn X cs) (how-many (names X W) (X .count))
+  list-numbered : (cs : List (List ℕ)) {W : Table} → Forest X (Joined cs) W → Numbered (NamesIn X cs) (how-many (namesItself X W) (X .count))
   list-numbered cs f = numbered-same (list-names cs f) (names-numbered law)
 
   abbrev own : List (List ℕ) → Table
@@ -123,7 +123,7 @@ module _ {X : Variables} (law : Lawful X) where
   tally-sums (of-none {t} clauses merges classes) =
       let all = numbered-one classes ex-numbered in
       let f = forest-exists law [] in
-      let named : how-many (names X (own [])) (X .count) ≡ t .classes = none-names f (X .count) ∙ sym all in
+      let named : how-many (namesItself X (own [])) (X .count) ≡ t .classes = none-names f (X .count) ∙ sym all in
       (clauses, subst (Numbered (NamesIn X [])) named (list-numbered [] f), omega arith)
   tally-sums (of-more {cs} clause earlier taken) =
       let (clauses, named, sum) = tally-sums earlier in
@@ -146,7 +146,7 @@ module _ {X : Variables} (law : Lawful X) where
       let more = done ++ (clause ∷ []) in
       let f = forest-exists law done in
       let g = forest-exists law more in
-      let t′ : Tally = record { clauses = t .clauses + 1; merges = t .merges + lost (own done) (own more); classes = how-many (names X (own more)) (X .count) } in
+      let t′ : Tally = record { clauses = t .clauses + 1; merges = t .merges + lost (own done) (own more); classes = how-many (namesItself X (own more)) (X .count) } in
       let taken : Taken (NamesIn X done) (NamesIn X more) t t′ = record {
         gone = lost (own done) (own more);
         disappeared =
@@ -162,7 +162,7 @@ module _ {X : Variables} (law : Lawful X) where
       (u, subst (λ (cs : List (List ℕ)). TallyOf X cs u) (append-assoc done (clause ∷ []) rest) all)
 
   -- Both ways, of a tally that stands beside the forest of the list.
-  module _ (cs : List (List ℕ)) (s : Standing) (f : Forest X (Joined cs) (tableOf X s)) where
+  module _ (cs : List (List ℕ)) (s : Standing) (f : Forest X (Joined cs) (forestIn X s)) where
     pub tally-sums-up : TallyOf X cs (s .tally) → SumsUp X (length cs) s
     tally-sums-up o =
         let (clauses, named, sum) = tally-sums o in
@@ -184,7 +184,7 @@ module _ {X : Variables} (law : Lawful X) where
       names-class .0 (names-fall (λ a b j. joined-added a b .1 (before j)) f g c (names-class .1 n))
 
 -- So of the clauses of a table, as many as it holds.
-module _ {X : Variables} (law : Lawful X) (ls : List ℤ) (s : Standing) (f : Forest X (Shares ls) (tableOf X s)) where
+module _ {X : Variables} (law : Lawful X) (ls : List ℤ) (s : Standing) (f : Forest X (Shares ls) (forestIn X s)) where
   all-joined : length (joined ls) ≡ many ls
   unfolding joined
   all-joined = length-map (clauses ls) connected

@@ -24,13 +24,13 @@ use Rattle.forest_tables.specs.Formula.{variables, joined}
 use Rattle.forest_tables.proofs.Agreeing.{lawful}
 use Rattle.forest_theory.proofs.Numbered.{numbered-one}
 use Rattle.grow.specs.Taken.{Taken}
-use Rattle.grow.specs.Grown.{Standing, standing, tableOf, buildOrder, addOrder, Grown, Tallies, Took, Leaves, Rewrites, Builds, Adds}
+use Rattle.grow.specs.Grown.{Standing, standing, forestIn, buildOrder, addOrder, Grown, Tallies, Took, Leaves, Rewrites, Builds, Adds}
 use Rattle.grow.proofs.Taking.{tally-one, tally-of-one}
 
 -- What an add makes of a tally is settled by the tables.
-took-one : (X : Variables) (s₀ s s′ : Standing) → tableOf X s ≡ tableOf X s′ → Took X s₀ s → Took X s₀ s′ → s .tally ≡ s′ .tally
+took-one : (X : Variables) (s₀ s s′ : Standing) → forestIn X s ≡ forestIn X s′ → Took X s₀ s → Took X s₀ s′ → s .tally ≡ s′ .tally
 took-one X s₀ s s′ e t u =
-    let t′ = subst (λ (W : Table). Taken (ClassName X (tableOf X s₀)) (ClassName X W) (s₀ .tally) (s .tally)) e t in
+    let t′ = subst (λ (W : Table). Taken (ClassName X (forestIn X s₀)) (ClassName X W) (s₀ .tally) (s .tally)) e t in
     let gone = numbered-one (t′ .disappeared) (u .disappeared) in
     tally-one (s .tally) (s′ .tally) (t .clauses ∙ sym (u .clauses)) (omega (arith, t′ .merges, u .merges)) (numbered-one (t′ .classes) (u .classes))
 
@@ -59,7 +59,7 @@ module _ (n : ℕ) (es : List ℕ) where
 
   -- Two outcomes that an order, a forest and what the tally is to be settle are equal.
   pub tight : (order : List Causes) (cs : List (List ℕ)) (T : Standing → Type 0)
-      → ((a b : Standing) → tableOf X a ≡ tableOf X b → T a → T b → a .tally ≡ b .tally) → {s a b : Standing} (x y : Filled)
+      → ((a b : Standing) → forestIn X a ≡ forestIn X b → T a → T b → a .tally ≡ b .tally) → {s a b : Standing} (x y : Filled)
       → Rewrites order X (Joined cs) T s a x → Rewrites order X (Joined cs) T s b y → (x ≡ y) × (a ≡ b)
   tight order cs T one {s} {a} {b} x y f g = go x y (f .judged) (g .judged) (f .leaves) (g .leaves)
     where
@@ -67,7 +67,7 @@ module _ (n : ℕ) (es : List ℕ) where
           → (x ≡ y) × (a ≡ b)
       go (Count k) (Count m) f g (is, left, t) (is′, left′, t′) =
           let (c, p, q) = rows-left s a b left left′ in
-          let tally = one a b (λ i. tableOf X (standing (rows (c i) (p i) (q i)) (a .tally))) t t′ in
+          let tally = one a b (λ i. forestIn X (standing (rows (c i) (p i) (q i)) (a .tally))) t t′ in
           (ap Count (is ∙ sym is′), λ i. standing (rows (c i) (p i) (q i)) (tally i))
       go (Count k) (Refused m p) none first l r = absurd (first-or-none order m p first none)
       go (Refused k q) (Count m) first none l r = absurd (first-or-none order k q first none)
@@ -86,4 +86,4 @@ pub add-tight : {rule n : ℕ} (es : List ℕ) {ls : List ℤ} {s a b : Standing
     → Adds rule n es s ls a x → Adds rule n es s ls b y → (x ≡ y) × (a ≡ b)
 add-tight {rule} {n} es {ls} {s} x y =
     let X = variables n (readAs rule es) in
-    tight n (readAs rule es) (addOrder rule n es s ls) (joins X (tableOf X s) ++ (connected ls ∷ [])) (Took X s) (took-one X s) x y
+    tight n (readAs rule es) (addOrder rule n es s ls) (joins X (forestIn X s) ++ (connected ls ∷ [])) (Took X s) (took-one X s) x y

@@ -22,7 +22,7 @@ use Rattle.forest_tables.specs.Formula.{variables, joined, Shares}
 use Rattle.forest_theory.specs.Reach.{Variables, Joined}
 use Rattle.forest_theory.specs.Tables.{Table, ClassName, row, lent, joins}
 use Rattle.forest_theory.specs.Forest.{Forest}
-use Rattle.forest_theory.specs.Counts.{Counted, how-many, names}
+use Rattle.forest_theory.specs.Counts.{Counted, how-many, namesItself}
 use Rattle.grow_passes.specs.Past.{Past}
 use Rattle.grow_refusals.specs.Admitted.{AddedCause, WrongTally}
 use Rattle.terms.specs.declared.Tally.{Tally}
@@ -44,11 +44,11 @@ abbrev pub standingOut : {C P N : Type 0} → Both C (RefT (List ℕ)) → Both 
 standingOut classes parents counts tally = standing (rowsOut classes parents counts) tally
 
 -- the table of its classes and parents, and how many class names that has
-abbrev pub tableOf : Variables → Standing → Table
-tableOf X s = lent X (s .rows .classes) (s .rows .parents)
+abbrev pub forestIn : Variables → Standing → Table
+forestIn X s = lent X (s .rows .classes) (s .rows .parents)
 
 abbrev pub classNames : Variables → Standing → ℕ
-classNames X s = how-many (names X (tableOf X s)) (X .count)
+classNames X s = how-many (namesItself X (forestIn X s)) (X .count)
 
 -- how many existentials there are
 abbrev pub existentials : Variables → ℕ
@@ -84,8 +84,8 @@ Extended X W ls = Joined (joins X W ++ (connected ls ∷ []))
 -- The lent rows of 1 to n become the forest of the joins J, with its counts; those past n stay.
 pub record Grown (X : Variables) (J : ℕ → ℕ → Type 0) (s s′ : Standing) : Type 0 where
   pub past : Past (X .count) (s .rows .classes) (s′ .rows .classes) × Past (X .count) (s .rows .parents) (s′ .rows .parents) × Past (X .count) (s .rows .counts) (s′ .rows .counts)
-  pub forest : Forest X J (tableOf X s′)
-  pub counted : Counted X (tableOf X s′) (row (X .count) (s′ .rows .counts))
+  pub forest : Forest X J (forestIn X s′)
+  pub counted : Counted X (forestIn X s′) (row (X .count) (s′ .rows .counts))
 
 -- the tally that stands beside the rows is that of the list of clauses
 abbrev pub Tallies : Variables → List ℤ → Standing → Type 0
@@ -93,7 +93,7 @@ Tallies X ls s = TallyOf X (joined ls) (s .tally)
 
 -- what an add does to the tally: a clause is taken, by the class names of the tables before and after
 abbrev pub Took : Variables → Standing → Standing → Type 0
-Took X s s′ = Taken (ClassName X (tableOf X s)) (ClassName X (tableOf X s′)) (s .tally) (s′ .tally)
+Took X s s′ = Taken (ClassName X (forestIn X s)) (ClassName X (forestIn X s′)) (s .tally) (s′ .tally)
 
 -- What a call leaves: with the count n, the forest, and a tally as T says; where it refuses, all as it was.
 abbrev pub Leaves : Variables → (ℕ → ℕ → Type 0) → (Standing → Type 0) → Standing → Standing → Filled → Type 0
@@ -112,7 +112,7 @@ Builds rule f s =
 -- What add leaves by a prefix that is read: the forest of the joins which the lent tables stand for, with the clause added, and the tally with the
 -- clause taken.
 abbrev pub AddsBehind : List Causes → Variables → Standing → List ℤ → Standing → Filled → Type 0
-AddsBehind order X s ls = Rewrites order X (Extended X (tableOf X s) ls) (Took X s) s
+AddsBehind order X s ls = Rewrites order X (Extended X (forestIn X s) ls) (Took X s) s
 
 -- What add promises.
 abbrev pub Adds : ℕ → ℕ → List ℕ → Standing → List ℤ → Standing → Filled → Type 0

@@ -10,7 +10,7 @@ use lib.IntN.{ℤ}
 use lib.ListN.{length}
 use Rattle.formula.specs.Meaning.{clauses}
 use Rattle.forest_theory.specs.Reach.{Variables}
-use Rattle.forest_theory.specs.Counts.{names}
+use Rattle.forest_theory.specs.Counts.{namesItself}
 
 -- All clauses are taken, the classes left are the class names, and these and the merges sum to the existentials.
 pub record SumsUp (X : Variables) (taken : ℕ) (s : Standing) : Type 0 where

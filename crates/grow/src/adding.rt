@@ -21,7 +21,7 @@ ghost use Rattle.terms.specs.Refusals.{Judged};
 ghost use Rattle.formula.specs.InnerLevels.{SoundPrefix};
 ghost use Rattle.formula.specs.InnerLookup.{InRows};
 ghost use Rattle.forest_theory.specs.Tables.{lent};
-ghost use Rattle.forest_theory.specs.Counts.{how-many, names};
+ghost use Rattle.forest_theory.specs.Counts.{how-many, namesItself};
 ghost use Rattle.forest_tables.specs.Causes.{ForestCause};
 ghost use Rattle.forest_tables.specs.InnerCounting.{FormedBy};
 ghost use Rattle.forest_tables.specs.Formula.{variables};
@@ -132,7 +132,7 @@ fn extend(
         (now (clause .entry)))
         (now (classes .entry)) (now (parents .entry)) (now (classes .exit)) (now (parents .exit)) ⌝ }
     ensures counts { λ r. ⌜ Recounted n (now (prefix .entry)) (now (classes .exit)) (now (parents .exit)) (now (counts .entry)) (now (counts .exit)) ⌝ }
-    ensures left { λ r. ⌜ r ≡ how-many (names (variables n (now (prefix .entry)))
+    ensures left { λ r. ⌜ r ≡ how-many (namesItself (variables n (now (prefix .entry)))
         (lent (variables n (now (prefix .entry))) (now (classes .exit)) (now (parents .exit)))) n ⌝ }
 {
     put_in(n, prefix, classes, parents, clause);

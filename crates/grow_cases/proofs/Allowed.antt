@@ -29,7 +29,7 @@ use Rattle.forest_theory.specs.InnerClimb.{Climbed, climb}
 use Rattle.forest_theory.specs.Forest.{Forest}
 use Rattle.forest_theory.specs.InnerSearch.{has, reached, is-from, sift, set-of}
 use Rattle.forest_theory.specs.InnerFusing.{Rows, table-of}
-use Rattle.forest_theory.specs.Counts.{Counted, how-many, names}
+use Rattle.forest_theory.specs.Counts.{Counted, how-many, namesItself}
 use Rattle.terms.specs.Listed.{Ascending, Listed}
 use Rattle.forest_theory.proofs.Choice.{choice}
 use Rattle.forest_theory.proofs.Counting.{counts-counted}
@@ -51,7 +51,7 @@ use Rattle.forest_tables.proofs.Agreeing.{lawful}
 use Rattle.forest.proofs.Demands.{universal-alone, own-forest-fine, list-settled, entry-settled}
 use Rattle.forest_tables.proofs.Readings.{flag-within}
 use Rattle.grow_refusals.specs.Admitted.{AddedCause, outside, WrongTally}
-use Rattle.grow.specs.Grown.{Standing, tableOf, classNames, existentials, Extended, Grown, Took, Builds, Adds, withLast}
+use Rattle.grow.specs.Grown.{Standing, forestIn, classNames, existentials, Extended, Grown, Took, Builds, Adds, withLast}
 use Rattle.grow.specs.InnerTallies.{many}
 use Rattle.grow.specs.InnerTallies.{SumsUp}
 use Rattle.grow_passes.specs.Past.{Past}
@@ -59,7 +59,7 @@ use Rattle.grow_passes.proofs.Passes.{many-most}
 use Rattle.grow.proofs.Appended.{many-last, joined-last}
 use Rattle.grow.proofs.Taking.{fell-took, none-added as no-class-new, sum-tallies}
 use Rattle.grow.proofs.Tight.{build-tight, add-tight}
-use Rattle.grow_cases.specs.Cases.{longer}
+use Rattle.grow_cases.specs.Cases.{lengthened}
 use Rattle.grow_cases.proofs.Computed.{ForestRows}
 
 -- A computed set is ascending.
@@ -116,35 +116,35 @@ module _ (n : ℕ) (es : List ℕ) where
   -- What is lent stands for the clauses: tables with a row for each variable, the forest, its counts and the tally.
   pub record Stands (ls : List ℤ) (s : Standing) : Type 0 where
     pub long : (n ≤ length (s .rows .classes)) × (n ≤ length (s .rows .parents)) × (n ≤ length (s .rows .counts))
-    pub forest : Forest X (Shares ls) (tableOf X s)
-    pub counted : Counted X (tableOf X s) (row n (s .rows .counts))
+    pub forest : Forest X (Shares ls) (forestIn X s)
+    pub counted : Counted X (forestIn X s) (row n (s .rows .counts))
     pub tallied : SumsUp X (many ls) s
 
   -- Computed rows do, whatever stands past them.
-  pub rows-stand : {ls : List ℤ} {s : Standing} → ForestRows X ls s → (more more′ more″ : List ℕ) → Stands ls (longer s more more′ more″)
+  pub rows-stand : {ls : List ℤ} {s : Standing} → ForestRows X ls s → (more more′ more″ : List ℕ) → Stands ls (lengthened s more more′ more″)
   unfolding table-of lent
   rows-stand {ls} {s} f more more′ more″ =
       record {
         long = (enough (s .rows .classes) more (f .long .0), enough (s .rows .parents) more′ (f .long .1), enough (s .rows .counts) more″ (f .long .2));
         forest = subst (Forest X (Shares ls)) same own;
         counted = subst₂ (Counted X) same (λ i v. in-front (s .rows .counts) more″ (f .long .2) v i)
-            (subst (λ (l : List ℕ). Counted X (tableOf X s) (row n l)) (f .counted) (counts-counted (lawful n es) (forest-is (lawful n es) .0 own .formed)));
-        tallied = record { clauses = f .tallied .clauses; classes = f .tallied .classes ∙ ap (λ (W : Table). how-many (names X W) n) same; merges = f .tallied .merges };
+            (subst (λ (l : List ℕ). Counted X (forestIn X s) (row n l)) (f .counted) (counts-counted (lawful n es) (forest-is (lawful n es) .0 own .formed)));
+        tallied = record { clauses = f .tallied .clauses; classes = f .tallied .classes ∙ ap (λ (W : Table). how-many (namesItself X W) n) same; merges = f .tallied .merges };
       }
     where
-      own : Forest X (Shares ls) (tableOf X s)
+      own : Forest X (Shares ls) (forestIn X s)
       own = subst (λ (R : Rows). Forest X (Shares ls) (table-of X R)) (f .computed) (forest-exists (lawful n es) (joined ls))
 
-      same : tableOf X s ≡ tableOf X (longer s more more′ more″)
+      same : forestIn X s ≡ forestIn X (lengthened s more more′ more″)
       same = same-rows (λ v. (in-front (s .rows .classes) more (f .long .0) v, in-front (s .rows .parents) more′ (f .long .1) v))
 
   -- The computed rows in front of what the lent tables have past n.
   abbrev pub left : Standing → Standing → Standing
-  left built s = longer built (drop n (s .rows .classes)) (drop n (s .rows .parents)) (drop n (s .rows .counts))
+  left built s = lengthened built (drop n (s .rows .classes)) (drop n (s .rows .parents)) (drop n (s .rows .counts))
 
   -- They are how build and add leave the tables.
   grown : {J : ℕ → ℕ → Type 0} {ls : List ℤ} {built : Standing} → ForestRows X ls built → (s : Standing) → n ≤ length (s .rows .classes) → n ≤ length (s .rows .parents) → n ≤ length (s .rows .counts)
-      → Forest X J (tableOf X (left built s)) → Grown X J s (left built s)
+      → Forest X J (forestIn X (left built s)) → Grown X J s (left built s)
   grown {built = built} f s long long′ long″ forest =
       record {
         past = (
@@ -232,9 +232,9 @@ module _ (rule n : ℕ) (es : List ℕ) where
           after : Stands n read (withLast ls clause) (left n read built s)
           after = rows-stand n read g (drop n (s .rows .classes)) (drop n (s .rows .parents)) (drop n (s .rows .counts))
 
-          forest : Forest Y (Extended Y (tableOf Y s) clause) (tableOf Y (left n read built s))
+          forest : Forest Y (Extended Y (forestIn Y s) clause) (forestIn Y (left n read built s))
           forest = added-forest n read (connected clause) (stands .forest)
-              (subst (λ (cs : List (List ℕ)). Forest Y (Joined cs) (tableOf Y (left n read built s)))
+              (subst (λ (cs : List (List ℕ)). Forest Y (Joined cs) (forestIn Y (left n read built s)))
               (joined-last {ls = ls} {clause = clause} (accepted .1 .1 .1 .1 .0) first) (after .forest))
 
           took : Took Y s (left n read built s)
@@ -301,16 +301,16 @@ module _ (rule n : ℕ) (es : List ℕ) where
 
         -- The entry point call answers where the climb ends.
         pub entry-only : (y : ℕ) {e k : ℕ} → isExistential n read y ≡ true → level read x < level read y
-            → climb Y (tableOf Y s) (suc (level read x)) (tableOf Y s .cls y) 0 ≡ record { top = e; rises = k }
+            → climb Y (forestIn Y s) (suc (level read x)) (forestIn Y s .cls y) 0 ≡ record { top = e; rises = k }
             → (answer : EntryAnswer) → EntryAnswered rule (formulaOf n es []) (s .rows) x y answer ↔ (answer ≡ At (record { 0 = e }) k)
         entry-only y {e} {k} ex deeper is answer =
             (λ a. entry-settled rule (formulaOf n es []) (s .rows) x y answer (At (record { 0 = e }) k) a stated, λ q. subst (EntryAnswered rule (formulaOf n es []) (s .rows) x y) (sym q) stated)
           where
-            formed : WellFormed Y (tableOf Y s)
+            formed : WellFormed Y (forestIn Y s)
             formed = forest-is law .0 (stands .forest) .formed
 
-            entry : EntryPoint Y (tableOf Y s) x y e k
-            entry = subst (λ (c : Climbed). EntryPoint Y (tableOf Y s) x y (c .top) (c .rises)) is (climb-entry formed y ex deeper)
+            entry : EntryPoint Y (forestIn Y s) x y e k
+            entry = subst (λ (c : Climbed). EntryPoint Y (forestIn Y s) x y (c .top) (c .rises)) is (climb-entry formed y ex deeper)
 
             stated : EntryAnswered rule (formulaOf n es []) (s .rows) x y (At (record { 0 = e }) k)
             stated = (

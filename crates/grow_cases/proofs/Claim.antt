@@ -12,31 +12,31 @@ use Rattle.forest_theory.specs.InnerSearch.{set-of}
 use Rattle.forest_tables.specs.Formula.{universal, joined}
 use Rattle.grow.specs.Grown.{Standing, withLast}
 use Rattle.grow_cases.specs.FormulaA.{prefixA, clausesA, withClauses, standA, clause79, clause58, clause12}
-use Rattle.grow_cases.specs.Cases.{longer, AddLeaves, SetIs, EntryIs, Cases}
+use Rattle.grow_cases.specs.Cases.{lengthened, AddLeaves, SetIs, EntryIs, Cases}
 use Rattle.grow_cases.proofs.Computed.{A, ForestRows, accepted, forests, sets-A, Climbs, climb-3-8, climb-6-9}
 use Rattle.grow_cases.proofs.Allowed.{inRange, Stands, rows-stand, build-only, add-only, set-only, entry-only}
 
 module _ (more more′ more″ : List ℕ) where
   -- The tables of A stand for its clauses.
-  own : Stands 9 prefixA clausesA (longer standA more more′ more″)
+  own : Stands 9 prefixA clausesA (lengthened standA more more′ more″)
   own = rows-stand 9 prefixA (forests .own) more more′ more″
 
   -- The set of x, by computed rows.
   lists : {ls : List ℤ} {s : Standing} → NoneOf (checkOrder 1 (withClauses ls)) → ForestRows A ls s → (x : ℕ) → universal 9 prefixA x ≡ true
-      → {list : List ℕ} → set-of A (joined ls) x ≡ list → SetIs ls (longer s more more′ more″) x list
+      → {list : List ℕ} → set-of A (joined ls) x ≡ list → SetIs ls (lengthened s more more′ more″) x list
   unfolding readAs
-  lists {ls} {s} fine f x u is = set-only 1 9 prefixA ls fine (longer s more more′ more″) (rows-stand 9 prefixA f more more′ more″) x u is
+  lists {ls} {s} fine f x u is = set-only 1 9 prefixA ls fine (lengthened s more more′ more″) (rows-stand 9 prefixA f more more′ more″) x u is
 
   -- A clause added to the rows of A.
   adds : (clause : List ℤ) → inRange 9 clause ≡ true → length clause ≤ 16384 → {built : Standing}
-      → ForestRows A (withLast clausesA clause) built → AddLeaves (longer standA more more′ more″) clause (longer built more more′ more″)
+      → ForestRows A (withLast clausesA clause) built → AddLeaves (lengthened standA more more′ more″) clause (lengthened built more more′ more″)
   unfolding readAs
-  adds = add-only 1 9 prefixA clausesA (accepted .own) (longer standA more more′ more″) own
+  adds = add-only 1 9 prefixA clausesA (accepted .own) (lengthened standA more more′ more″) own
 
   -- The entry point of x for y, by the rows of A.
-  enters : {x y e rises : ℕ} → Climbs more more′ more″ x y e rises → EntryIs (longer standA more more′ more″) x y e rises
+  enters : {x y e rises : ℕ} → Climbs more more′ more″ x y e rises → EntryIs (lengthened standA more more′ more″) x y e rises
   unfolding readAs
-  enters {x} {y} c = entry-only 1 9 prefixA clausesA (accepted .own) (longer standA more more′ more″) own x (c .of-universal) y (c .for-existential) (c .deeper) (c .ends)
+  enters {x} {y} c = entry-only 1 9 prefixA clausesA (accepted .own) (lengthened standA more more′ more″) own x (c .of-universal) y (c .for-existential) (c .deeper) (c .ends)
 
   -- All of them hold.
   pub cases : Cases more more′ more″

@@ -19,13 +19,13 @@ use Rattle.forest_theory.specs.Tables.{row, lent}
 use Rattle.forest_theory.specs.InnerClimb.{climb-by, climb}
 use Rattle.forest_theory.specs.InnerSearch.{has, meets, keep, put-back, find, see, spread, reached, is-from, sift, set-of}
 use Rattle.forest_theory.specs.InnerFusing.{fill, classes-up, marks, goes-before, under, fuse-class, fuse-parent, table-of, rows-by, fuse-marks, fuse, fuse-all, singles, forest-of, count-of, counts-of}
-use Rattle.forest_theory.specs.Counts.{how-many, names}
+use Rattle.forest_theory.specs.Counts.{how-many, namesItself}
 use Rattle.forest_tables.specs.Formula.{variables, universal, joined}
-use Rattle.grow.specs.Grown.{Standing, standing, tableOf, withLast}
+use Rattle.grow.specs.Grown.{Standing, standing, forestIn, withLast}
 use Rattle.grow.specs.InnerTallies.{many}
 use Rattle.grow.specs.InnerTallies.{SumsUp}
 use Rattle.grow_cases.specs.FormulaA.{prefixA, clausesA, withClauses, tally, standA, stand79, stand12, stand-none, clause79, clause58, clause12}
-use Rattle.grow_cases.specs.Cases.{longer}
+use Rattle.grow_cases.specs.Cases.{lengthened}
 
 -- The variables of A.
 abbrev pub A : Variables
@@ -34,7 +34,7 @@ A = variables 9 prefixA
 -- The rows are the computed forest of the clauses, one for each variable, with its computed counts and the tally of the clauses.
 pub record ForestRows (X : Variables) (ls : List ℤ) (s : Standing) : Type 0 where
   pub computed : forest-of X (joined ls) ≡ record { classes = s .rows .classes; parents = s .rows .parents }
-  pub counted : counts-of X (tableOf X s) ≡ s .rows .counts
+  pub counted : counts-of X (forestIn X s) ≡ s .rows .counts
   pub tallied : SumsUp X (many ls) s
   pub long : (length (s .rows .classes) ≡ X .count) × (length (s .rows .parents) ≡ X .count) × (length (s .rows .counts) ≡ X .count)
 
@@ -70,7 +70,7 @@ pub record Forests : Type 0 where
 
 pub forests : Forests
 unfolding blocks clauses opposite denied alwaysTrue connected freeLevel level isUniversal isExistential cut row lent has fill classes-up marks
-    goes-before under fuse-class fuse-parent table-of rows-by fuse-marks fuse fuse-all singles forest-of count-of counts-of how-many names joined
+    goes-before under fuse-class fuse-parent table-of rows-by fuse-marks fuse fuse-all singles forest-of count-of counts-of how-many namesItself joined
 forests = record {
   own = record { computed = refl; counted = refl; tallied = record { clauses = refl; classes = refl; merges = refl }; long = (refl, refl, refl) };
   with79 = record { computed = refl; counted = refl; tallied = record { clauses = refl; classes = refl; merges = refl }; long = (refl, refl, refl) };
@@ -97,7 +97,7 @@ pub record Climbs (more more′ more″ : List ℕ) (x y e rises : ℕ) : Type 0
   pub of-universal : universal 9 prefixA x ≡ true
   pub for-existential : isExistential 9 prefixA y ≡ true
   pub deeper : level prefixA x < level prefixA y
-  pub ends : let W = tableOf A (longer standA more more′ more″) in climb A W (suc (level prefixA x)) (W .cls y) 0 ≡ record { top = e; rises = rises }
+  pub ends : let W = forestIn A (lengthened standA more more′ more″) in climb A W (suc (level prefixA x)) (W .cls y) 0 ≡ record { top = e; rises = rises }
 
 pub climb-3-8 : (more more′ more″ : List ℕ) → Climbs more more′ more″ 3 8 4 1
 unfolding blocks freeLevel level isUniversal isExistential cut row lent climb-by climb universal

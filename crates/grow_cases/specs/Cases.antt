@@ -17,12 +17,12 @@ use Rattle.grow.specs.Grown.{Standing, standing, Builds, Adds, withLast}
 use Rattle.grow_cases.specs.FormulaA.{prefixA, clausesA, withClauses, standA, stand79, stand12, stand-none, clause79, clause58, clause12}
 
 -- Tables of nine rows with more past them, anything at all.
-abbrev pub longer : Standing → List ℕ → List ℕ → List ℕ → Standing
-longer s more more′ more″ = standing (rows (s .rows .classes ++ more) (s .rows .parents ++ more′) (s .rows .counts ++ more″)) (s .tally)
+abbrev pub lengthened : Standing → List ℕ → List ℕ → List ℕ → Standing
+lengthened s more more′ more″ = standing (rows (s .rows .classes ++ more) (s .rows .parents ++ more′) (s .rows .counts ++ more″)) (s .tally)
 
 -- Such tables, where what was lent keeps its rows past row 9.
 abbrev pub written : Standing → Standing → Standing
-written built s = longer built (drop 9 (s .rows .classes)) (drop 9 (s .rows .parents)) (drop 9 (s .rows .counts))
+written built s = lengthened built (drop 9 (s .rows .classes)) (drop 9 (s .rows .parents)) (drop 9 (s .rows .counts))
 
 -- The four that follow each say of a call: its `ensures` allows an outcome exactly if it is the one stated, the answer, every row of the lent tables and
 -- the tally afterwards.
@@ -52,20 +52,20 @@ pub record Cases (more more′ more″ : List ℕ) : Type 0 where
   pub p1p2 : (s : Standing) → 9 ≤ length (s .rows .classes) → 9 ≤ length (s .rows .parents) → 9 ≤ length (s .rows .counts)
       → BuildLeaves s (written standA s)
   -- set of 3
-  pub p3 : SetIs clausesA (longer standA more more′ more″) 3 (4 ∷ 7 ∷ 8 ∷ [])
+  pub p3 : SetIs clausesA (lengthened standA more more′ more″) 3 (4 ∷ 7 ∷ 8 ∷ [])
   -- set of 6: 9, not 5
-  pub p4 : SetIs clausesA (longer standA more more′ more″) 6 (9 ∷ [])
+  pub p4 : SetIs clausesA (lengthened standA more more′ more″) 6 (9 ∷ [])
   -- add {7 -9}
-  pub p5 : AddLeaves (longer standA more more′ more″) clause79 (longer stand79 more more′ more″)
+  pub p5 : AddLeaves (lengthened standA more more′ more″) clause79 (lengthened stand79 more more′ more″)
   -- then the sets of 3 and 6, with the clause put last in the clause table
-  pub p6 : SetIs (withLast clausesA clause79) (longer stand79 more more′ more″) 3 (4 ∷ 5 ∷ 7 ∷ 8 ∷ 9 ∷ [])
-      × SetIs (withLast clausesA clause79) (longer stand79 more more′ more″) 6 (7 ∷ 9 ∷ [])
+  pub p6 : SetIs (withLast clausesA clause79) (lengthened stand79 more more′ more″) 3 (4 ∷ 5 ∷ 7 ∷ 8 ∷ 9 ∷ [])
+      × SetIs (withLast clausesA clause79) (lengthened stand79 more more′ more″) 6 (7 ∷ 9 ∷ [])
   -- add {5 8}: by the rows that it leaves, the sets of 6 and 3
-  pub p7 : (answer : Filled) (s : Standing) → Adds 1 9 prefixA (longer standA more more′ more″) clause58 s answer
+  pub p7 : (answer : Filled) (s : Standing) → Adds 1 9 prefixA (lengthened standA more more′ more″) clause58 s answer
       → (answer ≡ Count 9) × (SetIs (withLast clausesA clause58) s 6 (9 ∷ []) × SetIs (withLast clausesA clause58) s 3 (4 ∷ 5 ∷ 7 ∷ 8 ∷ 9 ∷ []))
   -- add {1 -2}
-  pub p8 : AddLeaves (longer standA more more′ more″) clause12 (longer stand12 more more′ more″)
+  pub p8 : AddLeaves (lengthened standA more more′ more″) clause12 (lengthened stand12 more more′ more″)
   -- add the empty clause
-  pub p9 : AddLeaves (longer standA more more′ more″) [] (longer stand-none more more′ more″)
+  pub p9 : AddLeaves (lengthened standA more more′ more″) [] (lengthened stand-none more more′ more″)
   -- entry points of 3 for 8 and of 6 for 9
-  pub p10 : EntryIs (longer standA more more′ more″) 3 8 4 1 × EntryIs (longer standA more more′ more″) 6 9 9 0
+  pub p10 : EntryIs (lengthened standA more more′ more″) 3 8 4 1 × EntryIs (lengthened standA more more′ more″) 6 9 9 0

@@ -25,7 +25,7 @@ use Rattle.forest_entries.proofs.Sides.{mem-at}
 use Rattle.grow_refusals.specs.Admitted.{AddedCause}
 use Rattle.grow.specs.Grown.{withLast}
 use Rattle.grow.proofs.Appended.{clauses-last, no-clause-cause}
-use Rattle.grow_reduced.specs.Reduced.{reducible, without, reducedClause, Reduces, Reduction}
+use Rattle.grow_reduced.specs.Reduced.{reducible, dropped, reducedClause, Reduces, Reduction}
 use Rattle.grow_reduced.proofs.Clauses.{without-had, reordered-member}
 
 -- The entries that clauses take in a table, each with the 0 that closes it.
@@ -66,16 +66,16 @@ clauses-in-range n (a ∷ ls) low =
         (λ m′. rest c (List·Memᴰ·tail m′) l k) (List·Memᴰ·cases-cons m)
 
 -- A reduced clause is no longer, and has no literal that the clause has not.
-without-length : (test : ℤ → Bool) (ls : List ℤ) → length (without test ls) ≤ length ls
-unfolding without
+without-length : (test : ℤ → Bool) (ls : List ℤ) → length (dropped test ls) ≤ length ls
+unfolding dropped
 without-length test [] = omega arith
-without-length test (a ∷ ls) = choice (λ ds. length ds ≤ suc (length ls)) (test a) {x = without test ls} {y = a ∷ without test ls}
+without-length test (a ∷ ls) = choice (λ ds. length ds ≤ suc (length ls)) (test a) {x = dropped test ls} {y = a ∷ dropped test ls}
     (λ _. let h = without-length test ls in omega arith) (λ _. let h = without-length test ls in omega arith)
 
 module _ (X : Variables) where
   pub reduced-length : (c : List ℤ) → length (reducedClause X c) ≤ length c
   unfolding reducedClause
-  reduced-length c = choice (λ d. length d ≤ length c) (alwaysTrue c) {x = c} {y = without (reducible X c) c} (λ _. omega arith) (λ _. without-length (reducible X c) c)
+  reduced-length c = choice (λ d. length d ≤ length c) (alwaysTrue c) {x = c} {y = dropped (reducible X c) c} (λ _. omega arith) (λ _. without-length (reducible X c) c)
 
   reduced-had : (c : List ℤ) {l : ℤ} → List·Memᴰ l (reducedClause X c) → List·Memᴰ l c
   unfolding reducedClause

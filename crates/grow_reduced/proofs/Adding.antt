@@ -24,7 +24,7 @@ use Rattle.forest_tables.proofs.Agreeing.{lawful}
 use Rattle.formula.specs.Causes.{VariableCount, PrefixLong, ClausesLong}
 use Rattle.formula_rules.specs.Rules.{readAs, PrefixCauseBy, NoRule}
 use Rattle.grow_refusals.specs.Admitted.{AddedCause}
-use Rattle.grow.specs.Grown.{Standing, tableOf, TallyCause, Extended, Took, Leaves, addOrder, Adds}
+use Rattle.grow.specs.Grown.{Standing, forestIn, TallyCause, Extended, Took, Leaves, addOrder, Adds}
 use Rattle.grow.proofs.Tight.{add-tight}
 use Rattle.grow_reduced.specs.Reduced.{reducedClause}
 use Rattle.grow_reduced.proofs.Carried.{Step, Carries, forest-carried}
@@ -67,9 +67,9 @@ module _ (rule n : ℕ) (es : List ℕ) (clause : List ℤ) (few : length clause
           (one-more (AddedCause n clause) (AddedCause n reduced) (λ k p c. absurd (first k p c)) (λ k p c. absurd (reduced-first n read clause first k p c))
           (same-order (ForestCause n read (s .rows) ∷ TallyCause X s ∷ []))))))
 
-      go : (a : Filled) → Leaves X (Extended X (tableOf X s) clause) (Took X s) s s′ a → Leaves X (Extended X (tableOf X s) reduced) (Took X s) s s′ a
+      go : (a : Filled) → Leaves X (Extended X (forestIn X s) clause) (Took X s) s s′ a → Leaves X (Extended X (forestIn X s) reduced) (Took X s) s s′ a
       go (Filled.Count k) (is, grown, took) =
-          let js = joins X (tableOf X s) in
+          let js = joins X (forestIn X s) in
           let forest = forest-carried (lawful n read) (added-carried js (gives-reduced clause)) (added-carried js (reduced-gives clause)) (grown .forest) in
           (is, record { past = grown .past; forest = forest; counted = grown .counted }, took)
       go (Filled.Refused k p) stays = stays

@@ -16,44 +16,44 @@ use Rattle.formula.proofs.Signs.{connected-all}
 use Rattle.forest_theory.specs.Reach.{Variables}
 use Rattle.forest_theory.proofs.Choice.{choice, neither}
 use Rattle.forest_entries.proofs.Sides.{connected-open}
-use Rattle.grow_reduced.specs.Reduced.{deeperThanAll, reducible, without, reducedClause, Reduces, Reduction}
+use Rattle.grow_reduced.specs.Reduced.{deeperThanAll, reducible, dropped, reducedClause, Reduces, Reduction}
 use Rattle.grow_reduced.proofs.Carried.{Step}
 
 module _ (test : ℤ → Bool) where
   -- What is left was there ...
-  pub without-had : {l : ℤ} (ls : List ℤ) → List·Memᴰ l (without test ls) → List·Memᴰ l ls
-  unfolding without
+  pub without-had : {l : ℤ} (ls : List ℤ) → List·Memᴰ l (dropped test ls) → List·Memᴰ l ls
+  unfolding dropped
   without-had [] m = m
   without-had {l} (a ∷ ls) m = go (test a) (without-had ls) m
     where
-      go : (b : Bool) → (List·Memᴰ l (without test ls) → List·Memᴰ l ls) → List·Memᴰ l (cond b (without test ls) (a ∷ without test ls)) → List·Memᴰ l (a ∷ ls)
+      go : (b : Bool) → (List·Memᴰ l (dropped test ls) → List·Memᴰ l ls) → List·Memᴰ l (cond b (dropped test ls) (a ∷ dropped test ls)) → List·Memᴰ l (a ∷ ls)
       go true had m = List·Memᴰ·tail (had m)
       go false had m = ⊎-elim List·Memᴰ·head (λ m′. List·Memᴰ·tail (had m′)) (List·Memᴰ·cases-cons m)
 
   -- ... and what the test does not tell is left.
-  without-keeps : {l : ℤ} (ls : List ℤ) → test l ≡ false → List·Memᴰ l ls → List·Memᴰ l (without test ls)
-  unfolding without
+  without-keeps : {l : ℤ} (ls : List ℤ) → test l ≡ false → List·Memᴰ l ls → List·Memᴰ l (dropped test ls)
+  unfolding dropped
   without-keeps [] kept m = m
   without-keeps {l} (a ∷ ls) kept m = ⊎-elim
       (λ q. choice (List·Memᴰ l) (test a) (λ t. absurd (clash (ap test q ∙ t) kept)) (λ _. List·Memᴰ·head q))
       (λ m′. choice (List·Memᴰ l) (test a) (λ _. without-keeps ls kept m′) (λ _. List·Memᴰ·tail (without-keeps ls kept m′))) (List·Memᴰ·cases-cons m)
 
   -- A clause that is not always true is not made so.
-  denied-without : (z : ℤ) (ls : List ℤ) → denied z ls ≡ false → denied z (without test ls) ≡ false
-  unfolding without denied
+  denied-without : (z : ℤ) (ls : List ℤ) → denied z ls ≡ false → denied z (dropped test ls) ≡ false
+  unfolding dropped denied
   denied-without z [] f = f
   denied-without z (a ∷ ls) f =
       let (one, rest) = neither (opposite z a) (denied z ls) f in
       let more = denied-without z ls rest in
-      choice (λ ds. denied z ds ≡ false) (test a) (λ _. more) (λ _. ap (λ b. b || denied z (without test ls)) one ∙ more)
+      choice (λ ds. denied z ds ≡ false) (test a) (λ _. more) (λ _. ap (λ b. b || denied z (dropped test ls)) one ∙ more)
 
-  open-without : (ls : List ℤ) → alwaysTrue ls ≡ false → alwaysTrue (without test ls) ≡ false
-  unfolding without alwaysTrue
+  open-without : (ls : List ℤ) → alwaysTrue ls ≡ false → alwaysTrue (dropped test ls) ≡ false
+  unfolding dropped alwaysTrue
   open-without [] f = f
   open-without (a ∷ ls) f =
       let (one, rest) = neither (denied a ls) (alwaysTrue ls) f in
       let more = open-without ls rest in
-      choice (λ ds. alwaysTrue ds ≡ false) (test a) (λ _. more) (λ _. ap (λ b. b || alwaysTrue (without test ls)) (denied-without a ls one) ∙ more)
+      choice (λ ds. alwaysTrue ds ≡ false) (test a) (λ _. more) (λ _. ap (λ b. b || alwaysTrue (dropped test ls)) (denied-without a ls one) ∙ more)
 
 module _ (X : Variables) where
   -- v is not deeper than every existential of a clause, if one of them is at least as deep ...
@@ -89,14 +89,14 @@ module _ {X : Variables} where
   gives-reduced c = choice (Gives X c) (alwaysTrue c) (λ _. gives-itself c) (λ f. record { given = kept f })
     where
       kept : alwaysTrue c ≡ false → (l : ℤ) (z : ℕ) → Step X (variableOf l) z → List·Memᴰ l c → List·Memᴰ z (connected c)
-          → List·Memᴰ l (without (reducible X c) c) × List·Memᴰ z (connected (without (reducible X c) c))
+          → List·Memᴰ l (dropped (reducible X c) c) × List·Memᴰ z (connected (dropped (reducible X c) c))
       kept f l z s m k =
           let (w, mw, is) = Memᴰ·of-map variableOf c (subst (List·Memᴰ z) (connected-all c f) k) in
           let step : Step X (variableOf l) (variableOf w) = subst (Step X (variableOf l)) (sym is) s in
           let stays = without-keeps (reducible X c) c (not-reducible X w c mw (record { to = step .to; from = inl (step .to) })) mw in (
             without-keeps (reducible X c) c (not-reducible X l c mw step) m,
-            subst (List·Memᴰ z) (sym (connected-all (without (reducible X c) c) (open-without (reducible X c) c f)))
-                (subst (λ v. List·Memᴰ v (map variableOf (without (reducible X c) c))) is (Memᴰ·map variableOf stays)),
+            subst (List·Memᴰ z) (sym (connected-all (dropped (reducible X c) c) (open-without (reducible X c) c f)))
+                (subst (λ v. List·Memᴰ v (map variableOf (dropped (reducible X c) c))) is (Memᴰ·map variableOf stays)),
           )
 
   -- ... and nothing else.
@@ -104,10 +104,10 @@ module _ {X : Variables} where
   unfolding reducedClause
   reduced-gives c = choice (λ d. Gives X d c) (alwaysTrue c) (λ _. gives-itself c) (λ f. record { given = had f })
     where
-      had : alwaysTrue c ≡ false → (l : ℤ) (z : ℕ) → Step X (variableOf l) z → List·Memᴰ l (without (reducible X c) c)
-          → List·Memᴰ z (connected (without (reducible X c) c)) → List·Memᴰ l c × List·Memᴰ z (connected c)
+      had : alwaysTrue c ≡ false → (l : ℤ) (z : ℕ) → Step X (variableOf l) z → List·Memᴰ l (dropped (reducible X c) c)
+          → List·Memᴰ z (connected (dropped (reducible X c) c)) → List·Memᴰ l c × List·Memᴰ z (connected c)
       had f l z s m k =
-          let (w, mw, is) = Memᴰ·of-map variableOf (without (reducible X c) c) (subst (List·Memᴰ z) (connected-all (without (reducible X c) c) (connected-open (without (reducible X c) c) z k)) k) in
+          let (w, mw, is) = Memᴰ·of-map variableOf (dropped (reducible X c) c) (subst (List·Memᴰ z) (connected-all (dropped (reducible X c) c) (connected-open (dropped (reducible X c) c) z k)) k) in
           (without-had (reducible X c) c m, subst (List·Memᴰ z) (sym (connected-all c f)) (subst (λ v. List·Memᴰ v (map variableOf c)) is (Memᴰ·map variableOf (without-had (reducible X c) c mw))))
 
   -- The same of variables alone: what c joins d joins.

@@ -14,7 +14,7 @@ use Rattle.forest_theory.specs.InnerSearch.{has, meets, keep, put-back, find, s
 use Rattle.forest_theory.proofs.Search.{set-of-depends}
 use Rattle.forest_tables.specs.Formula.{variables, joined, Shares}
 use Rattle.forest_tables.proofs.Agreeing.{lawful}
-use Rattle.grow_reduced.specs.Reduced.{deeperThanAll, reducible, without, reducedClause, Reduction}
+use Rattle.grow_reduced.specs.Reduced.{deeperThanAll, reducible, dropped, reducedClause, Reduction}
 
 abbrev es : List ℕ
 es = 1 ∷ 1 ∷ 2 ∷ 0 ∷ 2 ∷ 3 ∷ 0 ∷ 1 ∷ 4 ∷ 5 ∷ 0 ∷ 2 ∷ 6 ∷ 0 ∷ 1 ∷ 7 ∷ 8 ∷ 9 ∷ 0 ∷ []
@@ -57,7 +57,7 @@ record Computed : Type 0 where
 
 computed : Computed
 unfolding blocks clauses opposite denied alwaysTrue connected freeLevel level isUniversal isExistential cut has meets keep put-back find see spread
-    reached is-from sift set-of joined deeperThanAll reducible without reducedClause
+    reached is-from sift set-of joined deeperThanAll reducible dropped reducedClause
 computed = record { kept = refl; one = refl; two = refl; all = refl; stays = refl; set-some = refl; set-some-less = refl; set-always = refl; set-always-less = refl }
 
 -- The set is what was computed.

@@ -21,13 +21,13 @@ unfoldable pub reducible : Variables → List ℤ → ℤ → Bool
 reducible X clause literal = not (X .ex (variableOf literal)) && deeperThanAll X clause (variableOf literal)
 
 -- a list without the literals that a test tells
-unfoldable pub without : (ℤ → Bool) → List ℤ → List ℤ
-without test [] = []
-without test (literal ∷ more) = cond (test literal) (without test more) (literal ∷ without test more)
+unfoldable pub dropped : (ℤ → Bool) → List ℤ → List ℤ
+dropped test [] = []
+dropped test (literal ∷ more) = cond (test literal) (dropped test more) (literal ∷ dropped test more)
 
 -- a clause reduced: without these literals; one that is always true stays as it is
 unfoldable pub reducedClause : Variables → List ℤ → List ℤ
-reducedClause X clause = cond (alwaysTrue clause) clause (without (reducible X clause) clause)
+reducedClause X clause = cond (alwaysTrue clause) clause (dropped (reducible X clause) clause)
 
 -- ds has the clauses of cs one by one, each as it is or reduced
 abbrev pub Reduces : Variables → List (List ℤ) → List (List ℤ) → Type 0

@@ -10,7 +10,7 @@ use lib.ListN.{getD}
 use Rattle.forest_theory.specs.Reach.{Variables}
 use Rattle.forest_theory.specs.InnerVariables.{Lawful}
 use Rattle.forest_theory.specs.Tables.{Table, lent, WellFormed}
-use Rattle.forest_theory.specs.Counts.{how-many, names}
+use Rattle.forest_theory.specs.Counts.{how-many, namesItself}
 use Rattle.forest_theory.proofs.Numbered.{how-many-next}
 use Rattle.forest_theory.proofs.Rows.{row-at}
 use Rattle.forest_tables.specs.InnerCounting.{ForClasses}
@@ -25,7 +25,7 @@ census-none n classes = record { few = (omega arith, omega arith, omega arith); 
 module _ (X : Variables) (W : Table) (v : ℕ) where
   -- What the row of v adds to the existentials and to the class names.
   abbrev Adds : ℕ → ℕ → Type 0
-  Adds a b = (_≡_ {A = ℕ} (cond (X .ex v) 1 0) a) × (_≡_ {A = ℕ} (cond (names X W v) 1 0) b)
+  Adds a b = (_≡_ {A = ℕ} (cond (X .ex v) 1 0) a) × (_≡_ {A = ℕ} (cond (namesItself X W v) 1 0) b)
 
 -- Of well-formed rows, a class row is 0 exactly where there is no existential.
 module _ {X : Variables} {W : Table} (lawful : Lawful X) (formed : WellFormed X W) (v : ℕ) where
@@ -44,15 +44,15 @@ module _ {X : Variables} {W : Table} (lawful : Lawful X) (formed : WellFormed X 
       go false ex = absurd (n (formed .right v .universal ex .0))
 
   adds-none : W .cls v ≡ 0 → Adds X W v 0 0
-  unfolding names
+  unfolding namesItself
   adds-none e = rw (none-there e) (refl, refl)
 
   adds-member : W .cls v ≢ 0 → W .cls v ≢ v → Adds X W v 1 0
-  unfolding names
+  unfolding namesItself
   adds-member n d = rw (some-there n, ne-eqb (W .cls v) v d) (refl, refl)
 
   adds-name : W .cls v ≢ 0 → W .cls v ≡ v → Adds X W v 1 1
-  unfolding names
+  unfolding namesItself
   adds-name n e = rw (some-there n, eq-eqb (W .cls v) v e) (refl, refl)
 
 -- One row more, which adds a and b.
@@ -73,7 +73,7 @@ module _ {n : ℕ} {classes : List ℕ} {v exs named : ℕ} (c : CensusOf n clas
         let (p, q) = is es parents formed in
         let X = variables n es in
         let W = lent X classes parents in
-        (omega (arith, how-many-next (X .ex) v), omega (arith, how-many-next (names X W) v));
+        (omega (arith, how-many-next (X .ex) v), omega (arith, how-many-next (namesItself X W) v));
   }
 
   -- The three kinds of row: of no existential, of a member, of a class name.

@@ -7,7 +7,7 @@ use Rattle.forest_theory.specs.Reach.{Variables}
 use Rattle.forest_theory.specs.Tables.{row, lent}
 use Rattle.forest_theory.specs.InnerClimb.{Represents}
 use Rattle.forest_theory.specs.Forest.{Forest}
-use Rattle.forest_theory.specs.Counts.{Counted, how-many, names}
+use Rattle.forest_theory.specs.Counts.{Counted, how-many, namesItself}
 use Rattle.forest_tables.specs.Formula.{variables}
 use Rattle.forest_tables.specs.InnerCounting.{ForClasses}
 use Rattle.grow_passes.specs.Past.{Past}
@@ -37,4 +37,4 @@ pub record Recounted (n : ℕ) (es classes parents counts counts′ : List ℕ) 
 pub record CensusOf (n : ℕ) (classes : List ℕ) (v exs named : ℕ) : Type 0 where
   pub few : (named ≤ exs) × (exs ≤ v) × (v ≤ n)
   pub right : ForClasses n classes (λ es parents. (exs ≡ how-many (variables n es .ex) v)
-      × (named ≡ how-many (names (variables n es) (lent (variables n es) classes parents)) v))
+      × (named ≡ how-many (namesItself (variables n es) (lent (variables n es) classes parents)) v))

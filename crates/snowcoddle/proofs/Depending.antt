@@ -11,7 +11,7 @@ use Rattle.text_lines.proofs.Places.{place-append, cause-place}
 use Rattle.text_write.specs.Texts.{TEXT-MOST, Overlong, overlong}
 use Rattle.terms.specs.declared.ListedReading.{ListedReading}
 use Rattle.dqbf_text.specs.Format.{ListLine, d-line, ListedText, ListedFollow}
-use Rattle.dqbf_text.specs.Reading.{Tables, NoRoom, no-room-prefix, no-room-clauses, no-room-lists, readOrder, ReadInto, ReadIs}
+use Rattle.dqbf_text.specs.Reading.{Tables, NoListedRoom, no-room-prefix, no-room-clauses, no-room-lists, listedReadOrder, ListedReadInto, ListedReadIs}
 use Rattle.c_answers.specs.InnerCells.{Fits, Laid}
 use Rattle.c_answers.specs.InnerFormulas.{ThreeInCells, listedSaid}
 use Rattle.snowcoddle.specs.Told.{Told}
@@ -33,24 +33,24 @@ text-few t =
     let c = clauses-few (t .clauses-say) in
     omega arith
 
-no-room-place : {text : List ℕ} {before : Tables} {k p : ℕ} → NoRoom text before k p → p ≤ 0
+no-room-place : {text : List ℕ} {before : Tables} {k p : ℕ} → NoListedRoom text before k p → p ≤ 0
 no-room-place (no-room-prefix _ _) = omega arith
 no-room-place (no-room-clauses _ _) = omega arith
 no-room-place (no-room-lists _ _) = omega arith
 
-small-read : (text : List ℕ) (before : Tables) → Small (readOrder text before)
+small-read : (text : List ℕ) (before : Tables) → Small (listedReadOrder text before)
 small-read text before =
-    small-then (Overlong text ∷ []) (LineCause ListedFollow text ∷ NoRoom text before ∷ [])
+    small-then (Overlong text ∷ []) (LineCause ListedFollow text ∷ NoListedRoom text before ∷ [])
     (small-within (Overlong text) TEXT-MOST (omega arith) (λ k p cause. overlong-place cause))
     (λ clean.
     let long : ¬ (TEXT-MOST < length text) = λ l. clean .0 15 TEXT-MOST (overlong l) in
-    small-then (LineCause ListedFollow text ∷ []) (NoRoom text before ∷ [])
+    small-then (LineCause ListedFollow text ∷ []) (NoListedRoom text before ∷ [])
     (small-within (LineCause ListedFollow text) TEXT-MOST (omega arith) (λ k p cause. let l = cause-place cause .1 in omega arith))
-    (λ _. small-within (NoRoom text before) 0 (omega arith) (λ k p cause. no-room-place cause)))
+    (λ _. small-within (NoListedRoom text before) 0 (omega arith) (λ k p cause. no-room-place cause)))
 
 -- the counts of what was read
-counts-few : (n entries literals rows : ℕ) (text : List ℕ) (before after : Tables) → NoneOf (readOrder text before)
-    → ReadInto n entries literals rows text before after → (entries ≤ TEXT-MOST) × (literals ≤ TEXT-MOST) × (rows ≤ TEXT-MOST)
+counts-few : (n entries literals rows : ℕ) (text : List ℕ) (before after : Tables) → NoneOf (listedReadOrder text before)
+    → ListedReadInto n entries literals rows text before after → (entries ≤ TEXT-MOST) × (literals ≤ TEXT-MOST) × (rows ≤ TEXT-MOST)
 counts-few n entries literals rows text before after clean r =
     let long : ¬ (TEXT-MOST < length text) = λ l. clean .0 15 TEXT-MOST (overlong l) in
     let p = r .prefix-filled .counted in
@@ -62,14 +62,14 @@ counts-few n entries literals rows text before after clean r =
 -- What reading gives is told: n and the counts, with the tables.
 module _ (text : List ℕ) (before after : Tables) where
   abbrev Into : ℕ × ℕ × ℕ × ℕ → Type 0
-  Into cells = ReadInto (cells .0) (cells .1) (cells .2) (cells .3) text before after
+  Into cells = ListedReadInto (cells .0) (cells .1) (cells .2) (cells .3) text before after
 
   abbrev Stay : Type 0
   Stay = (after .0 ≡ before .0) × (after .1 ≡ before .1) × (after .2 ≡ before .2)
 
-  pub fits-read : (answer : ListedReading) → ReadIs text before after answer → Fits ThreeInCells (listedSaid answer)
+  pub fits-read : (answer : ListedReading) → ListedReadIs text before after answer → Fits ThreeInCells (listedSaid answer)
   fits-read answer said =
-      fits-known (readOrder text before) Into Stay ThreeInCells (listedSaid answer) (small-read text before)
+      fits-known (listedReadOrder text before) Into Stay ThreeInCells (listedSaid answer) (small-read text before)
       (λ cells clean r.
       let few = counts-few (cells .0) (cells .1) (cells .2) (cells .3) text before after clean r in
       let a = few .0 in
@@ -80,9 +80,9 @@ module _ (text : List ℕ) (before after : Tables) where
 
   pub tell-read : (answer : ListedReading) {n entries literals rows n′ entries′ literals′ rows′ place place′ returned : ℕ}
       → Laid (listedSaid answer) (n, entries, literals, rows) (n′, entries′, literals′, rows′) place place′ returned
-      → ReadIs text before after answer
-      → Told (readOrder text before) (ReadInto n′ entries′ literals′ rows′ text before after)
+      → ListedReadIs text before after answer
+      → Told (listedReadOrder text before) (ListedReadInto n′ entries′ literals′ rows′ text before after)
       ((n′ ≡ n) × (entries′ ≡ entries) × (literals′ ≡ literals) × (rows′ ≡ rows) × (after .0 ≡ before .0) × (after .1 ≡ before .1) × (after .2 ≡ before .2)) returned place place′
   tell-read answer laid said =
-      tell-known (readOrder text before) Into Stay laid said
+      tell-known (listedReadOrder text before) Into Stay laid said
       (λ q k. (ap (λ (t : ℕ × ℕ × ℕ × ℕ). t .0) q, ap (λ (t : ℕ × ℕ × ℕ × ℕ). t .1) q, ap (λ (t : ℕ × ℕ × ℕ × ℕ). t .2) q, ap (λ (t : ℕ × ℕ × ℕ × ℕ). t .3) q, k .0, k .1, k .2))

@@ -8,7 +8,7 @@ use Rattle.terms.specs.declared.Expanded.the-variants.{Formula, Refused}
 use Rattle.formula.specs.Lent.{Formula as Lent}
 use Rattle.formula_rules.specs.Rules.{readAs, readBy, checkOrder}
 use Rattle.forest.specs.Causes.{NotUniversal}
-use Rattle.expand.specs.Promise.{ResultTables, OfExpanded, ManyVariables, Long, Short, expandOrder, Leaves, Expands}
+use Rattle.expand.specs.Promise.{ResultTables, OfExpanded, ManyVariables, Long, Short, expandOrder, LeavesFormula, Expands}
 use Rattle.expand.specs.InnerOrders.{behindExpand}
 use Rattle.expand.proofs.Tight.{expand-settled}
 use Rattle.c_answers.specs.InnerCells.{Fits, Any, Laid}
@@ -34,7 +34,7 @@ module _ (rule : ℕ) (f : Lent) (x : ℕ) (out : ResultTables) where
   -- What expanding gives is told: n and the counts, with the tables.
   module _ (out′ : ResultTables) where
     abbrev LeavesIn : ℕ × ℕ × ℕ → Type 0
-    LeavesIn cells = OfExpanded read x (Leaves out out′ (cells .0) (cells .1) (cells .2))
+    LeavesIn cells = OfExpanded read x (LeavesFormula out out′ (cells .0) (cells .1) (cells .2))
 
     pub fits-expand : (answer : Expanded) → Expands rule f x out out′ answer → Fits Any (expandedSaid answer)
     fits-expand answer said =
@@ -42,7 +42,7 @@ module _ (rule : ℕ) (f : Lent) (x : ℕ) (out : ResultTables) where
 
     pub tell-expand : (answer : Expanded) {count entries literals count′ entries′ literals′ place place′ returned : ℕ}
         → Laid (expandedSaid answer) (count, entries, literals) (count′, entries′, literals′) place place′ returned → Expands rule f x out out′ answer
-        → Told (expandOrder rule f x out) (OfExpanded read x (Leaves out out′ count′ entries′ literals′))
+        → Told (expandOrder rule f x out) (OfExpanded read x (LeavesFormula out out′ count′ entries′ literals′))
         ((count′ ≡ count) × (entries′ ≡ entries) × (literals′ ≡ literals) × (out′ ≡ out)) returned place place′
     tell-expand answer laid said =
         tell-known (expandOrder rule f x out) LeavesIn (out′ ≡ out) laid said
@@ -50,6 +50,6 @@ module _ (rule : ℕ) (f : Lent) (x : ℕ) (out : ResultTables) where
 
   -- what expanding gives: the cells and the tables
   pub expanded-tight : {a b : ResultTables} {count entries literals count′ entries′ literals′ : ℕ} → NoneOf (expandOrder rule f x out)
-      → OfExpanded read x (Leaves out a count entries literals) → OfExpanded read x (Leaves out b count′ entries′ literals′)
+      → OfExpanded read x (LeavesFormula out a count entries literals) → OfExpanded read x (LeavesFormula out b count′ entries′ literals′)
       → (Formula count entries literals ≡ Formula count′ entries′ literals′) × (a ≡ b)
   expanded-tight none g h = expand-settled rule f x out _ _ (Formula _ _ _) (Formula _ _ _) (none, g) (none, h)

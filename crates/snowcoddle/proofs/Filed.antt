@@ -13,7 +13,7 @@ use Rattle.formula_rules.specs.Rules.{NoRule, readAs, readBy, checkOrder}
 use Rattle.file_format.specs.Layout.{SumsToZero}
 use Rattle.file_format.specs.Places.{formulaHeld}
 use Rattle.file_format.specs.Causes.{fileBytes, TooLarge, RecordCause, OrderCause, wrong, missing, ForestFileCause, rows-disagree, sets-disagree}
-use Rattle.file_format.specs.Causes.{Lent, NoRoom, FileTooLarge, FileTooLong, loadOrder, storeOrder}
+use Rattle.file_format.specs.Causes.{Lent, NoFileRoom, FileTooLarge, FileTooLong, loadOrder, storeOrder}
 use Rattle.file_format.specs.InnerOrders.{fileOrder, tableOrder, behindStore}
 use Rattle.file_format.specs.Promises.{Loads}
 use Rattle.file_layout.specs.InnerLaid.{Laid}
@@ -25,7 +25,7 @@ use Rattle.c_answers.specs.Codes.{tellsSets}
 use Rattle.c_answers.specs.InnerCells.{Fits, Laid as InCells}
 use Rattle.c_answers.specs.InnerFormulas.{LoadedInCells, loadedCells}
 use Rattle.snowcoddle.specs.Told.{Told}
-use Rattle.snowcoddle.specs.Filed.{Given}
+use Rattle.snowcoddle.specs.Filed.{GivenByFile}
 use Rattle.snowcoddle.proofs.Places.{Small, small-then, small-within, small-at0, small-none, small-zero, small-check}
 use Rattle.snowcoddle.proofs.Telling.{fits-known, tell-known}
 
@@ -66,17 +66,17 @@ module _ (file : List ℕ) where
       let held = formulaHeld file in
       let order = tableOrder rule held in
       let rows = ForestFileCause (readBy rule held) file in
-      let last = At0 14 (NoRoom held lent) ∷ [] in
+      let last = At0 14 (NoFileRoom held lent) ∷ [] in
       small-then (At0 23 (NoRule rule) ∷ []) (fileOrder file ++ (order ++ (rows ∷ last))) (small-at0 23 (NoRule rule))
       (λ ruled. small-then (fileOrder file) (order ++ (rows ∷ last)) small-file
       (λ none. small-then order (rows ∷ last) (λ k p first. small-check rule held k p (inr (ruled .0, first)))
       (λ _. small-then (rows ∷ []) last (small-within rows fileBytes (omega arith) (λ k p cause. forest-place (file-laid file none) cause))
-      (λ _. small-at0 14 (NoRoom held lent)))))
+      (λ _. small-at0 14 (NoFileRoom held lent)))))
 
 -- What loading gives is told: n, the counts and whether there are sets, with the tables.
 module _ (rule : ℕ) (file : List ℕ) (lent lent′ : Lent) where
   abbrev GivenIn : ℕ × ℕ × ℕ × ℕ → Type 0
-  GivenIn cells = Given rule file lent lent′ (cells .0) (cells .1) (cells .2) (cells .3)
+  GivenIn cells = GivenByFile rule file lent lent′ (cells .0) (cells .1) (cells .2) (cells .3)
 
   load-known : (answer : Loaded) → Loads rule file lent lent′ answer → Settles (loadOrder rule file lent) GivenIn (lent′ ≡ lent) (loadedCells answer)
   load-known (Loaded.Formula n entries literals there) said = (
@@ -102,7 +102,7 @@ module _ (rule : ℕ) (file : List ℕ) (lent lent′ : Lent) where
   pub tell-load : (answer : Loaded) {n entries literals with-sets n′ entries′ literals′ with-sets′ place place′ returned : ℕ}
       → InCells (loadedCells answer) (n, entries, literals, with-sets) (n′, entries′, literals′, with-sets′) place place′ returned
       → Loads rule file lent lent′ answer
-      → Told (loadOrder rule file lent) (Given rule file lent lent′ n′ entries′ literals′ with-sets′)
+      → Told (loadOrder rule file lent) (GivenByFile rule file lent lent′ n′ entries′ literals′ with-sets′)
       ((n′ ≡ n) × (entries′ ≡ entries) × (literals′ ≡ literals) × (with-sets′ ≡ with-sets) × (lent′ ≡ lent)) returned place place′
   tell-load answer laid said =
       tell-known (loadOrder rule file lent) GivenIn (lent′ ≡ lent) laid (load-known answer said)

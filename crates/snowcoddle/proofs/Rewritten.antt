@@ -13,7 +13,7 @@ use Rattle.terms.specs.declared.Tally.{Tally}
 use Rattle.formula.specs.Lent.{Formula}
 use Rattle.formula_rules.specs.Rules.{readAs, readBy}
 use Rattle.forest_tables.specs.Lent.{Rows, variablesOf}
-use Rattle.grow.specs.Grown.{Standing, standing, tableOf, buildOrder, addOrder, Extended, Grown, Tallies, Took, Rewrites, Builds, Adds}
+use Rattle.grow.specs.Grown.{Standing, standing, forestIn, buildOrder, addOrder, Extended, Grown, Tallies, Took, Rewrites, Builds, Adds}
 use Rattle.c_answers.specs.Codes.{tallyIn}
 use Rattle.c_answers.specs.InnerCells.{Fits, Any, Laid, filledSaid, builtSaid, addedSaid}
 use Rattle.snowcoddle.specs.Told.{Told, Left}
@@ -79,13 +79,13 @@ module _ (r r′ : Rows) (cells : List ℕ) where
       → Adds rule n es (standing r lent) ls (standing r′ tally) answer
       → Told (addOrder rule n es (standing r (tallyIn cells)) ls)
       (Left (λ s. Grown (variables n (readAs rule es))
-      (Extended (variables n (readAs rule es)) (tableOf (variables n (readAs rule es)) (standing r (tallyIn cells))) ls) (standing r (tallyIn cells)) s
+      (Extended (variables n (readAs rule es)) (forestIn (variables n (readAs rule es)) (standing r (tallyIn cells))) ls) (standing r (tallyIn cells)) s
       × Took (variables n (readAs rule es)) (standing r (tallyIn cells)) s) r′ cells′)
       ((r′ .classes ≡ r .classes) × (r′ .parents ≡ r .parents) × (r′ .counts ≡ r .counts) × (cells′ ≡ cells)) returned place place′
   tell-added rule n es ls tally answer q laid adds =
       let s = standing r (tallyIn cells) in
       let X = variables n (readAs rule es) in
-      let J = Extended X (tableOf X s) ls in
+      let J = Extended X (forestIn X s) ls in
       let order = addOrder rule n es s ls in
       let b = subst (λ (t : Tally). Adds rule n es (standing r t) ls (standing r′ tally) answer) q adds in
       tell-known order (Leave order X J (Took X s) (tallyIn cells) tally) Stay laid (added-known order X J (Took X s) (tallyIn cells) tally answer b)

@@ -8,7 +8,7 @@ use Rattle.terms.specs.declared.Verdict.the-variants.{Accepted, Refused}
 use Rattle.terms.specs.Refusals.{Causes, FirstOf, NoneOf, Judged}
 use Rattle.terms.specs.declared.EntryAnswer.{EntryAnswer}
 use Rattle.terms.specs.declared.Scheme.{Scheme}
-use Rattle.terms.specs.Answers.{Settles, Answered, Numbered, InFront, Filling}
+use Rattle.terms.specs.Answers.{Settles, Answered, AnsweredNumber, InFront, Filling}
 use Rattle.c_answers.specs.InnerCells.{Said, gives, refuses, numberOf, Fits, Any, Laid, given, placed, verdictSaid, filledSaid, entrySaid}
 use Rattle.snowcoddle.specs.Told.{Told, accepted, refused}
 use Rattle.snowcoddle.proofs.Places.{Small}
@@ -77,16 +77,16 @@ tell-filling-by order L out out′ {found} q answer {count} {count′} {place} {
 
 -- A number: given in its cell, of which P holds.
 module _ (order : List Causes) (P : ℕ → Type 0) where
-  pub fits-numbered : (answer : Filled) → Small order → Numbered order P answer → Fits Any (filledSaid answer)
+  pub fits-numbered : (answer : Filled) → Small order → AnsweredNumber order P answer → Fits Any (filledSaid answer)
   fits-numbered answer small said = fits-known order P (Unit {0}) Any (filledSaid answer) small (λ _ _ _. tt) said
 
   pub tell-numbered : (answer : Filled) {cell cell′ place place′ returned : ℕ} → Laid (filledSaid answer) cell cell′ place place′ returned
-      → Numbered order P answer → Told order (P cell′) (cell′ ≡ cell) returned place place′
+      → AnsweredNumber order P answer → Told order (P cell′) (cell′ ≡ cell) returned place place′
   tell-numbered answer laid said = tell-known order P (Unit {0}) laid said (λ r _. r)
 
 pub tell-numbered-by : (order : List Causes) (P : Scheme → ℕ → Type 0) {found asked : Scheme} → found ≡ asked
     → (answer : Filled) {cell cell′ place place′ returned : ℕ} → Laid (filledSaid answer) cell cell′ place place′ returned
-    → Numbered order (P found) answer → Told order (P asked cell′) (cell′ ≡ cell) returned place place′
+    → AnsweredNumber order (P found) answer → Told order (P asked cell′) (cell′ ≡ cell) returned place place′
 tell-numbered-by order P {found} q answer {cell} {cell′} {place} {place′} {returned} laid said =
     subst (λ (s : Scheme). Told order (P s cell′) (cell′ ≡ cell) returned place place′) q (tell-numbered order (P found) answer laid said)
 

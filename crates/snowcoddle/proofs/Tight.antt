@@ -17,7 +17,7 @@ use Rattle.formula.specs.Lent.{Formula}
 use Rattle.formula_rules.specs.Rules.{readAs, readBy}
 use Rattle.forest_tables.specs.Formula.{variables, Shares}
 use Rattle.forest_tables.specs.Lent.{Rows, variablesOf}
-use Rattle.grow.specs.Grown.{Standing, tableOf, buildOrder, addOrder, Extended, Grown, Tallies, Took, Builds, Adds}
+use Rattle.grow.specs.Grown.{Standing, forestIn, buildOrder, addOrder, Extended, Grown, Tallies, Took, Builds, Adds}
 use Rattle.grow.proofs.Tight.{build-tight, add-tight}
 use Rattle.file_format.specs.Layout.{FileOf}
 use Rattle.file_format.specs.Places.{formulaHeld, hasSets}
@@ -26,7 +26,7 @@ use Rattle.file_format.proofs.Unique.{file-unique}
 use Rattle.file_format.proofs.Settled.{load-settled}
 use Rattle.c_answers.specs.Codes.{cellsOf}
 use Rattle.snowcoddle.specs.Told.{Told, accepted, refused, Left}
-use Rattle.snowcoddle.specs.Filed.{Given}
+use Rattle.snowcoddle.specs.Filed.{GivenByFile}
 
 numberIn : Verdict → ℕ
 numberIn Accepted = 0
@@ -68,7 +68,7 @@ module _ (rule : ℕ) (f : Formula) (s : Standing) where
 -- what add leaves
 module _ (rule n : ℕ) (es : List ℕ) (ls : List ℤ) (s : Standing) where
   abbrev Added : Standing → Type 0
-  Added a = let X = variables n (readAs rule es) in Grown X (Extended X (tableOf X s) ls) s a × Took X s a
+  Added a = let X = variables n (readAs rule es) in Grown X (Extended X (forestIn X s) ls) s a × Took X s a
 
   pub added-tight : {r r′ : Rows} {after after′ : List ℕ} → NoneOf (addOrder rule n es s ls)
       → Left Added r after → Left Added r′ after′ → (r ≡ r′) × (after ≡ after′)
@@ -86,7 +86,7 @@ stored-tight rule f before (file, g, q, r) (file′, h, q′, r′) =
 
 -- what load gives: the cells and the tables
 pub loaded-tight : (rule : ℕ) (file : List ℕ) (lent a b : Lent) {n entries literals with-sets n′ entries′ literals′ with-sets′ : ℕ}
-    → NoneOf (loadOrder rule file lent) → Given rule file lent a n entries literals with-sets → Given rule file lent b n′ entries′ literals′ with-sets′
+    → NoneOf (loadOrder rule file lent) → GivenByFile rule file lent a n entries literals with-sets → GivenByFile rule file lent b n′ entries′ literals′ with-sets′
     → (n ≡ n′) × (entries ≡ entries′) × (literals ≡ literals′) × (with-sets ≡ with-sets′) × (a ≡ b)
 loaded-tight rule file lent a b none f g =
     let held = formulaHeld file in

@@ -10,7 +10,7 @@ use Rattle.file_format.specs.Promises.{FilledFrom}
 use Rattle.c_answers.specs.Codes.{tellsSets}
 
 -- n, how many entries prefix and clauses have, and whether sets were there, as the file has them; with the lent tables filled
-pub record Given (rule : ℕ) (file : List ℕ) (lent lent′ : Lent) (n entries literals with-sets : ℕ) : Type 0 where
+pub record GivenByFile (rule : ℕ) (file : List ℕ) (lent lent′ : Lent) (n entries literals with-sets : ℕ) : Type 0 where
   pub count : n ≡ formulaHeld file .n
   pub prefix-count : entries ≡ length (formulaHeld file .prefix)
   pub clauses-count : literals ≡ length (formulaHeld file .clauses)

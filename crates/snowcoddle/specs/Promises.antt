@@ -19,13 +19,13 @@ use Rattle.forest_tables.specs.Lent.{Rows, rowsIn, rowsOut, variablesOf}
 use Rattle.forest.specs.Causes.{entryOrder, askOrder, listOrder}
 use Rattle.forest.specs.Answers.{Entry, EntriesBy, MembersBy, SizeBy}
 use Rattle.sets.specs.Sets.{AllSetsBy, setsOrder}
-use Rattle.grow.specs.Grown.{Standing, standing, tableOf, buildOrder, addOrder, Extended, Grown, Tallies, Took}
+use Rattle.grow.specs.Grown.{Standing, standing, forestIn, buildOrder, addOrder, Extended, Grown, Tallies, Took}
 use Rattle.text_write.specs.Stored.{Stored}
 use Rattle.text_qdimacs.specs.Reading.{readOrder, ReadInto}
 use Rattle.text_qdimacs.specs.Stored.{formulaText, writingOrder}
 use Rattle.path_check.specs.Causes.{pathOrder}
 use Rattle.path_resolution.specs.Paths.{DependsByPaths, resolutionOrder}
-use Rattle.expand.specs.Promise.{resultIn, resultOut, OfExpanded, Leaves, expandOrder}
+use Rattle.expand.specs.Promise.{resultIn, resultOut, OfExpanded, LeavesFormula, expandOrder}
 use Rattle.dqbf_lists.specs.Causes.{checkListsOrder}
 use Rattle.dqbf_sets.specs.Answers.{setOrder}
 use Rattle.dqbf_sets.specs.Depends.{DependsOnBy}
@@ -35,72 +35,72 @@ use Rattle.file_format.specs.Layout.{FileOf}
 use Rattle.file_format.specs.Causes.{Lent, loadOrder, storeOrder}
 use Rattle.c_answers.specs.Codes.{schemeOf, tallyIn}
 use Rattle.snowcoddle.specs.Told.{Told, Clause, Left}
-use Rattle.snowcoddle.specs.Filed.{Given}
+use Rattle.snowcoddle.specs.Filed.{GivenByFile}
 
 -- a cell, and a table, that a call may write: as it was lent, and as the call leaves it
-abbrev pub Cell : Type 0
-Cell = Both (RefT ℕ) (RefT ℕ)
+abbrev pub LentCell : Type 0
+LentCell = Both (RefT ℕ) (RefT ℕ)
 
-abbrev pub Table : Type 0
-Table = Both (RefT (List ℕ)) (RefT (List ℕ))
+abbrev pub LentTable : Type 0
+LentTable = Both (RefT (List ℕ)) (RefT (List ℕ))
 
-abbrev pub Literals : Type 0
-Literals = Both (RefT (List ℤ)) (RefT (List ℤ))
+abbrev pub LentLiterals : Type 0
+LentLiterals = Both (RefT (List ℤ)) (RefT (List ℤ))
 
 -- it holds what it held
 abbrev pub Kept : {A : Type 0} → Both (RefT A) (RefT A) → Type 0
 Kept lent = now (lent .exit) ≡ now (lent .entry)
 
 -- what is told, with the place of a refusal in its cell
-abbrev pub Tells : List Causes → Type 0 → Type 0 → Cell → ℕ → Type 0
+abbrev pub Tells : List Causes → Type 0 → Type 0 → LentCell → ℕ → Type 0
 Tells order given kept place returned = Told order given kept returned (now (place .entry)) (now (place .exit))
 
 -- a list of which L holds is written into `out`, with its length in the cell `count`
-abbrev pub TellsList : List Causes → (List ℕ → Type 0) → Table → Cell → Cell → ℕ → Type 0
+abbrev pub TellsList : List Causes → (List ℕ → Type 0) → LentTable → LentCell → LentCell → ℕ → Type 0
 TellsList order L out count = Tells order (InFront L (now (out .entry)) (now (out .exit)) (now (count .exit))) (Kept count × Kept out)
 
 -- check: nothing is given but the place of a refusal
-abbrev pub CheckTold : ℕ → Formula → Cell → ℕ → Type 0
+abbrev pub CheckTold : ℕ → Formula → LentCell → ℕ → Type 0
 CheckTold rule f = Tells (checkOrder rule f) (Unit {0}) (Unit {0})
 
 -- the clause with a number: where it stands in the lent table, and how many literals it has
-abbrev pub ClauseTold : ℕ → List ℤ → ℕ → Cell → Cell → Cell → ℕ → Type 0
+abbrev pub ClauseTold : ℕ → List ℤ → ℕ → LentCell → LentCell → LentCell → ℕ → Type 0
 ClauseTold n ls asked start len = Tells (clauseOrder n ls asked) (Clause ls asked (now (start .exit)) (now (len .exit))) (Kept start × Kept len)
 
 -- the entry point of x for y, and its rises
-abbrev pub EntryTold : ℕ → Formula → Rows → ℕ → ℕ → Cell → Cell → Cell → ℕ → Type 0
+abbrev pub EntryTold : ℕ → Formula → Rows → ℕ → ℕ → LentCell → LentCell → LentCell → ℕ → Type 0
 EntryTold rule f r x y entry rises =
     Tells (entryOrder rule f r x y) (Entry (readBy rule f) r x y (now (entry .exit)) (now (rises .exit))) (Kept entry × Kept rises)
 
 -- the entry points of x by a scheme, its set, and its size
-abbrev pub EntriesTold : ℕ → Scheme → Formula → Rows → ℕ → Table → Cell → Cell → ℕ → Type 0
+abbrev pub EntriesTold : ℕ → Scheme → Formula → Rows → ℕ → LentTable → LentCell → LentCell → ℕ → Type 0
 EntriesTold rule scheme f r x out =
     TellsList (listOrder rule f r x (EntriesBy scheme (readBy rule f) r x) (now (out .entry))) (Listed (EntriesBy scheme (readBy rule f) r x)) out
 
-abbrev pub SetTold : ℕ → Scheme → Formula → Rows → ℕ → Table → Cell → Cell → ℕ → Type 0
+abbrev pub SetTold : ℕ → Scheme → Formula → Rows → ℕ → LentTable → LentCell → LentCell → ℕ → Type 0
 SetTold rule scheme f r x out =
     TellsList (listOrder rule f r x (MembersBy scheme (readBy rule f) r x) (now (out .entry))) (Listed (MembersBy scheme (readBy rule f) r x)) out
 
-abbrev pub SizeTold : ℕ → Scheme → Formula → Rows → ℕ → Cell → Cell → ℕ → Type 0
+abbrev pub SizeTold : ℕ → Scheme → Formula → Rows → ℕ → LentCell → LentCell → ℕ → Type 0
 SizeTold rule scheme f r x size = Tells (askOrder rule f r x) (SizeBy scheme (readBy rule f) r x (now (size .exit))) (Kept size)
 
 -- the sets of all universals by a scheme
-abbrev pub SetsTold : ℕ → Scheme → Formula → Rows → Table → Cell → Cell → ℕ → Type 0
+abbrev pub SetsTold : ℕ → Scheme → Formula → Rows → LentTable → LentCell → LentCell → ℕ → Type 0
 SetsTold rule scheme f r out = TellsList (setsOrder rule scheme f r (now (out .entry))) (AllSetsBy scheme (readBy rule f) r) out
 
 -- what stands before build and add: the lent rows, and the tally in its cells
-abbrev pub lentStanding : Table → Table → Table → Table → Standing
+abbrev pub lentStanding : LentTable → LentTable → LentTable → LentTable → Standing
 lentStanding classes parents counts tally = standing (rowsIn classes parents counts) (tallyIn (now (tally .entry)))
 
 -- what they leave, of which S holds; and that all is kept
-abbrev pub LeftTold : (Standing → Type 0) → Table → Table → Table → Table → Type 0
+abbrev pub LeftTold : (Standing → Type 0) → LentTable → LentTable → LentTable → LentTable → Type 0
 LeftTold S classes parents counts tally = Left S (rowsOut classes parents counts) (now (tally .exit))
 
-abbrev pub RowsKept : Table → Table → Table → Table → Type 0
+abbrev pub RowsKept : LentTable → LentTable → LentTable → LentTable → Type 0
 RowsKept classes parents counts tally = Kept classes × Kept parents × Kept counts × Kept tally
 
 -- build: the rows of the forest and the tally of the list, with n as the count
-abbrev pub BuildTold : ℕ → Formula → Table → Table → Table → Table → Cell → Cell → ℕ → Type 0
+abbrev pub BuildTold : ℕ → Formula → LentTable → LentTable → LentTable → LentTable → LentCell → LentCell → ℕ → Type 0
 BuildTold rule f classes parents counts tally count =
     Tells (buildOrder rule f (lentStanding classes parents counts tally))
     ((now (count .exit) ≡ f .n)
@@ -108,17 +108,17 @@ BuildTold rule f classes parents counts tally count =
     × Tallies (variablesOf (readBy rule f)) (f .clauses) s) classes parents counts tally) (Kept count × RowsKept classes parents counts tally)
 
 -- add: the rows of the forest with the clause, and the tally with the clause taken
-abbrev pub AddTold : ℕ → ℕ → List ℕ → Table → Table → Table → Table → List ℤ → Cell → ℕ → Type 0
+abbrev pub AddTold : ℕ → ℕ → List ℕ → LentTable → LentTable → LentTable → LentTable → List ℤ → LentCell → ℕ → Type 0
 AddTold rule n es classes parents counts tally ls =
     Tells (addOrder rule n es (lentStanding classes parents counts tally) ls)
     (LeftTold (λ s. Grown (variables n (readAs rule es))
-    (Extended (variables n (readAs rule es)) (tableOf (variables n (readAs rule es)) (lentStanding classes parents counts tally)) ls)
+    (Extended (variables n (readAs rule es)) (forestIn (variables n (readAs rule es)) (lentStanding classes parents counts tally)) ls)
     (lentStanding classes parents counts tally) s
     × Took (variables n (readAs rule es)) (lentStanding classes parents counts tally) s) classes parents counts tally)
     (RowsKept classes parents counts tally)
 
 -- read: n, and both tables of the formula with the counts of their entries
-abbrev pub ReadTold : List ℕ → Cell → Table → Cell → Literals → Cell → Cell → ℕ → Type 0
+abbrev pub ReadTold : List ℕ → LentCell → LentTable → LentCell → LentLiterals → LentCell → LentCell → ℕ → Type 0
 ReadTold text n prefix entries clauses literals =
     Tells (readOrder text (now (prefix .entry)) (now (clauses .entry)))
     (ReadInto (now (n .exit)) (now (entries .exit)) (now (literals .exit)) text (now (prefix .entry)) (now (prefix .exit)) (now (clauses .entry))
@@ -126,38 +126,38 @@ ReadTold text n prefix entries clauses literals =
     (Kept n × Kept entries × Kept literals × Kept prefix × Kept clauses)
 
 -- write: the text of the formula, with the count of its bytes
-abbrev pub WriteTold : ℕ → Formula → Table → Cell → Cell → ℕ → Type 0
+abbrev pub WriteTold : ℕ → Formula → LentTable → LentCell → LentCell → ℕ → Type 0
 WriteTold rule f text count =
     Tells (writingOrder rule f (now (text .entry))) (Stored (formulaText f) (now (text .entry)) (now (text .exit)) (now (count .exit)))
     (Kept count × Kept text)
 
 -- the path check: nothing is given but the place of a refusal
-abbrev pub PathTold : ℕ → Formula → ℕ → ℕ → List ℕ → Cell → ℕ → Type 0
+abbrev pub PathTold : ℕ → Formula → ℕ → ℕ → List ℕ → LentCell → ℕ → Type 0
 PathTold rule f x y path = Tells (pathOrder rule f x y path) (Unit {0}) (Unit {0})
 
 -- the resolution-path set of x
-abbrev pub ResolutionTold : ℕ → Formula → ℕ → Table → Cell → Cell → ℕ → Type 0
+abbrev pub ResolutionTold : ℕ → Formula → ℕ → LentTable → LentCell → LentCell → ℕ → Type 0
 ResolutionTold rule f x out =
     TellsList (resolutionOrder rule f x (now (out .entry))) (Listed (DependsByPaths (variablesOf (readBy rule f)) (f .clauses) x)) out
 
 -- expand: n, and both tables of the formula with x removed, with the counts of their entries
-abbrev pub ExpandTold : ℕ → Formula → ℕ → Cell → Table → Cell → Literals → Cell → Cell → ℕ → Type 0
+abbrev pub ExpandTold : ℕ → Formula → ℕ → LentCell → LentTable → LentCell → LentLiterals → LentCell → LentCell → ℕ → Type 0
 ExpandTold rule f x n prefix entries clauses literals =
     Tells (expandOrder rule f x (resultIn prefix clauses))
     (OfExpanded (readBy rule f) x
-    (Leaves (resultIn prefix clauses) (resultOut prefix clauses) (now (n .exit)) (now (entries .exit)) (now (literals .exit))))
+    (LeavesFormula (resultIn prefix clauses) (resultOut prefix clauses) (now (n .exit)) (now (entries .exit)) (now (literals .exit))))
     (Kept n × Kept entries × Kept literals × (resultOut prefix clauses ≡ resultIn prefix clauses))
 
 -- check with lists, and the set of x by lists and a scheme
-abbrev pub CheckListsTold : ℕ → Formula → List ℕ → Cell → ℕ → Type 0
+abbrev pub CheckListsTold : ℕ → Formula → List ℕ → LentCell → ℕ → Type 0
 CheckListsTold rule f ds = Tells (checkListsOrder rule f ds) (Unit {0}) (Unit {0})
 
-abbrev pub ListedSetTold : ℕ → Scheme → Formula → List ℕ → ℕ → Table → Cell → Cell → ℕ → Type 0
+abbrev pub ListedSetTold : ℕ → Scheme → Formula → List ℕ → ℕ → LentTable → LentCell → LentCell → ℕ → Type 0
 ListedSetTold rule scheme f ds x out =
     TellsList (setOrder rule f ds x (DependsOnBy scheme (readBy rule f) ds x) (now (out .entry))) (Listed (DependsOnBy scheme (readBy rule f) ds x)) out
 
 -- read with lists: n, and the three tables with the counts of their entries
-abbrev pub ReadListsTold : List ℕ → Cell → Table → Cell → Literals → Cell → Table → Cell → Cell → ℕ → Type 0
+abbrev pub ReadListsTold : List ℕ → LentCell → LentTable → LentCell → LentLiterals → LentCell → LentTable → LentCell → LentCell → ℕ → Type 0
 ReadListsTold text n prefix entries clauses literals lists rows =
     Tells (Listed·readOrder text (now (prefix .entry), now (clauses .entry), now (lists .entry)))
     (Listed·ReadInto (now (n .exit)) (now (entries .exit)) (now (literals .exit)) (now (rows .exit)) text
@@ -165,18 +165,18 @@ ReadListsTold text n prefix entries clauses literals lists rows =
     (Kept n × Kept entries × Kept literals × Kept rows × Kept prefix × Kept clauses × Kept lists)
 
 -- write with lists: the text of the formula and its lists, with the count of its bytes
-abbrev pub WriteListsTold : ℕ → Formula → List ℕ → Table → Cell → Cell → ℕ → Type 0
+abbrev pub WriteListsTold : ℕ → Formula → List ℕ → LentTable → LentCell → LentCell → ℕ → Type 0
 WriteListsTold rule f ds text count =
     Tells (listedWritingOrder rule f ds (now (text .entry))) (Stored (listedText f ds) (now (text .entry)) (now (text .exit)) (now (count .exit)))
     (Kept count × Kept text)
 
 -- store: the file of the formula, with the count of its bytes
-abbrev pub StoreTold : ℕ → Formula → Table → Cell → Cell → ℕ → Type 0
+abbrev pub StoreTold : ℕ → Formula → LentTable → LentCell → LentCell → ℕ → Type 0
 StoreTold rule f file = TellsList (storeOrder rule f (now (file .entry))) (FileOf rule f) file
 
 -- load: n, both tables of the formula with the counts of their entries, the rows of its forest, and whether the file has sets
-abbrev pub LoadTold : ℕ → List ℕ → Lent → Lent → Cell → Cell → Cell → Cell → Cell → ℕ → Type 0
+abbrev pub LoadTold : ℕ → List ℕ → Lent → Lent → LentCell → LentCell → LentCell → LentCell → LentCell → ℕ → Type 0
 LoadTold rule file lent lent′ n entries literals with-sets =
     Tells (loadOrder rule file lent)
-    (Given rule file lent lent′ (now (n .exit)) (now (entries .exit)) (now (literals .exit)) (now (with-sets .exit)))
+    (GivenByFile rule file lent lent′ (now (n .exit)) (now (entries .exit)) (now (literals .exit)) (now (with-sets .exit)))
     (Kept n × Kept entries × Kept literals × Kept with-sets × (lent′ ≡ lent))

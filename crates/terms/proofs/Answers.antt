@@ -13,7 +13,7 @@ use Rattle.terms.specs.declared.Variable.{Variable}
 use Rattle.terms.specs.Listed.{Listed}
 use Rattle.terms.specs.Overwritten.{overwritten}
 use Rattle.terms.specs.Says.{Said, gives, refuses, filledSaid, entrySaid}
-use Rattle.terms.specs.Answers.{Settles, Answered, Numbered, InFront, Filling, Listing}
+use Rattle.terms.specs.Answers.{Settles, Answered, AnsweredNumber, InFront, Filling, Listing}
 use Rattle.terms.proofs.Verdicts.{firstOf-same, first-or-none}
 use Rattle.terms.proofs.Orders.{Carries}
 use Rattle.terms.proofs.Listed.{listed-one}
@@ -42,7 +42,7 @@ listing-settled order P before after after′ r r′ l l′ = filling-settled or
 
 -- What was lent settles a number, if there is one of which P holds.
 pub numbered-settled : (order : List Causes) (P : ℕ → Type 0) → ((k k′ : ℕ) → P k → P k′ → k ≡ k′)
-    → (r r′ : Filled) → Numbered order P r → Numbered order P r′ → r ≡ r′
+    → (r r′ : Filled) → AnsweredNumber order P r → AnsweredNumber order P r′ → r ≡ r′
 numbered-settled order P one (Filled.Count k) (Filled.Count k′) (none, a) (none′, b) = ap Count (one k k′ a b)
 numbered-settled order P one (Filled.Count k) (Filled.Refused number place) (none, a) (first, b) = absurd (first-or-none order number place first none)
 numbered-settled order P one (Filled.Refused number place) (Filled.Count k) (first, b) (none, a) = absurd (first-or-none order number place first none)
@@ -75,7 +75,7 @@ pub carry-filling : (L : List ℕ → Type 0) (before after : List ℕ) (r : Fil
     → Carries order order′ → Filling order L before after r → Filling order′ L before after r
 carry-filling L before after r = carry-settles (InFront L before after) (after ≡ before) (filledSaid r)
 
-pub carry-numbered : (P : ℕ → Type 0) (r : Filled) (order order′ : List Causes) → Carries order order′ → Numbered order P r → Numbered order′ P r
+pub carry-numbered : (P : ℕ → Type 0) (r : Filled) (order order′ : List Causes) → Carries order order′ → AnsweredNumber order P r → AnsweredNumber order′ P r
 carry-numbered P r = carry-settles P (Unit {0}) (filledSaid r)
 
 pub carry-answered : (P : ℕ → ℕ → Type 0) (r : EntryAnswer) (order order′ : List Causes) → Carries order order′ → Answered order P r → Answered order′ P r

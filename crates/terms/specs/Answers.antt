@@ -33,8 +33,8 @@ abbrev pub Answered : List Causes → (ℕ → ℕ → Type 0) → EntryAnswer �
 Answered order P answer = Settles order (λ (point : ℕ × ℕ). P (point .0) (point .1)) (Unit {0}) (entrySaid answer)
 
 -- a call that answers with a number, of which P holds
-abbrev pub Numbered : List Causes → (ℕ → Type 0) → Filled → Type 0
-Numbered order P answer = Settles order P (Unit {0}) (filledSaid answer)
+abbrev pub AnsweredNumber : List Causes → (ℕ → Type 0) → Filled → Type 0
+AnsweredNumber order P answer = Settles order P (Unit {0}) (filledSaid answer)
 
 -- a list of which L holds stands in front in a lent table, with nothing past it changed, and the count is its length
 abbrev pub InFront : (List ℕ → Type 0) → List ℕ → List ℕ → ℕ → Type 0

@@ -9,7 +9,7 @@ use lib.Dec.{leb}
 use lib.IntN.{ℤ}
 use Rattle.text_words.specs.Words.{SPACE, MINUS, ZERO, LETTER-A, LETTER-C, LETTER-E, LETTER-P, onto, pieces, filled, words, Spells, LiteralWord}
 use Rattle.text_words.specs.InnerNumbers.{NINE, allDigits}
-use Rattle.text_words.specs.Words.{literal-word, negated-word, Literals, closing, entry}
+use Rattle.text_words.specs.Words.{literal-word, negated-word, LiteralWords, closing, entry}
 use Rattle.text_words.specs.InnerPlaces.{front, later}
 use Rattle.text_words.proofs.Numbers.{both}
 use Rattle.text_words.proofs.Lines.{front-later}
@@ -25,7 +25,7 @@ literal-low : {word : List ℕ} {z : ℤ} (b : ℕ) (bs : List ℕ) → LiteralW
 literal-low b bs (literal-word {v = v} s some) e = let t : Spells (b ∷ bs) v = subst (λ (x : List ℕ). Spells x v) e s in number-low b bs t
 literal-low b bs (negated-word s some) e = let q : MINUS ≡ b = cc in omega arith
 
-literals-low : {ws : List (List ℕ)} {es : List ℤ} (b : ℕ) (bs : List ℕ) (more : List (List ℕ)) → Literals ws es → ws ≡ (b ∷ bs) ∷ more → b ≤ NINE
+literals-low : {ws : List (List ℕ)} {es : List ℤ} (b : ℕ) (bs : List ℕ) (more : List (List ℕ)) → LiteralWords ws es → ws ≡ (b ∷ bs) ∷ more → b ≤ NINE
 literals-low b bs more (closing {word} s) e = let q : word ≡ b ∷ bs = cc in number-low b bs (subst (λ (x : List ℕ). Spells x 0) q s)
 literals-low b bs more (entry {word} l r) e = let q : word ≡ b ∷ bs = cc in literal-low b bs l q
 
@@ -80,7 +80,7 @@ problem-same {n = n} {m = m} {n′ = n′} {m′ = m′} (p-cnf {number = a} {co
     (spells-same n-is (subst (λ (w : List ℕ). Spells w n′) q n-is′), spells-same m-is (subst (λ (w : List ℕ). Spells w m′) r m-is′))
 
 -- The empty line is of no kind.
-literals-some : {ws : List (List ℕ)} {es : List ℤ} → Literals ws es → ws ≡ [] → ⊥
+literals-some : {ws : List (List ℕ)} {es : List ℤ} → LiteralWords ws es → ws ≡ [] → ⊥
 literals-some (closing s) e = let no : _≡_ {A = ℕ} 0 1 = cc in omega arith
 literals-some (entry l r) e = let no : _≡_ {A = ℕ} 0 1 = cc in omega arith
 

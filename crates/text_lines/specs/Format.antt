@@ -6,7 +6,7 @@ use mathlib.Core.List.{List, [], _∷_, _++_}
 use mathlib.Core.Logic.{_≢_}
 use lib.ListN.{length}
 use lib.IntN.{ℤ}
-use Rattle.text_words.specs.Words.{LF, LETTER-A, LETTER-C, LETTER-E, LETTER-F, LETTER-N, LETTER-P, pieces, words, Spells, Variables, Literals}
+use Rattle.text_words.specs.Words.{LF, LETTER-A, LETTER-C, LETTER-E, LETTER-F, LETTER-N, LETTER-P, pieces, words, Spells, VariableWords, LiteralWords}
 
 -- A comment: begins with c; any bytes.
 pub data CommentLine : List ℕ → Type 0 where
@@ -19,14 +19,14 @@ pub data ProblemLine : List ℕ → ℕ → ℕ → Type 0 where
 
 -- A quantifier line, `e` or `a`, variables or none, `0`, and its entries in the prefix table: the mark, the variables, 0.
 pub data QuantifierLine : List ℕ → List ℕ → Type 0 where
-  e-line : {line entries : List ℕ} {more : List (List ℕ)} → words line ≡ (LETTER-E ∷ []) ∷ more → Variables more entries
+  e-line : {line entries : List ℕ} {more : List (List ℕ)} → words line ≡ (LETTER-E ∷ []) ∷ more → VariableWords more entries
       → QuantifierLine line (1 ∷ entries)
-  a-line : {line entries : List ℕ} {more : List (List ℕ)} → words line ≡ (LETTER-A ∷ []) ∷ more → Variables more entries
+  a-line : {line entries : List ℕ} {more : List (List ℕ)} → words line ≡ (LETTER-A ∷ []) ∷ more → VariableWords more entries
       → QuantifierLine line (2 ∷ entries)
 
 -- A clause line, and its entries in the clause table: literals or none, 0.
 pub data ClauseLine : List ℕ → List ℤ → Type 0 where
-  literals-line : {line : List ℕ} {entries : List ℤ} → Literals (words line) entries → ClauseLine line entries
+  literals-line : {line : List ℕ} {entries : List ℤ} → LiteralWords (words line) entries → ClauseLine line entries
 
 -- Every line is so, some line is so, and so many lines are so.
 pub data All (P : List ℕ → Type 0) : List (List ℕ) → Type 0 where

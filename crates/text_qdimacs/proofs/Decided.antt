@@ -12,7 +12,7 @@ use Rattle.terms.specs.Refusals.{First, None}
 use Rattle.terms.proofs.Verdicts.{firstOf-same}
 use Rattle.text_words.specs.declared.Number.{Number}
 use Rattle.text_words.specs.declared.Number.the-variants.{Is, Not}
-use Rattle.text_words.specs.Words.{LF, LETTER-A, LETTER-C, LETTER-E, LETTER-F, LETTER-N, LETTER-P, pieces, words, Variables}
+use Rattle.text_words.specs.Words.{LF, LETTER-A, LETTER-C, LETTER-E, LETTER-F, LETTER-N, LETTER-P, pieces, words, VariableWords}
 use Rattle.text_words.specs.InnerNumbers.{numberOf, entriesOf, variables, literals}
 use Rattle.text_words.proofs.Lines.{front-later}
 use Rattle.text_words.proofs.Spelled.{number-of, spells, variables-read, read-variables, literals-read, read-literals}
@@ -31,13 +31,13 @@ pub same-word : (a b : List ℕ) → Dec (a ≡ b)
 same-word a b = List-discrete ℕ-discrete a b
 
 -- Whether words say variables.
-pub variables? : (ws : List (List ℕ)) → Dec ((entries : List ℕ) × Variables ws entries)
+pub variables? : (ws : List (List ℕ)) → Dec ((entries : List ℕ) × VariableWords ws entries)
 variables? ws = go (entriesOf variables ws) refl
   where
-    refute : entriesOf variables ws ≡ none → (entries : List ℕ) × Variables ws entries → ⊥
+    refute : entriesOf variables ws ≡ none → (entries : List ℕ) × VariableWords ws entries → ⊥
     refute e (entries, r) = let q = variables-read r in let no : _≡_ {A = ℕ} 0 1 = cc in omega arith
 
-    go : (r : Option (List ℕ)) → entriesOf variables ws ≡ r → Dec ((entries : List ℕ) × Variables ws entries)
+    go : (r : Option (List ℕ)) → entriesOf variables ws ≡ r → Dec ((entries : List ℕ) × VariableWords ws entries)
     go none e = no (refute e)
     go (some entries) e = yes (entries, read-variables e)
 
@@ -67,20 +67,20 @@ clause? line = go (entriesOf literals (words line)) refl
     go (some entries) e = yes (entries, literals-line (read-literals e))
 
 module _ (line w : List ℕ) (more : List (List ℕ)) (e : words line ≡ w ∷ more) where
-  rowless : ((entries : List ℕ) × Variables more entries → ⊥) → IsQuantifier line → ⊥
-  rowless r (_, e-line {entries = es} {more = ws} i j) = let q : ws ≡ more = cc in r (es, subst (λ (x : List (List ℕ)). Variables x es) q j)
-  rowless r (_, a-line {entries = es} {more = ws} i j) = let q : ws ≡ more = cc in r (es, subst (λ (x : List (List ℕ)). Variables x es) q j)
+  rowless : ((entries : List ℕ) × VariableWords more entries → ⊥) → IsQuantifier line → ⊥
+  rowless r (_, e-line {entries = es} {more = ws} i j) = let q : ws ≡ more = cc in r (es, subst (λ (x : List (List ℕ)). VariableWords x es) q j)
+  rowless r (_, a-line {entries = es} {more = ws} i j) = let q : ws ≡ more = cc in r (es, subst (λ (x : List (List ℕ)). VariableWords x es) q j)
 
   letterless : w ≢ LETTER-E ∷ [] → w ≢ LETTER-A ∷ [] → IsQuantifier line → ⊥
   letterless x y (_, e-line i j) = x cc
   letterless x y (_, a-line i j) = y cc
 
-  marked? : (entries : List ℕ) → Variables more entries → Dec (w ≡ LETTER-E ∷ []) → Dec (w ≡ LETTER-A ∷ []) → Dec (IsQuantifier line)
+  marked? : (entries : List ℕ) → VariableWords more entries → Dec (w ≡ LETTER-E ∷ []) → Dec (w ≡ LETTER-A ∷ []) → Dec (IsQuantifier line)
   marked? entries r (yes q) d = yes (1 ∷ entries, e-line (e ∙ ap (λ (x : List ℕ). x ∷ more) q) r)
   marked? entries r (no q) (yes q′) = yes (2 ∷ entries, a-line (e ∙ ap (λ (x : List ℕ). x ∷ more) q′) r)
   marked? entries r (no q) (no q′) = no (letterless q q′)
 
-  row? : Dec ((entries : List ℕ) × Variables more entries) → Dec (IsQuantifier line)
+  row? : Dec ((entries : List ℕ) × VariableWords more entries) → Dec (IsQuantifier line)
   row? (yes (entries, r)) = marked? entries r (same-word w (LETTER-E ∷ [])) (same-word w (LETTER-A ∷ []))
   row? (no r) = no (rowless r)
 

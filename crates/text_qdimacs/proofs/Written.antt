@@ -13,7 +13,7 @@ use Rattle.text_lines.specs.declared.Stage.{Stage}
 use Rattle.text_lines.specs.declared.Stage.the-variants.{Body}
 use Rattle.text_words.specs.Words.{LF, SPACE, MINUS, ZERO, LETTER-A, LETTER-C, LETTER-E, LETTER-F, LETTER-N, LETTER-P, onto, pieces, filled, words}
 use Rattle.text_words.specs.InnerNumbers.{NINE, allDigits}
-use Rattle.text_words.specs.Words.{variable-word, LiteralWord, literal-word, negated-word, Entries, closing, entry, Variables, Literals}
+use Rattle.text_words.specs.Words.{variable-word, LiteralWord, literal-word, negated-word, Entries, closing, entry, VariableWords, LiteralWords}
 use Rattle.text_lines.specs.Format.{p-cnf, QuantifierLine, e-line, a-line, literals-line, TextOf}
 use Rattle.text_lines.specs.InnerGrammar.{the-problem, a-block, a-clause, Lines, no-line, one-more, TextByStages}
 use Rattle.text_write.specs.Numbers.{decimal, digitsOf}
@@ -79,10 +79,10 @@ pieces-spaced true x l ps e = e
 pieces-spaced false x l ps e = rw e
 
 -- What a variable in its line adds to the entries.
-pub variable-taken : (v : ℕ) (body vs : List ℕ) → (v ≡ 0 → ⊥) → v < 100000 → Variables (words body) vs
-    → Variables (words (decimal v ++ (SPACE ∷ body))) (v ∷ vs)
+pub variable-taken : (v : ℕ) (body vs : List ℕ) → (v ≡ 0 → ⊥) → v < 100000 → VariableWords (words body) vs
+    → VariableWords (words (decimal v ++ (SPACE ∷ body))) (v ∷ vs)
 variable-taken v body vs some small r =
-    subst (λ (ws : List (List ℕ)). Variables ws (v ∷ vs)) (sym (words-more body (decimal-without v SPACE (omega arith)) (decimal-is v .some)))
+    subst (λ (ws : List (List ℕ)). VariableWords ws (v ∷ vs)) (sym (words-more body (decimal-without v SPACE (omega arith)) (decimal-is v .some)))
     (entry (variable-word (decimal-spells v small) some) r)
 
 -- A letter in front of a line.
@@ -104,7 +104,7 @@ module _ (n m : ℕ) (rest : List ℕ) where
     lines : List (List ℕ)
     is : es ≡ entries ++ after
     cut : pieces LF (prefixText false es ++ rest) ≡ spaced false body ∷ (lines ++ pieces LF rest)
-    read : Variables (words body) entries
+    read : VariableWords (words body) entries
     follow : Lines (Body n m 0) lines (Body n m 0) after []
 
   abbrev pub BlocksAre : Bool → List ℕ → Type 0
@@ -176,10 +176,10 @@ unfolding literalWord
 literal-some (pos v) = decimal-is v .some
 literal-some (negsuc v) = omega arith
 
-literal-taken : (z : ℤ) (body : List ℕ) (zs : List ℤ) → (natAbs z ≡ 0 → ⊥) → natAbs z < 100000 → Literals (words body) zs
-    → Literals (words (literalWord z ++ (SPACE ∷ body))) (z ∷ zs)
+literal-taken : (z : ℤ) (body : List ℕ) (zs : List ℤ) → (natAbs z ≡ 0 → ⊥) → natAbs z < 100000 → LiteralWords (words body) zs
+    → LiteralWords (words (literalWord z ++ (SPACE ∷ body))) (z ∷ zs)
 literal-taken z body zs some small r =
-    subst (λ (ws : List (List ℕ)). Literals ws (z ∷ zs)) (sym (words-more body (literal-without z SPACE (omega arith)) (literal-some z)))
+    subst (λ (ws : List (List ℕ)). LiteralWords ws (z ∷ zs)) (sym (words-more body (literal-without z SPACE (omega arith)) (literal-some z)))
     (entry (literal-says z small some) r)
 
 -- The clauses of a table, of which k have stood before.
@@ -196,7 +196,7 @@ module _ (n m : ℕ) where
     lines : List (List ℕ)
     is : zs ≡ entries ++ after
     cut : pieces LF (clauseText first zs) ≡ spaced first body ∷ (lines ++ ([] ∷ []))
-    read : Literals (words body) entries
+    read : LiteralWords (words body) entries
     less : k < m
     follow : Lines (Body n m (suc k)) lines (Body n m m) [] after
 

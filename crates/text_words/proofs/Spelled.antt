@@ -14,9 +14,9 @@ use Rattle.text_write.specs.Numbers.{Digits, no-digit, digit, decimal}
 use Rattle.text_write.proofs.Decimal.{digits-most, decimal-is}
 use Rattle.text_words.specs.declared.Number.{Number}
 use Rattle.text_words.specs.declared.Number.the-variants.{Is, Not}
-use Rattle.text_words.specs.Words.{MINUS, ZERO, Spells, VariableWord, variable-word, LiteralWord, literal-word, negated-word, Entries, closing, Variables}
+use Rattle.text_words.specs.Words.{MINUS, ZERO, Spells, VariableWord, variable-word, LiteralWord, literal-word, negated-word, Entries, closing, VariableWords}
 use Rattle.text_words.specs.InnerNumbers.{NINE}
-use Rattle.text_words.specs.Words.{Literals}
+use Rattle.text_words.specs.Words.{LiteralWords}
 use Rattle.text_words.specs.Words as plain
 use Rattle.text_words.specs.InnerNumbers.{allDigits, spelt, isNumber, numberOf, Item, Closing, Plain, Negated, Other, plainItem, negatedItem, itemOf}
 use Rattle.text_words.specs.InnerNumbers.{Kind, prepend, closed, entry, entriesOf, variables, literals}
@@ -199,14 +199,14 @@ literals-fit =
     taken word a (negated-word {v = v} s z) more later = rw (number-of s, ne-eqb v 0 z)
 
 -- The words of a line that say variables, and literals, both ways.
-pub variables-read : {ws : List (List ℕ)} {es : List ℕ} → Variables ws es → entriesOf variables ws ≡ some es
+pub variables-read : {ws : List (List ℕ)} {es : List ℕ} → VariableWords ws es → entriesOf variables ws ≡ some es
 variables-read = row-read variables VariableWord variables-fit
 
-pub read-variables : {ws : List (List ℕ)} {es : List ℕ} → entriesOf variables ws ≡ some es → Variables ws es
+pub read-variables : {ws : List (List ℕ)} {es : List ℕ} → entriesOf variables ws ≡ some es → VariableWords ws es
 read-variables {ws} {es} = read-row variables VariableWord variables-fit ws es
 
-pub literals-read : {ws : List (List ℕ)} {es : List ℤ} → Literals ws es → entriesOf literals ws ≡ some es
+pub literals-read : {ws : List (List ℕ)} {es : List ℤ} → LiteralWords ws es → entriesOf literals ws ≡ some es
 literals-read = row-read literals LiteralWord literals-fit
 
-pub read-literals : {ws : List (List ℕ)} {es : List ℤ} → entriesOf literals ws ≡ some es → Literals ws es
+pub read-literals : {ws : List (List ℕ)} {es : List ℤ} → entriesOf literals ws ≡ some es → LiteralWords ws es
 read-literals {ws} {es} = read-row literals LiteralWord literals-fit ws es

@@ -50,8 +50,8 @@ pub data Entries {A : Type 0} (Says : List ℕ → A → Type 0) (nought : A) : 
   entry : {word : List ℕ} {more : List (List ℕ)} {a : A} {later : List A} → Says word a → Entries Says nought more later
       → Entries Says nought (word ∷ more) (a ∷ later)
 
-abbrev pub Variables : List (List ℕ) → List ℕ → Type 0
-Variables = Entries VariableWord 0
+abbrev pub VariableWords : List (List ℕ) → List ℕ → Type 0
+VariableWords = Entries VariableWord 0
 
-abbrev pub Literals : List (List ℕ) → List ℤ → Type 0
-Literals = Entries LiteralWord (pos 0)
+abbrev pub LiteralWords : List (List ℕ) → List ℤ → Type 0
+LiteralWords = Entries LiteralWord (pos 0)

@@ -17,7 +17,7 @@ use Rattle.expand.proofs.Accepted.{written}
 use Rattle.truth_formula.specs.Holds.{Holds}
 use Rattle.truth_expand.proofs.Claims.{written-keeps-truth}
 use Rattle.snowcoddle.specs.Told.{accepted, refused}
-use Rattle.snowcoddle.specs.Promises.{Cell, Table, Literals, ExpandTold}
+use Rattle.snowcoddle.specs.Promises.{LentCell, LentTable, LentLiterals, ExpandTold}
 
 -- No cause of refusal has the number 0.
 prefix-some : {n : ℕ} {es : List ℕ} {e : ℕ} → PrefixCause n es 0 e → ⊥
@@ -74,8 +74,8 @@ expand-some rule f x out = (
   ),
 )
 
-pub snow-expand-keeps-truth : (rule : ℕ) (f : Formula) (x : ℕ) (n : Cell) (prefix : Table) (entries : Cell) (clauses : Literals)
-    (literals place : Cell) (returned : ℕ) → ExpandTold rule f x n prefix entries clauses literals place returned → returned ≡ 0
+pub snow-expand-keeps-truth : (rule : ℕ) (f : Formula) (x : ℕ) (n : LentCell) (prefix : LentTable) (entries : LentCell) (clauses : LentLiterals)
+    (literals place : LentCell) (returned : ℕ) → ExpandTold rule f x n prefix entries clauses literals place returned → returned ≡ 0
     → Holds (readBy rule f) ↔ Holds (written (resultOut prefix clauses) (now (n .exit)) (now (entries .exit)) (now (literals .exit)))
 snow-expand-keeps-truth rule f x n prefix entries clauses literals place returned (accepted none given _ _) zero =
     written-keeps-truth rule f x (resultIn prefix clauses) (resultOut prefix clauses) (now (n .exit)) (now (entries .exit)) (now (literals .exit)) none given

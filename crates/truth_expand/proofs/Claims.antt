@@ -18,7 +18,7 @@ use Rattle.forest_tables.specs.Lent.{variablesOf}
 use Rattle.forest.specs.Answers.{DependsBy}
 use Rattle.path_resolution.specs.Paths.{DependsByPaths}
 use Rattle.dqbf_sets.proofs.Agreement.{read-sound}
-use Rattle.expand.specs.Promise.{ResultTables, expandedBy, OfExpanded, expandOrder, Leaves, Expands}
+use Rattle.expand.specs.Promise.{ResultTables, expandedBy, OfExpanded, expandOrder, LeavesFormula, Expands}
 use Rattle.expand.proofs.Accepted.{written, result-is}
 use Rattle.truth_formula.specs.Holds.{Holds}
 use Rattle.truth_expand.specs.Serves.{Serves}
@@ -46,7 +46,7 @@ module _ (rule : ℕ) (f : Formula) (x : ℕ) where
 
   -- What is written where nothing is refused, read as a formula, holds exactly if what was lent does.
   pub written-keeps-truth : (out out′ : ResultTables) (count entries literals : ℕ) → NoneOf (expandOrder rule f x out)
-      → OfExpanded (readBy rule f) x (Leaves out out′ count entries literals) → Holds (readBy rule f) ↔ Holds (written out′ count entries literals)
+      → OfExpanded (readBy rule f) x (LeavesFormula out out′ count entries literals) → Holds (readBy rule f) ↔ Holds (written out′ count entries literals)
   written-keeps-truth out out′ count entries literals none (members, set, leaves) =
       let checked : NoneOf (checkOrder rule f) = (none .0, (none .1 .0, (none .1 .1 .0, (none .1 .1 .1 .0, (none .1 .1 .1 .1 .0, tt))))) in
       let u : universal (f .n) (readBy rule f .prefix) x ≡ true =

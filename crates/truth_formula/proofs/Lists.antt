@@ -18,7 +18,7 @@ use Rattle.forest_theory.specs.Reach.{here, step, Follows}
 use Rattle.forest_theory.proofs.Reach.{reach-one, reach-trans}
 use Rattle.forest_tables.specs.Formula.{universal, signed, Shares, SharesBy}
 use Rattle.forest_entries.proofs.Sides.{signed-variable, shares-some}
-use Rattle.dqbf_lists.specs.Lists.{lists, InBlock, Given, ListHas}
+use Rattle.dqbf_lists.specs.Lists.{lists, Bound, Given, ListHas}
 use Rattle.dqbf_sets.specs.Depends.{DependsOnBy}
 use Rattle.path_resolution.proofs.Marks.{complement-variable}
 use Rattle.path_resolution.proofs.Within.{crosses-shares, crosses-signed}
@@ -33,7 +33,7 @@ either? (no n) (yes b) = yes (inr b)
 either? (no n) (no m) = no (⊎-elim n m)
 
 -- Whether v is in a block, and whether y has a list of its own that has x.
-in-block? : (es : List ℕ) (v : ℕ) → Dec (InBlock es v)
+in-block? : (es : List ℕ) (v : ℕ) → Dec (Bound es v)
 in-block? es v = ⊎-elim (λ k. let (e, _, there, is) = k in yes (e, there, is)) (λ n. no (λ k. let (e, there, is) = k in n (e, omega arith, there, is))) (named? es v)
 
 -- a list is that of y, and has x

@@ -9,7 +9,7 @@ use Rattle.terms.proofs.Verdicts.{refused-first}
 use Rattle.formula_rules.specs.Rules.{readBy}
 use Rattle.forest_tables.specs.Lent.{rows}
 use Rattle.file_format.specs.Places.{formulaHeld}
-use Rattle.file_format.specs.Causes.{Lent, NoRoom, lentTables}
+use Rattle.file_format.specs.Causes.{Lent, NoFileRoom, lentTables}
 use Rattle.file_format.proofs.Orders.{carry-loading}
 use Rattle.file_verify.specs.InnerVerified.{verifyOrder, Verifies}
 use Rattle.file_verify.proofs.Disagree.{own-rows}
@@ -25,7 +25,7 @@ lent at-start = let a = at-start .args in lentTables (a .prefix .now) (a .clause
 
 -- what is left to refuse
 abbrev last : tie.Start → List Causes
-last at-start = At0 14 (NoRoom (formulaHeld (at-start .args .file .now)) (lent at-start)) ∷ []
+last at-start = At0 14 (NoFileRoom (formulaHeld (at-start .args .file .now)) (lent at-start)) ∷ []
 
 -- the file was verified
 verified : (c : tie.After-enum-told) → (let a = start (c .before .before) .args in Verifies (a .rule) (a .file .now) Accepted)

@@ -1,7 +1,7 @@
 -- The formula is judged by the rule first; the size by the prefix as the rule reads it stands behind that in the order.
 use mathlib.Core.List.{_++_}
 use borrow.Author.Needs.{needs}
-use Rattle.terms.specs.Answers.{Numbered}
+use Rattle.terms.specs.Answers.{AnsweredNumber}
 use Rattle.terms.proofs.Answers.{carry-numbered}
 use Rattle.formula.specs.Lent.{Formula, formulaOf}
 use Rattle.formula_rules.specs.Rules.{checkOrder, readAs}
@@ -55,7 +55,7 @@ returns-2 c =
     let a = at-start .args in
     let answer = c .sound-size .result in
     behind-read (checkOrder (a .rule) (formula at-start)) _ (a .rule) (a .n) (a .prefix .now) _ (at-count .count .given .1) (at-read .read-formula .ensures)
-    (λ order read. Numbered order (SizeBy (a .scheme) (formulaOf (a .n) read (a .clauses .now)) (lent at-start) (a .x .0)) answer)
+    (λ order read. AnsweredNumber order (SizeBy (a .scheme) (formulaOf (a .n) read (a .clauses .now)) (lent at-start) (a .x .0)) answer)
     (λ order order′ read. carry-numbered (SizeBy (a .scheme) (formulaOf (a .n) read (a .clauses .now)) (lent at-start) (a .x .0)) answer order order′)
     (λ read. behindCheck (a .n) read (lent at-start) (a .x .0)) (c .before .as-read .ensures) (c .sound-size .ensures)
 

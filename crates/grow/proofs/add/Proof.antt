@@ -8,7 +8,7 @@ use Rattle.formula_rules.specs.Rules.{ruledPrefix, readAs}
 use Rattle.formula_rules.proofs.Reading.{refused-read, hand-read, sound-read, behind-read}
 use Rattle.forest_tables.specs.Formula.{variables}
 use Rattle.forest_tables.specs.Lent.{rows}
-use Rattle.grow.specs.Grown.{Standing, standing, tableOf, addOrder, Extended, Took, AddsBehind}
+use Rattle.grow.specs.Grown.{Standing, standing, forestIn, addOrder, Extended, Took, AddsBehind}
 use Rattle.grow.specs.InnerOrders.{behindAdd}
 use Rattle.grow.proofs.Standings.{refusal, carry-rewrites}
 use Rattle.grow.proofs.add.Statement.{statement}
@@ -48,7 +48,7 @@ returns c =
     let first =
     refused-read (front at-start) _ (a .rule) (a .n) (a .prefix .now) _ (behindAdd (a .n) read s (a .clause .now)) (c .before .before .number .given .1)
     (at-read .read-prefix .ensures) in
-    refusal (addOrder (a .rule) (a .n) (a .prefix .now) s (a .clause .now)) X (Extended X (tableOf X s) (a .clause .now)) (Took X s) (s .rows) _ _ first
+    refusal (addOrder (a .rule) (a .n) (a .prefix .now) s (a .clause .now)) X (Extended X (forestIn X s) (a .clause .now)) (Took X s) (s .rows) _ _ first
     (c .refused .ensures)
 
 returns-2 : tie.Need-returns-2

@@ -18,7 +18,7 @@ use Rattle.sets.specs.InnerPassed.{Fills}
 use Rattle.sets.specs.Sets.{AllSetsBy}
 use Rattle.sets.proofs.Settled.{sets-are-dependencies}
 use Rattle.file_format.specs.Layout.{StandardSets}
-use Rattle.file_format.specs.Places.{fourthAt, Holds}
+use Rattle.file_format.specs.Places.{fourthAt, HoldsNumbers}
 use Rattle.file_format.proofs.Short.{take-stored}
 use Rattle.file_verify.proofs.Agreement.{tells-iff}
 use Rattle.file_verify.proofs.Disagree.{right-sets, long-sets}
@@ -95,7 +95,7 @@ returns-2 c =
     let many = at-count .count .given .0 .0 in
     let same = ap (take many) stored ∙ take-stored (a .list .now) list many is room in
     tells-iff (c .list-holds .result) (right-sets (formula at-start) (a .file .now) list (standard at-start list all))
-    (subst (λ (xs : List ℕ). Tells (c .list-holds .result) (Holds 2 (a .file .now) (fourthAt (a .file .now)) xs)) same (c .list-holds .ensures))
+    (subst (λ (xs : List ℕ). Tells (c .list-holds .result) (HoldsNumbers 2 (a .file .now) (fourthAt (a .file .now)) xs)) same (c .list-holds .ensures))
 
 pub listed-hold-spec : {M : Type 1} → statement M
 listed-hold-spec =

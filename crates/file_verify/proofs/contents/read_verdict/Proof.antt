@@ -8,7 +8,7 @@ use lib.ListN.{length, take, replicate, length-replicate}
 use lib.Seq.{length-take-le}
 use borrow.Author.Needs.{needs}
 use Rattle.formula.specs.Lent.{Formula, formulaOf}
-use Rattle.file_format.specs.Places.{prefixIn, clausesIn, formulaHeld}
+use Rattle.file_format.specs.Places.{prefixHeld, clausesIn, formulaHeld}
 use Rattle.file_format.proofs.Short.{take-stored}
 use Rattle.file_verify.specs.InnerVerified.{Judges}
 use Rattle.file_verify.proofs.contents.read_verdict.Statement.{statement}
@@ -47,7 +47,7 @@ held c =
     let (filled, filled′) = c .fill-formula .ensures in
     let full = length-replicate {A = ℕ} 8192 0 in
     let full′ = length-replicate 16384 (pos 0) in
-    let es = ap (take (a .entries)) filled ∙ take-stored (replicate 8192 0) (prefixIn file) (a .entries) entries (omega arith) in
+    let es = ap (take (a .entries)) filled ∙ take-stored (replicate 8192 0) (prefixHeld file) (a .entries) entries (omega arith) in
     let ls = ap (take (a .literals)) filled′ ∙ take-stored (replicate 16384 (pos 0)) (clausesIn file) (a .literals) literals (omega arith) in
     λ i. formulaOf (count i) (es i) (ls i)
 

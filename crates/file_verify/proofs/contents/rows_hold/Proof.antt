@@ -8,7 +8,7 @@ use borrow.Author.Needs.{needs}
 use borrow.Author.Tests.{not-true, not-false}
 use lib.ListN.{length}
 use Rattle.forest_tables.proofs.Readings.{told, told-not, told-both}
-use Rattle.file_format.specs.Places.{thirdAt, Holds}
+use Rattle.file_format.specs.Places.{thirdAt, HoldsNumbers}
 use Rattle.file_layout.proofs.Spans.{laid-ends}
 use Rattle.file_verify.proofs.Agreement.{Three, other-size, three-length, three-holds}
 use Rattle.file_verify.proofs.contents.rows_hold.Statement.{statement}
@@ -30,7 +30,7 @@ near c =
 parts : (c : tie.Else1)
     → (let at-third = c .before .before in
     let a = start at-third .args in
-    Holds 4 (a .file .now) (thirdAt (a .file .now)) (a .classes .now ++ (a .parents .now ++ a .counts .now))
+    HoldsNumbers 4 (a .file .now) (thirdAt (a .file .now)) (a .classes .now ++ (a .parents .now ++ a .counts .now))
     ↔ Three (a .file .now) (at-third .third-at .result + 6) (a .classes .now) (a .parents .now) (a .counts .now))
 parts c =
     let at-third = c .before .before in

@@ -9,7 +9,7 @@ use Rattle.terms.proofs.Common.{clash}
 use Rattle.formula.specs.Lent.{Formula, formulaOf}
 use Rattle.forest_tables.specs.Lent.{Rows, rows}
 use Rattle.forest_tables.proofs.Readings.{told, told-not}
-use Rattle.file_format.specs.Places.{thirdAt, Holds}
+use Rattle.file_format.specs.Places.{thirdAt, HoldsNumbers}
 use Rattle.file_format.specs.Causes.{RightRows, ForestFileCause}
 use Rattle.file_verify.proofs.Disagree.{no-rows, rows-first, sets-first, none-disagree}
 use Rattle.file_verify.proofs.contents.rows_verdict.Statement.{statement}
@@ -29,7 +29,7 @@ abbrev Held : tie.Start → Type 0
 Held at-start =
     let file = at-start .args .file .now in
     let r = own at-start in
-    Holds 4 file (thirdAt file) (r .classes ++ (r .parents ++ r .counts))
+    HoldsNumbers 4 file (thirdAt file) (r .classes ++ (r .parents ++ r .counts))
 
 right : (c : tie.Else1) → (let at-start = start (c .before) in RightRows (formula at-start) (at-start .args .file .now) (own at-start))
 right c =

@@ -11,7 +11,7 @@ use Rattle.forest_tables.specs.Lent.{rows}
 use Rattle.forest_tables.proofs.Agreeing.{lawful}
 use Rattle.forest_tables.proofs.Readings.{told, told-not}
 use Rattle.grow_refusals.specs.Admitted.{WrongTally}
-use Rattle.grow.specs.Grown.{Standing, standing, tableOf, classNames, existentials, TallyCause, Extended, Took}
+use Rattle.grow.specs.Grown.{Standing, standing, forestIn, classNames, existentials, TallyCause, Extended, Took}
 use Rattle.grow.proofs.Standings.{rowed-grown, refusal, acceptance}
 use Rattle.grow.proofs.Tallies.{agrees-clauses, agrees-classes, agrees-sum, tally-refused, tally-accepted, fell}
 use Rattle.grow.proofs.Taking.{fell-took, none-added}
@@ -45,7 +45,7 @@ returns c =
     let at-start = start at-disagrees in
     let s = lent at-start in
     let wrong = at-disagrees .disagrees in
-    refusal (TallyCause (X at-start) s ∷ []) (X at-start) (Extended (X at-start) (tableOf (X at-start) s) (at-start .args .clause .now)) (Took (X at-start) s) (s .rows)
+    refusal (TallyCause (X at-start) s ∷ []) (X at-start) (Extended (X at-start) (forestIn (X at-start) s) (at-start .args .clause .now)) (Took (X at-start) s) (s .rows)
     18 0 (tally-refused (X at-start) s (census at-disagrees) (told (wrong .result) (c .before .if1 .taken) (wrong .ensures))) (c .refused .ensures)
 
 take-requires : tie.Need-take-requires
@@ -76,7 +76,7 @@ returns-2 c =
     let law = lawful (a .n) (a .prefix .now) in
     let last = extended .last .1 .1 in
     let left = standing (rows (last .0) (last .1 .0) (last .1 .1 .0)) (taken .result) in
-    acceptance (TallyCause (X at-start) s ∷ []) (X at-start) (Extended (X at-start) (tableOf (X at-start) s) (a .clause .now)) (Took (X at-start) s) (s .rows)
+    acceptance (TallyCause (X at-start) s ∷ []) (X at-start) (Extended (X at-start) (forestIn (X at-start) s) (a .clause .now)) (Took (X at-start) s) (s .rows)
     (taken .result) (tally-accepted (X at-start) s is (agrees at-if1)) (c .counted .ensures)
     (rowed-grown (a .n) (a .prefix .now) (extended .ensures .0) _ _ (extended .ensures .1 .0))
     (fell-took law s left (none-added law (connected (a .clause .now)) (at-start .pre .1 .1) (extended .ensures .0 .forest))

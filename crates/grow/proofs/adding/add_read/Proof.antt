@@ -9,7 +9,7 @@ use Rattle.forest_tables.specs.Causes.{ForestCause}
 use Rattle.forest_tables.specs.Formula.{variables}
 use Rattle.forest_tables.specs.Lent.{rows}
 use Rattle.grow_refusals.specs.Admitted.{AddedCause}
-use Rattle.grow.specs.Grown.{Standing, standing, tableOf, TallyCause, Extended, Took}
+use Rattle.grow.specs.Grown.{Standing, standing, forestIn, TallyCause, Extended, Took}
 use Rattle.grow.specs.InnerOrders.{behindAdd}
 use Rattle.grow.proofs.Accepted.{added-rows}
 use Rattle.grow.proofs.Standings.{refusal, carry-rewrites}
@@ -45,7 +45,7 @@ returns c =
     let first =
     refused-first (AddedCause (a .n) (a .clause .now) ∷ []) (ForestCause (a .n) (a .prefix .now) (s .rows) ∷ TallyCause X s ∷ [])
     (c .before .before .number .given .1) (at-check .check-added .ensures) in
-    refusal (behindAdd (a .n) (a .prefix .now) s (a .clause .now)) X (Extended X (tableOf X s) (a .clause .now)) (Took X s) (s .rows) _ _ first
+    refusal (behindAdd (a .n) (a .prefix .now) s (a .clause .now)) X (Extended X (forestIn X s) (a .clause .now)) (Took X s) (s .rows) _ _ first
     (c .refused .ensures)
 
 returns-2 : tie.Need-returns-2

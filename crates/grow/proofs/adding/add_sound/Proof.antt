@@ -9,7 +9,7 @@ use Rattle.forest_tables.specs.Causes.{ForestCause}
 use Rattle.forest_tables.specs.Formula.{variables}
 use Rattle.forest_tables.specs.Lent.{rows}
 use Rattle.forest_tables.proofs.Agreeing.{none-formed}
-use Rattle.grow.specs.Grown.{Standing, standing, tableOf, TallyCause, Extended, Took}
+use Rattle.grow.specs.Grown.{Standing, standing, forestIn, TallyCause, Extended, Took}
 use Rattle.grow.proofs.Accepted.{long-enough}
 use Rattle.grow.proofs.Standings.{refusal, carry-rewrites}
 use Rattle.grow.proofs.adding.add_sound.Statement.{statement}
@@ -43,7 +43,7 @@ returns c =
     let s = lent at-start in
     let X = variables (a .n) (a .prefix .now) in
     let forest = ForestCause (a .n) (a .prefix .now) (s .rows) in
-    refusal (forest ∷ TallyCause X s ∷ []) X (Extended X (tableOf X s) (a .clause .now)) (Took X s) (s .rows) _ _
+    refusal (forest ∷ TallyCause X s ∷ []) X (Extended X (forestIn X s) (a .clause .now)) (Took X s) (s .rows) _ _
     (refused-first (forest ∷ []) (TallyCause X s ∷ []) (at-number .number .given .1) (at-verdict .tables-verdict .ensures)) (c .refused .ensures)
 
 returns-2 : tie.Need-returns-2
