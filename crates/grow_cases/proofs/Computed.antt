@@ -18,7 +18,8 @@ use Rattle.forest_theory.specs.Reach.{Variables}
 use Rattle.forest_theory.specs.Tables.{row, lent}
 use Rattle.forest_theory.specs.InnerClimb.{climb-by, climb}
 use Rattle.forest_theory.specs.InnerSearch.{has, meets, keep, put-back, find, see, spread, reached, is-from, sift, set-of}
-use Rattle.forest_theory.specs.InnerFusing.{fill, classes-up, marks, goes-before, under, fuse-class, fuse-parent, table-of, rows-by, fuse-marks, fuse, fuse-all, singles, forest-of, count-of, counts-of}
+use Rattle.forest_theory.specs.InnerFusing.{fill, classes-up, marks, goes-before, under, fuse-class, fuse-parent, table-of, rows-by, fuse-marks}
+use Rattle.forest_theory.specs.InnerFusing.{fuse, fuse-all, singles, forest-of, count-of, counts-of}
 use Rattle.forest_theory.specs.Counts.{how-many, namesItself}
 use Rattle.forest_tables.specs.Formula.{variables, universal, joined}
 use Rattle.grow.specs.Grown.{Standing, standing, forestIn, withLast}
