@@ -79,8 +79,8 @@ pub fn literals_at(text: &[u8], at: usize, clauses: &mut [i32], from: usize) -> 
     }
 }
 
-// What stands next in a clause line. A literal with `-` and one without are one case, so that the loop that stores them has no branch on the sign,
-// which no processor foresees.
+// What stands next in a clause line. A literal with `-` and one without are one case, so that the loop that stores them is branch-free: a processor
+// cannot predict the sign of a literal.
 fn signed_at(text: &[u8], at: usize) -> Signed
     ensures read { λ r. ⌜ SignedIs (now (text .entry)) at r ⌝ }
 {

@@ -9,7 +9,7 @@ ghost use lib.Seq.{sets};
 ghost use Rattle.text_qdimacs.specs.Reading.{TEXT-MOST, ReadIs};
 ghost use Rattle.text_qdimacs.specs.InnerScans.{ScanIs, Held};
 
-// Reads a text by way of two tables that no one else sees, of any length: the text is scanned into them, and what they hold is then copied.
+// Reads a text by way of two scratch tables, of any length: the text is scanned into them, and what they hold is then copied.
 pub fn read_by_way(
     text: &[u8],
     own_prefix: &mut [u32],

@@ -44,7 +44,7 @@ pub enum Ended {
 }
 
 // What stands next in a line: a word, from its first byte up to its end, or the line's end, an LF or the text's end. With a word comes whether it
-// carries `-`, and the number that the rest of it is: apart, so that what is made of them need not branch on the sign, which no processor foresees.
+// carries `-`, and the number that the rest of it is: apart, so that a caller can be branch-free: a processor cannot predict the sign of a literal.
 pub enum Word {
     Found {
         start: usize,
