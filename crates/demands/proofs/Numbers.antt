@@ -26,7 +26,7 @@ use Rattle.text_qdimacs.specs.Reading.{NoRoom, readOrder}
 use Rattle.text_qdimacs.specs.Stored.{writingOrder}
 use Rattle.dqbf_lists.specs.Causes.{ListedLengthCause, ListCause, checkListsOrder}
 use Rattle.dqbf_sets.specs.Answers.{setOrder}
-use Rattle.dqbf_text.specs.Reading.{Tables, NoRoom as Listed·NoRoom, readOrder as Listed·readOrder}
+use Rattle.dqbf_text.specs.Reading.{Tables, NoListedRoom, listedReadOrder}
 use Rattle.dqbf_text.specs.Stored.{listedWritingOrder}
 use Rattle.path_check.specs.Causes.{PathCause, pathOrder}
 use Rattle.path_resolution.specs.Paths.{resolutionOrder}
@@ -96,10 +96,10 @@ room-some : (text prefix : List ℕ) (clauses : List ℤ) → Some (NoRoom text 
 room-some text prefix clauses number place (NoRoom.no-room-prefix _ _) z = omega arith
 room-some text prefix clauses number place (NoRoom.no-room-clauses _ _) z = omega arith
 
-listed-room-some : (text : List ℕ) (before : Tables) → Some (Listed·NoRoom text before)
-listed-room-some text before number place (Listed·NoRoom.no-room-prefix _ _) z = omega arith
-listed-room-some text before number place (Listed·NoRoom.no-room-clauses _ _) z = omega arith
-listed-room-some text before number place (Listed·NoRoom.no-room-lists _ _) z = omega arith
+listed-room-some : (text : List ℕ) (before : Tables) → Some (NoListedRoom text before)
+listed-room-some text before number place (NoListedRoom.no-room-prefix _ _) z = omega arith
+listed-room-some text before number place (NoListedRoom.no-room-clauses _ _) z = omega arith
+listed-room-some text before number place (NoListedRoom.no-room-lists _ _) z = omega arith
 
 list-some : (n : ℕ) (es ds : List ℕ) → Some (ListCause n es ds)
 list-some n es ds number place (ListCause.outside q _ _) z = omega arith
@@ -222,7 +222,7 @@ add-free rule n es s clause = (
 pub read-free : (text prefix : List ℕ) (clauses : List ℤ) → ZeroFree (readOrder text prefix clauses)
 read-free text prefix clauses = (overlong-some text, (line-some _ text, (room-some text prefix clauses, tt)))
 
-pub read-lists-free : (text : List ℕ) (before : Tables) → ZeroFree (Listed·readOrder text before)
+pub read-lists-free : (text : List ℕ) (before : Tables) → ZeroFree (listedReadOrder text before)
 read-lists-free text before = (overlong-some text, (line-some _ text, (listed-room-some text before, tt)))
 
 pub load-free : (rule : ℕ) (file : List ℕ) (lent : Lent) → ZeroFree (loadOrder rule file lent)

@@ -29,7 +29,7 @@ use Rattle.dqbf_lists.specs.Answers.{ListsChecked}
 use Rattle.dqbf_lists.specs.Causes.{checkListsOrder}
 use Rattle.dqbf_sets.specs.Answers.{setOrder, SetByLists}
 use Rattle.dqbf_sets.specs.Depends.{DependsOnBy}
-use Rattle.dqbf_text.specs.Reading.{Tables, readOrder as Listed·readOrder, ReadIs as Listed·ReadIs}
+use Rattle.dqbf_text.specs.Reading.{Tables, listedReadOrder, ListedReadIs}
 use Rattle.dqbf_text.specs.Stored.{listedWritingOrder, WritesListed}
 use Rattle.path_check.specs.Causes.{pathOrder, PathJudged}
 use Rattle.path_resolution.specs.Paths.{resolutionOrder, ResolutionListed}
@@ -112,6 +112,6 @@ pub record Demand1 : Type 0 where
   pub listed-set : (rule : ℕ) (scheme : Scheme) (f : Formula) (lists : List ℕ) (x : ℕ) (out : List ℕ)
       → Held (setOrder rule f lists x (DependsOnBy scheme (readBy rule f) lists x) out) out filledSaid (SetByLists rule scheme f lists x out)
   -- `dqbf_text::read`, `snow_read_lists`
-  pub read-lists : (text : List ℕ) (before : Tables) → Held (Listed·readOrder text before) before listedSaid (Listed·ReadIs text before)
+  pub read-lists : (text : List ℕ) (before : Tables) → Held (listedReadOrder text before) before listedSaid (ListedReadIs text before)
   -- `dqbf_text::write`, `snow_write_lists`
   pub write-lists : (rule : ℕ) (f : Formula) (lists out : List ℕ) → Held (listedWritingOrder rule f lists out) out filledSaid (WritesListed rule f lists out)

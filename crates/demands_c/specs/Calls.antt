@@ -27,7 +27,7 @@ use Rattle.text_qdimacs.specs.Reading.{ReadIs}
 use Rattle.text_qdimacs.specs.Stored.{Writes}
 use Rattle.dqbf_lists.specs.Answers.{ListsChecked}
 use Rattle.dqbf_sets.specs.Answers.{SetByLists}
-use Rattle.dqbf_text.specs.Reading.{ReadIs as Listed·ReadIs}
+use Rattle.dqbf_text.specs.Reading.{ListedReadIs}
 use Rattle.dqbf_text.specs.Stored.{WritesListed}
 use Rattle.path_check.specs.Causes.{PathJudged}
 use Rattle.path_resolution.specs.Paths.{ResolutionListed}
@@ -130,7 +130,7 @@ pub record TellsWhatIsPromised : Type 0 where
   pub read-lists : (text : List ℕ) (n : LentCell) (prefix : LentTable) (entries : LentCell) (clauses : LentLiterals) (literals : LentCell) (lists : LentTable) (rows place : LentCell)
       (returned : ℕ) → ReadListsTold text n prefix entries clauses literals lists rows place returned
       → (answer : ListedReading)
-      × Listed·ReadIs text (now (prefix .entry), now (clauses .entry), now (lists .entry)) (now (prefix .exit), now (clauses .exit), now (lists .exit)) answer
+      × ListedReadIs text (now (prefix .entry), now (clauses .entry), now (lists .entry)) (now (prefix .exit), now (clauses .exit), now (lists .exit)) answer
       × Reads (listedSaid answer)
       (λ (counts : ℕ × ℕ × ℕ × ℕ). (now (n .exit) ≡ counts .0) × (now (entries .exit) ≡ counts .1) × (now (literals .exit) ≡ counts .2)
       × (now (rows .exit) ≡ counts .3))

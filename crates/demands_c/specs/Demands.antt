@@ -23,7 +23,7 @@ use Rattle.text_qdimacs.specs.Stored.{writingOrder}
 use Rattle.dqbf_lists.specs.Causes.{checkListsOrder}
 use Rattle.dqbf_sets.specs.Answers.{setOrder}
 use Rattle.dqbf_sets.specs.Depends.{DependsOnBy}
-use Rattle.dqbf_text.specs.Reading.{readOrder as Listed·readOrder}
+use Rattle.dqbf_text.specs.Reading.{listedReadOrder}
 use Rattle.dqbf_text.specs.Stored.{listedWritingOrder}
 use Rattle.path_check.specs.Causes.{pathOrder}
 use Rattle.path_resolution.specs.Paths.{resolutionOrder}
@@ -78,7 +78,7 @@ pub record ZeroIsAccepted : Type 0 where
       → (returned ≡ 0) ↔ NoneOf (setOrder rule f lists x (DependsOnBy scheme (readBy rule f) lists x) (now (out .entry)))
   pub read-lists : (text : List ℕ) (n : LentCell) (prefix : LentTable) (entries : LentCell) (clauses : LentLiterals) (literals : LentCell) (lists : LentTable) (rows place : LentCell)
       (returned : ℕ) → ReadListsTold text n prefix entries clauses literals lists rows place returned
-      → (returned ≡ 0) ↔ NoneOf (Listed·readOrder text (now (prefix .entry), now (clauses .entry), now (lists .entry)))
+      → (returned ≡ 0) ↔ NoneOf (listedReadOrder text (now (prefix .entry), now (clauses .entry), now (lists .entry)))
   pub write-lists : (rule : ℕ) (f : Formula) (lists : List ℕ) (text : LentTable) (count place : LentCell) (returned : ℕ)
       → WriteListsTold rule f lists text count place returned → (returned ≡ 0) ↔ NoneOf (listedWritingOrder rule f lists (now (text .entry)))
   pub store : (rule : ℕ) (f : Formula) (file : LentTable) (count place : LentCell) (returned : ℕ) → StoreTold rule f file count place returned

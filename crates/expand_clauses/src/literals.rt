@@ -11,14 +11,13 @@ ghost use Prim.Native.Nat.{_+_, _≤_};
 ghost use mathlib.Core.Path.{_≡_};
 ghost use mathlib.Core.Bool.{_||_};
 ghost use mathlib.Core.List.{[], _∷_};
-ghost use lib.IntN.{pos, negℤ};
 ghost use lib.ListN.{length};
 ghost use Rattle.terms.specs.Limits.{clauseEntries};
-ghost use Rattle.formula.specs.InnerLookup.{InRows, SoundClauses, Stamps};
 ghost use Rattle.formula.specs.Meaning.{clauses as Meaning·clauses};
+ghost use Rattle.formula.specs.InnerLookup.{InRows, SoundClauses, Stamps};
 ghost use Rattle.expand_clauses.specs.Expansion.{madeTrue, satisfied, hasX};
 ghost use Rattle.expand_clauses.specs.InnerCopies.{hasMember, renamed, named, hasCopy, expandedClauses};
-ghost use Rattle.expand_clauses.specs.InnerCopied.{Stored, tabled, expandedVariables, expandedEntries, Copies, closed, copied};
+ghost use Rattle.expand_clauses.specs.InnerCopied.{Stored, tabled, expandedEntries, Copies, closed, copied};
 
 // Writes the clauses into a table as far as that has rows, and gives the count of all entries.
 pub fn copy_clauses(clauses: &[i32], x: Variable, copies: &[u32], out: &mut [i32]) -> usize
@@ -212,25 +211,8 @@ fn rename(literal: Literal, copies: &[u32]) -> Literal
         return literal;
     }
     if literal.0 < 0 {
-        negated_literal(copy)
+        copy.negation()
     } else {
-        plain_literal(copy)
+        copy.literal()
     }
-}
-
-// The literal of a variable.
-fn plain_literal(v: Variable) -> Literal
-    requires few { ⌜ v .0 ≤ expandedVariables ⌝ }
-    ensures plain { λ r. ⌜ r .0 ≡ pos (v .0) ⌝ }
-{
-    Literal::new(v.0 as i32)
-}
-
-// The negated literal of a variable.
-fn negated_literal(v: Variable) -> Literal
-    requires few { ⌜ v .0 ≤ expandedVariables ⌝ }
-    ensures negated { λ r. ⌜ r .0 ≡ negℤ (pos (v .0)) ⌝ }
-{
-    let literal = v.0 as i32;
-    Literal::new(-literal)
 }

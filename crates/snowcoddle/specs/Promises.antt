@@ -29,7 +29,7 @@ use Rattle.expand.specs.Promise.{resultIn, resultOut, OfExpanded, LeavesFormula
 use Rattle.dqbf_lists.specs.Causes.{checkListsOrder}
 use Rattle.dqbf_sets.specs.Answers.{setOrder}
 use Rattle.dqbf_sets.specs.Depends.{DependsOnBy}
-use Rattle.dqbf_text.specs.Reading.{readOrder as Listed·readOrder, ReadInto as Listed·ReadInto}
+use Rattle.dqbf_text.specs.Reading.{listedReadOrder, ListedReadInto}
 use Rattle.dqbf_text.specs.Stored.{listedText, listedWritingOrder}
 use Rattle.file_format.specs.Layout.{FileOf}
 use Rattle.file_format.specs.Causes.{Lent, loadOrder, storeOrder}
@@ -159,8 +159,8 @@ ListedSetTold rule scheme f ds x out =
 -- read with lists: n, and the three tables with the counts of their entries
 abbrev pub ReadListsTold : List ℕ → LentCell → LentTable → LentCell → LentLiterals → LentCell → LentTable → LentCell → LentCell → ℕ → Type 0
 ReadListsTold text n prefix entries clauses literals lists rows =
-    Tells (Listed·readOrder text (now (prefix .entry), now (clauses .entry), now (lists .entry)))
-    (Listed·ReadInto (now (n .exit)) (now (entries .exit)) (now (literals .exit)) (now (rows .exit)) text
+    Tells (listedReadOrder text (now (prefix .entry), now (clauses .entry), now (lists .entry)))
+    (ListedReadInto (now (n .exit)) (now (entries .exit)) (now (literals .exit)) (now (rows .exit)) text
     (now (prefix .entry), now (clauses .entry), now (lists .entry)) (now (prefix .exit), now (clauses .exit), now (lists .exit)))
     (Kept n × Kept entries × Kept literals × Kept rows × Kept prefix × Kept clauses × Kept lists)
 

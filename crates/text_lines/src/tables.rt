@@ -1,6 +1,7 @@
 // The entries of a line in its table: they are stored from a row on, as far as the table has rows.
 
 use crate::Signed;
+use terms::Variable;
 use text_words::Entry;
 use text_words::Row;
 use text_words::items::entry_at;
@@ -123,26 +124,10 @@ fn literal_of(value: u32, negative: bool) -> i32
     requires small { ⌜ value < 100000 ⌝ }
     ensures signed { λ r. ⌜ r ≡ cond negative (negℤ (pos value)) (pos value) ⌝ }
 {
+    let v = Variable::new(value);
     if negative {
-        negated_literal(value)
+        v.negation().0
     } else {
-        plain_literal(value)
+        v.literal().0
     }
-}
-
-// The literal of a number word.
-fn plain_literal(value: u32) -> i32
-    requires small { ⌜ value < 100000 ⌝ }
-    ensures plain { λ r. ⌜ r ≡ pos value ⌝ }
-{
-    value as i32
-}
-
-// The literal of a number word that carries `-`.
-fn negated_literal(value: u32) -> i32
-    requires small { ⌜ value < 100000 ⌝ }
-    ensures negated { λ r. ⌜ r ≡ negℤ (pos value) ⌝ }
-{
-    let literal = value as i32;
-    -literal
 }

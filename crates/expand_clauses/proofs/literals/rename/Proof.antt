@@ -31,7 +31,7 @@ returns-2 c =
     let at-copy-at = at-if1 .before .before in
     let a = at-copy-at .before .before .before .args in
     let bits = toZ-ofZ {w = w32} {z = a .literal .0} (record { sfits = at-struct-told .struct-told .given .0 .1 }) in
-    renamed-negative bits (tabled (a .copies .now)) (c .before .if2 .taken) (read at-copy-at) (at-if1 .if1 .left) (c .negated-literal .ensures)
+    renamed-negative bits (tabled (a .copies .now)) (c .before .if2 .taken) (read at-copy-at) (at-if1 .if1 .left) (c .negation .ensures)
 
 returns-3 : tie.Need-returns-3
 returns-3 c =
@@ -40,9 +40,9 @@ returns-3 c =
     let at-copy-at = at-if1 .before .before in
     let a = at-copy-at .before .before .before .args in
     let bits = toZ-ofZ {w = w32} {z = a .literal .0} (record { sfits = at-struct-told .struct-told .given .0 .1 }) in
-    renamed-positive bits (tabled (a .copies .now)) (c .before .if2 .left) (read at-copy-at) (at-if1 .if1 .left) (c .plain-literal .ensures)
+    renamed-positive bits (tabled (a .copies .now)) (c .before .if2 .left) (read at-copy-at) (at-if1 .if1 .left) (c .literal .ensures)
 
 pub rename-spec : {M : Type 1} → statement M
 rename-spec =
-    tie.close (tie.spec (λ c κs. search needs) (λ c κs. search needs) returns (λ c κs. small (c .before .before .before .before .before))
-    (λ c κs. small (c .before .before .before .before .before)) returns-2 returns-3)
+    tie.close (tie.spec (λ c κs. search needs) (λ c κs. search needs) returns (λ c κs. let s = small (c .before .before .before .before .before) in omega arith)
+    (λ c κs. let s = small (c .before .before .before .before .before) in omega arith) returns-2 returns-3)
