@@ -1,6 +1,8 @@
 // Answers laid out for a C caller: the number that is returned, a cell for each part of what is given and the cell `place`; and what a C caller
 // lends by a number. A call that accepts keeps `place`, and one that refuses keeps every other cell.
 
+#![tactic(auto)]
+
 pub mod formulas;
 pub mod tallies;
 

@@ -282,7 +282,7 @@ Inside n es ds placed m i last = Checked n es ds i false placed last × NearestM
 
 -- A whole list: once its existential is passed, its universals are passed one by one, and then it ends.
 module _ {n : ℕ} {es ds : List ℕ} {universals placed : List Bool} (few : n ≤ 4096) (same : (v : ℕ) → universal_in n universals v ≡ universal n es v) where
-  passed_inside : {m e : ℕ} {last last' : List ℕ} → Inside n es ds placed m (m + 1) last → PassedTo n universals ds (m + 1) last e last'
+  passed_inside : {m : ℕ} {last : List ℕ} {e : ℕ} {last' : List ℕ} → Inside n es ds placed m (m + 1) last → PassedTo n universals ds (m + 1) last e last'
       → Inside n es ds placed m e last'
   passed_inside inside none_passed = inside
   passed_inside {m} inside (one_passed e passed more (u, new)) =

@@ -1,6 +1,8 @@
 // Dependency lists: some existentials stand in no block and have a list of the universals that they may depend on. A table of lists is judged beside prefix
 // and clauses, under a reading rule.
 
+#![tactic(auto)]
+
 pub mod checking;
 pub mod reading;
 
@@ -13,7 +15,7 @@ use reading::read_listed;
 use terms::{Filled, Level, Verdict};
 
 // An existential that has a list of its own.
-#[derive(Drop)]
+#[derive(Clone, Copy)]
 pub struct Dependent(pub u32);
 
 impl Dependent {

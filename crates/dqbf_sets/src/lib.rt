@@ -1,6 +1,8 @@
 // The set of a universal x by dependency lists, under a reading rule: which existentials depend on it, where some of them have a list of the universals that
 // they may depend on. No forest is lent: what may be stepped on from x is put into classes, clause by clause.
 
+#![tactic(auto)]
+
 mod classing;
 mod opening;
 

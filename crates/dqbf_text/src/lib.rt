@@ -1,5 +1,7 @@
 // DQDIMACS text: QDIMACS text with lists of the universals on which existentials may depend, read into lent tables and written into a lent buffer.
 
+#![tactic(auto)]
+
 mod lines;
 mod scanning;
 mod writing;
@@ -78,7 +80,7 @@ pub fn write(
 
 // What a line makes of a stage: the number of the refusal if it may not stand there, or the stage that it leads to, whether a list line has stood
 // by then, and the counts of entries.
-#[derive(Drop)]
+#[derive(Clone, Copy)]
 enum Onward {
     Wrong(u32),
     On {

@@ -1,5 +1,7 @@
 // Expansion: the formula with one universal removed, in which the existentials that depend on it have a copy each.
 
+#![tactic(auto)]
+
 mod blocks;
 mod members;
 
@@ -79,7 +81,7 @@ fn sound_expand(
 }
 
 // Where a variable stands in the prefix: whether it is universal, and its level.
-#[derive(Drop)]
+#[derive(Clone, Copy)]
 struct Standing {
     universal: bool,
     level: Level,

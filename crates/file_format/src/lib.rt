@@ -1,10 +1,12 @@
 // The file of a forest: what the head of a record says, the numbers in the bytes of a file, and the sum of its words.
 
+#![tactic(auto)]
+
 pub mod numbers;
 pub mod sums;
 
 // The head of a record: its kind, and how many bytes its payload has.
-#[derive(Drop)]
+#[derive(Clone, Copy)]
 pub struct Record {
     pub kind: u32,
     pub size: u32,

@@ -1,5 +1,7 @@
 // The records of a file one after the other: lengths, kinds, their order, the sum of its words, where each begins, and the numbers that they hold.
 
+#![tactic(auto)]
+
 pub mod decoding;
 pub mod places;
 

@@ -1,5 +1,7 @@
 // Reading the file of a forest under a reading rule: it is verified, and what it has is stored in the lent tables.
 
+#![tactic(auto)]
+
 mod filling;
 
 ghost use Rattle.file_format.specs.Causes.{lent_in, lent_out};

@@ -1,6 +1,8 @@
 // The file of a forest verified under a reading rule: its records, the formula that they hold, and whether the rows and sets beside it are those of the
 // formula.
 
+#![tactic(auto)]
+
 mod contents;
 
 ghost use Rattle.forest_tables.specs.InnerRows.{Tells};

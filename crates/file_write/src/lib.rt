@@ -1,5 +1,7 @@
 // Writing the file of a forest under a reading rule: the formula is judged once, and its forest is built.
 
+#![tactic(auto)]
+
 mod whole;
 
 ghost use Rattle.std.specs.Prelude.{◌≤◌, length};

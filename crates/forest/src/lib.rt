@@ -1,6 +1,8 @@
 // The calls that ask of a lent forest, under a reading rule: the entry point of x for y, the entry points of x, the set of x and its size, by the
 // standard scheme or the strict one.
 
+#![tactic(auto)]
+
 mod entering;
 
 ghost use Rattle.std.specs.Prelude.{◌≤◌, ◌≡◌, [], ◌∷◌, ◌++◌, length};
@@ -27,7 +29,7 @@ use formula_rules::{as_read, read_formula, read_prefix};
 use terms::{EntryAnswer, Filled, Level, Scheme, Variable, Verdict};
 
 // What is listed for x: its entry points or its set, by a scheme.
-#[derive(Drop)]
+#[derive(Clone, Copy)]
 struct Question {
     x: Variable,
     scheme: Scheme,

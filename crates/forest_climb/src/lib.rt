@@ -1,6 +1,8 @@
 // The climb for entry points (rule 2.6, rule 18.2): from the class of y from parent to parent, while the next class is still deeper than x. The class
 // where it ends, over a level, is the top of y over that level. The tops of all variables over a level are filled in one pass.
 
+#![tactic(auto)]
+
 ghost use Rattle.std.specs.Prelude.{ℕ, ◌+◌, ◌≤◌, ◌<◌, ◌≡◌, Bool, true, List, length, get_or};
 ghost use Rattle.formula.specs.Tables.{opens, marks_before};
 ghost use Rattle.formula.specs.Meaning.{level};
@@ -15,7 +17,7 @@ use forest_tables::rows::{existential_at, level_at, row_of};
 use terms::{Level, Variable};
 
 // Where a climb ends, and how many classes it passed, the first not counted.
-#[derive(Drop)]
+#[derive(Clone, Copy)]
 pub struct End {
     pub class: Variable,
     pub rises: u32,
@@ -23,7 +25,7 @@ pub struct End {
 
 // What a table of tops is filled for: the level that the tops are over, the place in the prefix where the blocks deeper than it begin, and a number
 // `from` up to which no variable has a top.
-#[derive(Drop)]
+#[derive(Clone, Copy)]
 pub struct Floor {
     pub level: Level,
     pub place: usize,
@@ -31,7 +33,7 @@ pub struct Floor {
 }
 
 // What the climb for y finds: the entry point and its rises; nowhere for a y that is not existential and deeper than x.
-#[derive(Drop)]
+#[derive(Clone, Copy)]
 pub enum Found {
     At(Variable, u32),
     Nowhere,

@@ -1,5 +1,7 @@
 // Flags of the entry points of x, found clause by clause, by either sign of x or by both.
 
+#![tactic(auto)]
+
 ghost use Rattle.std.specs.Prelude.{ℕ, ◌+◌, ◌≤◌, ◌<◌, ◌≡◌, false, length, get_or};
 ghost use Rattle.terms.specs.Literals.{variable_of};
 ghost use Rattle.terms.specs.InnerLimits.{variable_rows};
@@ -15,7 +17,7 @@ use formula::truth::always_true;
 use terms::{Literal, Scheme, Variable};
 
 // In which sign a clause has x. One that is not always true has it in one sign only.
-#[derive(Drop)]
+#[derive(Clone, Copy)]
 pub enum Side {
     Neither,
     Positive,
@@ -23,14 +25,14 @@ pub enum Side {
 }
 
 // What one scan finds of a clause: the entry of its 0, the end of the table where there is none, and in which sign it has x.
-#[derive(Drop)]
+#[derive(Clone, Copy)]
 pub struct Scan {
     pub end: usize,
     pub side: Side,
 }
 
 // By which signs of x clauses are taken.
-#[derive(Drop)]
+#[derive(Clone, Copy)]
 pub enum Signs {
     Either,
     Positive,

@@ -1,5 +1,7 @@
 // Numbers from 1 to n that are picked by their flags, written ascending into a lent table.
 
+#![tactic(auto)]
+
 ghost use Rattle.std.specs.Prelude.{ℕ, ◌+◌, ◌≤◌, ◌≡◌, false, length, get_or};
 ghost use Rattle.std.proofs.lemmas.List.Edits.{sets};
 ghost use Rattle.forest_theory.specs.Tables.{row};
@@ -11,7 +13,7 @@ use forest_tables::rows::{flag_at, row_of};
 use terms::{Filled, Variable};
 
 // What is listed: the flagged entry points themselves, or the set, which is the variables with a flagged top.
-#[derive(Drop)]
+#[derive(Clone, Copy)]
 pub enum Asked {
     Points,
     Set,

@@ -55,7 +55,7 @@ module _ {X : Variables} {W : Table} (formed : WellFormed X W) where
   rise_by i fuel c r n h = rw (ne_eqb (W.par c) 0 n, le-ltb (X.lev (W.par c)) i h)
 
   -- With fuel enough, the climb gives its end and adds its rises.
-  ends_by : {i c p k : ℕ} (fuel r : ℕ) → X.lev c ≤ fuel → Above W p c k → i ≤ X.lev p → (W.par p ≢ 0 → X.lev (W.par p) < i)
+  ends_by : {i p c k : ℕ} (fuel r : ℕ) → X.lev c ≤ fuel → Above W p c k → i ≤ X.lev p → (W.par p ≢ 0 → X.lev (W.par p) < i)
       → climb_by X W i fuel c r ≡ record { top = p; rises = r + k }
   ends_by {i} {p = p} fuel r f start d s = rw add-zero (stop_by i fuel p r s)
   ends_by {i} {p = p} zero r f (rise {c = c} h a) d s = absurd (omega (arith, ((formed.right c).parent h).less))
@@ -94,7 +94,7 @@ module _ {X : Variables} {W : Table} (formed : WellFormed X W) where
       (ap (λ (c : Climbed). c.top) same, (let sum : 0 + k ≡ 0 + n = ap (λ (c : Climbed). c.rises) same in omega arith))
 
   -- Whatever stands above c in block i or deeper climbs to the end of c's climb.
-  pub ends_pass : {i c p q k n : ℕ} → Above W q c n → i ≤ X.lev q → Above W p c k → (W.par p ≢ 0 → X.lev (W.par p) < i) → (m : ℕ) × Above W p q m
+  pub ends_pass : {i q c p k n : ℕ} → Above W q c n → i ≤ X.lev q → Above W p c k → (W.par p ≢ 0 → X.lev (W.par p) < i) → (m : ℕ) × Above W p q m
   ends_pass start d a s = (_, a)
   ends_pass (rise g b) d start s = absurd (omega (arith, above_falls b, s g))
   ends_pass (rise g b) d (rise h a) s = ends_pass b d a s

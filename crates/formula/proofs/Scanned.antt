@@ -227,7 +227,7 @@ module _ {n : ℕ} {es : List ℕ} {i : ℕ} {opening fresh : Bool} {mark count 
       first_at s.clean (ends_inside refl (sym end) (open_end es i end (sym s.opening_is ∙ shut)))
       (λ k cause. ⊎_elim (λ l. absurd (let q = end in omega arith)) (λ w. let q = w.0 in omega arith) (at_entry k i cause))
 
-names_from : {n : ℕ} {es : List ℕ} {start end : ℕ} {named named' : List Bool} → NamedTo n es start named end named' → start ≤ end
+names_from : {n : ℕ} {es : List ℕ} {start : ℕ} {named : List Bool} {end : ℕ} {named' : List Bool} → NamedTo n es start named end named' → start ≤ end
 names_from no_name = omega arith
 names_from (one_name e before _ _ _) = let l = names_from before in omega arith
 

@@ -100,7 +100,7 @@ pub fn next_zero(clauses: &[i32], start: usize) -> usize
 }
 
 // Where a clause stands: its first entry, and the entry of the 0 that closes it.
-#[derive(Drop)]
+#[derive(Clone, Copy)]
 pub enum Span {
     At { start: usize, end: usize },
     Nowhere,

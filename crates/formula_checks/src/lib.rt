@@ -1,5 +1,7 @@
 // Checks of a formula as lent: its prefix by reading rule 1, and the clause call (rule 7.3).
 
+#![tactic(auto)]
+
 pub mod prefix;
 
 ghost use Rattle.terms.specs.Refusals.{Judged};

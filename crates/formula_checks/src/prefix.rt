@@ -80,7 +80,7 @@ fn mark_fault(entry: u32, before: u32, blocks: u32) -> u32
 }
 
 // How the naming of variables ended: at which entry, and the number of what is wrong there, 0 where a 0 or the end of the prefix ended it.
-#[derive(Drop)]
+#[derive(Clone, Copy)]
 pub struct Naming {
     pub end: usize,
     pub fault: u32,

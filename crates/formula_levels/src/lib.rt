@@ -1,5 +1,7 @@
 // Levels and quantifiers of all variables (rule 1.4, rule 1.5), from one pass over an accepted prefix.
 
+#![tactic(auto)]
+
 ghost use Rattle.std.specs.Prelude.{ℕ, ◌≡◌};
 ghost use Rattle.formula.specs.InnerLevels.{SoundPrefix, LevelRows, AllFree, Levelled};
 ghost use Rattle.formula.specs.InnerLevels.{free_level};

@@ -1,5 +1,7 @@
 // Reading rules for prefixes (rule 6.1, rule 6.2): the refusals of a prefix by a rule number, and the prefix as rule 2 reads it.
 
+#![tactic(auto)]
+
 mod judging;
 mod laying;
 

@@ -1,6 +1,8 @@
 // Build and add, under a reading rule: the forest of a formula, and of tables with a clause added, each with its counts and the tally beside it, which
 // is passed by value; `lent` has add with the tally lent.
 
+#![tactic(auto)]
+
 mod adding;
 pub mod building;
 pub mod lent;

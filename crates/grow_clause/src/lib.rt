@@ -1,6 +1,8 @@
 // A clause put into loose rows as a star: the chain of each of its existentials is joined to that of the deepest, so that k literals cost k joins.
 // At every level on which two of them are allowed the deepest is allowed too, so these pairs connect all that the clause connects.
 
+#![tactic(auto)]
+
 ghost use Rattle.std.specs.Prelude.{◌+◌, ◌≡◌, map, length, get_or};
 ghost use Rattle.terms.specs.InnerLimits.{variable_rows};
 ghost use Rattle.terms.specs.Literals.{variable_of};

@@ -34,7 +34,7 @@ fn copy_out(n: u32, table: &[u16], rows: &mut [u32])
 }
 
 // How many existentials there are, and how many class names.
-#[derive(Drop)]
+#[derive(Clone, Copy)]
 pub struct Census {
     pub existentials: u32,
     pub names: u32,

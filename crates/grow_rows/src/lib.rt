@@ -1,6 +1,8 @@
 // The exact rows of a forest in lent tables, settled out of a union-find of loose ones: the rows of a formula, and those of well-formed tables
 // with a clause put in; with their counts.
 
+#![tactic(auto)]
+
 pub mod counts;
 
 ghost use Rattle.std.specs.Prelude.{ℕ, ◌≤◌, ◌≡◌, List, [], ◌∷◌, ◌++◌, length};

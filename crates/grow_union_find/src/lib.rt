@@ -3,13 +3,15 @@
 // and names the class. A parent row stands at a root only, and may name any member of the parent's class. So two classes become one by a
 // single store, whatever their sizes. The price: a row tells its class only by way of `root`, and exact rows take a pass at the end (`grow_passes`).
 
+#![tactic(auto)]
+
 ghost use Rattle.std.specs.Prelude.{ℕ, ◌<◌, ◌≡◌, List, [], ◌∷◌, ◌≢◌, length, get_or, set};
 ghost use Rattle.grow_union_find.specs.InnerLoose.{Falling, FindsRoot, Growing, Pending, Roots, Stepped, Grew};
 
 use terms::Variable;
 
 // The two that are left to be joined, the deeper first; the second is 0 where nothing is left.
-#[derive(Drop)]
+#[derive(Clone, Copy)]
 struct Rest(Variable, Variable);
 
 // Joins the chain of `other`, that is, its class and the classes above it, to the chain of `deep`, which is as deep or deeper: a walk up

@@ -1,5 +1,7 @@
 // Lists the strict dependency sets of a QDIMACS text on standard input (rule 16.1): a line for the formula, and one for each universal (rule 16.2).
 
+#![tactic(auto)]
+
 ghost use Rattle.std.specs.Prelude.{ℕ, ◌≤◌, ◌<◌, ◌≡◌, Bool, List, [], ◌∷◌, length, take};
 ghost use Rattle.terms.specs.declared.Scheme.TheVariants.{Strict};
 ghost use Rattle.terms.specs.Answers.{InFront};

@@ -1,5 +1,7 @@
 // The bytes of each line that the program prints, stored from the start of a lent buffer, and how many they are.
 
+#![tactic(auto)]
+
 ghost use Rattle.std.specs.Prelude.{◌<◌, ◌≤◌, ◌++◌, length};
 ghost use Rattle.text_write.specs.Numbers.{decimal};
 ghost use Rattle.text_write.specs.InnerBytes.{Wrote};

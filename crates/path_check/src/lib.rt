@@ -1,5 +1,7 @@
 // Checking another tool's dependencies: whether a list of clause numbers is an acceptable path of a pair (x, y).
 
+#![tactic(auto)]
+
 mod begins;
 mod walk;
 

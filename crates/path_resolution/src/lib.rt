@@ -1,5 +1,7 @@
 // Resolution-path sets: the existentials that resolution paths tie to a universal, from x and from its negation to opposite literals.
 
+#![tactic(auto)]
+
 mod ends;
 mod walk;
 

@@ -18,7 +18,7 @@ use sets_record::{Draft, put_set};
 use terms::{Filled, Level, Literal, Scheme, Variable};
 
 // A pass over all universals among n variables: by which scheme, and whether it writes their sets or only counts.
-#[derive(Drop)]
+#[derive(Clone, Copy)]
 struct Pass {
     scheme: Scheme,
     n: u32,
@@ -26,7 +26,7 @@ struct Pass {
 }
 
 // A universal x among n variables that a pass comes to, with the floor that the tops were over until then.
-#[derive(Drop)]
+#[derive(Clone, Copy)]
 struct Visit {
     n: u32,
     x: Variable,

@@ -1,5 +1,7 @@
 // The sets of all universals in one call, under a reading rule.
 
+#![tactic(auto)]
+
 mod all_sets;
 
 ghost use Rattle.std.specs.Prelude.{[]};

@@ -65,9 +65,9 @@ on_set {next} {p} {k} {i} a all (later {q = q} o) =
     let less = all q here in
     later (subst (On (set next i a) p) (sym (ap low_of (get_or-set_other next i q a 0 (λ e. omega arith)))) (on_set a (λ r o'. all r (later o')) o))
 
-on_unset : {next : List ℕ} {p k j i : ℕ} (a : ℕ) → k ≡ j → ((r : ℕ) → On next r j → r < i) → On (set next i a) p k → On next p j
+on_unset : {next : List ℕ} {p i : ℕ} (a : ℕ) {k j : ℕ} → k ≡ j → ((r : ℕ) → On next r j → r < i) → On (set next i a) p k → On next p j
 on_unset {p = p} a e all here = on_here p (sym e)
-on_unset {next} {p} {k} {j} {i} a e all (later {q = q} o) =
+on_unset {next} {p} {i} a {k} {j} e all (later {q = q} o) =
     let less = all q (on_here q (sym e)) in
     on_later q (sym e) (on_unset a (ap low_of (get_or-set_other next i q a 0 (λ e. omega arith))) (λ r o'. all r (on_later q (sym e) o')) o)
 

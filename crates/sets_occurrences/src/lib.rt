@@ -2,6 +2,8 @@
 // clauses. A chain holds one entry of each such clause, the last clause first; k + 1 stands for entry k, and 0 ends it. Row x of `first` is the head
 // of the chain of x. The row of an entry in `next` packs two numbers: what comes after it on the chain, and the entry that its clause begins with.
 
+#![tactic(auto)]
+
 pub mod soles;
 
 ghost use Rattle.std.specs.Prelude.{ℕ, ◌+◌, ◌≤◌, ◌<◌, ◌≡◌, Bool, false, cond, ◌&&◌, List, eqb, length, get_or};

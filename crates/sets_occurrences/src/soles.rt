@@ -14,7 +14,7 @@ use terms::pairs::unpack;
 use terms::{Scheme, Variable};
 
 // The tops that some variables have: at most one, 0 for none, or perhaps several.
-#[derive(Drop)]
+#[derive(Clone, Copy)]
 pub enum Sole {
     Top(Variable),
     Several,

@@ -1,6 +1,8 @@
 // The record of one universal: its number, the count of its set, and its set, written or only counted. Row t of `places` is the entry of `out` where
 // the set of the top t stands already, 0 for nowhere: a copy takes less time than a walk along the run.
 
+#![tactic(auto)]
+
 ghost use Rattle.std.specs.Prelude.{ℕ, ◌+◌, ◌-◌, ◌≤◌, ◌<◌, ◌≡◌, true, false, List, ◌≢◌, length, get_or, set};
 ghost use Rattle.std.proofs.lemmas.List.Edits.{sets};
 ghost use Rattle.forest_members.specs.declared.Asked.TheVariants.{Set};
@@ -20,7 +22,7 @@ use terms::{Scheme, Variable};
 
 // A record that is to be put: that of the universal x by a scheme, among n variables of which none up to `from` has a top, from the entry `at` on,
 // written or only counted.
-#[derive(Drop)]
+#[derive(Clone, Copy)]
 pub struct Draft {
     pub scheme: Scheme,
     pub n: u32,

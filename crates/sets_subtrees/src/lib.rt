@@ -2,6 +2,8 @@
 // is found without a pass over all rows. The row of a top in `lead` packs two numbers: its lowest variable, and how many it has. The row of a
 // variable in `after` is the next higher variable of the same top. 0 stands for none.
 
+#![tactic(auto)]
+
 ghost use Rattle.std.specs.Prelude.{ℕ, ◌+◌, ◌≤◌, ◌<◌, ◌≡◌, Bool, List, length, get_or};
 ghost use Rattle.std.proofs.lemmas.List.Edits.{sets};
 ghost use Rattle.formula.specs.Meaning.{level};

@@ -2,6 +2,8 @@
 // answer out. A slice is a pointer and a length there, a `&mut` to a number is a cell, and that to the three numbers of a tally is a pointer to its
 // struct.
 
+#![tactic(auto)]
+
 pub mod dependent;
 pub mod expanding;
 pub mod files;

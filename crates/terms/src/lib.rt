@@ -1,5 +1,7 @@
 // The words of the library: variables, levels and literals, kept apart at compile time (rule 1.8, rule 18.4), their limits, and what calls answer.
 
+#![tactic(auto)]
+
 pub mod pairs;
 
 ghost use Rattle.std.specs.Prelude.{◌≤◌, ◌≡◌, pos, neg_ℤ};
@@ -8,15 +10,15 @@ ghost use Rattle.terms.specs.InnerLiteralRows.{most_literal};
 ghost use Rattle.terms.specs.InnerLiteralRows.{row_by, row_of, other_row};
 
 // A variable by its number, from 1 on; 0 stands for none.
-#[derive(Drop)]
+#[derive(Clone, Copy)]
 pub struct Variable(pub u32);
 
 // A level: the number of a block, outermost 1; 0 is the level of free variables outside every block.
-#[derive(Drop)]
+#[derive(Clone, Copy)]
 pub struct Level(pub u32);
 
 // A literal as it is lent: the number of its variable, negative for the negation.
-#[derive(Drop)]
+#[derive(Clone, Copy)]
 pub struct Literal(pub i32);
 
 impl Variable {
@@ -127,7 +129,7 @@ fn magnitude(number: i32) -> u32
 }
 
 // What a call says of what was lent to it: accepted, or the number of the refusal and its place.
-#[derive(Drop)]
+#[derive(Clone, Copy)]
 pub enum Verdict {
     Accepted,
     // the number of the refusal, and its place
@@ -135,7 +137,7 @@ pub enum Verdict {
 }
 
 // What a call says that fills a lent table: how many entries it wrote, or the number of the refusal and its place.
-#[derive(Drop)]
+#[derive(Clone, Copy)]
 pub enum Filled {
     Count(u32),
     // the number of the refusal, and its place
@@ -143,7 +145,7 @@ pub enum Filled {
 }
 
 // What the entry point call says: the class and the number of rises, or the number of the refusal and its place.
-#[derive(Drop)]
+#[derive(Clone, Copy)]
 pub enum EntryAnswer {
     At(Variable, u32),
     // the number of the refusal, and its place
@@ -151,7 +153,7 @@ pub enum EntryAnswer {
 }
 
 // What reading a text says: n and the counts of the entries of its prefix and of its clauses, or the number of the refusal and its place.
-#[derive(Drop)]
+#[derive(Clone, Copy)]
 pub enum Reading {
     Read {
         n: u32,
@@ -163,7 +165,7 @@ pub enum Reading {
 }
 
 // What reading a text with dependency lists says: beside those counts that of the entries of its lists.
-#[derive(Drop)]
+#[derive(Clone, Copy)]
 pub enum ListedReading {
     Read {
         n: u32,
@@ -177,7 +179,7 @@ pub enum ListedReading {
 
 // What expanding a universal says: n of the result, and how many entries its prefix and its clause table have; or the number of the refusal and
 // its place.
-#[derive(Drop)]
+#[derive(Clone, Copy)]
 pub enum Expanded {
     Formula(u32, u32, u32),
     // the number of the refusal, and its place
@@ -186,7 +188,7 @@ pub enum Expanded {
 
 // What reading a file says: n, how many entries its prefix and its clause table have, and whether it has sets; or the number of the refusal and
 // its place.
-#[derive(Drop)]
+#[derive(Clone, Copy)]
 pub enum Loaded {
     Formula(u32, usize, usize, bool),
     // the number of the refusal, and its place
@@ -195,14 +197,14 @@ pub enum Loaded {
 
 // Which dependencies are asked for: the standard ones, reached from clauses that have x in either sign, or the strict ones, reached both from
 // clauses with x and from clauses with its negation.
-#[derive(Drop)]
+#[derive(Clone, Copy)]
 pub enum Scheme {
     Standard,
     Strict,
 }
 
 // A tally beside a forest: the clauses taken, the merges made and the classes left (rule 4.3, rule 18.6).
-#[derive(Drop)]
+#[derive(Clone, Copy)]
 pub struct Tally {
     pub clauses: u32,
     pub merges: u32,
@@ -210,7 +212,7 @@ pub struct Tally {
 }
 
 // What a call that keeps a tally comes to: its answer, and the tally afterwards.
-#[derive(Drop)]
+#[derive(Clone, Copy)]
 pub struct Tallied {
     pub answer: Filled,
     pub tally: Tally,

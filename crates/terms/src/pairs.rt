@@ -4,7 +4,7 @@ ghost use Rattle.std.specs.Prelude.{◌<◌, ◌/◌, ◌%◌, ◌≡◌};
 ghost use Rattle.terms.specs.InnerPairs.{low_of, high_of};
 
 // The two numbers of a row, each less than 65,536.
-#[derive(Drop)]
+#[derive(Clone, Copy)]
 pub struct Pair {
     pub low: u32,
     pub high: u32,

@@ -1,11 +1,13 @@
 // The lines of QDIMACS text: the format as a grammar, and what is read of one line.
 
+#![tactic(auto)]
+
 pub mod body;
 pub mod opening;
 pub mod tables;
 
 // What stands next in a clause line: a literal, its sign beside its number, or the closing 0.
-#[derive(Drop)]
+#[derive(Clone, Copy)]
 enum Signed {
     Unfit,
     Close {
@@ -19,14 +21,14 @@ enum Signed {
 }
 
 // Where a line stands: before the problem line, or after it, with the number of clause lines that it announced and of those that have stood.
-#[derive(Drop)]
+#[derive(Clone, Copy)]
 pub enum Stage {
     Opening,
     Body { n: u32, announced: u32, stood: u32 },
 }
 
 // What a line makes of a stage: the number of the refusal if it may not stand there, or the stage and the counts of entries that it leads to.
-#[derive(Drop)]
+#[derive(Clone, Copy)]
 pub enum Step {
     Wrong(u32),
     On {
@@ -38,7 +40,7 @@ pub enum Step {
 }
 
 // A line before or at the problem line, and where the next one stands.
-#[derive(Drop)]
+#[derive(Clone, Copy)]
 pub enum Opened {
     Misfit,
     Comment { next: usize },
@@ -46,7 +48,7 @@ pub enum Opened {
 }
 
 // Whether a line begins with `e` or `a`, the mark that stands for it in the prefix table, and where the line goes on.
-#[derive(Drop)]
+#[derive(Clone, Copy)]
 enum Mark {
     Unmarked,
     Marked { mark: u32, next: usize },

@@ -59,11 +59,11 @@ AllFine before lines = found.AllFine MayFollow clauses_follow before lines
 
 pub known_more : {s t : Stage} {line p : List ℕ} {c : List ℤ} (before : List (List ℕ)) → Known s before → Line s line t p c
     → Fine before line × Known t (before ++ (line ∷ []))
-known_more before (none, count) (a_comment {line} c) = (
+known_more before known (a_comment {line} c) = let (none, count) = known in (
   (comment_follows c none, λ m i a q. none (m, a)),
   ((λ (m, a). none (m, announce_still before line (λ n m p. comment_problem c p) a)), count_still count (λ i. comment_clause c i.1)),
 )
-known_more before (none, count) (the_problem {line} {n} {m} p) = (
+known_more before known (the_problem {line} {n} {m} p) = let (none, count) = known in (
   (problem_follows p none, λ m i a q. none (m, a)),
   record {
     one = some_at before line [] (n, p);
@@ -74,7 +74,7 @@ known_more before (none, count) (the_problem {line} {n} {m} p) = (
 )
   where
     only : (m' : ℕ) → Announce before m' ⊎ ((n : ℕ) × ProblemLine line n m') → m' ≡ m
-    only m' (inl a) = absurd (none (m', a))
+    only m' (inl a) = absurd (known.0 (m', a))
     only m' (inr q) = (problem_same q.1 p).1
 known_more before b (a_block {line} {entries} {n} {m} z q) = (
   (quantifier_follows (entries, q) (m, b.one) (count_nothing b.count z), λ m i a x. quantifier_clause q i.1),

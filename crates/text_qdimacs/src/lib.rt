@@ -1,5 +1,7 @@
 // QDIMACS text: reading a text into lent tables, and writing the text of a formula, if it is accepted, into a lent buffer.
 
+#![tactic(auto)]
+
 mod filling;
 pub mod scanning;
 

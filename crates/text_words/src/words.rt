@@ -9,7 +9,7 @@ use crate::{Counted, Number, Word};
 use text_write::{LF, MINUS, NINE, SPACE, ZERO};
 
 // The word reader: the lent text and a place in it.
-#[derive(Drop)]
+#[derive(Clone, Copy)]
 pub struct Words<'a> {
     pub text: &'a [u8],
     pub at: usize,

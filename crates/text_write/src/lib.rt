@@ -1,5 +1,7 @@
 // The text of a formula as it is written into a lent buffer: bytes and numbers, the problem line, and the lines of the two tables.
 
+#![tactic(auto)]
+
 pub mod bytes;
 pub mod writing;
 
