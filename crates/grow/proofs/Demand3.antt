@@ -42,7 +42,7 @@ use Rattle.forest_theory.proofs.Fewer.{fewer_added, none_names}
 use Rattle.forest_theory.proofs.Sets.{set_members}
 use Rattle.forest_theory.proofs.Alone.{set_stays, entries_stay}
 use Rattle.grow_refusals.specs.Admitted.{AddedCause, WrongTally}
-use Rattle.grow.specs.Grown.{Standing, standing, forest_in, class_names, existentials, build_order, Grown, Tallies, Builds, Adds, with_last}
+use Rattle.grow.specs.Grown.{Standing, standing, forest_in, class_names, existentials, build_order, add_order, Grown, Tallies, Builds, Adds, with_last}
 use Rattle.grow.specs.InnerTallies.{Fell}
 use Rattle.grow_passes.specs.Past.{Past}
 use Rattle.grow_passes.proofs.Passes.{many_most}
@@ -202,7 +202,7 @@ module _ (rule n : ℕ) (es : List ℕ) where
   pub built_accepted : {ls clause : List ℤ} {s s' s'' : Standing} {k : ℕ} (answer : Filled) → Builds rule (with ls) s s' (Count k)
       → length clause ≤ clause_entries → None (AddedCause n clause) → Adds rule n es s' clause s'' answer → verdict_of answer ≡ Accepted
   built_accepted {ls} {clause} {s} {s'} answer built short first added =
-      judged_unique _ (verdict_of answer) Accepted added.judged
+      judged_unique (add_order rule n es s' clause) (verdict_of answer) Accepted added.judged
       (none.0, (none.1.0, (lengths, (none.1.1.1.0, (first, (no_forest_cause, (at0_none 18 right, tt)))))))
     where
       none : NoneOf (build_order rule (with ls) s)

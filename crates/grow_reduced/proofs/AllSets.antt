@@ -9,7 +9,7 @@ use Rattle.terms.specs.declared.Filled.{Filled}
 use Rattle.terms.specs.declared.Scheme.{Scheme}
 use Rattle.formula.specs.Lent.{Formula, formula_of}
 use Rattle.formula_rules.specs.Rules.{read_as, read_by, check_order}
-use Rattle.forest_tables.specs.Formula.{variables}
+use Rattle.forest_tables.specs.Formula.{variables, universal}
 use Rattle.forest_tables.specs.Lent.{Rows}
 use Rattle.sets.specs.Sets.{AllSetsBy, sets_order, SetsListed}
 use Rattle.sets.specs.InnerOrders.{behind_sets}
@@ -30,10 +30,10 @@ module _ (rule n : ℕ) (es : List ℕ) {ls ls' : List ℤ} (reduction : Reducti
 
   -- The lists of all sets are the same.
   sets_to : (list : List ℕ) → AllSetsBy scheme (read_by rule f) r list → AllSetsBy scheme (read_by rule f') r list
-  sets_to list all = records_as (λ x u. same_members n (read_as rule es) reduction r scheme x) n list all
+  sets_to list all = records_as {U = universal n (read_as rule es)} (λ x u. same_members n (read_as rule es) reduction r scheme x) n list all
 
   sets_back : (list : List ℕ) → AllSetsBy scheme (read_by rule f') r list → AllSetsBy scheme (read_by rule f) r list
-  sets_back list all = records_as (λ x u v. Iff.symm (same_members n (read_as rule es) reduction r scheme x v)) n list all
+  sets_back list all = records_as {U = universal n (read_as rule es)} (λ x u v. Iff.symm (same_members n (read_as rule es) reduction r scheme x v)) n list all
 
   pub same_sets_listed : (before after after' : List ℕ) (a b : Filled)
       → SetsListed rule scheme f r before after a → SetsListed rule scheme f' r before after' b → (a ≡ b) × (after ≡ after')

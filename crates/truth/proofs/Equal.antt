@@ -45,6 +45,7 @@ seen = widen only (game_strategy second equal turns (λ v. false) (closed turns 
     only : (x y : ℕ) → second x ≡ false → second y ≡ true → Earlier x y (1 ∷ 2 ∷ []) → (x ≡ 1) × (y ≡ 2)
     only x y f e (now q m) = (sym q, Memᴰ.eq_of_singleton m)
     only x y f e (after (now q m)) = absurd (Memᴰ.not-nil m)
+    only x y f e (after (after m)) = elim m [ ]
 
 -- y may depend on nothing: not even the game in which y has its turn first would be won.
 pub unseen : True second (λ x y. ⊥) equal → ⊥
