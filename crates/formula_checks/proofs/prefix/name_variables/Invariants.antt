@@ -1,0 +1,13 @@
+-- All entries passed are variables with which nothing is wrong, and the table names them (`NamedTo`); where the loop stops, one case of
+-- `NamesEnd` holds.
+use Prim.Native.Nat.{◌-◌, ◌≤◌}
+use mathlib.Core.Path.{◌≡◌}
+use lib.ListN.{length}
+use Rattle.formula.specs.InnerScan.{NamedTo}
+use Rattle.formula_checks.proofs.prefix.name_variables.Given as goal
+
+abbrev pub invariant-loop-i : goal.invariant-loop-i
+invariant-loop-i l = (l.i ≤ length l.prefix) × (length l.named ≡ length l.initial.named) × NamedTo l.n l.prefix l.start l.initial.named l.i l.named
+
+abbrev pub decreases-loop-i : goal.decreases-loop-i
+decreases-loop-i l = length l.prefix - l.i
