@@ -1,6 +1,6 @@
 -- What the functions promise that lay answers out in the cells of a C caller: what an answer says, and in which cells it then stands.
 use Rattle.std.specs.Prelude.{ℕ, ◌<◌, ◌≡◌, List}
-use Rattle.std.specs.Borrow.{Bor}
+use Rattle.std.specs.Borrow.{MutBor}
 use denote.Triple.Both.{Both}
 pub use Rattle.terms.specs.Says.{Said, gives, refuses, number_of, said_by, verdict_said, filled_said, entry_said}
 use Rattle.terms.specs.declared.Tally.{Tally}
@@ -29,10 +29,10 @@ pub data Laid {C : Type 0} (said : Said C) (cells cells' : C) (place place' retu
 
 -- a cell that a function may write, and the cells of a tally: as they were lent, and as they are left
 abbrev pub Cell : Type 0
-Cell = Both (Bor ℕ) (Bor ℕ)
+Cell = Both (MutBor ℕ) (MutBor ℕ)
 
 abbrev pub TallyCells : Type 0
-TallyCells = Both (Bor (List ℕ)) (Bor (List ℕ))
+TallyCells = Both (MutBor (List ℕ)) (MutBor (List ℕ))
 
 -- What is said stands in the cell of the place alone, or in one to four cells beside it.
 abbrev pub LaidBy : {C : Type 0} → Said C → C → C → Cell → ℕ → Type 0
