@@ -7,7 +7,7 @@ use Rattle.terms.specs.declared.Scheme.{Scheme}
 use Rattle.formula.specs.Causes.{clause_order}
 use Rattle.formula.specs.Lent.{Formula}
 use Rattle.formula_rules.specs.Rules.{read_by, check_order}
-use Rattle.forest_tables.specs.Lent.{Rows, rows_in, rows_out}
+use Rattle.forest_tables.specs.Lent.{Rows, rows_lent, rows_out}
 use Rattle.forest.specs.Answers.{EntriesBy, MembersBy, DependsBy}
 use Rattle.forest.specs.Causes.{entry_order, ask_order, list_order}
 use Rattle.sets.specs.Sets.{sets_order}
@@ -104,9 +104,9 @@ AddForC =
     (rule : ℕ) (f : Formula) (clause : List ℤ) (classes parents counts tally : LentTable) (rows place : LentCell)
     (classes' parents' counts' tally' : LentTable) (place' : LentCell) (returned' : ℕ) (classes'' parents'' counts'' tally'' : LentTable) (rows'' place'' : LentCell) (returned'' : ℕ)
     → BuildTold rule f classes parents counts tally rows place 0 → MayBeAdded f clause
-    → rows_in classes' parents' counts' ≡ rows_out classes parents counts → tally'.entry.now ≡ tally.exit.now
+    → rows_lent classes' parents' counts' ≡ rows_out classes parents counts → tally'.entry.now ≡ tally.exit.now
     → AddTold rule f.n f.prefix classes' parents' counts' tally' clause place' returned'
-    → rows_in classes'' parents'' counts'' ≡ rows_in classes parents counts → tally''.entry.now ≡ tally.entry.now
+    → rows_lent classes'' parents'' counts'' ≡ rows_lent classes parents counts → tally''.entry.now ≡ tally.entry.now
     → BuildTold rule (longer f clause) classes'' parents'' counts'' tally'' rows'' place'' returned''
     → (returned' ≡ 0) × (returned'' ≡ 0) × (rows_out classes' parents' counts' ≡ rows_out classes'' parents'' counts'')
     × (tally'.exit.now ≡ tally''.exit.now)

@@ -1,7 +1,7 @@
 -- What expanding one universal promises (rule 12.1): the order in which it looks for refusals (rule 8.5), its answer, and what it leaves in the lent
 -- tables. All but the order of check speaks of the formula as the reading rule reads it.
 use Rattle.std.specs.Prelude.{ℕ, ◌+◌, ◌<◌, ◌≡◌, List, [], ◌∷◌, ◌⊎◌, ℤ, length}
-use Rattle.std.specs.Borrow.{Bor}
+use Rattle.std.specs.Borrow.{MutBor}
 use denote.Triple.Both.{Both}
 use Rattle.terms.specs.Limits.{most_variables, prefix_entries, clause_entries}
 use Rattle.terms.specs.Listed.{Listed}
@@ -27,10 +27,10 @@ abbrev pub result_tables : List ℕ → List ℤ → ResultTables
 result_tables prefix clauses = record { prefix = prefix; clauses = clauses }
 
 -- the tables of a call's parameters, as they were passed, and as the call leaves them
-abbrev pub result_in : {P C : Type 0} → Both (Bor (List ℕ)) P → Both (Bor (List ℤ)) C → ResultTables
+abbrev pub result_in : {P C : Type 0} → Both (MutBor (List ℕ)) P → Both (MutBor (List ℤ)) C → ResultTables
 result_in prefix clauses = result_tables prefix.entry.now clauses.entry.now
 
-abbrev pub result_out : {P C : Type 0} → Both P (Bor (List ℕ)) → Both C (Bor (List ℤ)) → ResultTables
+abbrev pub result_out : {P C : Type 0} → Both P (MutBor (List ℕ)) → Both C (MutBor (List ℤ)) → ResultTables
 result_out prefix clauses = result_tables prefix.exit.now clauses.exit.now
 
 -- The standard set of x, found from the clauses, as an ascending list.

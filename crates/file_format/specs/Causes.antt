@@ -1,13 +1,13 @@
 -- The causes of refusals 19 to 22, and of 14, for reading and writing a file, line by line as the table has them (rule 8.1, rule 10.5), and the orders of
 -- the two calls (rule 8.4), which take the number of a reading rule (rule 6.1).
 use Rattle.std.specs.Prelude.{◌≡◌, ℕ, ◌%◌, ◌<◌, ◌≤◌, true, false, ◌≢◌, ◌⊎◌, List, [], ◌∷◌, ◌++◌, length, ℤ}
-use Rattle.std.specs.Borrow.{Bor}
+use Rattle.std.specs.Borrow.{MutBor}
 use denote.Triple.Both.{Both}
 use Rattle.terms.specs.Refusals.{Causes, At0}
 use Rattle.formula.specs.Causes.{VariableCount, LengthCause, ClauseCause}
 use Rattle.formula.specs.Lent.{Formula}
 use Rattle.formula_rules.specs.Rules.{read_as, read_by, RuleCause, PrefixCauseBy}
-use Rattle.forest_tables.specs.Lent.{Rows, rows_in, rows_out}
+use Rattle.forest_tables.specs.Lent.{Rows, rows_lent, rows_out}
 use Rattle.file_format.specs.Layout.{prefix_kind, clauses_kind, closing_kind, ForestRows, StandardSets, FileWith, SumsToZero}
 use Rattle.file_format.specs.Places.{size_at, kind_at, next_at, Passed, RecordAt, Whole, KindsInOrder, third_at, fourth_at, has_sets, formula_held, HoldsNumbers}
 
@@ -70,11 +70,11 @@ lent_tables prefix clauses rows = record { prefix = prefix; clauses = clauses; r
 
 -- the tables of a call's parameters, as they were passed, and as the call leaves them
 abbrev pub lent_in : {P L C Q N : Type 0}
-    → Both (Bor (List ℕ)) P → Both (Bor (List ℤ)) L → Both (Bor (List ℕ)) C → Both (Bor (List ℕ)) Q → Both (Bor (List ℕ)) N → Lent
-lent_in prefix clauses classes parents counts = lent_tables prefix.entry.now clauses.entry.now (rows_in classes parents counts)
+    → Both (MutBor (List ℕ)) P → Both (MutBor (List ℤ)) L → Both (MutBor (List ℕ)) C → Both (MutBor (List ℕ)) Q → Both (MutBor (List ℕ)) N → Lent
+lent_in prefix clauses classes parents counts = lent_tables prefix.entry.now clauses.entry.now (rows_lent classes parents counts)
 
 abbrev pub lent_out : {P L C Q N : Type 0}
-    → Both P (Bor (List ℕ)) → Both L (Bor (List ℤ)) → Both C (Bor (List ℕ)) → Both Q (Bor (List ℕ)) → Both N (Bor (List ℕ)) → Lent
+    → Both P (MutBor (List ℕ)) → Both L (MutBor (List ℤ)) → Both C (MutBor (List ℕ)) → Both Q (MutBor (List ℕ)) → Both N (MutBor (List ℕ)) → Lent
 lent_out prefix clauses classes parents counts = lent_tables prefix.exit.now clauses.exit.now (rows_out classes parents counts)
 
 -- 14, for reading: a lent table is shorter than what a formula and its rows have for it

@@ -1,7 +1,7 @@
 -- What build and add promise: the order in which each looks for refusals (rule 8.2), and what it leaves in the lent rows and in the tally (demand 3;
 -- rule 3.5, rule 4.3, rule 4.4, rule 7.2, rule 7.5).
 use Rattle.std.specs.Prelude.{ℕ, ◌<◌, ◌≡◌, List, [], ◌∷◌, ◌++◌, ◌⊎◌, ℤ, pos, length}
-use Rattle.std.specs.Borrow.{Bor}
+use Rattle.std.specs.Borrow.{MutBor}
 use denote.Triple.Both.{Both}
 use Rattle.terms.specs.Says.{filled_said}
 use Rattle.terms.specs.Answers.{Then, verdict_of}
@@ -12,7 +12,7 @@ use Rattle.formula.specs.Lent.{Formula}
 use Rattle.formula_rules.specs.Rules.{read_as, read_by, RuleCause, PrefixCauseBy}
 use Rattle.formula.specs.Meaning.{clauses, connected}
 use Rattle.forest_tables.specs.Causes.{ForestCause}
-use Rattle.forest_tables.specs.Lent.{Rows, rows_in, rows_out, variables_of}
+use Rattle.forest_tables.specs.Lent.{Rows, rows_lent, rows_out, variables_of}
 use Rattle.forest_tables.specs.Formula.{variables, joined, Shares}
 use Rattle.forest_theory.specs.Reach.{Variables, Joined}
 use Rattle.forest_theory.specs.Tables.{Table, ClassName, row, lent, joins}
@@ -32,10 +32,10 @@ abbrev pub standing : Rows → Tally → Standing
 standing r tally = record { rows = r; tally = tally }
 
 -- so of a call's parameters, as they were passed, and as the call leaves them
-abbrev pub standing_in : {C P N : Type 0} → Both (Bor (List ℕ)) C → Both (Bor (List ℕ)) P → Both (Bor (List ℕ)) N → Tally → Standing
-standing_in classes parents counts tally = standing (rows_in classes parents counts) tally
+abbrev pub standing_in : {C P N : Type 0} → Both (MutBor (List ℕ)) C → Both (MutBor (List ℕ)) P → Both (MutBor (List ℕ)) N → Tally → Standing
+standing_in classes parents counts tally = standing (rows_lent classes parents counts) tally
 
-abbrev pub standing_out : {C P N : Type 0} → Both C (Bor (List ℕ)) → Both P (Bor (List ℕ)) → Both N (Bor (List ℕ)) → Tally → Standing
+abbrev pub standing_out : {C P N : Type 0} → Both C (MutBor (List ℕ)) → Both P (MutBor (List ℕ)) → Both N (MutBor (List ℕ)) → Tally → Standing
 standing_out classes parents counts tally = standing (rows_out classes parents counts) tally
 
 -- the table of its classes and parents, and how many class names that has

@@ -10,7 +10,7 @@ ghost use Rattle.forest_theory.specs.Counts.{how_many, names_itself};
 ghost use Rattle.forest_tables.specs.Causes.{ForestCause};
 ghost use Rattle.forest_tables.specs.InnerCounting.{FormedBy};
 ghost use Rattle.forest_tables.specs.Formula.{variables};
-ghost use Rattle.forest_tables.specs.Lent.{rows_in};
+ghost use Rattle.forest_tables.specs.Lent.{rows_in, rows_lent};
 ghost use Rattle.grow.specs.Grown.{standing_in, standing_out, TallyCause, Extended, AddsBehind};
 ghost use Rattle.grow.specs.InnerOrders.{behind_add};
 ghost use Rattle.grow_rows.specs.InnerRows.{Rowed, Recounted};
@@ -57,7 +57,7 @@ fn add_sound(
     clause: &[i32],
 ) -> Tallied
     requires sound { SoundPrefix n prefix.now × InRows clause.now }
-    ensures added { AddsBehind (ForestCause n prefix.now (rows_in classes parents counts)
+    ensures added { AddsBehind (ForestCause n prefix.now (rows_lent classes parents counts)
         ∷ TallyCause (variables n prefix.now) (standing_in classes parents counts tally) ∷ [])
         (variables n prefix.now) (standing_in classes parents counts tally) clause.now
         (standing_out classes parents counts result.tally) result.answer }

@@ -1,7 +1,7 @@
 -- What each call for C (rule 7.1) promises, by name: of what is lent to it, and of the cells and tables that it may write. Where a promise takes a scheme,
 -- a call that names none gives the strict one (rule 5.4).
 use Rattle.std.specs.Prelude.{ℕ, ◌≡◌, List, ℤ}
-use Rattle.std.specs.Borrow.{Bor}
+use Rattle.std.specs.Borrow.{MutBor}
 use denote.Triple.Both.{Both}
 use Rattle.terms.specs.Answers.{InFront}
 use Rattle.terms.specs.Listed.{Listed}
@@ -12,7 +12,7 @@ use Rattle.formula.specs.Causes.{clause_order}
 use Rattle.formula.specs.Lent.{Formula}
 use Rattle.formula_rules.specs.Rules.{read_as, read_by, check_order}
 use Rattle.forest_tables.specs.Formula.{variables, Shares}
-use Rattle.forest_tables.specs.Lent.{Rows, rows_in, rows_out, variables_of}
+use Rattle.forest_tables.specs.Lent.{Rows, rows_lent, rows_out, variables_of}
 use Rattle.forest.specs.Causes.{entry_order, ask_order, list_order}
 use Rattle.forest.specs.Answers.{Entry, EntriesBy, MembersBy, SizeBy}
 use Rattle.sets.specs.Sets.{AllSetsBy, sets_order}
@@ -36,16 +36,16 @@ use Rattle.snowcoddle.specs.Filed.{GivenByFile}
 
 -- a cell, and a table, that a call may write: as it was lent, and as the call leaves it
 abbrev pub LentCell : Type 0
-LentCell = Both (Bor ℕ) (Bor ℕ)
+LentCell = Both (MutBor ℕ) (MutBor ℕ)
 
 abbrev pub LentTable : Type 0
-LentTable = Both (Bor (List ℕ)) (Bor (List ℕ))
+LentTable = Both (MutBor (List ℕ)) (MutBor (List ℕ))
 
 abbrev pub LentLiterals : Type 0
-LentLiterals = Both (Bor (List ℤ)) (Bor (List ℤ))
+LentLiterals = Both (MutBor (List ℤ)) (MutBor (List ℤ))
 
 -- it holds what it held
-abbrev pub Kept : {A : Type 0} → Both (Bor A) (Bor A) → Type 0
+abbrev pub Kept : {A : Type 0} → Both (MutBor A) (MutBor A) → Type 0
 Kept lent = lent.exit.now ≡ lent.entry.now
 
 -- what is told, with the place of a refusal in its cell
@@ -87,7 +87,7 @@ SetsTold rule scheme f r out = TellsList (sets_order rule scheme f r out.entry.n
 
 -- what stands before build and add: the lent rows, and the tally in its cells
 abbrev pub lent_standing : LentTable → LentTable → LentTable → LentTable → Standing
-lent_standing classes parents counts tally = standing (rows_in classes parents counts) (tally_in tally.entry.now)
+lent_standing classes parents counts tally = standing (rows_lent classes parents counts) (tally_in tally.entry.now)
 
 -- what they leave, of which S holds; and that all is kept
 abbrev pub LeftTold : (Standing → Type 0) → LentTable → LentTable → LentTable → LentTable → Type 0
