@@ -1,6 +1,6 @@
 -- The first cause of 16 and 17 in a text whose first lines are within the rules (first_cause), and that a text which ends behind such lines, and as many
 -- clause lines as announced, has none (no_cause): for any format in which a clause line may stand behind the problem line.
-use Prim.Native.Nat.{ℕ, ◌+◌, ◌<◌, ◌≤◌}
+use Prim.Native.Nat.{ℕ, ◌<◌, ◌≤◌}
 use mathlib.Core.Path.{◌≡◌, refl, sym, ap, ap₂, ◌∙◌, subst}
 use mathlib.Core.List.{List, [], ◌∷◌, ◌++◌, append_assoc, append-nil}
 use mathlib.Core.Logic.{◌⊎◌, inl, inr, ◌≢◌}
