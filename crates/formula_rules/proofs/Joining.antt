@@ -86,16 +86,16 @@ no_more mark variables ((other ∷ []) ∷ js) full apart w more q = let l = ful
 no_more mark variables ((other ∷ v ∷ others) ∷ js) full apart w more q = apart.0 (sym (ap front_mark q))
 
 -- So a block ends where the mark changes.
-same_block : (mark : ℕ) (vs ws : List ℕ) (own other : List ℕ) (js ks : List (List ℕ)) → NoneEmpty js → Apart ((mark ∷ own) ∷ js) → NoneEmpty ks
+same_block : (mark : ℕ) (vs ws : List ℕ) (mine other : List ℕ) (js ks : List (List ℕ)) → NoneEmpty js → Apart ((mark ∷ mine) ∷ js) → NoneEmpty ks
     → Apart ((mark ∷ other) ∷ ks) → map (λ v. (mark, v)) vs ++ marked js ≡ map (λ v. (mark, v)) ws ++ marked ks → (vs ≡ ws) × (marked js ≡ marked ks)
 unfolding front_variable
-same_block mark [] [] own other js ks full apart full' apart' q = (refl, q)
-same_block mark [] (w ∷ ws) own other js ks full apart full' apart' q =
-    absurd (no_more mark own js full apart w (map (λ v. (mark, v)) ws ++ marked ks) q)
-same_block mark (v ∷ vs) [] own other js ks full apart full' apart' q =
+same_block mark [] [] mine other js ks full apart full' apart' q = (refl, q)
+same_block mark [] (w ∷ ws) mine other js ks full apart full' apart' q =
+    absurd (no_more mark mine js full apart w (map (λ v. (mark, v)) ws ++ marked ks) q)
+same_block mark (v ∷ vs) [] mine other js ks full apart full' apart' q =
     absurd (no_more mark other ks full' apart' v (map (λ v. (mark, v)) vs ++ marked js) (sym q))
-same_block mark (v ∷ vs) (w ∷ ws) own other js ks full apart full' apart' q =
-    let (more, rest) = same_block mark vs ws own other js ks full apart full' apart' (ap (drop 1) q) in
+same_block mark (v ∷ vs) (w ∷ ws) mine other js ks full apart full' apart' q =
+    let (more, rest) = same_block mark vs ws mine other js ks full apart full' apart' (ap (drop 1) q) in
     (ap₂ (λ (x : ℕ) (l : List ℕ). x ∷ l) (ap front_variable q) more, rest)
 
 later_apart : (block : List ℕ) (js : List (List ℕ)) → Apart (block ∷ js) → Apart js

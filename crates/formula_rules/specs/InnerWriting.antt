@@ -1,5 +1,5 @@
 -- Inner: what functions promise that judge a prefix under rule 2 and write it joined. What a reader must believe is in Joined and Rules.
-use Rattle.std.specs.Prelude.{ℕ, zero, suc, ◌+◌, ◌≤◌, ◌≡◌, Bool, true, false, List, [], ◌∷◌, ◌++◌, ◌⊎◌, ◌≢◌, length, take}
+use Rattle.std.specs.Prelude.{ℕ, zero, suc, ◌+◌, ◌≡◌, Bool, true, false, List, [], ◌∷◌, ◌++◌, ◌⊎◌, ◌≢◌, length, take}
 use Rattle.terms.specs.Limits.{most_blocks}
 use Rattle.formula.specs.InnerScan.{IsMark}
 
