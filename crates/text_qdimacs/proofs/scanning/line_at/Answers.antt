@@ -1,0 +1,40 @@
+-- By the stage: before the problem line what `opening_at` found is a fault or where the line leads to (Bodies), and after it `body_at` says so itself.
+use Prim.Native.Nat.{ℕ}
+use mathlib.Core.Path.{sym, subst}
+use mathlib.Core.List.{List}
+use lib.IntN.{ℤ}
+use Rattle.text_lines.specs.declared.Stage.{Stage}
+use Rattle.text_lines.specs.InnerSteps.{OpenedIs, StepIs, Sound}
+use Rattle.text_lines.proofs.Bodies.{fault_opening, went_comment, went_problem}
+use Rattle.text_qdimacs.proofs.scanning.line_at.Goals as goal
+
+pub body_at-requires : goal.body_at-requires
+body_at-requires c =
+    let pre = c.requires in
+    record { within = (pre.within.0, pre.within.1, pre.within.2, subst Sound c.in-Body.is pre.within.3) }
+
+pub returns-in-Misfit : goal.returns-in-Misfit
+returns-in-Misfit c =
+    let a = c.args in
+    let none = subst (OpenedIs a.text.now a.at) c.in-Misfit.is c.opening_at.ensures.opened in
+    record { steps = fault_opening c.in-Opening.is c.requires.within.0 none }
+
+pub returns-in-Comment : goal.returns-in-Comment
+returns-in-Comment c =
+    let a = c.args in
+    let comment = subst (OpenedIs a.text.now a.at) c.in-Comment.is c.opening_at.ensures.opened in
+    record { steps = went_comment c.requires.within.1 c.requires.within.2 c.in-Opening.is comment }
+
+pub returns-in-Problem : goal.returns-in-Problem
+returns-in-Problem c =
+    let a = c.args in
+    let problem = subst (OpenedIs a.text.now a.at) c.in-Problem.is c.opening_at.ensures.opened in
+    record { steps = went_problem c.requires.within.1 c.requires.within.2 c.in-Opening.is problem }
+
+pub returns-in-Body : goal.returns-in-Body
+returns-in-Body c =
+    let a = c.args in
+    let o = c.body_at in
+    let after : List ℕ × List ℤ = (o.new.prefix, o.new.clauses) in
+    let Is : Stage → Type 0 = λ s. StepIs s a.text.now a.at a.entries a.literals (a.prefix.now, a.clauses.now) after o.result in
+    record { steps = subst Is (sym c.in-Body.is) o.ensures.steps }
