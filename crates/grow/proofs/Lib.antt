@@ -8,4 +8,3 @@ pub mod Tight
 pub mod Demand3
 pub mod StrictDemand
 pub mod Agreed
-pub mod Machine

@@ -1,7 +1,7 @@
 -- The tally, both ways: that of a list, as if each clause had been added from none, is the one with all clauses taken whose classes left are the class
 -- names and sum with the merges to the existentials; and the classes that an add made disappear are as many as the number of class names falls by.
-use Prim.Native.Nat.{ℕ, ◌+◌, ◌-◌, ◌≤◌}
-use mathlib.Core.Path.{◌≡◌, refl, sym, ap, ◌∙◌, subst}
+use Prim.Native.Nat.{ℕ, ◌+◌}
+use mathlib.Core.Path.{◌≡◌, refl, sym, ◌∙◌, subst}
 use mathlib.Core.Bool.{Bool, true, false, not, ◌&&◌}
 use mathlib.Core.List.{List, [], ◌∷◌, ◌++◌, append_assoc, append-nil}
 use mathlib.Core.Logic.{◌⊎◌, inl, inr, ⊎_elim, ◌↔◌}
@@ -11,10 +11,10 @@ use lib.IntN.{ℤ}
 use lib.ListN.{length, length-append, length-map}
 use Rattle.terms.specs.declared.Tally.{Tally}
 use Rattle.terms.proofs.Common.{clash, by_test}
-use Rattle.forest_theory.specs.Reach.{Variables, Joined, here}
+use Rattle.forest_theory.specs.Reach.{Variables, Joined}
 use Rattle.forest_theory.specs.InnerVariables.{Lawful}
 use Rattle.forest_theory.specs.Tables.{Table, ClassName, WellFormed, joins}
-use Rattle.forest_theory.specs.Forest.{Names, Forest}
+use Rattle.forest_theory.specs.Forest.{Forest}
 use Rattle.forest_theory.specs.InnerFusing.{table_of, forest_of}
 use Rattle.forest_theory.specs.InnerSearch.{has}
 use Rattle.forest_theory.specs.Counts.{Numbered, how_many, names_itself}

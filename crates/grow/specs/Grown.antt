@@ -10,7 +10,7 @@ use Rattle.terms.specs.declared.Filled.{Filled}
 use Rattle.formula.specs.Causes.{VariableCount, LengthCause, ClauseCause}
 use Rattle.formula.specs.Lent.{Formula}
 use Rattle.formula_rules.specs.Rules.{read_as, read_by, RuleCause, PrefixCauseBy}
-use Rattle.formula.specs.Meaning.{clauses, connected}
+use Rattle.formula.specs.Meaning.{connected}
 use Rattle.forest_tables.specs.Causes.{ForestCause}
 use Rattle.forest_tables.specs.Lent.{Rows, rows_lent, rows_out, variables_of}
 use Rattle.forest_tables.specs.Formula.{variables, joined, Shares}

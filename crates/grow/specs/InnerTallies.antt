@@ -5,7 +5,6 @@ use Rattle.forest_theory.specs.Reach.{Variables}
 use Rattle.grow.specs.Grown.{Standing, class_names, existentials}
 use Rattle.formula.specs.Meaning.{clauses}
 use Rattle.forest_theory.specs.Reach.{Variables}
-use Rattle.forest_theory.specs.Counts.{names_itself}
 
 -- All clauses are taken, the classes left are the class names, and these and the merges sum to the existentials.
 pub record SumsUp (X : Variables) (taken : ℕ) (s : Standing) : Type 0 where
