@@ -15,7 +15,7 @@ use Rattle.terms.specs.declared.Filled.{Filled}
 use Rattle.terms.specs.declared.Scheme.{Scheme}
 use Rattle.terms.proofs.Answers.{listed-as}
 use Rattle.formula.specs.Lent.{Formula, formula_of}
-use Rattle.formula_rules.specs.Rules.{read_as, read_by, check_order}
+use Rattle.formula_rules.specs.Rules.{read_as, check_order}
 use Rattle.forest_tables.specs.Formula.{variables, Shares}
 use Rattle.forest_tables.specs.Lent.{Rows}
 use Rattle.forest_tables.specs.Causes.{ForestCause}
