@@ -1,9 +1,9 @@
 -- From flags to what a call that lists promises, of a formula that is accepted.
 use Prim.Native.Nat.{ℕ, ◌≤◌}
-use mathlib.Core.Path.{◌≡◌, refl, sym, ap, ◌∙◌, subst₂}
-use mathlib.Core.Bool.{Bool, true, false}
+use mathlib.Core.Path.{refl, sym, ap, ◌∙◌, subst₂}
+use mathlib.Core.Bool.{Bool, false}
 use mathlib.Core.List.{List, [], ◌∷◌, ◌++◌}
-use mathlib.Core.Logic.{inl, ◌↔◌}
+use mathlib.Core.Logic.{inl}
 use native.Mathlib.Omega.{arith}
 use lib.ListN.{length, get_or}
 use Rattle.terms.specs.Answers.{TooLong, Listing}
@@ -26,7 +26,7 @@ use Rattle.forest_members.specs.declared.Asked.TheVariants.{Points, Set}
 use Rattle.forest_members.specs.InnerPicked.{pick, picked, Picks}
 use Rattle.forest_members.proofs.Picked.{picked_listed}
 use Rattle.forest.specs.InnerOrders.{behind_check}
-use Rattle.forest.specs.Answers.{EntriesBy, MembersBy, SizeBy}
+use Rattle.forest.specs.Answers.{MembersBy, SizeBy}
 use Rattle.forest.specs.InnerWanted.{Enters, Wanted}
 use Rattle.forest.proofs.Entered.{of_within, members_of}
 use Rattle.forest.proofs.Schemes.{scheme_points}
