@@ -1,5 +1,5 @@
 -- Paths of clause numbers that another tool gives for a pair (x, y), and when one is acceptable (rule 11.1).
-use Rattle.std.specs.Prelude.{ℕ, suc, ◌<◌, ◌-◌, ◌≡◌, true, false, ℤ, length, get_or}
+use Rattle.std.specs.Prelude.{ℕ, suc, ◌<◌, ◌-◌, ◌≡◌, false, ℤ, length, get_or}
 use mathlib.Core.List.{List, [], map, Memᴰ}
 use Rattle.terms.specs.Literals.{variable_of}
 use Rattle.formula.specs.Tables.{at}
