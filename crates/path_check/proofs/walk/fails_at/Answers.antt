@@ -2,7 +2,6 @@
 use Prim.Native.Nat.{suc}
 use mathlib.Core.Path.{◌≡◌, refl}
 use native.Mathlib.Omega.{arith}
-use borrow.Author.Tests.{not-true, not-false}
 use lib.ListN.{length}
 use Rattle.formula.specs.Tables.{at}
 use Rattle.forest_tables.proofs.Readings.{told, told_not}
@@ -35,21 +34,21 @@ goes_on-requires c =
     }
 
 pub returns-then-not-goes_on : goal.returns-then-not-goes_on
-returns-then-not-goes_on c = record { told = not_joined c.args.i c.requires.walked.2 (told_not c.goes_on.result (not-true c.goes_on.result c.if-not-goes_on.true-raw) c.goes_on.ensures.told) }
+returns-then-not-goes_on c = record { told = not_joined c.args.i c.requires.walked.2 (told_not c.goes_on.result c.if-not-goes_on.true c.goes_on.ensures.told) }
 
 pub returns-then-i-path : goal.returns-then-i-path
 returns-then-i-path c =
     let pre = c.requires in
     let (end, f) = begin_from (known_begin pre.walked.0 pre.walked.2) c.if-row-eq0.false in
     let more = c.if-i-path.true in
-    record { told = no_cause pre.walked.2 f.not-true (told c.goes_on.result (not-false c.goes_on.result c.if-not-goes_on.false-raw) c.goes_on.ensures.told) (λ q. absurd (omega arith)) }
+    record { told = no_cause pre.walked.2 f.not-true (told c.goes_on.result c.if-not-goes_on.false c.goes_on.ensures.told) (λ q. absurd (omega arith)) }
 
 pub returns : goal.returns
 returns c =
     let a = c.args in
     let pre = c.requires in
     let (end, f) = begin_from (known_begin pre.walked.0 pre.walked.2) c.if-row-eq0.false in
-    let joins = told c.goes_on.result (not-false c.goes_on.result c.if-not-goes_on.false-raw) c.goes_on.ensures.told in
+    let joins = told c.goes_on.result c.if-not-goes_on.false c.goes_on.ensures.told in
     let done = c.if-i-path.false in
     let within = pre.walked.2 in
     let last : suc a.i ≡ length a.path.now = omega arith in
