@@ -10,7 +10,6 @@ use lib.ListN.{length, get_or, take}
 use lib.Seq.{sets, length-sets}
 use Rattle.terms.specs.Limits.{most_variables}
 use Rattle.terms.specs.InnerLimits.{variable_rows}
-use Rattle.terms.specs.Listed.{Listed}
 use Rattle.terms.specs.Refusals.{Causes, At0}
 use Rattle.terms.specs.declared.Expanded.{Expanded}
 use Rattle.terms.proofs.Listed.{listed_one, listed_most}
@@ -22,7 +21,6 @@ use Rattle.terms.proofs.Verdicts.{at0_first, at0_none}
 use Rattle.formula.specs.Lent.{Formula, formula_of}
 use Rattle.formula.specs.InnerLevels.{SoundPrefix}
 use Rattle.forest_tables.proofs.Agreeing.{lawful}
-use Rattle.forest.specs.InnerWanted.{Lists}
 use Rattle.expand_clauses.specs.InnerCopies.{copy_from, copy_of}
 use Rattle.expand_clauses.specs.InnerCopied.{tabled, Copies}
 use Rattle.expand.specs.Promise.{ResultTables, LeavesFormula, SetOf, expanded_by, OfExpanded, ManyVariables, Long, Short, ExpandsBy}
