@@ -45,13 +45,13 @@ unfolding word_sum
 sum_closes = refl
 
 -- where its records begin, and what they say
-pub second_at : second_at file_e ≡ 20
+pub second_at_lem : second_at file_e ≡ 20
 unfolding second_at next_at size_at number_at
-second_at = refl
+second_at_lem = refl
 
-pub third_at : third_at file_e ≡ 38
+pub third_at_lem : third_at file_e ≡ 38
 unfolding third_at second_at next_at size_at number_at
-third_at = refl
+third_at_lem = refl
 
 pub fourth_at_lem : fourth_at file_e ≡ 68
 unfolding fourth_at third_at second_at next_at size_at number_at
