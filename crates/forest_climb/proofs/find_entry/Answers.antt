@@ -1,7 +1,6 @@
 -- Where y is existential and deeper than x, its class stands in y's block, so that the climb from there ends at the entry point (searched_entry).
 use mathlib.Core.Path.{◌≡◌, sym, ap, ◌∙◌, subst}
 use native.Mathlib.Omega.{arith}
-use borrow.Author.Tests.{not-true, not-false}
 use lib.ListN.{get_or}
 use Rattle.terms.proofs.Common.{clash}
 use Rattle.forest_theory.specs.Tables.{lent, EntryPoint}
@@ -11,13 +10,13 @@ use Rattle.forest_climb.proofs.Climbing.{formed_falls, formed_block, searched_ro
 use Rattle.forest_climb.proofs.find_entry.Goals as goal
 
 pub returns-then-not-existential_at : goal.returns-then-not-existential_at
-returns-then-not-existential_at c = record { found = λ deep. clash deep.existential (sym c.existential_at.ensures.told ∙ not-true c.existential_at.result c.if-not-existential_at.true-raw) }
+returns-then-not-existential_at c = record { found = λ deep. clash deep.existential (sym c.existential_at.ensures.told ∙ c.if-not-existential_at.true) }
 
 pub climb-end-requires : goal.climb-end-requires
 climb-end-requires c =
     let a = c.args in
     let existential = c.existential_at in
-    let ex = sym existential.ensures.told ∙ not-false existential.result c.if-not-existential_at.false-raw in
+    let ex = sym existential.ensures.told ∙ c.if-not-existential_at.false in
     let block = formed_block a.n a.levels.now a.universals.now a.classes.now a.parents.now c.requires.formed a.y.0 ex in
     let own : get_or a.levels.now c.row_of-own.result.0 0 ≡ get_or a.levels.now a.y.0 0 =
     ap (λ d. get_or a.levels.now d 0) c.row_of-own.ensures.read ∙ block in
@@ -37,7 +36,7 @@ returns c =
     let a = c.args in
     let formed = c.requires in
     let existential = c.existential_at in
-    let ex = sym existential.ensures.told ∙ not-false existential.result c.if-not-existential_at.false-raw in
+    let ex = sym existential.ensures.told ∙ c.if-not-existential_at.false in
     let floor = c.level_at-floor.ensures in
     let deep = c.level_at-deep.ensures in
     let over = c.if-deep-floor.false in

@@ -1,7 +1,6 @@
 -- The three tests are the three parts of a right class row (class_right), and each that fails refutes one (class_most, class_name, class_block).
 use mathlib.Core.List.{[]}
 use native.Mathlib.Omega.{arith}
-use borrow.Author.Tests.{not-true, not-false}
 use Rattle.forest_tables.proofs.Readings.{told, told_not}
 use Rattle.forest_tables.proofs.Formed.{class_right, class_most, class_name, class_block}
 use Rattle.forest_tables.proofs.rows.class_is_right.Goals as goal
@@ -18,7 +17,7 @@ returns-then-not-names_class c =
     let names = c.names_class in
     let a = c.args in
     let name = class_name a.n a.levels.now a.universals.now a.classes.now [] a.v.0 c.row_of-class.result.0 in
-    record { tells = λ r. told_not names.result (not-true names.result c.if-not-names_class.true-raw) names.ensures.tells (name c.row_of-class.ensures.read r) }
+    record { tells = λ r. told_not names.result (c.if-not-names_class.true) names.ensures.tells (name c.row_of-class.ensures.read r) }
 
 pub returns-then-block-own : goal.returns-then-block-own
 returns-then-block-own c =
@@ -36,6 +35,6 @@ returns c =
     record {
       tells = class_right a.n a.levels.now a.universals.now a.classes.now [] a.v.0 c.row_of-class.result.0
           c.level_at-block.result.0 c.level_at-own.result.0 c.row_of-class.ensures.read c.if-v-class.false
-          (told names.result (not-false names.result c.if-not-names_class.false-raw) names.ensures.tells) c.level_at-block.ensures.read c.level_at-own.ensures.read
+          (told names.result (c.if-not-names_class.false) names.ensures.tells) c.level_at-block.ensures.read c.level_at-own.ensures.read
           c.if-block-own.false;
     }

@@ -1,4 +1,3 @@
-use borrow.Author.Tests.{not-true, not-false}
 use Rattle.forest_tables.specs.InnerRows.{RightRow}
 use Rattle.forest_tables.proofs.Readings.{told, told_not}
 use Rattle.forest_tables.proofs.Formed.{right_none, right_more, bad_here, bad_none}
@@ -14,7 +13,7 @@ returns-then-not-row_is_right c =
     record {
       first = bad_here (RightRow a.n a.levels.now a.universals.now a.classes.now a.parents.now) a.n c.loop-passed.invariant
           c.loop-passed-test.true
-          (rw (← c.new.ensures.holds) (told_not right.result (not-true right.result c.if-not-row_is_right.true-raw) right.ensures.tells));
+          (rw (← c.new.ensures.holds) (told_not right.result (c.if-not-row_is_right.true) right.ensures.tells));
     }
 
 pub loop-passed-preserved : goal.loop-passed-preserved
@@ -23,7 +22,7 @@ loop-passed-preserved c =
     let right = c.row_is_right in
     right_more (RightRow a.n a.levels.now a.universals.now a.classes.now a.parents.now) a.n c.loop-passed.invariant
     c.loop-passed-test.true
-    (rw (← c.new.ensures.holds) (told right.result (not-false right.result c.if-not-row_is_right.false-raw) right.ensures.tells))
+    (rw (← c.new.ensures.holds) (told right.result (c.if-not-row_is_right.false) right.ensures.tells))
 
 pub returns : goal.returns
 returns c =
