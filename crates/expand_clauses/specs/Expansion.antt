@@ -69,7 +69,7 @@ unfoldable pub named : Bool → ℕ → List ℕ → ℤ → ℤ
 named false n members literal = literal
 named true n members literal = renamed n members literal
 
--- Whether a clause has a copy with x at a value. An is_always_true clause gives none, a satisfied copy is left out, and only a clause with x or a member
+-- Whether a clause has a copy with x at a value. An always-true clause gives none, a satisfied copy is left out, and only a clause with x or a member
 -- has one with x true.
 unfoldable pub has_copy : Bool → ℕ → List ℕ → List ℤ → Bool
 has_copy value x members clause = not (always_true clause) && not (satisfied value x clause) && (not value || (has_x x clause || has_member members clause))

@@ -48,7 +48,7 @@ unfoldable pub named : Bool → (ℕ → ℕ) → ℤ → ℤ
 named false copy literal = literal
 named true copy literal = renamed copy literal
 
--- Whether a clause has a copy with x at a value. An is_always_true clause gives none, a satisfied copy is left out, and only a clause with x or a member
+-- Whether a clause has a copy with x at a value. An always-true clause gives none, a satisfied copy is left out, and only a clause with x or a member
 -- has one with x true.
 unfoldable pub has_copy : Bool → ℕ → (ℕ → ℕ) → List ℤ → Bool
 has_copy value x copy clause = not (always_true clause) && not (satisfied value x clause) && (not value || (has_x x clause || has_member copy clause))

@@ -18,6 +18,6 @@ pub record Fell (X : Variables) (s s' : Standing) : Type 0 where
   pub merges : s'.tally.merges ≡ s.tally.merges + (class_names X s - class_names X s')
   pub classes : s'.tally.classes ≡ class_names X s'
 
--- how many clauses a table holds, is_always_true and empty ones with them
+-- how many clauses a table holds, always-true and empty ones with them
 abbrev pub many : List ℤ → ℕ
 many ls = length (clauses ls)

@@ -1,5 +1,5 @@
 -- The path check on formula A (rule 17.1), its prefix read as it stands, by computing: n 9, blocks e 1 2, a 3, e 4 5, a 6, e 7 8 9, clauses {3 4 7}
--- {-4 8} {6 9} {5 9} {1 5}, and an is_always_true clause {3 8 -8} put last, which has the number 5.
+-- {-4 8} {6 9} {5 9} {1 5}, and an always-true clause {3 8 -8} put last, which has the number 5.
 use Prim.Native.Nat.{ℕ, zero, suc}
 use mathlib.Core.Path.{◌≡◌, refl, subst}
 use mathlib.Core.Bool.{Bool, true, ◌&&◌}

@@ -32,7 +32,7 @@ pub fn fill_begins(clauses: &[i32], begins: &mut [u16]) -> usize
     count
 }
 
-// The row of the clause from start up to end. `seen` has a stamp for each literal, by which an is_always_true clause is told.
+// The row of the clause from start up to end. `seen` has a stamp for each literal, by which an always-true clause is told.
 fn row_of(clauses: &[i32], start: usize, end: usize, seen: &mut [u16]) -> u16
     requires there { SoundClauses clauses.now × NextZero clauses.now start end × (end < length clauses.now) × Stamps seen.old (start + 1) }
     ensures own { RowOf clauses.now start end result × Stamps seen.new (end + 1 + 1) }

@@ -16,7 +16,7 @@ use Rattle.forest_tables.specs.Formula.{signed}
 use Rattle.forest_tables.specs.Lent.{variables_of}
 use Rattle.forest.specs.Causes.{AskedCause, OutputCause}
 
--- A clause, not an is_always_true one, is entered by one literal and left by a literal of another variable.
+-- A clause, not an always-true one, is entered by one literal and left by a literal of another variable.
 pub record Crosses (ls : List ℤ) (enter leave : ℤ) : Type 0 where
   pub clause : List ℤ
   pub listed : Memᴰ clause (clauses ls)

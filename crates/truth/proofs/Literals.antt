@@ -70,7 +70,7 @@ has_denied l m (k ∷ ls) o i =
     ⊎_elim (λ e. let here : opposite l k ≡ true = ap (opposite l) (sym e) ∙ o in rw here)
     (λ j. or_right (opposite l k) (denied l ls) (has_denied l m ls o j)) (Memᴰ.cases_cons i)
 
--- A clause with two opposite literals is always true, and an is_always_true clause is satisfied whatever the values are.
+-- A clause with two opposite literals is always true, and an always-true clause is satisfied whatever the values are.
 opposites_always : {k l : ℤ} (clause : List ℤ) → opposite k l ≡ true → opposite l k ≡ true → Memᴰ k clause → Memᴰ l clause
     → always_true clause ≡ true
 unfolding always_true

@@ -6,7 +6,7 @@ use Rattle.terms.specs.Literals.{variable_of}
 use Rattle.formula.specs.Meaning.{always_true}
 use Rattle.forest_tables.specs.Formula.{signed}
 
--- A clause, not an is_always_true one, is entered by one literal and left by a literal of another variable.
+-- A clause, not an always-true one, is entered by one literal and left by a literal of another variable.
 pub record Crossing (clauses : List (List ℤ)) (enter leave : ℤ) : Type 0 where
   pub clause : List ℤ
   pub listed : Memᴰ clause clauses

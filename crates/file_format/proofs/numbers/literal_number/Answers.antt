@@ -18,8 +18,10 @@ overflow_cast-result-else-literal-lt0 c = whole c.args.literal c.ranges.literal 
 pub returns-then-literal-lt0 : goal.returns-then-literal-lt0
 returns-then-literal-lt0 c =
     let k = complement c.args.literal c.ranges.literal c.if-literal-lt0.true in
-    record { encoded = number_negative c.args.literal (nat_abs (to_z w32 (4294967295 - of_z w32 c.args.literal)))
-    (sym (ap (λ (x : ℤ). lt_z x (pos 0)) (to_z-of_z c.ranges.literal)) ∙ c.if-literal-lt0.true) k.is }
+    record {
+      encoded = number_negative c.args.literal (nat_abs (to_z w32 (4294967295 - of_z w32 c.args.literal)))
+          (sym (ap (λ (x : ℤ). lt_z x (pos 0)) (to_z-of_z c.ranges.literal)) ∙ c.if-literal-lt0.true) k.is;
+    }
 
 pub returns-else-literal-lt0 : goal.returns-else-literal-lt0
 returns-else-literal-lt0 c =

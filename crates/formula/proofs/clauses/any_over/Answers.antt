@@ -18,5 +18,7 @@ loop-i-preserved c =
 
 pub returns : goal.returns
 returns c =
-    record { none = λ q e l. c.loop-i.invariant q e (let done = c.loop-i-test.false in
-    omega arith) }
+    record {
+      none = λ q e l. c.loop-i.invariant q e (let done = c.loop-i-test.false in
+          omega arith);
+    }

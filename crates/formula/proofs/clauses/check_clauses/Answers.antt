@@ -17,5 +17,7 @@ returns-then-last-eq0 c =
 
 pub returns-else-last-eq0 : goal.returns-else-last-eq0
 returns-else-last-eq0 c =
-    record { judged = inl (fault_at_end c.first_over-at.ensures.first c.if-at-end.false c.if-end-eq0.false
-    (λ z. c.if-last-eq0.false (c.variable_at-last.ensures.read ∙ z))) }
+    record {
+      judged = inl (fault_at_end c.first_over-at.ensures.first c.if-at-end.false c.if-end-eq0.false
+          (λ z. c.if-last-eq0.false (c.variable_at-last.ensures.read ∙ z)));
+    }

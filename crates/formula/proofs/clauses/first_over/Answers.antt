@@ -15,15 +15,23 @@ pub returns-then-n-variable : goal.returns-then-n-variable
 returns-then-n-variable c =
     let inv = c.loop-i.invariant in
     let is = c.variable_at-variable.ensures in
-    record { first = record { within = inv.0; low = inv.1; over = λ _. let high = c.if-n-variable.true in
-    omega arith } }
+    record {
+      first = record {
+        within = inv.0;
+        low = inv.1;
+        over = λ _. let high = c.if-n-variable.true in
+            omega arith;
+      };
+    }
 
 pub loop-i-preserved : goal.loop-i-preserved
 loop-i-preserved c =
     let inv = c.loop-i.invariant in
-    let is = c.variable_at-variable.ensures in
-    (omega arith, below_more _ _ inv.1 (let low = c.if-n-variable.false in
-    omega arith))
+    let is = c.variable_at-variable.ensures in (
+      omega arith,
+      below_more _ _ inv.1 (let low = c.if-n-variable.false in
+          omega arith),
+    )
 
 pub returns : goal.returns
 returns c = record { first = record { within = c.loop-i.invariant.0; low = c.loop-i.invariant.1; over = λ l. absurd (omega arith) } }
