@@ -5,7 +5,6 @@ use mathlib.Core.Bool.{Bool, true, false}
 use mathlib.Core.List.{List, [], ◌∷◌}
 use mathlib.Core.Logic.{inl, inr}
 use native.Mathlib.Omega.{arith}
-use borrow.Author.Tests.{not-true, not-false}
 use lib.ListN.{length-replicate}
 use Rattle.terms.specs.Limits.{most_resolution_variables}
 use Rattle.terms.specs.InnerLimits.{resolution_rows}
@@ -25,13 +24,13 @@ pub returns-then-not-universal_at : goal.returns-then-not-universal_at
 returns-then-not-universal_at c =
     record {
       listed = λ es sound table. let told = c.universal_at in
-          (inl (at0_first 13 (sym (universal_agrees sound table c.args.x.0) ∙ sym told.ensures.told ∙ not-true told.result c.if-not-universal_at.true-raw)), refl);
+          (inl (at0_first 13 (sym (universal_agrees sound table c.args.x.0) ∙ sym told.ensures.told ∙ c.if-not-universal_at.true)), refl);
     }
 
 pub returns-then-n-gt-RESOLUTION_MOST : goal.returns-then-n-gt-RESOLUTION_MOST
 returns-then-n-gt-RESOLUTION_MOST c =
     let universal : (let a = c.args in
-    universal_in a.n a.universals.now a.x.0 ≡ true) = sym c.universal_at.ensures.told ∙ not-false c.universal_at.result c.if-not-universal_at.false-raw in
+    universal_in a.n a.universals.now a.x.0 ≡ true) = sym c.universal_at.ensures.told ∙ c.if-not-universal_at.false in
     record {
       listed = λ es sound table. let no-13 = at0_none 13 (λ no'. clash universal (universal_agrees sound table c.args.x.0 ∙ no')) in
           (inr (no-13, inl (at0_first 27 c.if-n-gt-RESOLUTION_MOST.true)), refl);
@@ -40,7 +39,7 @@ returns-then-n-gt-RESOLUTION_MOST c =
 pub flag_dependent-requires : goal.flag_dependent-requires
 flag_dependent-requires c =
     let universal : (let a = c.args in
-    universal_in a.n a.universals.now a.x.0 ≡ true) = sym c.universal_at.ensures.told ∙ not-false c.universal_at.result c.if-not-universal_at.false-raw in
+    universal_in a.n a.universals.now a.x.0 ≡ true) = sym c.universal_at.ensures.told ∙ c.if-not-universal_at.false in
     let a = c.args in
     let upto = universal_upto a.n a.universals.now a.x.0 universal in
     record { few = (omega (arith, c.if-n-gt-RESOLUTION_MOST.false), c.requires.sound, upto, length-replicate {A = Bool} resolution_rows false) }
@@ -49,7 +48,7 @@ pub returns : goal.returns
 unfolding pick
 returns c =
     let universal : (let a = c.args in
-    universal_in a.n a.universals.now a.x.0 ≡ true) = sym c.universal_at.ensures.told ∙ not-false c.universal_at.result c.if-not-universal_at.false-raw in
+    universal_in a.n a.universals.now a.x.0 ≡ true) = sym c.universal_at.ensures.told ∙ c.if-not-universal_at.false in
     record {
       listed = λ es sound table. let a = c.args in
           let u = universal in

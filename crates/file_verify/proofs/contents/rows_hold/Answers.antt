@@ -4,7 +4,6 @@ use mathlib.Core.Path.{refl, ap, ◌∙◌}
 use mathlib.Core.List.{◌++◌}
 use mathlib.Core.Logic.{◌↔◌, inr}
 use native.Mathlib.Omega.{arith}
-use borrow.Author.Tests.{not-true, not-false}
 use lib.ListN.{length}
 use Rattle.forest_tables.proofs.Readings.{told, told_not, told_both}
 use Rattle.file_format.specs.Places.{third_at, HoldsNumbers}
@@ -49,7 +48,7 @@ returns-then-not-same_numbers c =
     ↔ Three a.file.now (c.third_at-third.result + 6) a.classes.now a.parents.now a.counts.now) = let a = c.args in
     three_holds a.file.now c.third_at-third.ensures.found a.classes.now a.parents.now a.counts.now c.size_at-size.ensures.read c.if-size-classes.false in
     let same = c.same_numbers in
-    record { told = λ h. told_not same.result (not-true same.result c.if-not-same_numbers.true-raw) same.ensures.told (parts.0 h).classes }
+    record { told = λ h. told_not same.result c.if-not-same_numbers.true same.ensures.told (parts.0 h).classes }
 
 pub overflow_add-second : goal.overflow_add-second
 overflow_add-second c =
@@ -72,7 +71,7 @@ returns-then-not-same_numbers-2 c =
     ↔ Three a.file.now (c.third_at-third.result + 6) a.classes.now a.parents.now a.counts.now) = let a = c.args in
     three_holds a.file.now c.third_at-third.ensures.found a.classes.now a.parents.now a.counts.now c.size_at-size.ensures.read c.if-size-classes.false in
     let same = c.same_numbers-2 in
-    record { told = λ h. told_not same.result (not-true same.result c.if-not-same_numbers-2.true-raw) same.ensures.told (parts.0 h).parents }
+    record { told = λ h. told_not same.result c.if-not-same_numbers-2.true same.ensures.told (parts.0 h).parents }
 
 pub overflow_add-second-2 : goal.overflow_add-second-2
 overflow_add-second-2 c =
@@ -97,8 +96,8 @@ returns c =
     let both = parts in
     let a = c.same_numbers in
     let b = c.same_numbers-2 in
-    let classes = told a.result (not-false a.result c.if-not-same_numbers.false-raw) a.ensures.told in
-    let parents = told b.result (not-false b.result c.if-not-same_numbers-2.false-raw) b.ensures.told in
+    let classes = told a.result c.if-not-same_numbers.false a.ensures.told in
+    let parents = told b.result c.if-not-same_numbers-2.false b.ensures.told in
     record {
       told = told_both c.same_numbers-3.result (λ k. both.1 (record { classes = classes; parents = parents; counts = k })) (λ h. (both.0 h).counts)
           c.same_numbers-3.ensures.told;

@@ -2,7 +2,6 @@
 use mathlib.Core.Path.{sym, ◌∙◌, subst}
 use mathlib.Core.List.{◌++◌}
 use mathlib.Core.Logic.{inl}
-use borrow.Author.Tests.{not-true, not-false}
 use Rattle.terms.specs.Refusals.{First}
 use Rattle.terms.proofs.Common.{clash}
 use Rattle.formula.specs.Lent.{Formula, formula_of}
@@ -24,7 +23,7 @@ returns-then-not-rows_hold c =
     HoldsNumbers 4 file (third_at file) (r.classes ++ (r.parents ++ r.counts)) in
     let file = c.args.file.now in
     let held = c.rows_hold in
-    let none = told_not {P = Held} held.result (not-true held.result c.if-not-rows_hold.true-raw) held.ensures.told in
+    let none = told_not {P = Held} held.result c.if-not-rows_hold.true held.ensures.told in
     let first = rows_first formula file (no_rows formula file c.requires.rows none) in
     record { judged = (inl (subst (First (ForestFileCause formula file) 22) (sym c.third_at.ensures.found) first), tt) }
 
@@ -38,9 +37,9 @@ returns-then-not-has_sets c =
     let formula : Formula = let a = c.args in
     formula_of a.n a.prefix.now a.clauses.now in
     let right : (RightRows formula c.args.file.now own) = let held = c.rows_hold in
-    (c.requires.rows, told {P = Held} held.result (not-false held.result c.if-not-rows_hold.false-raw) held.ensures.told) in
+    (c.requires.rows, told {P = Held} held.result c.if-not-rows_hold.false held.ensures.told) in
     let has = c.has_sets in
-    let none = sym has.ensures.told ∙ not-true has.result c.if-not-has_sets.true-raw in
+    let none = sym has.ensures.told ∙ c.if-not-has_sets.true in
     let clear = none_disagree formula c.args.file.now right (λ some. absurd (clash some none)) in
     record { judged = ((clear, tt), (own, right)) }
 
@@ -54,7 +53,7 @@ returns-then-sets_hold c =
     let formula : Formula = let a = c.args in
     formula_of a.n a.prefix.now a.clauses.now in
     let right : (RightRows formula c.args.file.now own) = let held = c.rows_hold in
-    (c.requires.rows, told {P = Held} held.result (not-false held.result c.if-not-rows_hold.false-raw) held.ensures.told) in
+    (c.requires.rows, told {P = Held} held.result c.if-not-rows_hold.false held.ensures.told) in
     let sets = c.sets_hold in
     let clear = none_disagree formula c.args.file.now right (λ some. told sets.result c.if-sets_hold.true sets.ensures.told) in
     record { judged = ((clear, tt), (own, right)) }
@@ -69,10 +68,10 @@ returns c =
     let formula : Formula = let a = c.args in
     formula_of a.n a.prefix.now a.clauses.now in
     let right : (RightRows formula c.args.file.now own) = let held = c.rows_hold in
-    (c.requires.rows, told {P = Held} held.result (not-false held.result c.if-not-rows_hold.false-raw) held.ensures.told) in
+    (c.requires.rows, told {P = Held} held.result c.if-not-rows_hold.false held.ensures.told) in
     let file = c.args.file.now in
     let has = c.has_sets in
-    let some = sym has.ensures.told ∙ not-false has.result c.if-not-has_sets.false-raw in
+    let some = sym has.ensures.told ∙ c.if-not-has_sets.false in
     let none = told_not c.sets_hold.result c.if-sets_hold.false c.sets_hold.ensures.told in
     let first = sets_first formula file right some none in
     record { judged = (inl (subst (First (ForestFileCause formula file) 22) (sym c.fourth_at.ensures.found) first), tt) }

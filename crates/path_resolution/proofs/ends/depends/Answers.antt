@@ -1,7 +1,6 @@
 -- Where y is not deeper nothing pairs; else the four rows of y tell whether its opposite literals stand in the two tables (pairs_told).
 use Prim.Native.Nat.{◌+◌}
 use mathlib.Core.Path.{refl}
-use borrow.Author.Tests.{not-true, not-false}
 use Rattle.forest_tables.specs.InnerTabled.{tabled}
 use Rattle.forest_tables.proofs.Readings.{told, told_not, told_both}
 use Rattle.forest_theory.specs.Reach.{Deeper}
@@ -13,7 +12,7 @@ pub returns-then-not-is_deeper : goal.returns-then-not-is_deeper
 returns-then-not-is_deeper c =
     record {
       told = λ p. let deeper = c.is_deeper in
-          told_not deeper.result (not-true deeper.result c.if-not-is_deeper.true-raw) deeper.ensures.told p.0;
+          told_not deeper.result c.if-not-is_deeper.true deeper.ensures.told p.0;
     }
 
 pub returns : goal.returns
@@ -21,7 +20,7 @@ returns c =
     let deeper = c.is_deeper in
     let a = c.args in
     let Deep = Deeper (tabled a.n a.levels.now a.universals.now) a.x.0 a.y.0 in
-    let deep = told {P = Deep} deeper.result (not-false deeper.result c.if-not-is_deeper.false-raw) deeper.ensures.told in
+    let deep = told {P = Deep} deeper.result c.if-not-is_deeper.false deeper.ensures.told in
     let some = deeper_some a.n a.levels.now a.universals.now a.x.0 a.y.0 deep in
     let r = c.crossed.result in
     record {

@@ -4,7 +4,6 @@ use mathlib.Core.Path.{◌≡◌, refl, ap, ap₂, ◌∙◌, subst}
 use mathlib.Core.Bool.{Bool, cond}
 use mathlib.Core.List.{List}
 use native.Mathlib.Omega.{arith}
-use borrow.Author.Tests.{not-true, not-false}
 use lib.ListN.{length}
 use lib.Seq.{sets}
 use Rattle.sets.specs.InnerPassed.{SetsUpto, TellsRoom}
@@ -16,14 +15,14 @@ returns-then-not-sets_fit c =
     let Upto : ℕ → List ℕ → Type 0 = let a = c.args in
     SetsUpto a.pass.scheme a.pass.n a.prefix.now a.clauses.now a.classes.now a.parents.now in
     let told : (b : Bool) → c.sets_fit.result ≡ b → TellsRoom b Upto c.args.pass.n (length c.args.out.now) = λ b is. subst (λ b. TellsRoom b Upto c.args.pass.n (length c.args.out.now)) is c.sets_fit.ensures.told in
-    record { listed = (refl, refl, told _ (not-true c.sets_fit.result c.if-not-sets_fit.true-raw), c.sets_fit.ensures.kept) }
+    record { listed = (refl, refl, told _ c.if-not-sets_fit.true, c.sets_fit.ensures.kept) }
 
 pub pass_sets-end-requires : goal.pass_sets-end-requires
 pass_sets-end-requires c =
     let Upto : ℕ → List ℕ → Type 0 = let a = c.args in
     SetsUpto a.pass.scheme a.pass.n a.prefix.now a.clauses.now a.classes.now a.parents.now in
     let told : (b : Bool) → c.sets_fit.result ≡ b → TellsRoom b Upto c.args.pass.n (length c.args.out.now) = λ b is. subst (λ b. TellsRoom b Upto c.args.pass.n (length c.args.out.now)) is c.sets_fit.ensures.told in
-    let room = told _ (not-false c.sets_fit.result c.if-not-sets_fit.false-raw) in
+    let room = told _ c.if-not-sets_fit.false in
     let size = ap length c.sets_fit.ensures.kept in
     record {
       ready = c.requires.ready;
@@ -46,7 +45,7 @@ returns c =
     SetsUpto a.pass.scheme a.pass.n a.prefix.now a.clauses.now a.classes.now a.parents.now in
     let told : (b : Bool) → c.sets_fit.result ≡ b → TellsRoom b Upto c.args.pass.n (length c.args.out.now) = λ b is. subst (λ b. TellsRoom b Upto c.args.pass.n (length c.args.out.now)) is c.sets_fit.ensures.told in
     let n = c.args.pass.n in
-    let room = told _ (not-false c.sets_fit.result c.if-not-sets_fit.false-raw) in
+    let room = told _ c.if-not-sets_fit.false in
     let same = c.sets_fit.ensures.kept in
     let (list, r, size, put) = c.pass_sets-end.ensures.put in
     let stored = put ∙ ap₂ (λ (b : Bool) (o : List ℕ). cond b (sets o 0 list) o) c.requires.writing same in
