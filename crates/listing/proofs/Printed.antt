@@ -1,7 +1,7 @@
 -- What is printed of a universal: the numbers that are listed are few and small, and stand in front of the tables that they were written into, as
 -- a line does in its buffer; and a sole entry point is listed as its flag would list it.
 use Prim.Native.Nat.{ℕ, zero, suc, ◌+◌, ◌≤◌, ◌<◌}
-use mathlib.Core.Path.{◌≡◌, refl, sym, ap, ◌∙◌, subst}
+use mathlib.Core.Path.{◌≡◌, refl, sym, ap, ap₂, ◌∙◌, subst}
 use mathlib.Core.Bool.{Bool, true, false}
 use mathlib.Core.List.Memᴰ
 use mathlib.Core.List.{List, [], ◌∷◌, Memᴰ}
@@ -10,11 +10,13 @@ use native.Mathlib.Nat.{not-suc-le-zero, le_of_suc-le-suc}
 use native.Mathlib.Omega.{arith}
 use lib.ListN.{length, get_or, take, drop, replicate, length-replicate}
 use lib.Seq.{sets, sets-eq, length-sets, take_at}
+use Rattle.std.proofs.Common.{Option}
+use Rattle.std.specs.Io.KnownBytes.{Appends}
 use Rattle.terms.specs.Answers.{InFront}
 use Rattle.terms.specs.Listed.{Listed}
 use Rattle.terms.specs.Overwritten.{overwritten}
 use Rattle.terms.proofs.Listed.{listed_one}
-use Rattle.terms.proofs.Overwritten.{overwritten_room}
+use Rattle.terms.proofs.Overwritten.{overwritten_room, overwritten_front}
 use Rattle.forest_members.specs.declared.Asked.TheVariants.{Points}
 use Rattle.forest_members.specs.InnerPicked.{pick, picked, NoneUpto}
 use Rattle.forest_members.proofs.Picked.{picked_most, picked_flag, picked_listed}
@@ -72,6 +74,11 @@ pub line_within : (line before : List ℕ) {after : List ℕ} {end : ℕ} → en
 line_within line before size left same =
     let room = overwritten_room line before (sym (ap length left) ∙ same) in
     omega arith
+
+-- Where all bytes of a buffer up to the end of such a line are written, the line is.
+pub line_sent : (a b : Option (List ℕ)) (line before : List ℕ) {after : List ℕ} {end : ℕ} → end ≡ length line → after ≡ overwritten line before
+    → Appends a b (take end after) → Appends a b line
+line_sent a b line before size left = subst (Appends a b) (ap₂ take size left ∙ overwritten_front line before)
 
 -- A run of so many numbers, few and small, written into a table of 4,096 rows.
 module _ (links : List ℕ) (head size : ℕ) (own : (list : List ℕ) × Run links head list × (size ≡ length list) × Small list) {table : List ℕ}

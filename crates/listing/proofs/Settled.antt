@@ -1,12 +1,14 @@
 -- A text settles what is printed: it has one list of lines; and what the program reads of an input that is too long prints what that does.
 use Prim.Native.Nat.{ℕ, ◌≤◌, ◌<◌}
-use mathlib.Core.Path.{◌≡◌, refl, sym, ap₂, ◌∙◌, subst}
-use mathlib.Core.List.{List, [], ◌∷◌}
+use mathlib.Core.Path.{◌≡◌, refl, sym, ap, ap₂, ◌∙◌, subst}
+use mathlib.Core.List.{List, [], ◌∷◌, ◌++◌, append-nil}
 use mathlib.Core.Logic.{inl, by_cases}
 use native.Mathlib.Decide.{dec_le}
 use native.Mathlib.Omega.{arith}
 use lib.ListN.{length, take}
-use lib.Seq.{length-take-le, take_all}
+use lib.Seq.{length-take-le, take_all, take-append_seam}
+use Rattle.std.proofs.Common.{Option, None, Some, IfSome}
+use Rattle.std.specs.Io.KnownBytes.{Consumes, IsAtEnd}
 use Rattle.terms.specs.Refusals.{FirstOf, NoneOf}
 use Rattle.terms.proofs.Listed.{listed_one}
 use Rattle.terms.proofs.Verdicts.{first_of_same, first_or_none}
@@ -17,6 +19,7 @@ use Rattle.text_qdimacs.specs.Reading.{Overlong, overlong}
 use Rattle.text_qdimacs.proofs.Unique.{text_same}
 use Rattle.listing_lines.specs.Lines.{universal_line, refused_line}
 use Rattle.listing.specs.Listing.{text_order, IsRead, Refuses, not_read, not_accepted, LineOf, LinesOf, no_line, one_more, Lists, lists, Prints, refusal, listing}
+use Rattle.listing.specs.Listing.{AllPrinted}
 
 -- A text is that of one formula ...
 formula_one : {text : List ℕ} {f g : Formula} → IsRead text f → IsRead text g → f ≡ g
@@ -79,3 +82,35 @@ prints_cut most input {lines} over p = by_cases (dec_le (length input) most) who
     cut l =
         let size = length-take-le most input (omega arith) in
         subst (Prints input) (prints_one (too_long (take most input) (omega arith)) p) (too_long input (omega arith))
+
+-- What stands in front of a buffer of more bytes than a text may have, once an input was read into it until it was full or the input ended.
+read_front : (most : ℕ) (input rest text : List ℕ) (got : ℕ) → length text ≡ most → got ≤ length text → input ≡ take got text ++ rest
+    → (got < length text → rest ≡ []) → take most input ≡ take got text
+read_front most input rest text got size within is ended = by_cases (dec_le most got) full short
+  where
+    front : length (take got text) ≡ got
+    front = length-take-le got text within
+
+    full : most ≤ got → take most input ≡ take got text
+    full l =
+        let all : most ≡ length (take got text) = let f = front in omega arith in
+        ap₂ take all is ∙ take-append_seam (take got text) rest
+
+    short : ¬ (most ≤ got) → take most input ≡ take got text
+    short l =
+        let none = ended (omega arith) in
+        let whole = is ∙ ap (λ (bytes : List ℕ). take got text ++ bytes) none ∙ append-nil (take got text) in
+        let f = front in
+        ap (take most) whole ∙ take_all most (take got text) (omega arith)
+
+-- So the lines of what was read are those of the input, where that is known.
+pub printed_whole : (input after : Option (List ℕ)) (text : List ℕ) (got : ℕ) (held holds : Option (List ℕ)) (count : ℕ)
+    → length text ≡ 65537 → got ≤ length text → Consumes input after (take got text) → (got < length text → IsAtEnd after)
+    → AllPrinted (Prints (take got text)) held holds count → IfSome input (λ (bytes : List ℕ). AllPrinted (Prints bytes) held holds count)
+printed_whole None after text got held holds count size within read ended p = tt
+printed_whole (Some bytes) None text got held holds count size within read ended p = absurd read
+printed_whole (Some bytes) (Some rest) text got held holds count size within read ended p =
+    λ some.
+    let (lines, prints, counted, wrote) = p some in
+    let cut = read_front 65537 bytes rest text got size within read ended in
+    (lines, prints_cut 65537 bytes (omega arith) (subst (λ (front : List ℕ). Prints front lines) (sym cut) prints), counted, wrote)

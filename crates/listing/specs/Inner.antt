@@ -1,5 +1,6 @@
 -- Inner: what the functions of the program stand on and find, on the way to the line of a universal. What a reader must believe is in Listing.
-use Rattle.std.specs.Prelude.{ℕ, zero, suc, ◌≡◌, Bool, true, List, [], ◌∷◌}
+use Rattle.std.specs.Prelude.{ℕ, zero, suc, ◌≡◌, Bool, true, List, [], ◌∷◌, Option}
+use Rattle.std.specs.Io.KnownBytes.{Appends}
 use Rattle.formula.specs.Lent.{Formula}
 use Rattle.formula.specs.Meaning.{level}
 use Rattle.forest_theory.specs.Tables.{lent}
@@ -10,6 +11,15 @@ use Rattle.forest_climb.specs.InnerSearch.{TopRows}
 use Rattle.forest_members.specs.declared.Asked.TheVariants.{Points, Set}
 use Rattle.forest_members.specs.InnerPicked.{pick, picked}
 use Rattle.listing_lines.specs.Lines.{universal_line}
+use Rattle.listing.specs.Listing.{HeadOf, Lists, AllPrinted}
+
+-- The first line of a formula was printed, and what a writer holds, where that is known, has grown by it.
+abbrev pub HeadPrinted : Formula → Option (List ℕ) → Option (List ℕ) → Type 0
+HeadPrinted f before after = (head : List ℕ) × HeadOf f head × Appends before after head
+
+-- How many lines of a formula were printed, where its first line was printed before.
+abbrev pub RestPrinted : Formula → Option (List ℕ) → Option (List ℕ) → ℕ → Type 0
+RestPrinted f before after count = (start : Option (List ℕ)) → HeadPrinted f start before → AllPrinted (Lists f) start after count
 
 -- the rows are the formula's own forest
 abbrev pub OwnForest : Formula → List ℕ → List ℕ → Type 0

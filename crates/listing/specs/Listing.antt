@@ -1,5 +1,7 @@
 -- What the listing program prints for a text (rule 16.1, rule 16.2, rule 5.4). How a line is spelt is in the definitions of `listing_lines`.
-use Rattle.std.specs.Prelude.{ℕ, ◌≡◌, Bool, true, List, [], ◌∷◌, ◌≢◌, pos, length, replicate}
+use Rattle.std.specs.Prelude.{ℕ, ◌≡◌, Bool, true, List, [], ◌∷◌, ◌≢◌, Option, pos, length, replicate}
+use Rattle.std.specs.List.{concat}
+use Rattle.std.specs.Io.KnownBytes.{Appends}
 use Rattle.terms.specs.declared.Scheme.TheVariants.{Strict}
 use Rattle.terms.specs.Limits.{prefix_entries, clause_entries}
 use Rattle.terms.specs.Listed.{Listed}
@@ -69,6 +71,7 @@ pub data Prints (text : List ℕ) : List (List ℕ) → Type 0 where
   refusal : {number place : ℕ} → Refuses text number place → Prints text (refused_line number place ∷ [])
   listing : {lines : List (List ℕ)} (f : Formula) → IsRead text f → NoneOf (check_order 1 f) → Lists f lines → Prints text lines
 
--- How many lines were printed: all lines, of which P says what they are; or 0, where one could not be written, behind which none follows.
-abbrev pub AllPrinted : (List (List ℕ) → Type 0) → ℕ → Type 0
-AllPrinted P count = count ≢ 0 → (lines : List (List ℕ)) × P lines × (count ≡ length lines)
+-- How many lines were printed: all lines, of which P says what they are, and what a writer holds, where that is known, has grown by these lines one after
+-- the other; or 0, where one could not be written, behind which none follows.
+abbrev pub AllPrinted : (List (List ℕ) → Type 0) → Option (List ℕ) → Option (List ℕ) → ℕ → Type 0
+AllPrinted P before after count = count ≢ 0 → (lines : List (List ℕ)) × P lines × (count ≡ length lines) × Appends before after (concat lines)

@@ -2,7 +2,8 @@
 
 #![tactic(auto)]
 
-ghost use Rattle.std.specs.Prelude.{ℕ, ◌≤◌, ◌<◌, ◌≡◌, Bool, List, [], ◌∷◌, length, take};
+ghost use Rattle.std.specs.Prelude.{ℕ, ◌≤◌, ◌<◌, ◌≡◌, Bool, List, [], ◌∷◌, true, length, take, IfOk, IfSome};
+ghost use Rattle.std.specs.Io.KnownBytes.{Appends, Consumes, IsAtEnd};
 ghost use Rattle.terms.specs.declared.Scheme.TheVariants.{Strict};
 ghost use Rattle.terms.specs.Answers.{InFront};
 ghost use Rattle.formula.specs.Lent.{formula_of};
@@ -15,18 +16,19 @@ ghost use Rattle.sets.specs.InnerPassed.{Ready};
 ghost use Rattle.listing_lines.specs.Lines.{universal_line, LineIn};
 ghost use Rattle.listing_lines.specs.Inner.{line_bytes, Small};
 ghost use Rattle.listing.specs.Listing.{IsRead, Refuses, HeadOf, LineOf, Lists, Prints, AllPrinted};
-ghost use Rattle.listing.specs.Inner.{OwnForest, OwnTops, flagged_line, sole_list};
+ghost use Rattle.listing.specs.Inner.{OwnForest, OwnTops, HeadPrinted, RestPrinted, flagged_line, sole_list};
 
 use forest_climb::Floor;
 use forest_members::{Asked, write_picked};
 use forest_tables::rows::universal_at;
 use formula::clauses::variable_at;
 use formula_levels::fill_levels;
-use libc::{STDIN_FILENO, STDOUT_FILENO};
 use listing_lines::{head_line, refused_line, universal_line};
 use sets_occurrences::soles::{Sole, sole_point};
 use sets_occurrences::{flag_points, thread};
 use sets_subtrees::{refloor, row_at, write_run};
+use std::io;
+use std::io::{Read, Write};
 use terms::pairs::{Pair, unpack};
 use terms::{Filled, Level, Literal, Reading, Scheme, Tally, Variable};
 
@@ -36,40 +38,74 @@ const TEXT: usize = 65537;
 // The bytes of a buffer that has room for every line.
 const LINE: usize = 65536;
 
-fn main() {
+// Where the input cannot be read the program says so, and where a line cannot be written it ends.
+fn main(rt: HostRuntime) -> io::Result<()> {
+    list(&mut rt.reader(), &mut io::writer(&rt))?;
+    Ok(())
+}
+
+// Lists the formula of an input, and gives how many lines it printed, or 0 if one could not be written.
+fn list<R: Read, W: Write>(input: &mut R, out: &mut W) -> io::Result<usize>
+    ensures printed { IfOk result (λ count. IfSome (R.remaining input.old)
+        (λ text. AllPrinted (Prints text) (W.contents out.old) (W.contents out.new) count)) }
+{
     let mut text = [0u8; TEXT];
-    let got = io::read_full(STDIN_FILENO, &mut text);
-    list_text(&text[..got]);
+    let got = read_full(input, &mut text)?;
+    Ok(list_text(&text[..got], out))
+}
+
+// Reads until the buffer is full or the input ends, and gives how many bytes it put at the start of the buffer.
+fn read_full<R: Read>(input: &mut R, text: &mut [u8]) -> io::Result<usize>
+    ensures within { IfOk result (λ count. count ≤ length text.new) }
+    ensures read { IfOk result (λ count. Consumes (R.remaining input.old) (R.remaining input.new) (take count text.new)) }
+    ensures ended { IfOk result (λ count. count < length text.new → IsAtEnd (R.remaining input.new)) }
+{
+    let mut count = 0;
+    while count < text.len() {
+        let got = input.read(&mut text[count..])?;
+        if got == 0 {
+            return Ok(count);
+        }
+        count += got;
+    }
+    Ok(count)
 }
 
 // Lists the formula of a text, and gives how many lines it printed, or 0 if one could not be written: every text has a line. A table longer than the
 // buffers is refused by read.
-fn list_text(text: &[u8]) -> usize
-    ensures printed { AllPrinted (Prints text.now) result }
+fn list_text<W: Write>(text: &[u8], out: &mut W) -> usize
+    ensures printed { AllPrinted (Prints text.now) (W.contents out.old) (W.contents out.new) result }
 {
     let mut prefix = [0u32; Level::ENTRIES];
     let mut clauses = [0i32; Literal::ENTRIES];
     match text_qdimacs::read(text, &mut prefix, &mut clauses) {
-        Reading::Refused(number, place) => print_refusal(text, number, place),
+        Reading::Refused(number, place) => print_refusal(text, number, place, out),
         Reading::Read {
             n,
             prefix: entries,
             clauses: literals,
-        } => list_formula(text, n, &prefix[..entries], &clauses[..literals]),
+        } => list_formula(text, n, &prefix[..entries], &clauses[..literals], out),
     }
 }
 
 // Prints the refusal of a text.
-fn print_refusal(text: &[u8], number: u32, place: usize) -> usize
+fn print_refusal<W: Write>(text: &[u8], number: u32, place: usize, out: &mut W) -> usize
     requires refused { Refuses text.now number place }
-    ensures printed { AllPrinted (Prints text.now) result }
+    ensures printed { AllPrinted (Prints text.now) (W.contents out.old) (W.contents out.new) result }
 {
     let mut line = [0u8; LINE];
     let end = refusal_of(text, number, place, &mut line);
-    if !io::write_all(STDOUT_FILENO, &line[..end]) {
+    if !print(&line[..end], out) {
         return 0;
     }
     1
+}
+
+// Writes a line, and tells whether it could be written.
+fn print<W: Write>(line: &[u8], out: &mut W) -> bool
+    ensures written { result ≡ true → Appends (W.contents out.old) (W.contents out.new) line.now }
+{
+    out.write_all(line).is_ok()
 }
 
 // Stores the line of a refusal from the start of `line` on, and gives its length. The text stands here for the contract. Numbers and places have at most
@@ -82,9 +118,15 @@ fn refusal_of(text: &[u8], number: u32, place: usize, line: &mut [u8]) -> usize
 }
 
 // Lists the formula of a text under the first reading rule, or prints the refusal that `build` gives. The counts and the tally are not used.
-fn list_formula(text: &[u8], n: u32, prefix: &[u32], clauses: &[i32]) -> usize
+fn list_formula<W: Write>(
+    text: &[u8],
+    n: u32,
+    prefix: &[u32],
+    clauses: &[i32],
+    out: &mut W,
+) -> usize
     requires read { IsRead text.now (formula_of n prefix.now clauses.now) }
-    ensures printed { AllPrinted (Prints text.now) result }
+    ensures printed { AllPrinted (Prints text.now) (W.contents out.old) (W.contents out.new) result }
 {
     let mut classes = [0u32; Variable::MOST as usize];
     let mut parents = [0u32; Variable::MOST as usize];
@@ -106,33 +148,50 @@ fn list_formula(text: &[u8], n: u32, prefix: &[u32], clauses: &[i32]) -> usize
     );
     let answer = built.answer;
     match answer {
-        Filled::Refused(number, place) => print_refusal(text, number, place),
-        Filled::Count(_) => list_forest(n, prefix, clauses, &classes, &parents),
+        Filled::Refused(number, place) => print_refusal(text, number, place, out),
+        Filled::Count(_) => list_forest(n, prefix, clauses, &classes, &parents, out),
     }
 }
 
 // The first line, and then the universals in ascending order, by the formula's own forest. The levels are looked up once for all of them.
-fn list_forest(n: u32, prefix: &[u32], clauses: &[i32], classes: &[u32], parents: &[u32]) -> usize
+fn list_forest<W: Write>(
+    n: u32,
+    prefix: &[u32],
+    clauses: &[i32],
+    classes: &[u32],
+    parents: &[u32],
+    out: &mut W,
+) -> usize
     requires accepted { SoundPrefix n prefix.now × SoundClauses clauses.now × Closed clauses.now
         × OwnForest (formula_of n prefix.now clauses.now) classes.now parents.now }
-    ensures printed { AllPrinted (Lists (formula_of n prefix.now clauses.now)) result }
+    ensures printed { AllPrinted (Lists (formula_of n prefix.now clauses.now)) (W.contents out.old) (W.contents out.new) result }
 {
     let mut levels = [0u32; Variable::ROWS];
     let mut universals = [false; Variable::ROWS];
     fill_levels(prefix, &mut levels, &mut universals);
-    if !print_head(n, prefix, clauses) {
+    if !print_head(n, prefix, clauses, out) {
         return 0;
     }
-    list_universals(n, prefix, &levels, &universals, clauses, classes, parents)
+    list_universals(
+        n,
+        prefix,
+        &levels,
+        &universals,
+        clauses,
+        classes,
+        parents,
+        out,
+    )
 }
 
 // Prints the first line, and tells whether it could be written.
-fn print_head(n: u32, prefix: &[u32], clauses: &[i32]) -> bool
+fn print_head<W: Write>(n: u32, prefix: &[u32], clauses: &[i32], out: &mut W) -> bool
     requires small { (n ≤ 4096) × (length prefix.now < 100000) × (length clauses.now < 100000) }
+    ensures printed { result ≡ true → HeadPrinted (formula_of n prefix.now clauses.now) (W.contents out.old) (W.contents out.new) }
 {
     let mut line = [0u8; LINE];
     let end = head_of(n, prefix, clauses, &mut line);
-    io::write_all(STDOUT_FILENO, &line[..end])
+    print(&line[..end], out)
 }
 
 // Stores the first line from the start of `line` on, and gives its length.
@@ -180,7 +239,7 @@ fn count_clauses(clauses: &[i32]) -> usize
 }
 
 // Prints a line for each universal, in ascending order, behind the first line. The occurrence list of each universal is made first.
-fn list_universals(
+fn list_universals<W: Write>(
     n: u32,
     prefix: &[u32],
     levels: &[u32],
@@ -188,23 +247,24 @@ fn list_universals(
     clauses: &[i32],
     classes: &[u32],
     parents: &[u32],
+    out: &mut W,
 ) -> usize
     requires accepted { SoundPrefix n prefix.now × Levelled prefix.now levels.now universals.now
         × SoundClauses clauses.now × Closed clauses.now × OwnForest (formula_of n prefix.now clauses.now) classes.now parents.now }
-    ensures printed { AllPrinted (Lists (formula_of n prefix.now clauses.now)) result }
+    ensures printed { RestPrinted (formula_of n prefix.now clauses.now) (W.contents out.old) (W.contents out.new) result }
 {
     let mut first = [0u32; Variable::ROWS];
     let mut next = [0u32; Literal::ENTRIES];
     thread(clauses, universals, &mut first, &mut next);
     list_tied(
-        n, prefix, levels, universals, clauses, classes, parents, &first, &next,
+        n, prefix, levels, universals, clauses, classes, parents, &first, &next, out,
     )
 }
 
 // Prints the lines, by the occurrence lists of the universals. Tops, the uppermost classes deeper than a level, and the runs of their members depend only
 // on the block of a universal; they are made anew where the block changes. At first there is no top. All lines are made in one buffer. The count begins
 // with the first line, which is printed before.
-fn list_tied(
+fn list_tied<W: Write>(
     n: u32,
     prefix: &[u32],
     levels: &[u32],
@@ -214,10 +274,11 @@ fn list_tied(
     parents: &[u32],
     first: &[u32],
     next: &[u32],
+    out: &mut W,
 ) -> usize
     requires ready { Ready n prefix.now levels.now universals.now clauses.now classes.now parents.now first.now next.now }
     requires own { OwnForest (formula_of n prefix.now clauses.now) classes.now parents.now }
-    ensures printed { AllPrinted (Lists (formula_of n prefix.now clauses.now)) result }
+    ensures printed { RestPrinted (formula_of n prefix.now clauses.now) (W.contents out.old) (W.contents out.new) result }
 {
     let mut tops = [0u32; Variable::MOST as usize];
     let mut lead = [0u32; Variable::ROWS];
@@ -250,7 +311,7 @@ fn list_tied(
                 &after,
                 &mut line,
             );
-            if !io::write_all(STDOUT_FILENO, &line[..end]) {
+            if !print(&line[..end], out) {
                 return 0;
             }
             lines += 1;

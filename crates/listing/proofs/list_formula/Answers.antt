@@ -20,9 +20,7 @@ use Rattle.grow.specs.InnerRows.{Room}
 use Rattle.listing.specs.Listing.{not_accepted, listing}
 use Rattle.listing.specs.Inner.{OwnForest}
 use Rattle.listing.proofs.Refusals.{build_check}
-use borrow.Author.Rules.{rules}
-use Rattle.listing.proofs.list_formula.Statement.{statement}
-use Rattle.listing.proofs.list_formula.Tie as tie
+use Rattle.listing.proofs.list_formula.Goals as goal
 
 -- Where build counts, it has no cause of check's refusals ...
 accepted : {f : Formula} {s s' : Standing} {k : ℕ} (answer : Filled) → answer ≡ Count k → Builds 1 f s s' answer → NoneOf (check_order 1 f)
@@ -44,35 +42,23 @@ refused : {f : Formula} {s s' : Standing} {number place : ℕ} (answer : Filled)
     → Room 4096 s.rows.classes s.rows.parents s.rows.counts → FirstOf (check_order 1 f) number place
 refused {f} {s} {s'} {number} {place} answer is built room = build_check f s number place room (subst (Builds 1 f s s') is built).judged
 
--- the formula that is listed
-abbrev own-formula : tie.Start → Formula
-own-formula s = formula_of s.args.n s.args.prefix.now s.args.clauses.now
-
-print-refusal-requires : tie.Need-print-refusal-requires
-print-refusal-requires c κs =
-    let at-build = c.before.before.before.before.before.before in
-    let at-start = at-build.before.before.before.before.before.before in
+pub print_refusal-requires : goal.print_refusal-requires
+print_refusal-requires g c =
+    let a = c.args in
+    let f = formula_of a.n a.prefix.now a.clauses.now in
     let long = length-replicate {A = ℕ} 4096 0 in
-    not_accepted (own-formula at-start) at-start.requires
-    (refused _ c.before.answer.given.1 at-build.build.ensures (omega arith, omega arith, omega arith))
+    record {
+      refused =
+          not_accepted f c.requires.read
+          (refused _ c.in-Refused.is c.build-built.ensures.built (omega arith, omega arith, omega arith));
+    }
 
-list-forest-requires : tie.Need-list-forest-requires
-list-forest-requires c κs =
-    let at-enum-told = c.before.before in
-    let at-build = at-enum-told.before.before.before.before.before in
-    ready _ at-enum-told.enum_told.given.1 at-build.build.ensures
+pub list_forest-requires : goal.list_forest-requires
+list_forest-requires g c = record { accepted = ready _ c.in-Count.is c.build-built.ensures.built }
 
-returns-2 : tie.Need-returns-2
-returns-2 c some =
-    let at-enum-told = c.before.before.before in
-    let at-build = at-enum-told.before.before.before.before.before in
-    let at-start = at-build.before.before.before.before.before.before in
-    let (lines, own, size) = c.list-forest.ensures some in
-    let none = accepted _ at-enum-told.enum_told.given.1 at-build.build.ensures in
-    (lines, listing (own-formula at-start) at-start.requires none own, size)
-
-pub list-formula-spec : {M : Type 1} → statement M
-list-formula-spec =
-    tie.close (tie.spec (λ c. search rules) (λ c. search rules) (λ c. search rules) (λ c κs. search rules) (λ c. search rules)
-    print-refusal-requires (λ c. search rules) (λ c. search rules) (λ c. search rules) list-forest-requires (λ c. c.print-refusal.ensures)
-    returns-2)
+pub returns-in-Count : goal.returns-in-Count
+returns-in-Count g c =
+    let a = c.args in
+    let f = formula_of a.n a.prefix.now a.clauses.now in
+    let none = accepted {f = f} _ c.in-Count.is c.build-built.ensures.built in
+    record { printed = λ some. let (lines, own, size, sent) = c.list_forest.ensures.printed some in (lines, listing f c.requires.read none own, size, sent) }
