@@ -17,7 +17,6 @@ use Rattle.text_lines.specs.Format.{LineCause}
 use Rattle.dqbf_text.specs.Format.{ListedText, ListedFollow}
 use Rattle.dqbf_text.specs.InnerSteps.{Adds, ScanIs}
 use Rattle.dqbf_text.specs.Reading.{Tables, NoListedRoom, no_room_prefix, no_room_clauses, no_room_lists, listed_read_order, FrontFilled, ListedReadIs}
-use Rattle.dqbf_text.proofs.Scans.{adds_length}
 use Rattle.dqbf_text.proofs.Unique.{text_same}
 use Rattle.dqbf_text.proofs.Causes.{no_cause}
 

@@ -3,7 +3,6 @@ use Prim.Native.Nat.{ℕ}
 use mathlib.Core.Path.{◌≡◌, sym, ap, ap₂, ◌∙◌}
 use mathlib.Core.List.{List}
 use lib.ListN.{length}
-use lib.IntN.{ℤ}
 use Rattle.terms.specs.Overwritten.{overwritten}
 use Rattle.terms.proofs.Verdicts.{first_of_same, first_or_none}
 use Rattle.terms.specs.declared.Filled.{Filled}
