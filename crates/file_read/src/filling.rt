@@ -27,7 +27,8 @@ pub fn has_room(
     counts: &[u32],
 ) -> bool
     requires laid { Laid file.now }
-    ensures told { Tells result (Roomy (formula_held file.now) (lent_in prefix clauses classes parents counts)) }
+    ensures told { Tells result (Roomy (formula_held file.now)
+        (lent_tables prefix.now clauses.now (rows classes.now parents.now counts.now))) }
 {
     if prefix.len() < prefix_entries(file) {
         return false;
