@@ -107,7 +107,7 @@ fn sole_along(
 }
 
 // The sole top of the variables of the entries from `start` up to the next 0, together with `before`, 0 for none.
-fn sole_after(n: u32, clauses: &[i32], start: usize, tops: &[u32], before: Variable) -> Sole
+pub fn sole_after(n: u32, clauses: &[i32], start: usize, tops: &[u32], before: Variable) -> Sole
     ensures sole { (z : ℕ) → NextZero clauses.now start z
         → SoleOf result (λ e. Is before.0 e ⊎ Via n tops.now (Has clauses.now start z) e) }
 {
@@ -130,7 +130,7 @@ fn sole_after(n: u32, clauses: &[i32], start: usize, tops: &[u32], before: Varia
 }
 
 // The sole top of two, 0 for none.
-fn join(one: Variable, other: Variable) -> Sole
+pub fn join(one: Variable, other: Variable) -> Sole
     ensures sole { SoleOf result (λ e. Is one.0 e ⊎ Is other.0 e) }
 {
     if other.0 == 0 {

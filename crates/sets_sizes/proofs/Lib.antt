@@ -1,0 +1,4 @@
+-- Laws of the crate.
+pub mod Draining
+pub mod Sizing
+pub mod NotedTops
