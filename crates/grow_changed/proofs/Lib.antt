@@ -1,0 +1,6 @@
+-- Laws of the crate.
+pub mod Larger
+pub mod OnlyGrow
+pub mod Copying
+pub mod Telling
+pub mod Settled
