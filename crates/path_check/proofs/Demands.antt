@@ -38,7 +38,7 @@ use Rattle.path_check.proofs.Acceptance.{acceptable_exactly}
 use Rattle.path_check.proofs.Reached.{Trail, acceptable_below, path_reaches, trail, trail_ends, trail_short, trail_path}
 
 -- A y that is not refused is an existential deeper than x.
-deep : (n : ℕ) (es : List ℕ) (x y : ℕ) → (NotDeeper n es x y → ⊥) → Deeper (variables n es) x y
+pub deep : (n : ℕ) (es : List ℕ) (x y : ℕ) → (NotDeeper n es x y → ⊥) → Deeper (variables n es) x y
 deep n es x y fine =
     record {
       existential = flag (is_existential n es y) refl;
@@ -50,12 +50,12 @@ deep n es x y fine =
     flag false q = absurd (fine (inl q))
 
 -- A pair of a standard set has an acceptable path, no longer than the number of existentials.
-abbrev ShortPath : Formula → ℕ → ℕ → Type 0
+abbrev pub ShortPath : Formula → ℕ → ℕ → Type 0
 ShortPath f x y =
     (path : List ℕ) × (length path ≤ how_many (is_existential f.n f.prefix) f.n) × Deeper (variables_of f) x y
     × Acceptable (variables_of f) f.clauses x y path
 
-short_path : (f : Formula) (x y : ℕ) → universal f.n f.prefix x ≡ true → DependsBy Standard f x y → ShortPath f x y
+pub short_path : (f : Formula) (x y : ℕ) → universal f.n f.prefix x ≡ true → DependsBy Standard f x y → ShortPath f x y
 short_path f x y u d =
     ⊎_elim (λ q. absurd (clash d.existential (subst (λ v. is_existential f.n f.prefix v ≡ false) (sym q) alone.universal))) found
     (trail d.reached)

@@ -25,7 +25,7 @@ use Rattle.path_check.specs.Paths.{clause_at, HasVariable, Shared, Acceptable}
 use Rattle.path_check.proofs.Deciding.{tells_or, member_tells}
 
 -- A clause that has a variable is below the count ...
-in_count : (ls : List ℤ) (k v : ℕ) → HasVariable ls k v → k < length (clauses ls)
+pub in_count : (ls : List ℤ) (k v : ℕ) → HasVariable ls k v → k < length (clauses ls)
 in_count ls k v h =
     by_cases (dec_lt k (length (clauses ls))) (λ l. l)
     (λ l. absurd (mathlib.Core.List.Memᴰ.not-nil (subst (λ c. Memᴰ v (map variable_of c)) (get_or-eq_default (clauses ls) [] {n = k} (omega arith)) h)))
@@ -36,7 +36,7 @@ acceptable_below {ls = ls} {x = x} {path = path} a zero l = in_count ls (at path
 acceptable_below {ls = ls} {path = path} a (suc i) l = let s = a.neighbours i l in in_count ls (at path (suc i)) s.variable s.right
 
 -- Two variables share a clause that connects exactly if some clause that is not always true has both.
-shares_by : (ls : List ℤ) (k u v : ℕ) → always_true (clause_at ls k) ≡ false → HasVariable ls k u → HasVariable ls k v → Shares ls u v
+pub shares_by : (ls : List ℤ) (k u v : ℕ) → always_true (clause_at ls k) ≡ false → HasVariable ls k u → HasVariable ls k v → Shares ls u v
 unfolding joined
 shares_by ls k u v plain hu hv =
     record {
@@ -46,13 +46,13 @@ shares_by ls k u v plain hu hv =
       right = subst (Memᴰ v) (sym (connected_all (clause_at ls k) plain)) hv;
     }
 
-record Numbers (ls : List ℤ) (u v : ℕ) : Type 0 where
-  number : ℕ
-  plain : always_true (clause_at ls number) ≡ false
-  left : HasVariable ls number u
-  right : HasVariable ls number v
+pub record Numbers (ls : List ℤ) (u v : ℕ) : Type 0 where
+  pub number : ℕ
+  pub plain : always_true (clause_at ls number) ≡ false
+  pub left : HasVariable ls number u
+  pub right : HasVariable ls number v
 
-shares_number : {ls : List ℤ} {u v : ℕ} → Shares ls u v → Numbers ls u v
+pub shares_number : {ls : List ℤ} {u v : ℕ} → Shares ls u v → Numbers ls u v
 unfolding joined
 shares_number {ls} {u} {v} j =
     let (clause, m, is) = mathlib.Core.List.Memᴰ.of_map connected (clauses ls) j.listed in
@@ -68,7 +68,7 @@ shares_number {ls} {u} {v} j =
       right = subst (λ c. Memᴰ v (map variable_of c)) (sym q) (subst (Memᴰ v) all hv);
     }
 
-deep_from : {X : Variables} {x v : ℕ} → Deeper X x v → From X (X.lev x) v
+pub deep_from : {X : Variables} {x v : ℕ} → Deeper X x v → From X (X.lev x) v
 deep_from d = record { existential = d.existential; deep = let l = d.deep in omega arith }
 
 module _ {X : Variables} {ls : List ℤ} {x : ℕ} where
@@ -81,7 +81,7 @@ module _ {X : Variables} {ls : List ℤ} {x : ℕ} where
       step (path_reaches a i (omega arith) s.variable s.deep s.left) (shares_by ls (at path (suc i)) s.variable v (a.not-true (suc i) l) s.right h) (deep_from d)
 
   -- A path of one clause, and one clause more.
-  path_one : {z : ℕ} (n : Numbers ls x z) → Acceptable X ls x z (n.number ∷ [])
+  pub path_one : {z : ℕ} (n : Numbers ls x z) → Acceptable X ls x z (n.number ∷ [])
   path_one {z} n =
       record {
         some = omega arith;
@@ -91,7 +91,7 @@ module _ {X : Variables} {ls : List ℤ} {x : ℕ} where
         not-true = λ i l. let q : i ≡ 0 = omega arith in subst (λ j. always_true (clause_at ls (at (n.number ∷ []) j)) ≡ false) (sym q) n.plain;
       }
 
-  path_more : {u z : ℕ} {path : List ℕ} → Acceptable X ls x u path → Deeper X x u → (n : Numbers ls u z) → Acceptable X ls x z (path ++ (n.number ∷ []))
+  pub path_more : {u z : ℕ} {path : List ℕ} → Acceptable X ls x u path → Deeper X x u → (n : Numbers ls u z) → Acceptable X ls x z (path ++ (n.number ∷ []))
   path_more {u} {z} {path} a d n =
       let some = a.some in
       let size = length-append path (n.number ∷ []) in

@@ -2,7 +2,7 @@
 
 #![tactic(auto)]
 
-mod begins;
+pub mod begins;
 mod walk;
 
 ghost use Rattle.std.specs.Prelude.{ℕ, List, [], ◌∷◌, length};

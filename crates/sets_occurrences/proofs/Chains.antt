@@ -59,13 +59,13 @@ pub on_cases : {next : List ℕ} {p k : ℕ} (q : ℕ) → k ≡ suc q → On ne
 on_cases q e here = inl (omega arith)
 on_cases {next} {p} q e (later {q = r} o) = let same : r ≡ q = omega arith in inr (subst (λ i. On next p (link_at next i)) same o)
 
-on_set : {next : List ℕ} {p k i : ℕ} (a : ℕ) → ((r : ℕ) → On next r k → r < i) → On next p k → On (set next i a) p k
+pub on_set : {next : List ℕ} {p k i : ℕ} (a : ℕ) → ((r : ℕ) → On next r k → r < i) → On next p k → On (set next i a) p k
 on_set a all here = here
 on_set {next} {p} {k} {i} a all (later {q = q} o) =
     let less = all q here in
     later (subst (On (set next i a) p) (sym (ap low_of (get_or-set_other next i q a 0 (λ e. omega arith)))) (on_set a (λ r o'. all r (later o')) o))
 
-on_unset : {next : List ℕ} {p i : ℕ} (a : ℕ) {k j : ℕ} → k ≡ j → ((r : ℕ) → On next r j → r < i) → On (set next i a) p k → On next p j
+pub on_unset : {next : List ℕ} {p i : ℕ} (a : ℕ) {k j : ℕ} → k ≡ j → ((r : ℕ) → On next r j → r < i) → On (set next i a) p k → On next p j
 on_unset {p = p} a e all here = on_here p (sym e)
 on_unset {next} {p} {i} a {k} {j} e all (later {q = q} o) =
     let less = all q (on_here q (sym e)) in
