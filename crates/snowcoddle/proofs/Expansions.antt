@@ -4,7 +4,7 @@ use mathlib.Core.Path.{◌≡◌, ap}
 use mathlib.Core.List.{[], ◌∷◌}
 use Rattle.terms.specs.Refusals.{At0, NoneOf}
 use Rattle.terms.specs.declared.Expanded.{Expanded}
-use Rattle.terms.specs.declared.Expanded.TheVariants.{Formula, Refused}
+use Rattle.terms.specs.declared.Expanded.TheVariants.{Formula}
 use Rattle.formula.specs.Lent.{Formula as Lent}
 use Rattle.formula_rules.specs.Rules.{read_as, read_by, check_order}
 use Rattle.forest.specs.Causes.{NotUniversal}

@@ -7,7 +7,6 @@ use Rattle.terms.specs.Answers.{InFront}
 use Rattle.terms.specs.Listed.{Listed}
 use Rattle.terms.specs.Refusals.{Causes}
 use Rattle.terms.specs.declared.Scheme.{Scheme}
-use Rattle.terms.specs.declared.Scheme.TheVariants.{Strict}
 use Rattle.formula.specs.Causes.{clause_order}
 use Rattle.formula.specs.Lent.{Formula}
 use Rattle.formula_rules.specs.Rules.{read_as, read_by, check_order}
@@ -30,7 +29,7 @@ use Rattle.dqbf_text.specs.Reading.{listed_read_order, ListedReadInto}
 use Rattle.dqbf_text.specs.Stored.{listed_text, listed_writing_order}
 use Rattle.file_format.specs.Layout.{FileOf}
 use Rattle.file_format.specs.Causes.{Lent, load_order, store_order}
-use Rattle.c_answers.specs.Codes.{scheme_of, tally_in}
+use Rattle.c_answers.specs.Codes.{tally_in}
 use Rattle.snowcoddle.specs.Told.{Told, Clause, Left}
 use Rattle.snowcoddle.specs.Filed.{GivenByFile}
 

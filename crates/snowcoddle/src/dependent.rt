@@ -8,8 +8,7 @@ use c_answers::{lay, lay_verdict, scheme_in};
 use terms::Variable;
 
 // Check with lists: whether a formula and its dependency lists keep every rule.
-#[unsafe(no_mangle)]
-pub extern "C" fn snow_check_lists(
+pub fn snow_check_lists(
     rule: u32,
     n: u32,
     prefix: &[u32],
@@ -23,8 +22,7 @@ pub extern "C" fn snow_check_lists(
 }
 
 // The set of x by the lists and by the scheme that a number asks for, ascending, with the count of its members.
-#[unsafe(no_mangle)]
-pub extern "C" fn snow_listed_set_by(
+pub fn snow_listed_set_by(
     rule: u32,
     scheme: u32,
     n: u32,

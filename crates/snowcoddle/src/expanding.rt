@@ -7,8 +7,7 @@ use c_answers::formulas::lay_expanded;
 use terms::Variable;
 
 // Expand: the formula with the universal x removed, its variable count, and the counts of the entries of both its tables.
-#[unsafe(no_mangle)]
-pub extern "C" fn snow_expand(
+pub fn snow_expand(
     rule: u32,
     n: u32,
     prefix: &[u32],

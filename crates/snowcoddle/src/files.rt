@@ -8,8 +8,7 @@ use c_answers::formulas::lay_loaded;
 use c_answers::lay;
 
 // Store: the file of a formula and its forest, with the count of its bytes.
-#[unsafe(no_mangle)]
-pub extern "C" fn snow_store(
+pub fn snow_store(
     rule: u32,
     n: u32,
     prefix: &[u32],
@@ -25,8 +24,7 @@ pub extern "C" fn snow_store(
 }
 
 // Load: n, both tables of the formula with the counts of their entries, the rows of its forest, and whether the file has sets.
-#[unsafe(no_mangle)]
-pub extern "C" fn snow_load(
+pub fn snow_load(
     rule: u32,
     file: &[u8],
     n: &mut u32,

@@ -1,6 +1,5 @@
 // The calls of the library for C, as include/snowcoddle.h has them: each calls the library, by a reading rule where it takes a prefix, and lays its
-// answer out. A slice is a pointer and a length there, a `&mut` to a number is a cell, and that to the three numbers of a tally is a pointer to its
-// struct.
+// answer out. A `&mut` to a number is a cell, and that to the three numbers of a tally is its struct. `snowcoddle_c` exports each under its name.
 
 #![tactic(auto)]
 
@@ -28,22 +27,14 @@ use terms::{Variable, Verdict};
 const STRICT: u32 = 2;
 
 // Check: whether a formula keeps every rule.
-#[unsafe(no_mangle)]
-pub extern "C" fn snow_check(
-    rule: u32,
-    n: u32,
-    prefix: &[u32],
-    clauses: &[i32],
-    place: &mut u32,
-) -> u32
+pub fn snow_check(rule: u32, n: u32, prefix: &[u32], clauses: &[i32], place: &mut u32) -> u32
     ensures told { CheckTold rule (formula_in n prefix clauses) place result }
 {
     lay_verdict(formula_rules::check(rule, n, prefix, clauses), place)
 }
 
 // The clause with a given number: where it stands in the lent table, and how many literals it has.
-#[unsafe(no_mangle)]
-pub extern "C" fn snow_clause(
+pub fn snow_clause(
     n: u32,
     clauses: &[i32],
     asked: u32,
@@ -70,8 +61,7 @@ pub extern "C" fn snow_clause(
 }
 
 // Build: the forest of a formula and its tally, with n as the count of its rows.
-#[unsafe(no_mangle)]
-pub extern "C" fn snow_build(
+pub fn snow_build(
     rule: u32,
     n: u32,
     prefix: &[u32],
@@ -91,8 +81,7 @@ pub extern "C" fn snow_build(
 }
 
 // The entry point of x for y, and the number of rises up to it.
-#[unsafe(no_mangle)]
-pub extern "C" fn snow_entry_point(
+pub fn snow_entry_point(
     rule: u32,
     n: u32,
     prefix: &[u32],
@@ -121,8 +110,7 @@ pub extern "C" fn snow_entry_point(
 }
 
 // The strict entry points of x, ascending, with their count.
-#[unsafe(no_mangle)]
-pub extern "C" fn snow_entry_points(
+pub fn snow_entry_points(
     rule: u32,
     n: u32,
     prefix: &[u32],
@@ -143,8 +131,7 @@ pub extern "C" fn snow_entry_points(
 }
 
 // The strict set of x, ascending, with the count of its members.
-#[unsafe(no_mangle)]
-pub extern "C" fn snow_set(
+pub fn snow_set(
     rule: u32,
     n: u32,
     prefix: &[u32],
@@ -165,8 +152,7 @@ pub extern "C" fn snow_set(
 }
 
 // The size of the strict set of x.
-#[unsafe(no_mangle)]
-pub extern "C" fn snow_size(
+pub fn snow_size(
     rule: u32,
     n: u32,
     prefix: &[u32],
@@ -186,8 +172,7 @@ pub extern "C" fn snow_size(
 }
 
 // The entry points of x by the scheme that a number asks for, ascending, with their count.
-#[unsafe(no_mangle)]
-pub extern "C" fn snow_entry_points_by(
+pub fn snow_entry_points_by(
     rule: u32,
     scheme: u32,
     n: u32,
@@ -219,8 +204,7 @@ pub extern "C" fn snow_entry_points_by(
 }
 
 // The set of x by the scheme that a number asks for, ascending, with the count of its members.
-#[unsafe(no_mangle)]
-pub extern "C" fn snow_set_by(
+pub fn snow_set_by(
     rule: u32,
     scheme: u32,
     n: u32,
@@ -252,8 +236,7 @@ pub extern "C" fn snow_set_by(
 }
 
 // The size of the set of x by the scheme that a number asks for.
-#[unsafe(no_mangle)]
-pub extern "C" fn snow_size_by(
+pub fn snow_size_by(
     rule: u32,
     scheme: u32,
     n: u32,
@@ -284,8 +267,7 @@ pub extern "C" fn snow_size_by(
 
 // The sets of all universals by the strict scheme: for each universal ascending its number, the count of its set and its set; with the count of
 // all entries.
-#[unsafe(no_mangle)]
-pub extern "C" fn snow_sets(
+pub fn snow_sets(
     rule: u32,
     n: u32,
     prefix: &[u32],
@@ -305,8 +287,7 @@ pub extern "C" fn snow_sets(
 }
 
 // The sets of all universals by the scheme that a number asks for, in the same form.
-#[unsafe(no_mangle)]
-pub extern "C" fn snow_sets_by(
+pub fn snow_sets_by(
     rule: u32,
     scheme: u32,
     n: u32,
@@ -336,8 +317,7 @@ pub extern "C" fn snow_sets_by(
 }
 
 // Add a clause: the lent rows become those of the forest with it, and the tally counts it.
-#[unsafe(no_mangle)]
-pub extern "C" fn snow_add(
+pub fn snow_add(
     rule: u32,
     n: u32,
     prefix: &[u32],
@@ -356,8 +336,7 @@ pub extern "C" fn snow_add(
 }
 
 // Read a text: n, and both tables with the counts of their entries.
-#[unsafe(no_mangle)]
-pub extern "C" fn snow_read(
+pub fn snow_read(
     text: &[u8],
     n: &mut u32,
     prefix: &mut [u32],
@@ -373,8 +352,7 @@ pub extern "C" fn snow_read(
 }
 
 // Write a text, with the count of its bytes.
-#[unsafe(no_mangle)]
-pub extern "C" fn snow_write(
+pub fn snow_write(
     rule: u32,
     n: u32,
     prefix: &[u32],

@@ -7,8 +7,7 @@ use c_answers::formulas::lay_listed;
 use c_answers::lay;
 
 // Read a text with lists: n, and the three tables with the counts of their entries.
-#[unsafe(no_mangle)]
-pub extern "C" fn snow_read_lists(
+pub fn snow_read_lists(
     text: &[u8],
     n: &mut u32,
     prefix: &mut [u32],
@@ -26,8 +25,7 @@ pub extern "C" fn snow_read_lists(
 }
 
 // Write a text with lists, with the count of its bytes.
-#[unsafe(no_mangle)]
-pub extern "C" fn snow_write_lists(
+pub fn snow_write_lists(
     rule: u32,
     n: u32,
     prefix: &[u32],

@@ -7,8 +7,7 @@ use terms::{Variable, Verdict};
 
 // The path check: whether a path of clause numbers is acceptable for the pair (x, y). The cell `place` is as wide as a length, since a path may
 // be of any length.
-#[unsafe(no_mangle)]
-pub extern "C" fn snow_path(
+pub fn snow_path(
     rule: u32,
     n: u32,
     prefix: &[u32],

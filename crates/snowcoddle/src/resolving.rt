@@ -7,8 +7,7 @@ use c_answers::lay;
 use terms::Variable;
 
 // The resolution-path set of x, ascending, with the count of its members.
-#[unsafe(no_mangle)]
-pub extern "C" fn snow_resolution_set(
+pub fn snow_resolution_set(
     rule: u32,
     n: u32,
     prefix: &[u32],

@@ -1,0 +1,22 @@
+// The export that checks the pairs of another tool.
+
+ghost use Rattle.formula.specs.Lent.{formula_in};
+ghost use Rattle.snowcoddle.specs.Promises.{PathTold};
+
+// The path check: whether a path of clause numbers is acceptable for the pair (x, y). The cell `place` is as wide as a length, since a path may
+// be of any length.
+#[unsafe(no_mangle)]
+pub extern "C" fn snow_path(
+    rule: u32,
+    n: u32,
+    prefix: &[u32],
+    clauses: &[i32],
+    x: u32,
+    y: u32,
+    path: &[u32],
+    place: &mut usize,
+) -> u32
+    ensures told { PathTold rule (formula_in n prefix clauses) x y path.now place result }
+{
+    snowcoddle::pairs::snow_path(rule, n, prefix, clauses, x, y, path, place)
+}
