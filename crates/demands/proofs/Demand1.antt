@@ -20,19 +20,28 @@ use Rattle.formula.proofs.Tight.{clause_tight}
 use Rattle.formula_rules.specs.Rules.{read_by, check_order}
 use Rattle.forest_theory.specs.Reach.{Variables}
 use Rattle.forest.specs.Answers.{EntriesBy, MembersBy}
+use Rattle.forest.specs.Causes.{entry_order, ask_order, list_order}
 use Rattle.forest.proofs.Demands.{entry_settled, list_settled, size_settled}
+use Rattle.sets.specs.Sets.{sets_order}
 use Rattle.sets.proofs.Settled.{sets_settled}
 use Rattle.grow.specs.Grown.{Standing, Rewrites}
 use Rattle.grow.proofs.Tight.{build_tight, add_tight}
-use Rattle.text_qdimacs.specs.Stored.{formula_text}
+use Rattle.text_qdimacs.specs.Reading.{read_order}
+use Rattle.text_qdimacs.specs.Stored.{formula_text, writing_order}
 use Rattle.text_qdimacs.proofs.Settled.{read_settled, write_settled}
 use Rattle.dqbf_lists.specs.Causes.{check_lists_order}
+use Rattle.dqbf_sets.specs.Answers.{set_order}
 use Rattle.dqbf_sets.proofs.Agreement.{set_settled}
 use Rattle.dqbf_sets.specs.Depends.{DependsOnBy}
+use Rattle.dqbf_text.specs.Reading.{listed_read_order}
+use Rattle.dqbf_text.specs.Stored.{listed_writing_order}
 use Rattle.dqbf_text.proofs.Settled.{read_settled as read-lists-settled, write_settled as write-lists-settled}
 use Rattle.path_check.specs.Causes.{path_order}
+use Rattle.path_resolution.specs.Paths.{resolution_order}
 use Rattle.path_resolution.proofs.Outcomes.{resolution_settled}
+use Rattle.expand.specs.Promise.{expand_order}
 use Rattle.expand.proofs.Tight.{expand_settled}
+use Rattle.file_format.specs.Causes.{load_order, store_order}
 use Rattle.file_format.proofs.Settled.{store_settled, load_settled}
 use Rattle.demands.specs.Demand1.{Held, HeldAlone, ClauseHeld, Demand1}
 use Rattle.demands.proofs.Numbers.{ZeroFree, first_some, check_free, build_free, entry_free, ask_free, listing_free, sets_free, writing_free, path_free}
@@ -123,46 +132,59 @@ demand1 =
       build = λ rule f s. held (λ left left' answer answer'. build_tight f answer answer') (rewrites_says s) (build_free rule f s);
       add = λ rule n es s clause. held (λ left left' answer answer'. add_tight es answer answer') (rewrites_says s) (add_free rule n es s clause);
       entry_point = λ rule f r x y.
-          held_alone (entry_settled rule f r x y) (λ answer. settles_judged _ _ _ (entry_said answer)) (entry_free rule f r x y);
+          held_alone (entry_settled rule f r x y) (λ answer. settles_judged (entry_order rule f r x y) _ _ (entry_said answer)) (entry_free rule f r x y);
       entry_points = λ rule scheme f r x out.
           held (list_settled rule f r x (λ read. EntriesBy scheme read r x) out)
-          (λ left answer. settles_says _ _ _ out left (λ same. same) (filled_said answer)) (listing_free rule f r x (EntriesBy scheme (read_by rule f) r x) out);
+          (λ left answer. settles_says (list_order rule f r x (EntriesBy scheme (read_by rule f) r x) out) _ _ out left (λ same. same) (filled_said answer))
+          (listing_free rule f r x (EntriesBy scheme (read_by rule f) r x) out);
       set = λ rule scheme f r x out.
           held (list_settled rule f r x (λ read. MembersBy scheme read r x) out)
-          (λ left answer. settles_says _ _ _ out left (λ same. same) (filled_said answer)) (listing_free rule f r x (MembersBy scheme (read_by rule f) r x) out);
+          (λ left answer. settles_says (list_order rule f r x (MembersBy scheme (read_by rule f) r x) out) _ _ out left (λ same. same) (filled_said answer))
+          (listing_free rule f r x (MembersBy scheme (read_by rule f) r x) out);
       size = λ rule scheme f r x.
-          held_alone (size_settled rule f r x scheme) (λ answer. settles_judged _ _ _ (filled_said answer)) (ask_free rule f r x);
+          held_alone (size_settled rule f r x scheme) (λ answer. settles_judged (ask_order rule f r x) _ _ (filled_said answer)) (ask_free rule f r x);
       sets = λ rule scheme f r out.
-          held (sets_settled rule scheme f r out) (λ left answer. settles_says _ _ _ out left (λ same. same) (filled_said answer)) (sets_free rule f r scheme out);
+          held (sets_settled rule scheme f r out)
+          (λ left answer. settles_says (sets_order rule scheme f r out) _ _ out left (λ same. same) (filled_said answer))
+          (sets_free rule f r scheme out);
       read = λ text prefix clauses.
           held
           (λ left left' answer answer' a b.
           let same = read_settled text prefix clauses left.0 left'.0 left.1 left'.1 answer answer' a b in
           (same.answer, λ i. (same.prefix_rows i, same.clause_rows i)))
-          (λ left answer. settles_says _ _ _ (prefix, clauses) left (λ same i. (same.0 i, same.1 i)) (reading_said answer)) (read_free text prefix clauses);
+          (λ left answer. settles_says (read_order text prefix clauses) _ _ (prefix, clauses) left (λ same i. (same.0 i, same.1 i)) (reading_said answer))
+          (read_free text prefix clauses);
       write = λ rule f out.
-          held (write_settled (check_order rule f) (formula_text f) out) (λ left answer. settles_says _ _ _ out left (λ same. same) (filled_said answer))
+          held (write_settled (check_order rule f) (formula_text f) out)
+          (λ left answer. settles_says (writing_order rule f out) _ _ out left (λ same. same) (filled_said answer))
           (writing_free rule f out);
       path = λ rule f x y path. judged_held (path_order rule f x y path) (path_free rule f x y path);
       resolution_set = λ rule f x out.
-          held (resolution_settled rule f x out) (λ left answer. settles_says _ _ _ out left (λ same. same) (filled_said answer)) (resolution_free rule f x out);
+          held (resolution_settled rule f x out) (λ left answer. settles_says (resolution_order rule f x out) _ _ out left (λ same. same) (filled_said answer))
+          (resolution_free rule f x out);
       expand = λ rule f x out.
-          held (expand_settled rule f x out) (λ left answer. settles_says _ _ _ out left (λ same. same) (expanded_said answer)) (expand_free rule f x out);
+          held (expand_settled rule f x out) (λ left answer. settles_says (expand_order rule f x out) _ _ out left (λ same. same) (expanded_said answer))
+          (expand_free rule f x out);
       store = λ rule f out.
-          held (store_settled rule f out) (λ left answer. settles_says _ _ _ out left (λ same. same) (filled_said answer)) (store_free rule f out);
+          held (store_settled rule f out) (λ left answer. settles_says (store_order rule f out) _ _ out left (λ same. same) (filled_said answer))
+          (store_free rule f out);
       load = λ rule file lent.
-          held (load_settled rule file lent) (λ left answer. settles_says _ _ _ lent left (λ same. same) (loaded_said answer)) (load_free rule file lent);
+          held (load_settled rule file lent) (λ left answer. settles_says (load_order rule file lent) _ _ lent left (λ same. same) (loaded_said answer))
+          (load_free rule file lent);
       check_lists = λ rule f lists. judged_held (check_lists_order rule f lists) (lists_free rule f lists);
       listed_set = λ rule scheme f lists x out.
-          held (set_settled rule scheme f lists x out) (λ left answer. settles_says _ _ _ out left (λ same. same) (filled_said answer))
+          held (set_settled rule scheme f lists x out)
+          (λ left answer. settles_says (set_order rule f lists x (DependsOnBy scheme (read_by rule f) lists x) out) _ _ out left (λ same. same) (filled_said answer))
           (listed_set_free rule f lists x (DependsOnBy scheme (read_by rule f) lists x) out);
       read_lists = λ text before.
           held
           (λ left left' answer answer' a b.
           let same = read-lists-settled text before left left' answer answer' a b in
           (same.answer, λ i. (same.prefix_rows i, same.clause_rows i, same.list_rows i)))
-          (λ left answer. settles_says _ _ _ before left (λ same i. (same.0 i, same.1 i, same.2 i)) (listed_said answer)) (read_lists_free text before);
+          (λ left answer. settles_says (listed_read_order text before) _ _ before left (λ same i. (same.0 i, same.1 i, same.2 i)) (listed_said answer))
+          (read_lists_free text before);
       write_lists = λ rule f lists out.
-          held (write-lists-settled rule f lists out) (λ left answer. settles_says _ _ _ out left (λ same. same) (filled_said answer))
+          held (write-lists-settled rule f lists out)
+          (λ left answer. settles_says (listed_writing_order rule f lists out) _ _ out left (λ same. same) (filled_said answer))
           (listed_writing_free rule f lists out);
     }

@@ -51,14 +51,14 @@ module _ (x : ℕ) where
       choice (λ (d : List ℤ). Memᴰ l d → Memᴰ l (k ∷ c) × (variable_of l ≢ x)) (eqb (variable_of k) x) (λ t. later)
       (λ f i. ⊎_elim (λ q. (mathlib.Core.List.Memᴰ.head q, λ e. clash (eq-eqb (variable_of k) x (sym (ap variable_of q) ∙ e)) f)) later (mathlib.Core.List.Memᴰ.cases_cons i)) m
 
-  pub member_without : {c : List ℤ} {l : ℤ} → variable_of l ≢ x → Memᴰ l c → Memᴰ l (without x c)
+  pub member_without : {l : ℤ} {c : List ℤ} → variable_of l ≢ x → Memᴰ l c → Memᴰ l (without x c)
   unfolding without
   member_without n (mathlib.Core.List.Memᴰ.head {x = k} q) = rw (ne_eqb (variable_of k) x (λ e. n (ap variable_of q ∙ e))) (mathlib.Core.List.Memᴰ.head q)
   member_without {l = l} n (mathlib.Core.List.Memᴰ.tail {x = k} m) =
       choice (Memᴰ l) (eqb (variable_of k) x) (λ t. member_without n m) (λ f. mathlib.Core.List.Memᴰ.tail (member_without n m))
 
   -- A clause with no literal of x.
-  pub no_x : {c : List ℤ} {l : ℤ} → has_x x c ≡ false → Memᴰ l c → variable_of l ≢ x
+  pub no_x : {l : ℤ} {c : List ℤ} → has_x x c ≡ false → Memᴰ l c → variable_of l ≢ x
   unfolding has_x
   no_x f (mathlib.Core.List.Memᴰ.head {x = k} {xs = c} q) e =
       clash (ap (λ (t : Bool). t || has_x x c) (eq-eqb (variable_of k) x (sym (ap variable_of q) ∙ e))) f
@@ -83,14 +83,14 @@ module _ (value : Bool) (x : ℕ) where
       ⊎_elim (λ here. let (e, t) = made l here in (l, mathlib.Core.List.Memᴰ.head refl, e, t))
       (λ later. let (k, i, e, t) = satisfied_by c later in (k, mathlib.Core.List.Memᴰ.tail i, e, t)) (either (made_true value x l) (satisfied value x c) q)
 
-  pub by_satisfied : {c : List ℤ} {l : ℤ} → Memᴰ l c → variable_of l ≡ x → literal_value l value ≡ true → satisfied value x c ≡ true
+  pub by_satisfied : {l : ℤ} {c : List ℤ} → Memᴰ l c → variable_of l ≡ x → literal_value l value ≡ true → satisfied value x c ≡ true
   unfolding satisfied
   by_satisfied {l = l} (mathlib.Core.List.Memᴰ.head {x = k} {xs = c} q) e t =
       ap (λ (b : Bool). b || satisfied value x c) (ap (made_true value x) (sym q) ∙ make l e t)
   by_satisfied (mathlib.Core.List.Memᴰ.tail {x = k} {xs = c} m) e t = or_right (made_true value x k) (satisfied value x c) (by_satisfied m e t)
 
 -- A clause with no member.
-pub no_member : (copy : ℕ → ℕ) {c : List ℤ} {l : ℤ} → has_member copy c ≡ false → Memᴰ l c → copy (variable_of l) ≡ 0
+pub no_member : (copy : ℕ → ℕ) {l : ℤ} {c : List ℤ} → has_member copy c ≡ false → Memᴰ l c → copy (variable_of l) ≡ 0
 unfolding has_member
 no_member copy {l = l} f (mathlib.Core.List.Memᴰ.head {x = k} {xs = c} q) =
     ap (λ (m : ℤ). copy (variable_of m)) q
@@ -114,7 +114,7 @@ module _ (value : Bool) (x : ℕ) (copy : ℕ → ℕ) where
       later : Found cs → Found (c ∷ cs)
       later (a, i, t, q) = (a, mathlib.Core.List.Memᴰ.tail i, t, q)
 
-  pub member_copies : {cs : List (List ℤ)} {c : List ℤ} → Memᴰ c cs → has_copy value x copy c ≡ true
+  pub member_copies : {c : List ℤ} {cs : List (List ℤ)} → Memᴰ c cs → has_copy value x copy c ≡ true
       → Memᴰ (clause_copy value x copy c) (copies value x copy cs)
   unfolding copies
   member_copies {c = c} (mathlib.Core.List.Memᴰ.head {x = a} q) t =

@@ -52,10 +52,10 @@ place_copy next (m ∷ ms) (suc k) a l =
     ∙ place_copy (suc next) ms k a.1 (omega arith) ∙ e
 
 -- A member has a copy, and what has one is a member.
-pub member_copy : (next : ℕ) {members : List ℕ} {v : ℕ} → next ≢ 0 → Memᴰ v members → copy_from next members v ≢ 0
+pub member_copy : {v : ℕ} (next : ℕ) {members : List ℕ} → next ≢ 0 → Memᴰ v members → copy_from next members v ≢ 0
 unfolding copy_from
-member_copy next {v = v} n (Memᴰ.head {x = m} {xs = ms} q) = rw (eq-eqb m v (sym q)) n
-member_copy next {v = v} n (Memᴰ.tail {x = m} {xs = ms} i) =
+member_copy {v = v} next n (Memᴰ.head {x = m} {xs = ms} q) = rw (eq-eqb m v (sym q)) n
+member_copy {v = v} next n (Memᴰ.tail {x = m} {xs = ms} i) =
     choice (λ (k : ℕ). k ≢ 0) (eqb m v) (λ t. n) (λ f. member_copy (suc next) (λ z. omega arith) i)
 
 pub copy_member : (next : ℕ) (members : List ℕ) (v : ℕ) → copy_from next members v ≢ 0 → Memᴰ v members
