@@ -3,7 +3,7 @@ use Prim.Native.Nat.{ℕ, suc, ◌+◌, ◌≤◌, ◌<◌}
 use mathlib.Core.Path.{◌≡◌, sym, ◌∙◌, ap, subst}
 use mathlib.Core.Bool.{true, false, not}
 use mathlib.Core.List.{List, map, Memᴰ}
-use mathlib.Core.Logic.{◌⊎◌, ⊎_elim, ◌≢◌, ◌↔◌, by_cases}
+use mathlib.Core.Logic.{⊎_elim, ◌≢◌, ◌↔◌, by_cases}
 use native.Mathlib.Decide.{ℕ_discrete, dec_le}
 use native.Mathlib.Omega.{arith}
 use borrow.Author.Tests.{not-true}
