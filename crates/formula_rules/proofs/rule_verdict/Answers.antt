@@ -8,7 +8,7 @@ use Rattle.terms.specs.Refusals.{At0}
 use Rattle.terms.proofs.Verdicts.{at0_first, at0_none, accepted_then}
 use Rattle.formula.specs.Causes.{VariableCount, PrefixLong, ClausesLong}
 use Rattle.formula_rules.specs.Rules.{JoinedCause}
-use Rattle.formula_rules.proofs.Orders.{no_rule, rule_one, rule_two}
+use Rattle.formula_rules.proofs.Orders.{rule_one, rule_two}
 use Rattle.formula_rules.proofs.rule_verdict.Goals as goal
 
 pub returns-then-rule-eq1 : goal.returns-then-rule-eq1
@@ -16,21 +16,16 @@ returns-then-rule-eq1 c =
     let a = c.args in
     record { judged = rule_one a.rule a.n a.prefix.now a.entries c.if-rule-eq1.true c.prefix_verdict.result c.prefix_verdict.ensures.judged }
 
-pub returns-then-rule-ne2 : goal.returns-then-rule-ne2
-returns-then-rule-ne2 c =
-    let a = c.args in
-    record { judged = no_rule a.rule a.n a.prefix.now a.entries c.if-rule-eq1.false c.if-rule-ne2.true }
-
 pub returns-then-n-gt-MOST : goal.returns-then-n-gt-MOST
 returns-then-n-gt-MOST c =
     let a = c.args in
-    record { judged = rule_two a.rule a.n a.prefix.now a.entries c.if-rule-ne2.false (Refused 1 0) (inl (at0_first 1 c.if-n-gt-MOST.true)) }
+    record { judged = rule_two a.rule a.n a.prefix.now a.entries (omega arith) (Refused 1 0) (inl (at0_first 1 c.if-n-gt-MOST.true)) }
 
 pub returns-then-prefix-gt-ENTRIES : goal.returns-then-prefix-gt-ENTRIES
 returns-then-prefix-gt-ENTRIES c =
     let a = c.args in
     record {
-      judged = rule_two a.rule a.n a.prefix.now a.entries c.if-rule-ne2.false (Refused 2 0)
+      judged = rule_two a.rule a.n a.prefix.now a.entries (omega arith) (Refused 2 0)
           (inr (at0_none 1 (λ over. omega arith), inl (at0_first 2 (inl c.if-prefix-gt-ENTRIES.true))));
     }
 
@@ -38,7 +33,7 @@ pub returns-then-entries-gt-ENTRIES : goal.returns-then-entries-gt-ENTRIES
 returns-then-entries-gt-ENTRIES c =
     let a = c.args in
     record {
-      judged = rule_two a.rule a.n a.prefix.now a.entries c.if-rule-ne2.false (Refused 2 0)
+      judged = rule_two a.rule a.n a.prefix.now a.entries (omega arith) (Refused 2 0)
           (inr (at0_none 1 (λ over. omega arith), inl (at0_first 2 (inr c.if-entries-gt-ENTRIES.true))));
     }
 
@@ -49,7 +44,7 @@ returns c =
     let short = c.if-prefix-gt-ENTRIES.false in
     let small = c.if-entries-gt-ENTRIES.false in
     record {
-      judged = rule_two a.rule a.n a.prefix.now a.entries c.if-rule-ne2.false c.joined_verdict.result
+      judged = rule_two a.rule a.n a.prefix.now a.entries (omega arith) c.joined_verdict.result
           (accepted_then (VariableCount a.n ∷ At0 2 (PrefixLong a.prefix.now ⊎ ClausesLong a.entries) ∷ [])
           (JoinedCause a.n a.prefix.now ∷ []) {v = Accepted} c.joined_verdict.result refl
           (at0_none 1 (λ over. omega arith), (at0_none 2 (⊎_elim (λ m. omega arith) (λ m. omega arith)), tt)) c.joined_verdict.ensures.judged);
