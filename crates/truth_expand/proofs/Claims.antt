@@ -25,7 +25,7 @@ use Rattle.truth_expand.specs.Serves.{Serves}
 use Rattle.truth_expand.specs.Story.{story, FoundTooFarIn}
 use Rattle.truth_expand.proofs.Expanded.{expansion_holds}
 use Rattle.truth_expand.proofs.Serving.{sets_serve, paths_serve}
-use Rattle.truth_expand.proofs.Story.{story_holds, story_set, story_too_far_in, right_holds, wrong_fails}
+use Rattle.truth_expand.proofs.StoryTold.{story_holds, story_set, story_too_far_in, right_holds, wrong_fails}
 
 -- The sets by either scheme serve, and so do the resolution-path sets.
 pub sets_serve_for_expanding : (scheme : Scheme) (f : Formula) (x : ℕ) (members : List ℕ) → universal f.n f.prefix x ≡ true

@@ -33,7 +33,8 @@ use Rattle.truth.proofs.Claims.{more_may_depend}
 use Rattle.truth_formula.specs.Holds.{MayDepend, TrueIf, Holds}
 use Rattle.truth_formula.proofs.Entries.{literal_within}
 use Rattle.truth_expand.specs.Serves.{Serves}
-use Rattle.truth_expand.proofs.Expanding.{Expanding, expanding_keeps}
+use Rattle.truth_expand.proofs.Expanding.{Expanding}
+use Rattle.truth_expand.proofs.Playing.{expanding_keeps}
 use Rattle.truth_expand.proofs.Numbers.{member_copy, copy_member, original_of, original_low, original_copy, copy_original, original_out}
 use Rattle.truth_expand.proofs.Order.{order, Marked, in_marked, order_joined, marked_joined}
 use Rattle.truth_expand.proofs.Levels.{earlier_level, level_earlier, marked_universal, unnamed_universal, universal_named, behind_named}

@@ -2,6 +2,7 @@
 -- Copies of clauses, and the argument for any formula and its expansion.
 pub mod Copies
 pub mod Expanding
+pub mod Playing
 -- The formula as it is written: numbers, the order of what blocks name, levels by it, and the tables.
 pub mod Numbers
 pub mod Order
@@ -14,5 +15,6 @@ pub mod Expanded
 pub mod Serving
 -- The story.
 pub mod Story
+pub mod StoryTold
 -- The theorems.
 pub mod Claims
