@@ -1,5 +1,5 @@
 -- The laws of dependency lists, in reading order.
--- Whose list has x, by lists and by places (given_at, given-by).
+-- Whose list has x, by lists and by places (given_at, given_by).
 pub mod Listed
 -- The check.
 pub mod Placed

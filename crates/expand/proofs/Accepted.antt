@@ -191,10 +191,10 @@ module _ {n most : ℕ} {copy : ℕ → ℕ} (distinct : Distinct n most copy) w
         ∙ pass_mark mark (with_copy copy v ++ more) last count written other good few (pass_placed true (suc count) on)
 
   -- The result has no more blocks than the prefix, and one less where the block that is read has not begun yet.
-  record Behind (last count Written-last written_count : ℕ) : Type 0 where
+  record Behind (last count written_last written_count : ℕ) : Type 0 where
     few : count ≤ 64
     most_count : written_count ≤ count
-    less : Written-last ≢ last → written_count < count
+    less : written_last ≢ last → written_count < count
 
   ended : (last count : ℕ) (written : List ℕ) → prefix_passes most (closing last) (eqb last 0) false last count written ≡ true
   unfolding prefix_passes closing

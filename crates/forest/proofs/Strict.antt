@@ -47,8 +47,8 @@ module _ (rule : ℕ) (f : Formula) (r : Rows) (x : ℕ) (sign : Bool)
   unfolding sum
   one_sign_size size (none, sized) = sized.2 ∙ ap (sum (row f.n r.counts)) (none_listed no_entry sized.0 sized.1)
 
--- With a clause put last that has no x, what shares a clause with a literal of x is what shared one before: with `strict-stays` and
--- `strict-entries-stay` this is demand 3, second sentence, for strict sets.
+-- With a clause put last that has no x, what shares a clause with a literal of x is what shared one before: with `strict_stays` and
+-- `strict_entries_stay` this is demand 3, second sentence, for strict sets.
 pub shares_last : {ls longer : List ℤ} (clause : List ℤ) {x : ℕ} → clauses longer ≡ clauses ls ++ (clause ∷ []) → (Memᴰ x (connected clause) → ⊥)
     → (sign : Bool) (y : ℕ) → SharesBy ls sign x y ↔ SharesBy longer sign x y
 shares_last {ls} {longer} clause {x} is alone sign y = (

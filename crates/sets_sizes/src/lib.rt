@@ -8,7 +8,6 @@ mod noting;
 ghost use Rattle.std.specs.Prelude.{ℕ, ◌+◌, ◌≤◌, ◌≡◌, false, length, get_or};
 ghost use Rattle.terms.specs.InnerLimits.{variable_rows};
 ghost use Rattle.terms.specs.Limits.{clause_entries};
-ghost use Rattle.terms.specs.declared.Scheme.{Scheme as Scheme-as-Scheme};
 ghost use Rattle.formula.specs.InnerLevels.{SoundPrefix};
 ghost use Rattle.formula.specs.InnerLookup.{NextZero, SoundClauses};
 ghost use Rattle.forest_tables.specs.InnerCounting.{FormedBy};

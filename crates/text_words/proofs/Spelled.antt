@@ -1,4 +1,4 @@
--- What words say, plainly and by computing, is the same: a number (number_of_lem, spells), and the entries of a line (entries-read, read-entries).
+-- What words say, plainly and by computing, is the same: a number (number_of_lem, spells), and the entries of a line (entries_read, read_entries).
 use Prim.Native.Nat.{ℕ, ◌+◌, ◌-◌, ◌*◌, ◌<◌, ◌≤◌}
 use mathlib.Core.Path.{◌≡◌, refl, sym, ap, ◌∙◌, subst}
 use mathlib.Core.Bool.{Bool, true, false, cond, ◌&&◌}

@@ -1,4 +1,4 @@
--- When a formula as lent is true (rule 19.1). What is said of a formula is said under a reading rule of the formula as the rule reads it (readBy).
+-- When a formula as lent is true (rule 19.1). What is said of a formula is said under a reading rule of the formula as the rule reads it (read_by).
 use Rattle.std.specs.Prelude.{ℕ, ◌<◌, ◌≡◌, true, List}
 use Rattle.formula.specs.Lent.{Formula}
 use Rattle.formula.specs.Meaning.{level, is_existential, clauses}

@@ -1,4 +1,4 @@
--- The number written is the literal's magnitude (variable-known), and its word by the sign is `-` and those digits, or the digits alone.
+-- The number written is the literal's magnitude (variable_known), and its word by the sign is `-` and those digits, or the digits alone.
 use Prim.Native.Nat.{ℕ}
 use mathlib.Core.Path.{◌≡◌, sym, ap, ◌∙◌}
 use mathlib.Core.List.{◌∷◌}
@@ -13,15 +13,15 @@ use Rattle.text_write.proofs.writing.put_literal.Goals as goal
 
 pub put_number-requires : goal.put_number-requires
 put_number-requires c =
-    let variable-known : c.variable-variable.result.0 ≡ nat_abs c.args.literal = c.variable-variable.ensures.own ∙ ap nat_abs (c.new.ensures.holds ∙ to_z-of_z c.ranges.literal) in
+    let variable_known : c.variable-variable.result.0 ≡ nat_abs c.args.literal = c.variable-variable.ensures.own ∙ ap nat_abs (c.new.ensures.holds ∙ to_z-of_z c.ranges.literal) in
     let pre = c.requires in
-    record { small = omega (arith, c.put_byte-start.ensures.wrote.end, variable-known, pre.small.0, pre.small.1) }
+    record { small = omega (arith, c.put_byte-start.ensures.wrote.end, variable_known, pre.small.0, pre.small.1) }
 
 pub returns-then-literal-lt0 : goal.returns-then-literal-lt0
 returns-then-literal-lt0 c =
-    let variable-known : c.variable-variable.result.0 ≡ nat_abs c.args.literal = c.variable-variable.ensures.own ∙ ap nat_abs (c.new.ensures.holds ∙ to_z-of_z c.ranges.literal) in
+    let variable_known : c.variable-variable.result.0 ≡ nat_abs c.args.literal = c.variable-variable.ensures.own ∙ ap nat_abs (c.new.ensures.holds ∙ to_z-of_z c.ranges.literal) in
     let below = sym (ap (λ (z : ℤ). lt_z z (pos 0)) (to_z-of_z c.ranges.literal)) ∙ c.if-literal-lt0.true in
-    let known = ap (λ (v : ℕ). MINUS ∷ decimal v) (sym (variable-known)) in
+    let known = ap (λ (v : ℕ). MINUS ∷ decimal v) (sym (variable_known)) in
     record {
       wrote = wrote_as (literal_negative c.args.literal below ∙ known)
           (wrote_more c.put_byte-start.ensures.wrote c.put_number.ensures.wrote);
@@ -29,13 +29,13 @@ returns-then-literal-lt0 c =
 
 pub put_number-requires-2 : goal.put_number-requires-2
 put_number-requires-2 c =
-    let variable-known : c.variable-variable.result.0 ≡ nat_abs c.args.literal = c.variable-variable.ensures.own ∙ ap nat_abs (c.new.ensures.holds ∙ to_z-of_z c.ranges.literal) in
+    let variable_known : c.variable-variable.result.0 ≡ nat_abs c.args.literal = c.variable-variable.ensures.own ∙ ap nat_abs (c.new.ensures.holds ∙ to_z-of_z c.ranges.literal) in
     let pre = c.requires in
-    record { small = omega (arith, variable-known, pre.small.0, pre.small.1) }
+    record { small = omega (arith, variable_known, pre.small.0, pre.small.1) }
 
 pub returns : goal.returns
 returns c =
-    let variable-known : c.variable-variable.result.0 ≡ nat_abs c.args.literal = c.variable-variable.ensures.own ∙ ap nat_abs (c.new.ensures.holds ∙ to_z-of_z c.ranges.literal) in
+    let variable_known : c.variable-variable.result.0 ≡ nat_abs c.args.literal = c.variable-variable.ensures.own ∙ ap nat_abs (c.new.ensures.holds ∙ to_z-of_z c.ranges.literal) in
     let above = sym (ap (λ (z : ℤ). lt_z z (pos 0)) (to_z-of_z c.ranges.literal)) ∙ c.if-literal-lt0.false in
-    let known = ap decimal (sym (variable-known)) in
+    let known = ap decimal (sym (variable_known)) in
     record { wrote = wrote_as (literal_positive c.args.literal above ∙ known) c.put_number-2.ensures.wrote }
