@@ -35,7 +35,7 @@ kit_find() {
 # Proves the archive of the calls for C, which then is $proved_archive. What it stands on is proved first, several crates at a time.
 kit_prove_archive() {
     kit_command || return 1
-    (cd "$root/crates" && rt all check --jobs 2) || return 1
+    (cd "$root/crates" && rt all check --jobs "$(nproc)") || return 1
     (cd "$root/crates/$archive_crate" && rt lib) || return 1
     mkdir -p "${proved_archive%/*}" && cp "$root/crates/$archive_crate/out/lib$archive_crate.a" "$proved_archive"
 }
