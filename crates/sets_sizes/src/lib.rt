@@ -8,6 +8,7 @@ mod noting;
 ghost use Rattle.std.specs.Prelude.{ℕ, ◌+◌, ◌≤◌, ◌≡◌, false, length, get_or};
 ghost use Rattle.terms.specs.InnerLimits.{variable_rows};
 ghost use Rattle.terms.specs.Limits.{clause_entries};
+ghost use Rattle.terms.specs.declared.Scheme.{Scheme as SomeScheme};
 ghost use Rattle.formula.specs.InnerLevels.{SoundPrefix};
 ghost use Rattle.formula.specs.InnerLookup.{NextZero, SoundClauses};
 ghost use Rattle.forest_tables.specs.InnerCounting.{FormedBy};
@@ -197,7 +198,7 @@ fn drain_along(
 ) -> u32
     requires tied { Tied clauses.now first.now next.now x.0 }
     requires weighed { (n ≤ 4096) × Within n tops.now × Weighed n tops.now lead.now }
-    requires entered { (length flags.old ≡ variable_rows) × ((scheme : Scheme-as-Scheme) × EnteredBy scheme n tops.now clauses.now x.0 flags.old) }
+    requires entered { (length flags.old ≡ variable_rows) × ((scheme : SomeScheme) × EnteredBy scheme n tops.now clauses.now x.0 flags.old) }
     ensures summed { result ≡ under n tops.now flags.old }
 {
     let mut total: u32 = 0;
