@@ -151,7 +151,8 @@ module _ {n most : ℕ} {copy : ℕ → ℕ} (distinct : Distinct n most copy) w
   unfolding prefix_passes closing
   pass_mark mark more zero count written other good few on = both_true (good_mark_lem mark zero count good other few) on
   pass_mark mark more (suc last) count written other good few on =
-      ap (λ (o : Bool). prefix_passes most (0 ∷ mark ∷ more) o false (suc last) count written) (ne_eqb (suc last) 0 (λ z. omega arith)) ∙ both_true (good_mark_lem mark (suc last) count good other few) on
+      ap (λ (o : Bool). prefix_passes most (0 ∷ mark ∷ more) o false (suc last) count written) (ne_eqb (suc last) 0 (λ z. omega arith))
+      ∙ both_true (good_mark_lem mark (suc last) count good other few) on
 
   -- A variable with its copy passes.
   module _ {names written : List ℕ} (s : Written names written) (v : ℕ) (some : v ≢ 0) (low : v ≤ n) (new : has names v ≡ false) (more : List ℕ) (mark : ℕ) where

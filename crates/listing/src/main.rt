@@ -2,7 +2,7 @@
 
 #![tactic(auto)]
 
-ghost use Rattle.std.specs.Prelude.{ℕ, ◌≤◌, ◌<◌, ◌≡◌, Bool, List, [], ◌∷◌, true, length, take, IfOk, IfSome};
+ghost use Rattle.std.specs.Prelude.{ℕ, ◌≤◌, ◌<◌, ◌≡◌, Bool, List, [], ◌∷◌, true, length, take, IfOk, IfSome, OnErr};
 ghost use Rattle.std.specs.Io.KnownBytes.{Appends, Consumes, IsAtEnd};
 ghost use Rattle.terms.specs.declared.Scheme.TheVariants.{Strict};
 ghost use Rattle.terms.specs.Answers.{InFront};
@@ -44,8 +44,9 @@ fn main(rt: HostRuntime) -> io::Result<()> {
     Ok(())
 }
 
-// Lists the formula of an input, and gives how many lines it printed, or 0 if one could not be written.
+// Lists the formula of an input, and gives how many lines it printed, or 0 if one could not be written. Nothing is written where the input cannot be read.
 fn list<R: Read, W: Write>(input: &mut R, out: &mut W) -> io::Result<usize>
+    ensures unread { OnErr result (out.new ≡ out.old) }
     ensures printed { IfOk result (λ count. IfSome (R.remaining input.old)
         (λ text. AllPrinted (Prints text) (W.contents out.old) (W.contents out.new) count)) }
 {

@@ -93,7 +93,9 @@ true_common {X} {x} {v} (w ∷ list) others d l m = ⊎_elim here (λ n. or_righ
 pub shares_tells : (X : Variables) (ls : List ℤ) (x k l : ℕ) → Tells (shares X ls x k l) (Shared X ls x k l)
 unfolding shares
 shares_tells X ls x k l =
-    tells_by (shares X ls x k l) (λ t. let (v, d, m, n) = common_true X x (map variable_of (clause_at ls k)) (map variable_of (clause_at ls l)) t in record { variable = v; deep = d; left = m; right = n })
+    tells_by (shares X ls x k l) (λ t.
+    let (v, d, m, n) = common_true X x (map variable_of (clause_at ls k)) (map variable_of (clause_at ls l)) t in
+    record { variable = v; deep = d; left = m; right = n })
     (λ s. true_common (map variable_of (clause_at ls k)) (map variable_of (clause_at ls l)) s.deep s.left s.right)
 
 module _ (X : Variables) (ls : List ℤ) (x y : ℕ) (path : List ℕ) where

@@ -9,4 +9,7 @@ pub returns : goal.returns
 returns g c =
     let r = c.in_ok-got.ensures in
     let size = c.read_full.auto.text ∙ length-replicate {A = ℕ} 65537 0 in
-    record { printed = printed_whole _ _ _ c.in_ok-got.got _ _ c.list_text.result size r.within r.read r.ended c.list_text.ensures.printed }
+    record {
+      unread = tt;
+      printed = printed_whole _ _ _ c.in_ok-got.got _ _ c.list_text.result size r.within r.read r.ended c.list_text.ensures.printed;
+    }

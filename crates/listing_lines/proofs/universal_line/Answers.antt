@@ -20,5 +20,6 @@ returns c =
     let end = last.end in
     let a = c.args in
     record {
-      stored = line_front (universal_line a.x a.level a.entries.now a.set.now) c.requires.small.4 (record { wrote = wrote_more (wrote_more (wrote_more (wrote_more s0.wrote s1.wrote) s2.wrote) s3.wrote) last; near = omega arith });
+      stored = line_front (universal_line a.x a.level a.entries.now a.set.now) c.requires.small.4
+          (record { wrote = wrote_more (wrote_more (wrote_more (wrote_more s0.wrote s1.wrote) s2.wrote) s3.wrote) last; near = omega arith });
     }

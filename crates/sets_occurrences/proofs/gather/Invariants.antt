@@ -8,7 +8,9 @@ use Rattle.sets_occurrences.proofs.Chains.{Passing}
 use Rattle.sets_occurrences.proofs.gather.Given as goal
 
 abbrev pub invariant-loop-i : goal.invariant-loop-i
-invariant-loop-i l = (length l.places ≡ length l.initial.places) × (length l.starts ≡ length l.initial.starts) × Passing l.clauses l.start l.i × Gathered l.clauses l.universals l.places l.starts l.count l.i
+invariant-loop-i l =
+    (length l.places ≡ length l.initial.places) × (length l.starts ≡ length l.initial.starts)
+    × Passing l.clauses l.start l.i × Gathered l.clauses l.universals l.places l.starts l.count l.i
 
 abbrev pub decreases-loop-i : goal.decreases-loop-i
 decreases-loop-i l = length l.clauses - l.i

@@ -10,7 +10,9 @@ use Rattle.sets_sizes.specs.InnerSizes.{under, Drained}
 use Rattle.sets_sizes.proofs.drain_after.Given as goal
 
 abbrev pub invariant-loop-i : goal.invariant-loop-i
-invariant-loop-i l = Unclosed l.clauses l.start l.i × Drained (Via l.n l.tops (Has l.clauses l.start l.i)) l.initial.flags l.flags × (l.total + under l.n l.tops l.flags ≡ under l.n l.tops l.initial.flags)
+invariant-loop-i l =
+    Unclosed l.clauses l.start l.i × Drained (Via l.n l.tops (Has l.clauses l.start l.i)) l.initial.flags l.flags
+    × (l.total + under l.n l.tops l.flags ≡ under l.n l.tops l.initial.flags)
     × (get_or l.flags 0 false ≡ false)
 
 abbrev pub decreases-loop-i : goal.decreases-loop-i

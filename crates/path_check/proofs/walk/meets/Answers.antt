@@ -8,7 +8,8 @@ pub loop-i-init : goal.loop-i-init
 loop-i-init c = pass_none c.args.clauses.now c.args.start
 
 pub returns-then-variable-eq0 : goal.returns-then-variable-eq0
-returns-then-variable-eq0 c = record { told = λ end next m. passed_all c.loop-i.invariant next (sym c.variable_at-variable.ensures.read ∙ c.if-variable-eq0.true) m.variable m.here (m.deep, m.stamped) }
+returns-then-variable-eq0 c =
+    record { told = λ end next m. passed_all c.loop-i.invariant next (sym c.variable_at-variable.ensures.read ∙ c.if-variable-eq0.true) m.variable m.here (m.deep, m.stamped) }
 
 pub returns-then-is_met : goal.returns-then-is_met
 returns-then-is_met c =

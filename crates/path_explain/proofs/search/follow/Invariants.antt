@@ -12,7 +12,8 @@ abbrev pub invariant-loop-at : goal.invariant-loop-at
 invariant-loop-at l = (Room l.rows l.queue l.end × Kept l.initial.dists l.initial.rows l.initial.queue l.tail l.dists l.rows l.queue l.end)
     × ((p k : ℕ) → On l.next p l.head → owner_at l.next p ≡ suc k → On l.next p l.at ⊎ (row_at l.dists k ≢ 0))
     × ((p : ℕ) → On l.next p l.at → On l.next p l.head)
-    × ((y begin : ℕ) → Searching (Holds l.clauses) (Flag l.flags) y begin l.row l.initial.dists l.initial.rows l.initial.queue l.tail → begin < l.tail → row_at l.initial.rows (row_at l.initial.queue begin) ≡ l.row
+    × ((y begin : ℕ) → Searching (Holds l.clauses) (Flag l.flags) y begin l.row l.initial.dists l.initial.rows l.initial.queue l.tail
+    → begin < l.tail → row_at l.initial.rows (row_at l.initial.queue begin) ≡ l.row
     → Heading l.clauses l.next l.head (row_at l.initial.queue begin) → Searching (Holds l.clauses) (Flag l.flags) y begin l.row l.dists l.rows l.queue l.end)
 
 abbrev pub decreases-loop-at : goal.decreases-loop-at

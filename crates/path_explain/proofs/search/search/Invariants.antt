@@ -9,7 +9,9 @@ use Rattle.path_explain.specs.InnerSearch.{Flag, Room, Searching}
 use Rattle.path_explain.proofs.search.search.Given as goal
 
 abbrev pub invariant-loop-head : goal.invariant-loop-head
-invariant-loop-head l = ((d : ℕ) × Searching (Holds l.clauses) (Flag l.flags) (at l.initial.queue 0) l.head d l.dists l.rows l.queue l.tail) × Room l.rows l.queue l.tail × (length l.dists ≡ clause_entries)
+invariant-loop-head l =
+    ((d : ℕ) × Searching (Holds l.clauses) (Flag l.flags) (at l.initial.queue 0) l.head d l.dists l.rows l.queue l.tail)
+    × Room l.rows l.queue l.tail × (length l.dists ≡ clause_entries)
 
 abbrev pub decreases-loop-head : goal.decreases-loop-head
 decreases-loop-head l = 4097 - l.head

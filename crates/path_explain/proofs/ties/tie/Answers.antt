@@ -22,7 +22,9 @@ loop-i-smaller-then-variable-eq0 c =
     omega arith
 
 pub loop-i-preserved-then-variable-eq0 : goal.loop-i-preserved-then-variable-eq0
-loop-i-preserved-then-variable-eq0 c = let (start, t) = c.loop-i.invariant in (c.loop-i.i + 1, tying_zero c.requires.laid.0 t c.loop-i-test.true (sym c.variable_at-variable.ensures.read ∙ c.if-variable-eq0.true))
+loop-i-preserved-then-variable-eq0 c =
+    let (start, t) = c.loop-i.invariant in
+    (c.loop-i.i + 1, tying_zero c.requires.laid.0 t c.loop-i-test.true (sym c.variable_at-variable.ensures.read ∙ c.if-variable-eq0.true))
 
 pub offset_bounds-begins-number : goal.offset_bounds-begins-number
 offset_bounds-begins-number c =

@@ -14,14 +14,16 @@ pub returns-then-not-sets_fit : goal.returns-then-not-sets_fit
 returns-then-not-sets_fit c =
     let Upto : ℕ → List ℕ → Type 0 = let a = c.args in
     SetsUpto a.pass.scheme a.pass.n a.prefix.now a.clauses.now a.classes.now a.parents.now in
-    let told : (b : Bool) → c.sets_fit.result ≡ b → TellsRoom b Upto c.args.pass.n (length c.args.out.now) = λ b is. subst (λ b. TellsRoom b Upto c.args.pass.n (length c.args.out.now)) is c.sets_fit.ensures.told in
+    let told : (b : Bool) → c.sets_fit.result ≡ b → TellsRoom b Upto c.args.pass.n (length c.args.out.now) =
+    λ b is. subst (λ b. TellsRoom b Upto c.args.pass.n (length c.args.out.now)) is c.sets_fit.ensures.told in
     record { listed = (refl, refl, told _ c.if-not-sets_fit.true, c.sets_fit.ensures.kept) }
 
 pub pass_sets-end-requires : goal.pass_sets-end-requires
 pass_sets-end-requires c =
     let Upto : ℕ → List ℕ → Type 0 = let a = c.args in
     SetsUpto a.pass.scheme a.pass.n a.prefix.now a.clauses.now a.classes.now a.parents.now in
-    let told : (b : Bool) → c.sets_fit.result ≡ b → TellsRoom b Upto c.args.pass.n (length c.args.out.now) = λ b is. subst (λ b. TellsRoom b Upto c.args.pass.n (length c.args.out.now)) is c.sets_fit.ensures.told in
+    let told : (b : Bool) → c.sets_fit.result ≡ b → TellsRoom b Upto c.args.pass.n (length c.args.out.now) =
+    λ b is. subst (λ b. TellsRoom b Upto c.args.pass.n (length c.args.out.now)) is c.sets_fit.ensures.told in
     let room = told _ c.if-not-sets_fit.false in
     let size = ap length c.sets_fit.ensures.kept in
     record {
@@ -43,7 +45,8 @@ pub returns : goal.returns
 returns c =
     let Upto : ℕ → List ℕ → Type 0 = let a = c.args in
     SetsUpto a.pass.scheme a.pass.n a.prefix.now a.clauses.now a.classes.now a.parents.now in
-    let told : (b : Bool) → c.sets_fit.result ≡ b → TellsRoom b Upto c.args.pass.n (length c.args.out.now) = λ b is. subst (λ b. TellsRoom b Upto c.args.pass.n (length c.args.out.now)) is c.sets_fit.ensures.told in
+    let told : (b : Bool) → c.sets_fit.result ≡ b → TellsRoom b Upto c.args.pass.n (length c.args.out.now) =
+    λ b is. subst (λ b. TellsRoom b Upto c.args.pass.n (length c.args.out.now)) is c.sets_fit.ensures.told in
     let n = c.args.pass.n in
     let room = told _ c.if-not-sets_fit.false in
     let same = c.sets_fit.ensures.kept in

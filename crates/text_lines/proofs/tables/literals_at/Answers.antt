@@ -52,25 +52,29 @@ returns-in-Close c =
 
 pub literal_of-requires : goal.literal_of-requires
 literal_of-requires c =
-    let literal-known : Taken (cond c.in-Literal.negative (Negated c.in-Literal.value) (Plain c.in-Literal.value)) c.args.text.now c.loop-next.i c.in-Literal.next = subst (SignedIs c.args.text.now c.loop-next.i) c.in-Literal.is c.signed_at.ensures.read in
+    let literal-known : Taken (cond c.in-Literal.negative (Negated c.in-Literal.value) (Plain c.in-Literal.value)) c.args.text.now c.loop-next.i c.in-Literal.next =
+    subst (SignedIs c.args.text.now c.loop-next.i) c.in-Literal.is c.signed_at.ensures.read in
     let t = literal-known in
     record { small = signed-most c.in-Literal.negative c.in-Literal.value t.word t.is }
 
 pub overflow_add-row : goal.overflow_add-row
 overflow_add-row c =
-    let literal-known : Taken (cond c.in-Literal.negative (Negated c.in-Literal.value) (Plain c.in-Literal.value)) c.args.text.now c.loop-next.i c.in-Literal.next = subst (SignedIs c.args.text.now c.loop-next.i) c.in-Literal.is c.signed_at.ensures.read in
+    let literal-known : Taken (cond c.in-Literal.negative (Negated c.in-Literal.value) (Plain c.in-Literal.value)) c.args.text.now c.loop-next.i c.in-Literal.next =
+    subst (SignedIs c.args.text.now c.loop-next.i) c.in-Literal.is c.signed_at.ensures.read in
     let t = literal-known in
     omega (arith, t.on, t.within, c.loop-next.invariant.few, c.well_formed)
 
 pub loop-next-smaller : goal.loop-next-smaller
 loop-next-smaller c =
-    let literal-known : Taken (cond c.in-Literal.negative (Negated c.in-Literal.value) (Plain c.in-Literal.value)) c.args.text.now c.loop-next.i c.in-Literal.next = subst (SignedIs c.args.text.now c.loop-next.i) c.in-Literal.is c.signed_at.ensures.read in
+    let literal-known : Taken (cond c.in-Literal.negative (Negated c.in-Literal.value) (Plain c.in-Literal.value)) c.args.text.now c.loop-next.i c.in-Literal.next =
+    subst (SignedIs c.args.text.now c.loop-next.i) c.in-Literal.is c.signed_at.ensures.read in
     let t = literal-known in
     omega (arith, t.on, t.within)
 
 pub loop-next-preserved : goal.loop-next-preserved
 loop-next-preserved c =
-    let literal-known : Taken (cond c.in-Literal.negative (Negated c.in-Literal.value) (Plain c.in-Literal.value)) c.args.text.now c.loop-next.i c.in-Literal.next = subst (SignedIs c.args.text.now c.loop-next.i) c.in-Literal.is c.signed_at.ensures.read in
+    let literal-known : Taken (cond c.in-Literal.negative (Negated c.in-Literal.value) (Plain c.in-Literal.value)) c.args.text.now c.loop-next.i c.in-Literal.next =
+    subst (SignedIs c.args.text.now c.loop-next.i) c.in-Literal.is c.signed_at.ensures.read in
     let l = c.loop-next in
     let z = c.literal_of in
     let o = c.store_literal-in-Literal in

@@ -87,4 +87,7 @@ returns-else-text-start-ne-LETTER_F c =
     FoundIs a.text.now a.at c.in-Found.start c.in-Found.end = let a = c.args in
     found_of a.text.now a.at c.word_in.ensures.found c.in-Found.is in
     let f = found_at in
-    record { looked = goes f cnf (spelt_three f LETTER-C LETTER-N LETTER-F c.if-end-start-ne3.false c.if-text-start-ne-LETTER_C.false c.if-text-start-ne-LETTER_N.false c.if-text-start-ne-LETTER_F.false) }
+    record {
+      looked = goes f cnf
+          (spelt_three f LETTER-C LETTER-N LETTER-F c.if-end-start-ne3.false c.if-text-start-ne-LETTER_C.false c.if-text-start-ne-LETTER_N.false c.if-text-start-ne-LETTER_F.false);
+    }
