@@ -24,9 +24,9 @@ pub laid_given : {C : Type 0} {said : Said C} {cells cells' parts : C} {place pl
     → Laid said cells cells' place place' 0
 laid_given q c p = given q c (sym (ap number_of q)) p
 
-pub laid_refused : {C : Type 0} {said : Said C} {cells cells' : C} {number at place place' : ℕ} → said ≡ refuses number at → cells' ≡ cells → place' ≡ at
-    → Laid said cells cells' place place' number
-laid_refused q c p = placed q c (sym (ap number_of q)) p
+pub laid_refused : {C : Type 0} {said : Said C} {cells cells' : C} {number at place place' returned : ℕ} → said ≡ refuses number at → cells' ≡ cells → place' ≡ at
+    → returned ≡ number → Laid said cells cells' place place' returned
+laid_refused q c p r = placed q c (r ∙ sym (ap number_of q)) p
 
 -- the number is the same with the values put otherwise
 same_number : {C D : Type 0} (f : C → D) (said : Said C) → number_of said ≡ number_of (said_by f said)

@@ -2,7 +2,7 @@
 use Rattle.std.specs.Prelude.{ℕ, ◌<◌, ◌≡◌, List}
 use Rattle.std.specs.Borrow.{MutBor}
 use denote.Triple.Both.{Both}
-pub use Rattle.terms.specs.Says.{Said, gives, refuses, number_of, said_by, verdict_said, filled_said, entry_said}
+pub use Rattle.terms.specs.Says.{Said, gives, refuses, number_of, said_by, said, fault_number, entry_said}
 use Rattle.terms.specs.declared.Tally.{Tally}
 use Rattle.terms.specs.declared.Tallied.{Tallied}
 use Rattle.c_answers.specs.Codes.{cells_of}
@@ -69,9 +69,9 @@ added_said = said_by (λ (parts : ℕ × List ℕ). parts.1)
 -- what build and add told stands in the cells of the tally, and a count beside them
 abbrev pub BuiltLaid : Tallied → TallyCells → Cell → Cell → ℕ → Type 0
 BuiltLaid told cells count =
-    LaidBy (built_said (filled_said told.answer) told.tally)
+    LaidBy (built_said (said told.answer) told.tally)
     (count.entry.now, cells.entry.now) (count.exit.now, cells.exit.now)
 
 abbrev pub AddedLaid : Tallied → TallyCells → Cell → ℕ → Type 0
 AddedLaid told cells =
-    LaidBy (added_said (built_said (filled_said told.answer) told.tally)) cells.entry.now cells.exit.now
+    LaidBy (added_said (built_said (said told.answer) told.tally)) cells.entry.now cells.exit.now

@@ -2,44 +2,38 @@
 
 ghost use Rattle.std.specs.Prelude.{◌≡◌};
 ghost use Rattle.c_answers.specs.Codes.{tells_sets};
-ghost use Rattle.c_answers.specs.InnerCells.{Fits, Any, ThreeLaid, FourLaid};
+ghost use Rattle.c_answers.specs.InnerCells.{Fits, ThreeLaid, FourLaid};
 ghost use Rattle.c_answers.specs.InnerFormulas.{TwoInCells, ThreeInCells, LoadedInCells};
-ghost use Rattle.c_answers.specs.InnerFormulas.{reading_said, listed_said, expanded_said, loaded_cells};
+ghost use Rattle.c_answers.specs.InnerFormulas.{counts_said, listed_said, loaded_cells};
 
-use terms::{Expanded, ListedReading, Loaded, Reading};
+use crate::lay_refusal;
+use terms::{Counts, ListedCounts, Loaded, Refusal};
 
-// What was read from a text.
-pub fn lay_reading(
-    answer: Reading,
+// What was read from a text, or what expanding gave.
+pub fn lay_counts(
+    answer: Result<Counts, Refusal>,
     n: &mut u32,
     prefix_count: &mut u32,
     clauses_count: &mut u32,
     place: &mut u32,
 ) -> u32
-    requires fits { Fits TwoInCells (reading_said answer) }
-    ensures laid { ThreeLaid (reading_said answer) n prefix_count clauses_count place result }
+    requires fits { Fits TwoInCells (counts_said answer) }
+    ensures laid { ThreeLaid (counts_said answer) n prefix_count clauses_count place result }
 {
     match answer {
-        Reading::Read {
-            n: variables,
-            prefix: entries,
-            clauses: literals,
-        } => {
-            *n = variables;
-            *prefix_count = entries as u32;
-            *clauses_count = literals as u32;
+        Ok(formula) => {
+            *n = formula.n;
+            *prefix_count = formula.prefix as u32;
+            *clauses_count = formula.clauses as u32;
             0
         }
-        Reading::Refused(number, at) => {
-            *place = at as u32;
-            number
-        }
+        Err(refusal) => lay_refusal(refusal, place),
     }
 }
 
 // What was read from a text with dependency lists.
 pub fn lay_listed(
-    answer: ListedReading,
+    answer: Result<ListedCounts, Refusal>,
     n: &mut u32,
     prefix_count: &mut u32,
     clauses_count: &mut u32,
@@ -50,47 +44,14 @@ pub fn lay_listed(
     ensures laid { FourLaid (listed_said answer) n prefix_count clauses_count lists_count place result }
 {
     match answer {
-        ListedReading::Read {
-            n: variables,
-            prefix: entries,
-            clauses: literals,
-            lists: rows,
-        } => {
-            *n = variables;
-            *prefix_count = entries as u32;
-            *clauses_count = literals as u32;
-            *lists_count = rows as u32;
+        Ok(counts) => {
+            *n = counts.n;
+            *prefix_count = counts.prefix as u32;
+            *clauses_count = counts.clauses as u32;
+            *lists_count = counts.lists as u32;
             0
         }
-        ListedReading::Refused(number, at) => {
-            *place = at as u32;
-            number
-        }
-    }
-}
-
-// What expanding gave.
-pub fn lay_expanded(
-    answer: Expanded,
-    out_n: &mut u32,
-    prefix_count: &mut u32,
-    clauses_count: &mut u32,
-    place: &mut u32,
-) -> u32
-    requires fits { Fits Any (expanded_said answer) }
-    ensures laid { ThreeLaid (expanded_said answer) out_n prefix_count clauses_count place result }
-{
-    match answer {
-        Expanded::Formula(variables, entries, literals) => {
-            *out_n = variables;
-            *prefix_count = entries;
-            *clauses_count = literals;
-            0
-        }
-        Expanded::Refused(number, at) => {
-            *place = at as u32;
-            number
-        }
+        Err(refusal) => lay_refusal(refusal, place),
     }
 }
 
@@ -103,7 +64,7 @@ fn sets_told(there: bool) -> u32
 
 // What was loaded from a file, and whether the file has sets.
 pub fn lay_loaded(
-    answer: Loaded,
+    answer: Result<Loaded, Refusal>,
     n: &mut u32,
     prefix_count: &mut u32,
     clauses_count: &mut u32,
@@ -114,16 +75,13 @@ pub fn lay_loaded(
     ensures laid { FourLaid (loaded_cells answer) n prefix_count clauses_count with_sets place result }
 {
     match answer {
-        Loaded::Formula(variables, entries, literals, sets) => {
-            *n = variables;
-            *prefix_count = entries as u32;
-            *clauses_count = literals as u32;
-            *with_sets = sets_told(sets);
+        Ok(held) => {
+            *n = held.n;
+            *prefix_count = held.prefix as u32;
+            *clauses_count = held.clauses as u32;
+            *with_sets = sets_told(held.sets);
             0
         }
-        Loaded::Refused(number, at) => {
-            *place = at as u32;
-            number
-        }
+        Err(refusal) => lay_refusal(refusal, place),
     }
 }

@@ -8,56 +8,62 @@ pub mod tallies;
 
 ghost use Rattle.std.specs.Prelude.{◌≡◌};
 ghost use Rattle.c_answers.specs.Codes.{scheme_of};
-ghost use Rattle.c_answers.specs.InnerCells.{Fits, Any, NoneLaid, OneLaid, TwoLaid, verdict_said, filled_said, entry_said};
+ghost use Rattle.c_answers.specs.InnerCells.{Fits, Any, InCell, NoneLaid, OneLaid, TwoLaid, fault_number, said, entry_said};
 
-use terms::{EntryAnswer, Filled, Scheme, Verdict};
+use terms::{Point, Refusal, Scheme};
+
+// A refusal: its place goes into the cell, and its number is what the call returns.
+fn lay_refusal(refusal: Refusal, place: &mut u32) -> u32
+    requires fits { InCell refusal.1 }
+    ensures number { result ≡ fault_number refusal.0 }
+    ensures place { place.new ≡ refusal.1 }
+{
+    *place = refusal.1 as u32;
+    refusal.0.number()
+}
 
 // A verdict: there is nothing but the place of a refusal.
-pub fn lay_verdict(verdict: Verdict, place: &mut u32) -> u32
-    requires fits { Fits Any (verdict_said verdict) }
-    ensures laid { NoneLaid (verdict_said verdict) place result }
+pub fn lay_verdict(verdict: Result<(), Refusal>, place: &mut u32) -> u32
+    requires fits { Fits Any (said verdict) }
+    ensures laid { NoneLaid (said verdict) place result }
 {
     match verdict {
-        Verdict::Accepted => 0,
-        Verdict::Refused(number, at) => {
-            *place = at as u32;
-            number
-        }
+        Ok(()) => 0,
+        Err(refusal) => lay_refusal(refusal, place),
     }
 }
 
 // An answer with a count.
-pub fn lay(answer: Filled, count: &mut u32, place: &mut u32) -> u32
-    requires fits { Fits Any (filled_said answer) }
-    ensures laid { OneLaid (filled_said answer) count place result }
+pub fn lay(answer: Result<u32, Refusal>, count: &mut u32, place: &mut u32) -> u32
+    requires fits { Fits Any (said answer) }
+    ensures laid { OneLaid (said answer) count place result }
 {
     match answer {
-        Filled::Count(written) => {
+        Ok(written) => {
             *count = written;
             0
         }
-        Filled::Refused(number, at) => {
-            *place = at as u32;
-            number
-        }
+        Err(refusal) => lay_refusal(refusal, place),
     }
 }
 
 // An entry point and the rises up to it.
-pub fn lay_entry(answer: EntryAnswer, entry: &mut u32, rises: &mut u32, place: &mut u32) -> u32
+pub fn lay_entry(
+    answer: Result<Point, Refusal>,
+    entry: &mut u32,
+    rises: &mut u32,
+    place: &mut u32,
+) -> u32
     requires fits { Fits Any (entry_said answer) }
     ensures laid { TwoLaid (entry_said answer) entry rises place result }
 {
     match answer {
-        EntryAnswer::At(class, passed) => {
-            *entry = class.0;
-            *rises = passed;
+        Ok(point) => {
+            *entry = point.class.0;
+            *rises = point.rises;
             0
         }
-        EntryAnswer::Refused(number, at) => {
-            *place = at as u32;
-            number
-        }
+        Err(refusal) => lay_refusal(refusal, place),
     }
 }
 

@@ -2,10 +2,10 @@
 
 ghost use Rattle.std.specs.Prelude.{◌≡◌};
 ghost use Rattle.c_answers.specs.Codes.{tally_in};
-ghost use Rattle.c_answers.specs.InnerCells.{Fits, Any, TallyLaid, BuiltLaid, AddedLaid, filled_said};
+ghost use Rattle.c_answers.specs.InnerCells.{Fits, Any, TallyLaid, BuiltLaid, AddedLaid, said};
 
 use crate::lay;
-use terms::{Filled, Tallied, Tally};
+use terms::{Tallied, Tally};
 
 // Clauses, merges and classes, in this order.
 pub type TallyCells = [u32; 3];
@@ -23,10 +23,10 @@ pub fn tally_in(cells: &TallyCells) -> Tally
 
 // The tally of an answer that accepts goes into the cells.
 fn lay_tally(told: Tallied, cells: &mut TallyCells)
-    ensures laid { TallyLaid (filled_said told.answer) told.tally cells.old cells.new }
+    ensures laid { TallyLaid (said told.answer) told.tally cells.old cells.new }
 {
     let answer = told.answer;
-    if let Filled::Count(_) = answer {
+    if answer.is_ok() {
         let tally = told.tally;
         *cells = [tally.clauses, tally.merges, tally.classes];
     }
@@ -34,7 +34,7 @@ fn lay_tally(told: Tallied, cells: &mut TallyCells)
 
 // What build gives: a count and the tally.
 pub fn lay_built(told: Tallied, cells: &mut TallyCells, count: &mut u32, place: &mut u32) -> u32
-    requires fits { Fits Any (filled_said told.answer) }
+    requires fits { Fits Any (said told.answer) }
     ensures laid { BuiltLaid told cells count place result }
 {
     lay_tally(told, cells);
@@ -44,7 +44,7 @@ pub fn lay_built(told: Tallied, cells: &mut TallyCells, count: &mut u32, place: 
 
 // What add gives: the tally.
 pub fn lay_added(told: Tallied, cells: &mut TallyCells, place: &mut u32) -> u32
-    requires fits { Fits Any (filled_said told.answer) }
+    requires fits { Fits Any (said told.answer) }
     ensures laid { AddedLaid told cells place result }
 {
     let mut count: u32 = 0;

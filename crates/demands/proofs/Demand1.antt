@@ -6,13 +6,11 @@ use mathlib.Core.List.{List, []}
 use lib.IntN.{ℤ}
 use lib.ListN.{get_or}
 use denote.Ref.{Bor}
+use Rattle.std.specs.Prelude.{Ok, Err}
 use Rattle.terms.specs.Answers.{Settles, verdict_by}
-use Rattle.terms.specs.Refusals.{Causes, FirstOf, NoneOf, Judged}
-use Rattle.terms.specs.Says.{Said, gives, refuses, verdict_said, filled_said, entry_said, reading_said, listed_said, expanded_said, loaded_said}
-use Rattle.terms.specs.declared.Filled.{Filled}
-use Rattle.terms.specs.declared.Verdict.{Verdict}
-use Rattle.terms.specs.declared.Verdict.TheVariants.{Accepted, Refused}
-use Rattle.terms.proofs.Verdicts.{judged_unique, first_or_none}
+use Rattle.terms.specs.Refusals.{Causes, FirstOf, NoneOf, Judges, Judged}
+use Rattle.terms.specs.Says.{Said, gives, refuses, said, entry_said, counts_said, listed_said, loaded_said, Answer}
+use Rattle.terms.proofs.Verdicts.{judged_unique, verdict_unique, first_or_none}
 use Rattle.formula.specs.Causes.{clause_order}
 use Rattle.formula.specs.Clause.{begin_of, StandsIn, ClausePart, accepted, refused}
 use Rattle.formula.specs.Meaning.{clauses}
@@ -44,53 +42,58 @@ use Rattle.expand.proofs.Tight.{expand_settled}
 use Rattle.file_format.specs.Causes.{load_order, store_order}
 use Rattle.file_format.proofs.Settled.{store_settled, load_settled}
 use Rattle.demands.specs.Demand1.{Held, HeldAlone, ClauseHeld, Demand1}
-use Rattle.demands.proofs.Numbers.{ZeroFree, first_some, check_free, build_free, entry_free, ask_free, listing_free, sets_free, writing_free, path_free}
+use Rattle.demands.proofs.Numbers.{KnownFaults, first_some, zero_free, check_free, build_free, entry_free, ask_free, listing_free, sets_free, writing_free, path_free}
 use Rattle.demands.proofs.Numbers.{resolution_free, expand_free, store_free, lists_free, listed_set_free, listed_writing_free, clause_free, add_free}
 use Rattle.demands.proofs.Numbers.{read_free, read_lists_free, load_free}
 
--- what is left by a verdict: where it refuses, what was lent
-abbrev Kept : {L : Type 0} → L → L → Verdict → Type 0
-Kept lent left Accepted = Unit {0}
-Kept lent left (Refused number place) = left ≡ lent
+-- What is said is right by an order: it accepts where no cause holds, and refuses with the first one.
+accepts_none : {Values : Type 0} (order : List Causes) (told : Said Values) → Judges order told → verdict_by told ≡ gives tt → NoneOf order
+accepts_none order (gives values) none q = none
+accepts_none order (refuses number place) first q = absurd (cc)
 
--- what a promise says: the verdict by its order, and what is left
+refuses_first : {Values : Type 0} (order : List Causes) (told : Said Values) {k p : ℕ} → Judges order told → verdict_by told ≡ refuses k p → FirstOf order k p
+refuses_first order (gives values) none q = absurd (cc)
+refuses_first {Values} order (refuses number place) first q = subst (Judges order) q first
+
+-- what is left by what is said: where that refuses, what was lent
+abbrev Kept : {L : Type 0} → L → L → Said (Unit {0}) → Type 0
+Kept lent left (gives none) = Unit {0}
+Kept lent left (refuses number place) = left ≡ lent
+
+-- what a promise says: what is right by its order, and what is left
 abbrev Says : {L Values : Type 0} → List Causes → L → L → Said Values → Type 0
-Says order lent left told = Judged order (verdict_by told) × Kept lent left (verdict_by told)
+Says order lent left told = Judges order told × Kept lent left (verdict_by told)
 
-module _ {L A Values : Type 0} {order : List Causes} {lent : L} {said : A → Said Values} {Promise : L → A → Type 0} where
+module _ {L A Values : Type 0} {order : List Causes} {lent : L} {says_of : A → Said Values} {Promise : L → A → Type 0} where
   held : ((left left' : L) (answer answer' : A) → Promise left answer → Promise left' answer' → (answer ≡ answer') × (left ≡ left'))
-      → ((left : L) (answer : A) → Promise left answer → Says order lent left (said answer)) → ZeroFree order → Held order lent said Promise
+      → ((left : L) (answer : A) → Promise left answer → Says order lent left (says_of answer)) → KnownFaults order → Held order lent says_of Promise
   held settled says free =
       record {
         settled = settled;
         accepts = λ left answer p.
             let judged = (says left answer p).0 in
-            (λ q. subst (Judged order) q judged, λ none. judged_unique order (verdict_by (said answer)) Accepted judged none);
+            (λ q. accepts_none order (says_of answer) judged q, λ none. verdict_unique order (says_of answer) (gives tt) judged none);
         refuses = λ left answer p number place.
             let judged = (says left answer p).0 in
-            (λ q. subst (Judged order) q judged, λ first. judged_unique order (verdict_by (said answer)) (Refused number place) judged first);
+            (λ q. refuses_first order (says_of answer) judged q, λ first. verdict_unique order (says_of answer) (refuses number place) judged first);
         keeps = λ left answer p number place q. subst (Kept lent left) q (says left answer p).1;
-        numbers = first_some order free;
+        numbers = first_some order (zero_free order free);
       }
 
 -- a call that is lent nothing to write into
-nothing_left : (v : Verdict) → Kept {L = Unit {0}} tt tt v
-nothing_left Accepted = tt
-nothing_left (Refused number place) = refl
+nothing_left : (told : Said (Unit {0})) → Kept {L = Unit {0}} tt tt told
+nothing_left (gives none) = tt
+nothing_left (refuses number place) = refl
 
-module _ {A Values : Type 0} {order : List Causes} {said : A → Said Values} {Promise : A → Type 0} where
+module _ {A Values : Type 0} {order : List Causes} {says_of : A → Said Values} {Promise : A → Type 0} where
   held_alone : ((answer answer' : A) → Promise answer → Promise answer' → answer ≡ answer')
-      → ((answer : A) → Promise answer → Judged order (verdict_by (said answer))) → ZeroFree order → HeldAlone order said Promise
+      → ((answer : A) → Promise answer → Judges order (says_of answer)) → KnownFaults order → HeldAlone order says_of Promise
   held_alone settled says free =
-      held (λ left left' answer answer' p p'. (settled answer answer' p p', refl)) (λ left answer p. (says answer p, nothing_left (verdict_by (said answer)))) free
+      held (λ left left' answer answer' p p'. (settled answer answer' p p', refl)) (λ left answer p. (says answer p, nothing_left (verdict_by (says_of answer)))) free
 
 -- a call that answers a verdict and nothing else
-judged_held : (order : List Causes) → ZeroFree order → HeldAlone order verdict_said (Judged order)
-judged_held order free = held_alone (judged_unique order) says free
-  where
-    says : (verdict : Verdict) → Judged order verdict → Judged order (verdict_by (verdict_said verdict))
-    says Accepted judged = judged
-    says (Refused number place) judged = judged
+judged_held : (order : List Causes) → KnownFaults order → HeldAlone order said (Judged {Values = Unit {0}} order)
+judged_held order free = held_alone (judged_unique order) (λ verdict judged. judged) free
 
 -- What a promise of the one shape says, where what is kept is all that was lent.
 settles_says : {L Values : Type 0} (order : List Causes) (given : Values → Type 0) (kept : Type 0) (lent left : L) → (kept → left ≡ lent) → (told : Said Values)
@@ -99,14 +102,14 @@ settles_says order given kept lent left same (gives values) s = (s.0, tt)
 settles_says order given kept lent left same (refuses number place) s = (s.0, same s.1)
 
 settles_judged : {Values : Type 0} (order : List Causes) (given : Values → Type 0) (kept : Type 0) (told : Said Values) → Settles order given kept told
-    → Judged order (verdict_by told)
+    → Judges order told
 settles_judged order given kept (gives values) s = s.0
 settles_judged order given kept (refuses number place) s = s.0
 
-rewrites_says : {order : List Causes} {X : Variables} {J : ℕ → ℕ → Type 0} {T : Standing → Type 0} (s s' : Standing) (answer : Filled)
-    → Rewrites order X J T s s' answer → Says order s s' (filled_said answer)
-rewrites_says s s' (Filled.Count count) said = (said.judged, tt)
-rewrites_says s s' (Filled.Refused number place) said = (said.judged, said.leaves)
+rewrites_says : {order : List Causes} {X : Variables} {J : ℕ → ℕ → Type 0} {T : Standing → Type 0} (s s' : Standing) (answer : Answer ℕ)
+    → Rewrites order X J T s s' answer → Says order s s' (said answer)
+rewrites_says s s' (Ok count) made = (made.judged, tt)
+rewrites_says s s' (Err refusal) made = (made.judged, made.leaves)
 
 clause_held : (n : ℕ) (table : Bor (List ℤ)) (asked : ℕ) → ClauseHeld n table asked
 clause_held n table asked = record { settled = clause_tight n table asked; given = there; none = nowhere }
@@ -135,38 +138,38 @@ demand1 =
           held_alone (entry_settled rule f r x y) (λ answer. settles_judged (entry_order rule f r x y) _ _ (entry_said answer)) (entry_free rule f r x y);
       entry_points = λ rule scheme f r x out.
           held (list_settled rule f r x (λ read. EntriesBy scheme read r x) out)
-          (λ left answer. settles_says (list_order rule f r x (EntriesBy scheme (read_by rule f) r x) out) _ _ out left (λ same. same) (filled_said answer))
+          (λ left answer. settles_says (list_order rule f r x (EntriesBy scheme (read_by rule f) r x) out) _ _ out left (λ same. same) (said answer))
           (listing_free rule f r x (EntriesBy scheme (read_by rule f) r x) out);
       set = λ rule scheme f r x out.
           held (list_settled rule f r x (λ read. MembersBy scheme read r x) out)
-          (λ left answer. settles_says (list_order rule f r x (MembersBy scheme (read_by rule f) r x) out) _ _ out left (λ same. same) (filled_said answer))
+          (λ left answer. settles_says (list_order rule f r x (MembersBy scheme (read_by rule f) r x) out) _ _ out left (λ same. same) (said answer))
           (listing_free rule f r x (MembersBy scheme (read_by rule f) r x) out);
       size = λ rule scheme f r x.
-          held_alone (size_settled rule f r x scheme) (λ answer. settles_judged (ask_order rule f r x) _ _ (filled_said answer)) (ask_free rule f r x);
+          held_alone (size_settled rule f r x scheme) (λ answer. settles_judged (ask_order rule f r x) _ _ (said answer)) (ask_free rule f r x);
       sets = λ rule scheme f r out.
           held (sets_settled rule scheme f r out)
-          (λ left answer. settles_says (sets_order rule scheme f r out) _ _ out left (λ same. same) (filled_said answer))
+          (λ left answer. settles_says (sets_order rule scheme f r out) _ _ out left (λ same. same) (said answer))
           (sets_free rule f r scheme out);
       read = λ text prefix clauses.
           held
           (λ left left' answer answer' a b.
           let same = read_settled text prefix clauses left.0 left'.0 left.1 left'.1 answer answer' a b in
           (same.answer, λ i. (same.prefix_rows i, same.clause_rows i)))
-          (λ left answer. settles_says (read_order text prefix clauses) _ _ (prefix, clauses) left (λ same i. (same.0 i, same.1 i)) (reading_said answer))
+          (λ left answer. settles_says (read_order text prefix clauses) _ _ (prefix, clauses) left (λ same i. (same.0 i, same.1 i)) (counts_said answer))
           (read_free text prefix clauses);
       write = λ rule f out.
           held (write_settled (check_order rule f) (formula_text f) out)
-          (λ left answer. settles_says (writing_order rule f out) _ _ out left (λ same. same) (filled_said answer))
+          (λ left answer. settles_says (writing_order rule f out) _ _ out left (λ same. same) (said answer))
           (writing_free rule f out);
       path = λ rule f x y path. judged_held (path_order rule f x y path) (path_free rule f x y path);
       resolution_set = λ rule f x out.
-          held (resolution_settled rule f x out) (λ left answer. settles_says (resolution_order rule f x out) _ _ out left (λ same. same) (filled_said answer))
+          held (resolution_settled rule f x out) (λ left answer. settles_says (resolution_order rule f x out) _ _ out left (λ same. same) (said answer))
           (resolution_free rule f x out);
       expand = λ rule f x out.
-          held (expand_settled rule f x out) (λ left answer. settles_says (expand_order rule f x out) _ _ out left (λ same. same) (expanded_said answer))
+          held (expand_settled rule f x out) (λ left answer. settles_says (expand_order rule f x out) _ _ out left (λ same. same) (counts_said answer))
           (expand_free rule f x out);
       store = λ rule f out.
-          held (store_settled rule f out) (λ left answer. settles_says (store_order rule f out) _ _ out left (λ same. same) (filled_said answer))
+          held (store_settled rule f out) (λ left answer. settles_says (store_order rule f out) _ _ out left (λ same. same) (said answer))
           (store_free rule f out);
       load = λ rule file lent.
           held (load_settled rule file lent) (λ left answer. settles_says (load_order rule file lent) _ _ lent left (λ same. same) (loaded_said answer))
@@ -174,7 +177,7 @@ demand1 =
       check_lists = λ rule f lists. judged_held (check_lists_order rule f lists) (lists_free rule f lists);
       listed_set = λ rule scheme f lists x out.
           held (set_settled rule scheme f lists x out)
-          (λ left answer. settles_says (set_order rule f lists x (DependsOnBy scheme (read_by rule f) lists x) out) _ _ out left (λ same. same) (filled_said answer))
+          (λ left answer. settles_says (set_order rule f lists x (DependsOnBy scheme (read_by rule f) lists x) out) _ _ out left (λ same. same) (said answer))
           (listed_set_free rule f lists x (DependsOnBy scheme (read_by rule f) lists x) out);
       read_lists = λ text before.
           held
@@ -185,6 +188,6 @@ demand1 =
           (read_lists_free text before);
       write_lists = λ rule f lists out.
           held (write-lists-settled rule f lists out)
-          (λ left answer. settles_says (listed_writing_order rule f lists out) _ _ out left (λ same. same) (filled_said answer))
+          (λ left answer. settles_says (listed_writing_order rule f lists out) _ _ out left (λ same. same) (said answer))
           (listed_writing_free rule f lists out);
     }

@@ -5,15 +5,13 @@ use mathlib.Core.Path.{◌≡◌, refl, sym, subst}
 use mathlib.Core.List.{List, [], ◌∷◌, ◌++◌}
 use mathlib.Core.Logic.{◌↔◌, inl, inr, ⊎_elim}
 use native.Mathlib.Omega.{arith}
+use Rattle.std.specs.Prelude.{Ok, Err}
 use Rattle.terms.specs.Listed.{Listed}
 use Rattle.terms.specs.Refusals.{None, NoneOf}
-use Rattle.terms.specs.declared.EntryAnswer.{EntryAnswer}
-use Rattle.terms.specs.declared.EntryAnswer.TheVariants.{At}
-use Rattle.terms.specs.declared.Filled.{Filled}
-use Rattle.terms.specs.declared.Filled.TheVariants.{Count, Refused}
+use Rattle.terms.specs.Says.{Answer}
+use Rattle.terms.specs.declared.Point.{Point}
 use Rattle.terms.specs.declared.Scheme.{Scheme}
 use Rattle.terms.specs.declared.Scheme.TheVariants.{Standard, Strict}
-use Rattle.terms.specs.declared.Variable.{Variable}
 use Rattle.terms.proofs.Answers.{listed-as}
 use Rattle.terms.proofs.Common.{clash}
 use Rattle.terms.proofs.Verdicts.{at0_none, first_or_none}
@@ -95,27 +93,27 @@ module _ {rule : ℕ} {f : Formula} {s : Standing} (built : Built rule f s) wher
     pub built_asked : NoneOf (ask_order rule f s.rows x)
     built_asked = (none.0, (none.1.0, (none.1.1.0, (none.1.1.1.0, (none.1.1.1.1.0, (built_fine, (at0_none 13 (λ no. clash u no), tt)))))))
 
-    set_is : (scheme : Scheme) (before after : List ℕ) (answer : Filled)
+    set_is : (scheme : Scheme) (before after : List ℕ) (answer : Answer ℕ)
         → SetListed rule scheme f s.rows x before after answer → Puts (Listed (DependsBy scheme read x)) before after answer
     set_is scheme before after answer listed =
         puts_as (λ list. listed-as (members_depend read s.rows x built_forest scheme alone))
         (puts (ask_order rule f s.rows x) (Listed (MembersBy scheme read s.rows x)) before after answer built_asked listed)
 
-    size_is : (scheme : Scheme) (answer : Filled) → Sized rule scheme f s.rows x answer
-        → (size : ℕ) × (answer ≡ Count size) × Numbered (DependsBy scheme read x) size
-    size_is scheme (Count size) (_, (entries, listed, is)) =
+    size_is : (scheme : Scheme) (answer : Answer ℕ) → Sized rule scheme f s.rows x answer
+        → (size : ℕ) × (answer ≡ Ok size) × Numbered (DependsBy scheme read x) size
+    size_is scheme (Ok size) (_, (entries, listed, is)) =
         let many = numbered_same (members_depend read s.rows x built_forest scheme alone)
         (size_numbered formed built_counted (scheme_points read s.rows x scheme) listed) in
         (size, refl, subst (Numbered (DependsBy scheme read x)) (sym is) many)
-    size_is scheme (Refused number place) (first, _) = absurd (first_or_none (ask_order rule f s.rows x) number place first built_asked)
+    size_is scheme (Err refusal) (first, _) = absurd (first_or_none (ask_order rule f s.rows x) _ _ first built_asked)
 
-    entry_is : (y : ℕ) → Deeper X x y → (answer : EntryAnswer)
+    entry_is : (y : ℕ) → Deeper X x y → (answer : Answer Point)
         → EntryAnswered rule (formula_of f.n f.prefix []) s.rows x y answer
-        → (class : Variable) × (rises : ℕ) × (answer ≡ At class rises) × EntryClass X (Shares f.clauses) x y class.0
-        × Above W class.0 (W.cls y) rises
-    entry_is y deeper (At class rises) told =
-        (class, rises, refl, entry_is_class rule f s.rows x built_forest y class rises told, told.1.0.above)
-    entry_is y deeper (EntryAnswer.Refused number place) (first, _) = absurd (first_or_none (entry_order rule f s.rows x y) number place first fine)
+        → (point : Point) × (answer ≡ Ok point) × EntryClass X (Shares f.clauses) x y point.class.0
+        × Above W point.class.0 (W.cls y) point.rises
+    entry_is y deeper (Ok point) told =
+        (point, refl, entry_is_class rule f s.rows x built_forest y point told, told.1.0.above)
+    entry_is y deeper (Err refusal) (first, _) = absurd (first_or_none (entry_order rule f s.rows x y) _ _ first fine)
       where
         fine : NoneOf (entry_order rule f s.rows x y)
         fine = (
@@ -151,13 +149,13 @@ module _ {rule : ℕ} {f : Formula} {s : Standing} (built : Built rule f s) wher
     entries_are Standard e = points e
     entries_are Strict e = (λ o sign. (points e).0 (o.by sign), λ r. record { by = λ sign. (points e).1 (r sign) })
 
-    entries_is : (scheme : Scheme) (before after : List ℕ) (answer : Filled) → EntriesListed rule scheme f s.rows x before after answer
+    entries_is : (scheme : Scheme) (before after : List ℕ) (answer : Answer ℕ) → EntriesListed rule scheme f s.rows x before after answer
         → Puts (Listed (EntriesReached scheme read x)) before after answer
     entries_is scheme before after answer listed =
         puts_as (λ list. listed-as (entries_are scheme))
         (puts (ask_order rule f s.rows x) (Listed (EntriesBy scheme read s.rows x)) before after answer built_asked listed)
 
-  sets_are : (scheme : Scheme) (before after : List ℕ) (answer : Filled)
+  sets_are : (scheme : Scheme) (before after : List ℕ) (answer : Answer ℕ)
       → SetsListed rule scheme f s.rows before after answer
       → Puts (Records (universal f.n read.prefix) (DependsBy scheme read) f.n) before after answer
   sets_are scheme before after answer listed =

@@ -7,15 +7,13 @@ use mathlib.Core.Logic.{◌↔◌}
 use native.Mathlib.Omega.{arith}
 use lib.IntN.{ℤ, pos}
 use lib.ListN.{length, length-append}
-use Rattle.terms.specs.Answers.{verdict_of}
+use Rattle.std.specs.Prelude.{Ok, Err}
+use Rattle.terms.specs.Answers.{verdict_by}
 use Rattle.terms.specs.Listed.{Listed}
 use Rattle.terms.specs.Limits.{clause_entries}
-use Rattle.terms.specs.declared.Filled.{Filled}
-use Rattle.terms.specs.declared.Filled.TheVariants.{Count, Refused}
+use Rattle.terms.specs.Says.{Answer, gives, said}
 use Rattle.terms.specs.declared.Scheme.{Scheme}
 use Rattle.terms.specs.declared.Scheme.TheVariants.{Standard, Strict}
-use Rattle.terms.specs.declared.Verdict.{Verdict}
-use Rattle.terms.specs.declared.Verdict.TheVariants.{Accepted}
 use Rattle.terms.proofs.Answers.{listed-as}
 use Rattle.terms.proofs.Listed.{listed_one}
 use Rattle.formula.specs.Lent.{Formula}
@@ -37,7 +35,6 @@ use Rattle.grow.proofs.Demand3.{built_accepted, added_builds, adding_builds, add
 use Rattle.grow.proofs.StrictDemand.{adding_strictly, adding_strict_entries}
 use Rattle.grow.proofs.Taking.{tally_of_one}
 use Rattle.demands.specs.Words.{Built}
-use Rattle.demands.specs.Demand2.{Demand2}
 use Rattle.demands.specs.Demand3.{longer, AddedTo, SameStanding, LeftAlone, Demand3}
 use Rattle.demands.proofs.Putting.{puts, puts_one}
 use Rattle.demands.proofs.Demand2.{built_forest, built_counted, built_asked, demand2}
@@ -78,21 +75,14 @@ module _ {rule : ℕ} {f : Formula} {clause : List ℤ} {s s' : Standing} (added
       omega arith
 
   -- Add is not refused, and a call that is not counts its rows.
-  taken : added.answer ≡ Count f.n
+  taken : added.answer ≡ Ok f.n
   taken = go added.answer added.adds (built_accepted rule f.n f.prefix added.answer built.builds short added.may.literals added.adds)
     where
-      go : (answer : Filled) → Adds rule f.n f.prefix s clause s' answer → verdict_of answer ≡ Accepted → answer ≡ Count f.n
-      go (Count rows) adds is = ap Count adds.leaves.0
-      go (Refused number place) adds is = absurd (refused≢accepted is)
-        where
-          refused≢accepted : Verdict.Refused number place ≡ Accepted → ⊥
-          refused≢accepted q = subst told q tt
-            where
-              told : Verdict → Type 0
-              told Accepted = ⊥
-              told (Verdict.Refused number place) = Unit {0}
+      go : (answer : Answer ℕ) → Adds rule f.n f.prefix s clause s' answer → verdict_by (said answer) ≡ gives tt → answer ≡ Ok f.n
+      go (Ok rows) adds is = ap Ok adds.leaves.0
+      go (Err refusal) adds is = absurd (cc)
 
-  adds : Adds rule f.n f.prefix s clause s' (Count f.n)
+  adds : Adds rule f.n f.prefix s clause s' (Ok f.n)
   adds = subst (Adds rule f.n f.prefix s clause s') taken added.adds
 
   -- So it is what build may leave of the longer list.
@@ -108,14 +98,14 @@ module _ {rule : ℕ} {f : Formula} {clause : List ℤ} {s s' : Standing} (added
     points Standard e = adding_entries rule f.n f.prefix built.builds adds left.universal left.alone
     points Strict e = adding_strict_entries rule f.n f.prefix built.builds adds left.alone left.universal
 
-    same_set : (scheme : Scheme) (before after after' : List ℕ) (answer answer' : Filled) → SetListed rule scheme f s.rows x before after answer
+    same_set : (scheme : Scheme) (before after after' : List ℕ) (answer answer' : Answer ℕ) → SetListed rule scheme f s.rows x before after answer
         → SetListed rule scheme (longer f clause) s'.rows x before after' answer' → (answer ≡ answer') × (after ≡ after')
     same_set scheme before after after' answer answer' old new =
         puts_one (λ list other l o. listed_one list other (listed-as (depends scheme) l) o)
         (demand2.set rule scheme f s x before after answer built left.universal old)
         (demand2.set rule scheme (longer f clause) s' x before after' answer' afresh left.universal new)
 
-    same_entries : (scheme : Scheme) (before after after' : List ℕ) (answer answer' : Filled) → EntriesListed rule scheme f s.rows x before after answer
+    same_entries : (scheme : Scheme) (before after after' : List ℕ) (answer answer' : Answer ℕ) → EntriesListed rule scheme f s.rows x before after answer
         → EntriesListed rule scheme (longer f clause) s'.rows x before after' answer' → (answer ≡ answer') × (after ≡ after')
     same_entries scheme before after after' answer answer' old new =
         puts_one (λ list other l o. listed_one list other (listed-as (points scheme) l) o)
@@ -123,12 +113,12 @@ module _ {rule : ℕ} {f : Formula} {clause : List ℤ} {s s' : Standing} (added
         (puts (ask_order rule (longer f clause) s'.rows x) (Listed (EntriesBy scheme (read_by rule (longer f clause)) s'.rows x)) before after' answer'
         (built_asked afresh x left.universal) new)
 
-    same_size : (scheme : Scheme) (answer answer' : Filled) → Sized rule scheme f s.rows x answer
+    same_size : (scheme : Scheme) (answer answer' : Answer ℕ) → Sized rule scheme f s.rows x answer
         → Sized rule scheme (longer f clause) s'.rows x answer' → answer ≡ answer'
     same_size scheme answer answer' old new =
         let (size, is, many) = demand2.size rule scheme f s x answer built left.universal old in
         let (size', is', many') = demand2.size rule scheme (longer f clause) s' x answer' afresh left.universal new in
-        is ∙ ap Count (numbered_one (numbered_same (depends scheme) many) many') ∙ sym is'
+        is ∙ ap Ok (numbered_one (numbered_same (depends scheme) many) many') ∙ sym is'
 
 pub demand3 : Demand3
 demand3 =

@@ -6,13 +6,14 @@ use mathlib.Core.Logic.{◌≢◌, inl, inr, ⊎_elim}
 use native.Mathlib.Omega.{arith}
 use lib.IntN.{ℤ}
 use lib.ListN.{length, take}
+use Rattle.std.specs.Prelude.{Ok, Err}
 use Rattle.terms.specs.Answers.{InFront}
 use Rattle.terms.specs.Listed.{Listed}
 use Rattle.terms.specs.Refusals.{None, NoneOf}
-use Rattle.terms.specs.declared.Filled.TheVariants.{Count}
+use Rattle.terms.specs.Says.{Answer, accepted}
 use Rattle.terms.specs.declared.Loaded.{Loaded}
+use Rattle.terms.specs.declared.Refusal.{Refusal}
 use Rattle.terms.specs.declared.Scheme.TheVariants.{Standard, Strict}
-use Rattle.terms.specs.declared.Verdict.TheVariants.{Accepted}
 use Rattle.terms.proofs.Answers.{listed-as}
 use Rattle.terms.proofs.Common.{clash}
 use Rattle.terms.proofs.Listed.{listed_one}
@@ -60,7 +61,6 @@ use Rattle.file_format.proofs.Changed.{Bytes, other_word_refused}
 use Rattle.file_format.proofs.RoundTrip.{written_reads_back}
 use Rattle.file_format.proofs.Short.{in_front_lem}
 use Rattle.file_layout.proofs.Rewritten.{written_again}
-use Rattle.demands.specs.Demand2.{Demand2}
 use Rattle.demands.specs.Requests.{Wrote, with_word, ExpandedTotal, NoListsAgree, RulesAgree, Reduced, ReducedAlike, Requests}
 use Rattle.demands.proofs.Putting.{puts, puts_one}
 use Rattle.demands.proofs.Demand2.{built_checked, built_forest, demand2}
@@ -78,10 +78,10 @@ among P Q before after before' after' count count' more a b y m =
     (b.1.all y (more y (a.1.each y (subst (Memᴰ y) (front_is (Listed P) before after count a) m))))
 
 -- A file that was written is made of bytes, and its words sum to zero.
-changed : (rule rule' : ℕ) (f : Formula) (before after : List ℕ) (count place low high : ℕ) → Stores rule f before after (Count count)
+changed : (rule rule' : ℕ) (f : Formula) (before after : List ℕ) (count place low high : ℕ) → Stores rule f before after (Ok count)
     → place % 2 ≡ 0 → place + 1 < count → low < 256 → high < 256 → with_word (take count after) place low high ≢ take count after
-    → (lent lent' : Lent) (answer : Loaded) → Loads rule' (with_word (take count after) place low high) lent lent' answer
-    → (number : ℕ) × (refused-at : ℕ) × (answer ≡ Loaded.Refused number refused-at)
+    → (lent lent' : Lent) (answer : Answer Loaded) → Loads rule' (with_word (take count after) place low high) lent lent' answer
+    → (refusal : Refusal) × (answer ≡ Err refusal)
 changed rule rule' f before after count place low high stores even within l h other =
     let (file, g, is) = in_front_lem rule f before after count stores in
     let size : count ≡ length (take count after) = stores.1.2 ∙ ap length (sym (front_is (FileOf rule f) before after count stores.1)) in
@@ -112,9 +112,9 @@ rules_agree =
 
 -- The table that expand left holds the expanded clauses.
 total : ExpandedTotal
-total rule f x out out' count entries literal-entries (none, (members, set, leaves)) =
+total rule f x out out' counts (none, (members, set, leaves)) =
     let table = expanded_clauses x f.n members f.clauses in
-    let front : take literal-entries out'.clauses ≡ table =
+    let front : take counts.clauses out'.clauses ≡ table =
     ap (λ (k : ℕ). take k out'.clauses) leaves.literals_is ∙ ap (take (length table)) leaves.clauses_is ∙ overwritten_front table out.clauses in (
       members,
       set,
@@ -169,13 +169,13 @@ requests =
       file_reads_back = λ rule f before after count lent lent' answer stores room loads.
           written_reads_back rule f before after count stores lent room lent' answer loads;
       changed_word = changed;
-      written_again = λ rule file lent lent' n entries literal-entries with_sets before after answer bytes loads room.
+      written_again = λ rule file lent lent' held before after answer bytes loads room.
           written_again rule file bytes lent lent' loads before after answer room;
       rules = rules_agree;
       path = accepted_depends;
       has_path = λ rule f x y sound u d.
           let (path, short, none) = depends_path rule f x y sound u d in
-          (path, short, λ verdict judged. judged_unique (path_order rule f x y path) verdict Accepted judged none);
+          (path, short, λ verdict judged. judged_unique (path_order rule f x y path) verdict accepted judged none);
       total = total;
       expanded = result_accepted;
       reduced = reduced_alike;

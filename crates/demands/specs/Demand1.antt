@@ -5,9 +5,8 @@ use Rattle.std.specs.Prelude.{ℕ, ◌≡◌, List, [], ◌↔◌, ◌≢◌, �
 use Rattle.std.specs.Borrow.{Bor}
 use Rattle.terms.specs.Answers.{verdict_by}
 use Rattle.terms.specs.Refusals.{Causes, FirstOf, NoneOf, Judged}
-use Rattle.terms.specs.Says.{Said, verdict_said, filled_said, entry_said, reading_said, listed_said, expanded_said, loaded_said}
+use Rattle.terms.specs.Says.{Said, said, entry_said, counts_said, listed_said, loaded_said}
 use Rattle.terms.specs.declared.Scheme.{Scheme}
-use Rattle.terms.specs.declared.Verdict.TheVariants.{Accepted, Refused}
 use Rattle.formula.specs.Causes.{clause_order}
 use Rattle.formula.specs.Clause.{begin_of, StandsIn, ClausePart}
 use Rattle.formula.specs.Lent.{Formula}
@@ -38,12 +37,12 @@ pub record Held {L A Values : Type 0} (order : List Causes) (lent : L) (said : A
   -- any two outcomes are equal, in the answer and in all that is left
   pub settled : (left left' : L) (answer answer' : A) → Promise left answer → Promise left' answer' → (answer ≡ answer') × (left ≡ left')
   -- it accepts exactly if no cause holds
-  pub accepts : (left : L) (answer : A) → Promise left answer → (verdict_by (said answer) ≡ Accepted) ↔ NoneOf order
+  pub accepts : (left : L) (answer : A) → Promise left answer → (verdict_by (said answer) ≡ Said.gives tt) ↔ NoneOf order
   -- it refuses with a number at a place exactly if these are of the first cause in its order
   pub refuses : (left : L) (answer : A) → Promise left answer → (number place : ℕ)
-      → (verdict_by (said answer) ≡ Refused number place) ↔ FirstOf order number place
+      → (verdict_by (said answer) ≡ Said.refuses number place) ↔ FirstOf order number place
   -- then all that was lent is as it was
-  pub keeps : (left : L) (answer : A) → Promise left answer → (number place : ℕ) → verdict_by (said answer) ≡ Refused number place → left ≡ lent
+  pub keeps : (left : L) (answer : A) → Promise left answer → (number place : ℕ) → verdict_by (said answer) ≡ Said.refuses number place → left ≡ lent
   -- and the number is not 0, which is that of acceptance
   pub numbers : (number place : ℕ) → FirstOf order number place → number ≢ 0
 
@@ -56,57 +55,57 @@ HeldAlone order said Promise = Held {L = Unit {0}} order tt said (λ left. Promi
 pub record ClauseHeld (n : ℕ) (table : Bor (List ℤ)) (asked : ℕ) : Type 0 where
   pub settled : (part part' : Bor (List ℤ)) → ClausePart n table asked part → ClausePart n table asked part'
       → (part.now ≡ part'.now) × (part.ref_ptr ≡ part'.ref_ptr)
-  pub given : (part : Bor (List ℤ)) → ClausePart n table asked part → Judged (clause_order n table.now asked) Accepted
+  pub given : (part : Bor (List ℤ)) → ClausePart n table asked part → NoneOf (clause_order n table.now asked)
       → (part.now ≡ get_or (clauses table.now) asked []) × StandsIn table (begin_of (clauses table.now) asked) part
   pub none : (part : Bor (List ℤ)) → ClausePart n table asked part → (number place : ℕ)
-      → Judged (clause_order n table.now asked) (Refused number place) → part.now ≡ []
+      → FirstOf (clause_order n table.now asked) number place → part.now ≡ []
 
 -- Demand 1 for every call. Above each field stand the function of the library and those for C that are the call.
 pub record Demand1 : Type 0 where
   -- `formula_rules::check`, `snow_check`
-  pub check : (rule : ℕ) (f : Formula) → HeldAlone (check_order rule f) verdict_said (Judged (check_order rule f))
+  pub check : (rule : ℕ) (f : Formula) → HeldAlone {Values = Unit {0}} (check_order rule f) said (Judged (check_order rule f))
   -- `formula_checks::clause_verdict`, `snow_clause`
-  pub clause_verdict : (n : ℕ) (ls : List ℤ) (asked : ℕ) → HeldAlone (clause_order n ls asked) verdict_said (Judged (clause_order n ls asked))
+  pub clause_verdict : (n : ℕ) (ls : List ℤ) (asked : ℕ) → HeldAlone {Values = Unit {0}} (clause_order n ls asked) said (Judged (clause_order n ls asked))
   -- `formula_checks::clause`
   pub clause : (n : ℕ) (table : Bor (List ℤ)) (asked : ℕ) → ClauseHeld n table asked
   -- `grow::build`, `snow_build`
-  pub build : (rule : ℕ) (f : Formula) (s : Standing) → Held (build_order rule f s) s filled_said (Builds rule f s)
+  pub build : (rule : ℕ) (f : Formula) (s : Standing) → Held (build_order rule f s) s said (Builds rule f s)
   -- `grow::add`, `snow_add`
-  pub add : (rule n : ℕ) (es : List ℕ) (s : Standing) (clause : List ℤ) → Held (add_order rule n es s clause) s filled_said (Adds rule n es s clause)
+  pub add : (rule n : ℕ) (es : List ℕ) (s : Standing) (clause : List ℤ) → Held (add_order rule n es s clause) s said (Adds rule n es s clause)
   -- `forest::entry_point`, `snow_entry_point`
   pub entry_point : (rule : ℕ) (f : Formula) (r : Rows) (x y : ℕ) → HeldAlone (entry_order rule f r x y) entry_said (EntryAnswered rule f r x y)
   -- `forest::entry_points`, `snow_entry_points`, `snow_entry_points_by`
   pub entry_points : (rule : ℕ) (scheme : Scheme) (f : Formula) (r : Rows) (x : ℕ) (out : List ℕ)
-      → Held (list_order rule f r x (EntriesBy scheme (read_by rule f) r x) out) out filled_said (EntriesListed rule scheme f r x out)
+      → Held (list_order rule f r x (EntriesBy scheme (read_by rule f) r x) out) out said (EntriesListed rule scheme f r x out)
   -- `forest::set_of`, `snow_set`, `snow_set_by`
   pub set : (rule : ℕ) (scheme : Scheme) (f : Formula) (r : Rows) (x : ℕ) (out : List ℕ)
-      → Held (list_order rule f r x (MembersBy scheme (read_by rule f) r x) out) out filled_said (SetListed rule scheme f r x out)
+      → Held (list_order rule f r x (MembersBy scheme (read_by rule f) r x) out) out said (SetListed rule scheme f r x out)
   -- `forest::set_size`, `snow_size`, `snow_size_by`
-  pub size : (rule : ℕ) (scheme : Scheme) (f : Formula) (r : Rows) (x : ℕ) → HeldAlone (ask_order rule f r x) filled_said (Sized rule scheme f r x)
+  pub size : (rule : ℕ) (scheme : Scheme) (f : Formula) (r : Rows) (x : ℕ) → HeldAlone (ask_order rule f r x) said (Sized rule scheme f r x)
   -- `sets::sets`, `snow_sets`, `snow_sets_by`
   pub sets : (rule : ℕ) (scheme : Scheme) (f : Formula) (r : Rows) (out : List ℕ)
-      → Held (sets_order rule scheme f r out) out filled_said (SetsListed rule scheme f r out)
+      → Held (sets_order rule scheme f r out) out said (SetsListed rule scheme f r out)
   -- `text_qdimacs::read`, `snow_read`
   pub read : (text prefix : List ℕ) (clauses : List ℤ)
-      → Held {L = List ℕ × List ℤ} (read_order text prefix clauses) (prefix, clauses) reading_said (λ left. ReadIs text prefix left.0 clauses left.1)
+      → Held {L = List ℕ × List ℤ} (read_order text prefix clauses) (prefix, clauses) counts_said (λ left. ReadIs text prefix left.0 clauses left.1)
   -- `text_qdimacs::write`, `snow_write`
-  pub write : (rule : ℕ) (f : Formula) (out : List ℕ) → Held (writing_order rule f out) out filled_said (Writes rule f out)
+  pub write : (rule : ℕ) (f : Formula) (out : List ℕ) → Held (writing_order rule f out) out said (Writes rule f out)
   -- `path_check::path_verdict`, `snow_path`
-  pub path : (rule : ℕ) (f : Formula) (x y : ℕ) (path : List ℕ) → HeldAlone (path_order rule f x y path) verdict_said (PathJudged rule f x y path)
+  pub path : (rule : ℕ) (f : Formula) (x y : ℕ) (path : List ℕ) → HeldAlone (path_order rule f x y path) said (PathJudged rule f x y path)
   -- `path_resolution::resolution_set`, `snow_resolution_set`
-  pub resolution_set : (rule : ℕ) (f : Formula) (x : ℕ) (out : List ℕ) → Held (resolution_order rule f x out) out filled_said (ResolutionListed rule f x out)
+  pub resolution_set : (rule : ℕ) (f : Formula) (x : ℕ) (out : List ℕ) → Held (resolution_order rule f x out) out said (ResolutionListed rule f x out)
   -- `expand::expand`, `snow_expand`
-  pub expand : (rule : ℕ) (f : Formula) (x : ℕ) (out : ResultTables) → Held (expand_order rule f x out) out expanded_said (Expands rule f x out)
+  pub expand : (rule : ℕ) (f : Formula) (x : ℕ) (out : ResultTables) → Held (expand_order rule f x out) out counts_said (Expands rule f x out)
   -- `file_write::store`, `snow_store`
-  pub store : (rule : ℕ) (f : Formula) (out : List ℕ) → Held (store_order rule f out) out filled_said (Stores rule f out)
+  pub store : (rule : ℕ) (f : Formula) (out : List ℕ) → Held (store_order rule f out) out said (Stores rule f out)
   -- `file_read::load`, `snow_load`
   pub load : (rule : ℕ) (file : List ℕ) (lent : Lent) → Held (load_order rule file lent) lent loaded_said (Loads rule file lent)
   -- `dqbf_lists::check`, `snow_check_lists`
-  pub check_lists : (rule : ℕ) (f : Formula) (lists : List ℕ) → HeldAlone (check_lists_order rule f lists) verdict_said (ListsChecked rule f lists)
+  pub check_lists : (rule : ℕ) (f : Formula) (lists : List ℕ) → HeldAlone (check_lists_order rule f lists) said (ListsChecked rule f lists)
   -- `dqbf_sets::set_of`, `snow_listed_set_by`
   pub listed_set : (rule : ℕ) (scheme : Scheme) (f : Formula) (lists : List ℕ) (x : ℕ) (out : List ℕ)
-      → Held (set_order rule f lists x (DependsOnBy scheme (read_by rule f) lists x) out) out filled_said (SetByLists rule scheme f lists x out)
+      → Held (set_order rule f lists x (DependsOnBy scheme (read_by rule f) lists x) out) out said (SetByLists rule scheme f lists x out)
   -- `dqbf_text::read`, `snow_read_lists`
   pub read_lists : (text : List ℕ) (before : Tables) → Held (listed_read_order text before) before listed_said (ListedReadIs text before)
   -- `dqbf_text::write`, `snow_write_lists`
-  pub write_lists : (rule : ℕ) (f : Formula) (lists out : List ℕ) → Held (listed_writing_order rule f lists out) out filled_said (WritesListed rule f lists out)
+  pub write_lists : (rule : ℕ) (f : Formula) (lists out : List ℕ) → Held (listed_writing_order rule f lists out) out said (WritesListed rule f lists out)

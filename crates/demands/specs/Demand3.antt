@@ -1,10 +1,9 @@
 -- Demand 3. Adding a clause to a formula's forest gives, row by row, with the counts and the tally, the forest built afresh with that clause last. A
 -- universal that is not in the clause and whose old standard set shares no variable with it keeps its set and its entry points, by both schemes.
-use Rattle.std.specs.Prelude.{ℕ, ◌≤◌, ◌≡◌, List, ℤ, length}
+use Rattle.std.specs.Prelude.{ℕ, ◌≤◌, ◌≡◌, List, ℤ, length, Ok}
 use Rattle.terms.specs.Limits.{clause_entries}
 use Rattle.terms.specs.Refusals.{None}
-use Rattle.terms.specs.declared.Filled.{Filled}
-use Rattle.terms.specs.declared.Filled.TheVariants.{Count}
+use Rattle.terms.specs.Says.{Answer}
 use Rattle.terms.specs.declared.Scheme.{Scheme}
 use Rattle.formula.specs.Lent.{Formula, formula_of}
 use Rattle.formula.specs.Meaning.{connected}
@@ -31,18 +30,18 @@ pub record MayBeAdded (f : Formula) (clause : List ℤ) : Type 0 where
 pub record AddedTo (rule : ℕ) (f : Formula) (clause : List ℤ) (s s' : Standing) : Type 0 where
   pub built : Built rule f s
   pub may : MayBeAdded f clause
-  pub answer : Filled
+  pub answer : Answer ℕ
   pub adds : Adds rule f.n f.prefix s clause s' answer
 
 -- Add is not refused there.
 abbrev pub AddingIsTaken : Type 0
-AddingIsTaken = (rule : ℕ) (f : Formula) (clause : List ℤ) (s s' : Standing) (added : AddedTo rule f clause s s') → added.answer ≡ Count f.n
+AddingIsTaken = (rule : ℕ) (f : Formula) (clause : List ℤ) (s s' : Standing) (added : AddedTo rule f clause s s') → added.answer ≡ Ok f.n
 
 -- Where both begin with the same tables, add after build leaves all that build leaves of the longer list: every row of every table, and the tally.
 abbrev pub AddingIsBuilding : Type 0
 AddingIsBuilding =
-    (rule : ℕ) (f : Formula) (clause : List ℤ) (s s' s'' : Standing) (answer : Filled) (added : AddedTo rule f clause s s')
-    → Builds rule (longer f clause) added.built.lent s'' answer → (answer ≡ Count f.n) × (s' ≡ s'')
+    (rule : ℕ) (f : Formula) (clause : List ℤ) (s s' s'' : Standing) (answer : Answer ℕ) (added : AddedTo rule f clause s s')
+    → Builds rule (longer f clause) added.built.lent s'' answer → (answer ≡ Ok f.n) × (s' ≡ s'')
 
 -- Two that stand for n variables have the same rows for each, class name, parent and count, and the same tally.
 pub record SameStanding (n : ℕ) (s s' : Standing) : Type 0 where
@@ -64,7 +63,7 @@ pub record LeftAlone (rule : ℕ) (f : Formula) (clause : List ℤ) (x : ℕ) : 
 -- Such an x keeps its set: before and after, the set call answers and writes the same, into the same table.
 abbrev pub KeepsSet : Type 0
 KeepsSet =
-    (rule : ℕ) (scheme : Scheme) (f : Formula) (clause : List ℤ) (s s' : Standing) (x : ℕ) (before after after' : List ℕ) (answer answer' : Filled)
+    (rule : ℕ) (scheme : Scheme) (f : Formula) (clause : List ℤ) (s s' : Standing) (x : ℕ) (before after after' : List ℕ) (answer answer' : Answer ℕ)
     → AddedTo rule f clause s s' → LeftAlone rule f clause x
     → SetListed rule scheme f s.rows x before after answer → SetListed rule scheme (longer f clause) s'.rows x before after' answer'
     → (answer ≡ answer') × (after ≡ after')
@@ -72,7 +71,7 @@ KeepsSet =
 -- And its entry points,
 abbrev pub KeepsEntries : Type 0
 KeepsEntries =
-    (rule : ℕ) (scheme : Scheme) (f : Formula) (clause : List ℤ) (s s' : Standing) (x : ℕ) (before after after' : List ℕ) (answer answer' : Filled)
+    (rule : ℕ) (scheme : Scheme) (f : Formula) (clause : List ℤ) (s s' : Standing) (x : ℕ) (before after after' : List ℕ) (answer answer' : Answer ℕ)
     → AddedTo rule f clause s s' → LeftAlone rule f clause x
     → EntriesListed rule scheme f s.rows x before after answer → EntriesListed rule scheme (longer f clause) s'.rows x before after' answer'
     → (answer ≡ answer') × (after ≡ after')
@@ -80,7 +79,7 @@ KeepsEntries =
 -- and the size of its set.
 abbrev pub KeepsSize : Type 0
 KeepsSize =
-    (rule : ℕ) (scheme : Scheme) (f : Formula) (clause : List ℤ) (s s' : Standing) (x : ℕ) (answer answer' : Filled)
+    (rule : ℕ) (scheme : Scheme) (f : Formula) (clause : List ℤ) (s s' : Standing) (x : ℕ) (answer answer' : Answer ℕ)
     → AddedTo rule f clause s s' → LeftAlone rule f clause x
     → Sized rule scheme f s.rows x answer → Sized rule scheme (longer f clause) s'.rows x answer' → answer ≡ answer'
 

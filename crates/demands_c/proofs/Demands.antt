@@ -1,13 +1,12 @@
 -- The demands for C, from what the library's calls promise: 0 is returned where the answer accepts, and no refusal has that number.
+use Rattle.std.specs.Prelude.{Ok, Err}
 use Prim.Native.Nat.{ℕ}
 use mathlib.Core.Path.{◌≡◌, refl, sym, ap, ◌∙◌, subst}
 use mathlib.Core.List.{List}
 use mathlib.Core.Logic.{◌↔◌}
 use Rattle.terms.specs.Listed.{Listed}
 use Rattle.terms.specs.Refusals.{Causes, NoneOf}
-use Rattle.terms.specs.Says.{filled_said}
-use Rattle.terms.specs.declared.Filled.{Filled}
-use Rattle.terms.specs.declared.Filled.TheVariants.{Count, Refused}
+use Rattle.terms.specs.Says.{said, Answer, fault_number}
 use Rattle.terms.specs.declared.Tally.{Tally}
 use Rattle.terms.proofs.Verdicts.{first_or_none}
 use Rattle.formula.specs.Lent.{Formula}
@@ -24,7 +23,7 @@ use Rattle.snowcoddle.specs.Told.{Told, accepted, refused}
 use Rattle.demands.specs.Words.{Built, Puts, with_room, no_room}
 use Rattle.demands.specs.Demand2.{Demand2}
 use Rattle.demands.specs.Demand3.{longer, AddedTo, Demand3}
-use Rattle.demands.proofs.Numbers.{ZeroFree, first_some, check_free, build_free, entry_free, ask_free, listing_free, sets_free, writing_free, path_free}
+use Rattle.demands.proofs.Numbers.{KnownFaults, first_some, zero_free, check_free, build_free, entry_free, ask_free, listing_free, sets_free, writing_free, path_free}
 use Rattle.demands.proofs.Numbers.{resolution_free, expand_free, store_free, lists_free, listed_set_free, listed_writing_free, clause_free, add_free}
 use Rattle.demands.proofs.Numbers.{read_free, read_lists_free, load_free}
 use Rattle.demands.proofs.Demand2.{demand2}
@@ -34,19 +33,19 @@ use Rattle.demands_c.specs.Demands.{ZeroIsAccepted, PutsForC, SetForC, AddForC, 
 use Rattle.demands_c.proofs.Calls.{tells_what_is_promised}
 
 -- 0 is returned exactly if no cause holds.
-zero_is : {order : List Causes} {given kept : Type 0} {returned place place' : ℕ} → ZeroFree order → Told order given kept returned place place'
+zero_is : {order : List Causes} {given kept : Type 0} {returned place place' : ℕ} → KnownFaults order → Told order given kept returned place place'
     → (returned ≡ 0) ↔ NoneOf order
 zero_is free (accepted none _ zero _) = (λ _. none, λ _. zero)
 zero_is {order} {returned = returned} {place' = place'} free (refused first _) =
-    (λ zero. absurd (first_some order free returned place' first zero), λ none. absurd (first_or_none order returned place' first none))
+    (λ zero. absurd (first_some order (zero_free order free) returned place' first zero), λ none. absurd (first_or_none order returned place' first none))
 
 -- Where 0 is returned, build and add counted rows.
-counted : {order : List Causes} {X : Variables} {J : ℕ → ℕ → Type 0} {T : Standing → Type 0} {s s' : Standing} → ZeroFree order → (answer : Filled)
+counted : {order : List Causes} {X : Variables} {J : ℕ → ℕ → Type 0} {T : Standing → Type 0} {s s' : Standing} → KnownFaults order → (answer : Answer ℕ)
     → Rewrites order X J T s s' answer → (cells : ℕ → Type 0) (kept : Type 0) (place : LentCell) (returned : ℕ)
-    → Reads (filled_said answer) cells kept place returned → returned ≡ 0 → (rows : ℕ) × (answer ≡ Count rows) × cells rows
-counted free (Count rows) rewrites cells kept place returned reads zero = (rows, refl, reads.2)
-counted {order} free (Refused number at) rewrites cells kept place returned reads zero =
-    absurd (first_some order free number at rewrites.judged (sym reads.0 ∙ zero))
+    → Reads (said answer) cells kept place returned → returned ≡ 0 → (rows : ℕ) × (answer ≡ Ok rows) × cells rows
+counted free (Ok rows) rewrites cells kept place returned reads zero = (rows, refl, reads.2)
+counted {order} free (Err refusal) rewrites cells kept place returned reads zero =
+    absurd (first_some order (zero_free order free) (fault_number refusal.0) refusal.1 rewrites.judged (sym reads.0 ∙ zero))
 
 -- So what snow_build left is what the library's build may leave, with the tally that stands in its cells.
 module _ (rule : ℕ) (f : Formula) (classes parents counts tally : LentTable) (rows place : LentCell) (told : BuildTold rule f classes parents counts tally rows place 0) where
@@ -69,13 +68,13 @@ module _ (rule : ℕ) (f : Formula) (classes parents counts tally : LentTable) (
   built_lent = refl
 
 -- What the library put, as C reads it.
-put : (L : List ℕ → Type 0) (out : LentTable) (count place : LentCell) (returned : ℕ) (answer : Filled) → ReadsCount answer count place returned
+put : (L : List ℕ → Type 0) (out : LentTable) (count place : LentCell) (returned : ℕ) (answer : Answer ℕ) → ReadsCount answer count place returned
     → Puts L out.entry.now out.exit.now answer → PutsForC L out count place returned
 put L out count place returned answer reads (with_room list is fits q left) =
-    let r = subst (λ (a : Filled). ReadsCount a count place returned) q reads in
+    let r = subst (λ (a : Answer ℕ). ReadsCount a count place returned) q reads in
     PutsForC.with_room list is fits r.0 r.2 left r.1
 put L out count place returned answer reads (no_room list is over q left) =
-    let r = subst (λ (a : Filled). ReadsCount a count place returned) q reads in
+    let r = subst (λ (a : Answer ℕ). ReadsCount a count place returned) q reads in
     PutsForC.no_room list is over r.0 r.1 r.2 left
 
 set_for_c : SetForC
@@ -107,9 +106,9 @@ add_for_c rule f clause classes parents counts tally rows place classes' parents
     let taken = demand3.taken rule f clause s s' added in
     let (is, one) = demand3.building rule f clause s s' s'' answer'' added
     (subst (λ (t : Standing). Builds rule (longer f clause) t s'' answer'') (again ∙ sym (built_lent rule f classes parents counts tally rows place told)) builds) in
-    let r = subst (λ (a : Filled). Reads (filled_said a) (λ (k : ℕ). tally'.exit.now ≡ cells_of after') (Kept tally') place' returned') taken reads' in
+    let r = subst (λ (a : Answer ℕ). Reads (said a) (λ (k : ℕ). tally'.exit.now ≡ cells_of after') (Kept tally') place' returned') taken reads' in
     let q = subst
-    (λ (a : Filled). Reads (filled_said a) (λ (k : ℕ). (rows''.exit.now ≡ k) × (tally''.exit.now ≡ cells_of after'')) (Kept rows'' × Kept tally'') place'' returned'')
+    (λ (a : Answer ℕ). Reads (said a) (λ (k : ℕ). (rows''.exit.now ≡ k) × (tally''.exit.now ≡ cells_of after'')) (Kept rows'' × Kept tally'') place'' returned'')
     is reads'' in (
       r.0,
       q.0,

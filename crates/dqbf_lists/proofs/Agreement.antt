@@ -5,7 +5,7 @@ use mathlib.Core.List.{List, [], ◌∷◌, ◌++◌}
 use mathlib.Core.Logic.{◌↔◌}
 use lib.ListN.{length}
 use Rattle.terms.specs.Refusals.{Causes, NoneOf, Judged}
-use Rattle.terms.specs.declared.Verdict.{Verdict}
+use Rattle.terms.specs.Says.{Verdict}
 use Rattle.terms.proofs.Orders.{Carries, carry_judged}
 use Rattle.terms.proofs.Verdicts.{judged_unique}
 use Rattle.formula.specs.Causes.{ClauseCause}

@@ -1,13 +1,13 @@
 -- What is in a block: the pass that flags it, and that every universal is.
-use Prim.Native.Nat.{ℕ, ◌≤◌, ◌<◌, ◌+◌}
-use mathlib.Core.Path.{◌≡◌, refl, sym, ◌∙◌, subst}
+use Prim.Native.Nat.{ℕ, ◌<◌, ◌+◌}
+use mathlib.Core.Path.{◌≡◌, sym, ◌∙◌}
 use mathlib.Core.Bool.{Bool, true, false}
 use mathlib.Core.List.{List}
 use mathlib.Core.Logic.{⊎_elim, ◌≢◌}
 use native.Mathlib.Numerals.{add-one}
 use native.Mathlib.Omega.{arith}
 use borrow.Author.Tests.{eq-eqb, ne_eqb}
-use lib.ListN.{length, get_or, set}
+use lib.ListN.{length, set}
 use Rattle.terms.proofs.Common.{clash}
 use Rattle.formula.specs.Tables.{at, opens}
 use Rattle.formula.specs.Meaning.{is_universal}
@@ -16,18 +16,11 @@ use Rattle.formula.proofs.InBlocks.{place_of, block_of}
 use Rattle.formula.proofs.Levelling.{mark_there, variable_small}
 use Rattle.formula.proofs.Named.{Named, named_skip, named_more}
 use Rattle.dqbf_lists.specs.Lists.{Bound}
-use Rattle.dqbf_lists.specs.Inner.{Places}
 
 -- The flags tell what is named before entry i.
 pub record Placing (es : List ℕ) (i : ℕ) (opening : Bool) (placed : List Bool) : Type 0 where
-  pub within : i ≤ length es
   pub opening_is : opening ≡ opens es i
   pub naming : Named es i placed
-
-pub place_none : (es : List ℕ) (placed : List Bool) → length placed ≡ 4097 → ((v : ℕ) → get_or placed v false ≡ false) → Placing es 0 true placed
-place_none es placed size blank =
-    let naming : Named es 0 placed = record { size = size; names = λ v t. absurd (clash t (blank v)); all = λ b l. absurd (omega arith) } in
-    record { within = omega arith; opening_is = refl; naming = naming }
 
 module _ {n : ℕ} {es : List ℕ} (sound : SoundPrefix n es) {i : ℕ} {opening : Bool} {placed : List Bool} (s : Placing es i opening placed)
     (more : i < length es) where
@@ -36,7 +29,6 @@ module _ {n : ℕ} {es : List ℕ} (sound : SoundPrefix n es) {i : ℕ} {opening
       let here = sym s.opening_is ∙ open' in
       rw (add-one i)
       record {
-        within = more;
         opening_is = sym (ne_eqb (at es i) 0 (mark_there sound i more here));
         naming = named_skip s.naming (λ var. clash here var.1);
       }
@@ -44,7 +36,7 @@ module _ {n : ℕ} {es : List ℕ} (sound : SoundPrefix n es) {i : ℕ} {opening
   pub place_close : opening ≡ false → at es i ≡ 0 → Placing es (i + 1) true placed
   place_close shut none =
       rw (add-one i)
-      record { within = more; opening_is = sym (eq-eqb (at es i) 0 none); naming = named_skip s.naming (λ var. var.2 none) }
+      record { opening_is = sym (eq-eqb (at es i) 0 none); naming = named_skip s.naming (λ var. var.2 none) }
 
   -- a variable of an accepted prefix has a row
   pub place_small : opening ≡ false → at es i ≢ 0 → at es i < 4097
@@ -55,21 +47,9 @@ module _ {n : ℕ} {es : List ℕ} (sound : SoundPrefix n es) {i : ℕ} {opening
       let small = place_small shut some in
       rw (add-one i)
       record {
-        within = more;
         opening_is = shut ∙ sym (ne_eqb (at es i) 0 some);
         naming = named_more s.naming (more, sym s.opening_is ∙ shut, some) (omega arith);
       }
-
-pub place_all : {es : List ℕ} {i : ℕ} {opening : Bool} {placed : List Bool} → Placing es i opening placed → length es ≤ i → Places es placed
-place_all {placed = placed} s done =
-    record {
-      size = s.naming.size;
-      each = λ v t. let (e, l, var, q) = s.naming.names v t in (e, var, q);
-      all = λ v b.
-          let (e, var, q) = b in
-          let l = var.0 in
-          subst (λ (w : ℕ). get_or placed w false ≡ true) q (s.naming.all e (omega arith) var);
-    }
 
 -- A universal is in a block, and so at a place of it.
 pub universal_named : (es : List ℕ) (v : ℕ) → is_universal es v ≡ true → Bound es v

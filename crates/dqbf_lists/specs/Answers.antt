@@ -1,7 +1,7 @@
 -- What the check of a formula with dependency lists promises (rule 8.2, rule 13.1).
 use Rattle.std.specs.Prelude.{ℕ, List}
 use Rattle.terms.specs.Refusals.{Judged}
-use Rattle.terms.specs.declared.Verdict.{Verdict}
+use Rattle.terms.specs.Says.{Verdict}
 use Rattle.formula.specs.Lent.{Formula}
 use Rattle.dqbf_lists.specs.Causes.{check_lists_order}
 

@@ -1,14 +1,15 @@
 -- What the inner functions promise. What a reader must believe of the calls is in Lists, Causes and Answers.
 use Rattle.std.specs.Prelude.{ℕ, ◌+◌, ◌≤◌, ◌<◌, ◌≡◌, Bool, true, false, List, [], ◌∷◌, ◌++◌, ◌≢◌, length, get_or, set}
+use Rattle.std.specs.Borrow.{Bor}
 use Rattle.terms.specs.InnerLimits.{variable_rows}
 use Rattle.terms.specs.Refusals.{Causes, At0, FirstOf}
-use Rattle.terms.specs.declared.Filled.{Filled}
+use Rattle.terms.specs.Says.{Answer}
 use Rattle.formula.specs.Causes.{VariableCount, ClauseCause}
 use Rattle.formula.specs.Lent.{Formula}
 use Rattle.formula.specs.InnerLookup.{SoundClauses}
 use Rattle.formula.specs.Tables.{at, MarkAt, VariableAt}
 use Rattle.forest_tables.specs.InnerTabled.{universal_in}
-use Rattle.formula_rules.specs.InnerReading.{Reads}
+use Rattle.formula_rules.specs.InnerReading.{Reads, Takes}
 use Rattle.formula_rules.specs.Rules.{RuleCause, PrefixCauseBy}
 use Rattle.dqbf_lists.specs.Lists.{list_entries, OneList, Bound}
 use Rattle.dqbf_lists.specs.Causes.{ListedLengthCause}
@@ -22,9 +23,14 @@ abbrev pub listed_formula : ℕ → Formula → ℕ → List Causes
 listed_formula rule f entries = listed_prefix rule f entries ++ (ClauseCause f.n f.clauses ∷ [])
 
 -- What a formula is read as beside lists of so many entries: it is refused, or it is sound as the rule reads it, and the lists are not too long.
-abbrev pub ReadsListed : ℕ → Formula → ℕ → List ℕ → Filled → Type 0
+abbrev pub ReadsListed : ℕ → Formula → ℕ → List ℕ → Answer ℕ → Type 0
 ReadsListed rule f entries =
     Reads (listed_formula rule f entries) (SoundClauses f.clauses × (entries ≤ list_entries)) rule f.n f.prefix
+
+-- and so where the prefix is given in a slice of its own
+abbrev pub TakesListed : ℕ → Formula → ℕ → Answer (Bor (List ℕ)) → Type 0
+TakesListed rule f entries =
+    Takes (listed_formula rule f entries) (SoundClauses f.clauses × (entries ≤ list_entries)) rule f.n f.prefix
 
 -- the first number of a call whose lists are too long: 23, 1, and else 2
 abbrev pub LongRefused : ℕ → ℕ → ℕ → Type 0

@@ -14,10 +14,10 @@ ghost use Rattle.dqbf_lists.specs.Inner.{Places, MayOpen, MayFollow, Passes};
 
 use forest_tables::rows::universal_at;
 use formula_levels::fill_levels;
-use terms::{Variable, Verdict};
+use terms::{Fault, Refusal, Variable};
 
 // The first refusal of the lists, by an accepted prefix, whose level table is made here.
-pub fn lists_verdict(n: u32, prefix: &[u32], lists: &[u32]) -> Verdict
+pub fn lists_verdict(n: u32, prefix: &[u32], lists: &[u32]) -> Result<(), Refusal>
     requires sound { SoundPrefix n prefix.now }
     requires short { length lists.now ≤ list_entries }
     ensures judged { Judged (ListCause n prefix.now lists.now ∷ []) result }
@@ -30,7 +30,12 @@ pub fn lists_verdict(n: u32, prefix: &[u32], lists: &[u32]) -> Verdict
 
 // The first cause of a refusal in the table of lists, one list after another. `placed` flags the variables that a block or a list before has. `last` has,
 // for each universal, the place behind its last entry: if that is past the beginning of the open list, the list has the universal already.
-pub fn check_lists(n: u32, prefix: &[u32], universals: &[bool], lists: &[u32]) -> Verdict
+pub fn check_lists(
+    n: u32,
+    prefix: &[u32],
+    universals: &[bool],
+    lists: &[u32],
+) -> Result<(), Refusal>
     requires sound { SoundPrefix n prefix.now }
     requires short { length lists.now ≤ list_entries }
     requires universals { (v : ℕ) → universal_in n universals.now v ≡ universal n prefix.now v }
@@ -40,22 +45,23 @@ pub fn check_lists(n: u32, prefix: &[u32], universals: &[bool], lists: &[u32]) -
     place_blocks(prefix, &mut placed);
     let mut last = [0u32; Variable::ROWS];
     let mut i = 0;
+    // A list at a time: where its universals end says where the next one begins.
     while i < lists.len() {
         let entry = lists[i];
         if !may_open(n, &placed, entry) {
-            return Verdict::Refused(25, i);
+            return Err(Refusal(Fault::MisplacedExistential, i));
         }
         placed[entry as usize] = true;
         let end = pass_universals(n, universals, lists, i + 1, &mut last);
         if lists.len() <= end {
-            return Verdict::Refused(11, end);
+            return Err(Refusal(Fault::UnclosedClause, end));
         }
         if lists[end] != 0 {
-            return Verdict::Refused(26, end);
+            return Err(Refusal(Fault::MisplacedUniversal, end));
         }
         i = end + 1;
     }
-    Verdict::Accepted
+    Ok(())
 }
 
 // Flags every variable that a block names.
@@ -66,18 +72,13 @@ fn place_blocks(prefix: &[u32], placed: &mut [bool])
     ensures placed { Places prefix.now placed.new }
 {
     let mut opens = true;
-    let mut i = 0;
-    while i < prefix.len() {
-        let entry = prefix[i];
+    for &entry in prefix {
         if opens {
             opens = false;
-            i += 1;
         } else if entry == 0 {
             opens = true;
-            i += 1;
         } else {
             placed[entry as usize] = true;
-            i += 1;
         }
     }
 }
@@ -88,16 +89,7 @@ fn may_open(n: u32, placed: &[bool], entry: u32) -> bool
     requires rows { length placed.now ≡ variable_rows }
     ensures told { Tells result (MayOpen n placed.now entry) }
 {
-    if entry == 0 {
-        return false;
-    }
-    if n < entry {
-        return false;
-    }
-    if placed[entry as usize] {
-        return false;
-    }
-    true
+    entry != 0 && entry <= n && !placed[entry as usize]
 }
 
 // Passes the universals of a list from `start` on, as far as nothing is wrong with them, and gives the place behind the last: the 0 that closes the list,
@@ -115,16 +107,14 @@ fn pass_universals(
     requires within { start ≤ length lists.now }
     ensures passes { Passes n universals.now lists.now start last.old last.new result }
 {
-    let mut i = start;
-    while i < lists.len() {
+    for i in start..lists.len() {
         let entry = lists[i];
         if !may_follow(n, universals, last, start as u32, entry) {
             return i;
         }
-        i += 1;
-        last[entry as usize] = i as u32;
+        last[entry as usize] = i as u32 + 1;
     }
-    i
+    lists.len()
 }
 
 // Whether an entry may follow in the list whose first universal stands at `start`: a universal that the list does not have yet.
@@ -133,11 +123,5 @@ fn may_follow(n: u32, universals: &[bool], last: &[u32], start: u32, entry: u32)
     requires rows { length last.now ≡ variable_rows }
     ensures told { Tells result (MayFollow n universals.now last.now start entry) }
 {
-    if !universal_at(n, universals, Variable::new(entry)) {
-        return false;
-    }
-    if start < last[entry as usize] {
-        return false;
-    }
-    true
+    universal_at(n, universals, Variable::new(entry)) && last[entry as usize] <= start
 }

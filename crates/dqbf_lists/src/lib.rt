@@ -10,9 +10,8 @@ ghost use Rattle.formula.specs.Lent.{formula_in};
 ghost use Rattle.dqbf_lists.specs.Answers.{ListsChecked};
 
 use checking::lists_verdict;
-use formula_rules::as_read;
-use reading::read_listed;
-use terms::{Filled, Level, Verdict};
+use reading::take_listed;
+use terms::{Level, Refusal};
 
 // An existential that has a list of its own.
 #[derive(Clone, Copy)]
@@ -25,15 +24,16 @@ impl Dependent {
 
 // Whether a formula with dependency lists keeps every rule, with its prefix read by a rule: refused with the first cause of 23, of refusals 1 to 11, and
 // of 25, 26 and 11 in the lists; accepted where there is none.
-pub fn check(rule: u32, n: u32, prefix: &[u32], clauses: &[i32], lists: &[u32]) -> Verdict
+pub fn check(
+    rule: u32,
+    n: u32,
+    prefix: &[u32],
+    clauses: &[i32],
+    lists: &[u32],
+) -> Result<(), Refusal>
     ensures judged { ListsChecked rule (formula_in n prefix clauses) lists.now result }
 {
     let mut joined = [0u32; Level::JOINED];
-    match read_listed(rule, n, prefix, clauses, lists.len(), &mut joined) {
-        Filled::Refused(number, place) => Verdict::Refused(number, place),
-        Filled::Count(count) => {
-            let read = as_read(rule, prefix, &joined, count);
-            lists_verdict(n, read, lists)
-        }
-    }
+    let read = take_listed(rule, n, prefix, clauses, lists.len(), &mut joined)?;
+    lists_verdict(n, read, lists)
 }

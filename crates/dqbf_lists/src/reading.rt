@@ -2,12 +2,13 @@
 
 ghost use Rattle.std.specs.Prelude.{◌≡◌, length};
 ghost use Rattle.terms.specs.InnerLimits.{joined_entries};
+ghost use Rattle.terms.specs.Says.{fault_number};
 ghost use Rattle.formula.specs.Lent.{formula_in};
-ghost use Rattle.dqbf_lists.specs.Inner.{ReadsListed, LongRefused};
+ghost use Rattle.dqbf_lists.specs.Inner.{ReadsListed, TakesListed, LongRefused};
 
 use crate::Dependent;
-use formula_rules::read_formula;
-use terms::{Filled, Variable};
+use formula_rules::{read_formula, take_formula};
+use terms::{Fault, Refusal, Variable};
 
 // Judges a formula by a rule, beside lists of so many entries, and makes its prefix as the rule reads it.
 pub fn read_listed(
@@ -17,22 +18,41 @@ pub fn read_listed(
     clauses: &[i32],
     entries: usize,
     joined: &mut [u32],
-) -> Filled
+) -> Result<u32, Refusal>
     requires room { length joined.old ≡ joined_entries }
     ensures reads { ReadsListed rule (formula_in n prefix clauses) entries joined.new result }
 {
     if Dependent::ENTRIES < entries {
-        return Filled::Refused(long_refusal(rule, n), 0);
+        return Err(Refusal(long_fault(rule, n), 0));
     }
     read_formula(rule, n, prefix, clauses, joined)
 }
 
-// The number that refuses lists which are too long: 2, unless the rule or the variable count is refused before.
-fn long_refusal(rule: u32, n: u32) -> u32
-    ensures first { LongRefused rule n result }
+// Judges a formula by a rule, beside lists of so many entries, and gives its prefix as the rule reads it.
+pub fn take_listed<'a>(
+    rule: u32,
+    n: u32,
+    prefix: &'a [u32],
+    clauses: &[i32],
+    entries: usize,
+    joined: &'a mut [u32],
+) -> Result<&'a [u32], Refusal>
+    requires room { length joined.old ≡ joined_entries }
+    ensures takes { TakesListed rule (formula_in n prefix clauses) entries result }
+{
+    if Dependent::ENTRIES < entries {
+        return Err(Refusal(long_fault(rule, n), 0));
+    }
+    take_formula(rule, n, prefix, clauses, joined)
+}
+
+// What refuses lists that are too long: their length, unless the rule or the variable count is refused before.
+fn long_fault(rule: u32, n: u32) -> Fault
+    ensures first { LongRefused rule n (fault_number result) }
 {
     match rule {
-        1 | 2 => { if Variable::MOST < n { 1 } else { 2 } }
-        _ => 23,
+        1 | 2 if Variable::MOST < n => Fault::TooManyVariables,
+        1 | 2 => Fault::TooManyEntries,
+        _ => Fault::NoSuchRule,
     }
 }

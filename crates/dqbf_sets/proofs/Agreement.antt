@@ -12,9 +12,9 @@ use lib.ListN.{length}
 use Rattle.terms.specs.Answers.{TooLong, Listing}
 use Rattle.terms.specs.Listed.{Listed}
 use Rattle.terms.specs.Refusals.{At0, NoneOf}
-use Rattle.terms.specs.declared.Filled.{Filled}
 use Rattle.terms.specs.declared.Scheme.{Scheme}
 use Rattle.terms.specs.declared.Scheme.TheVariants.{Standard, Strict}
+use Rattle.terms.specs.Says.{Answer}
 use Rattle.terms.proofs.Answers.{listing-settled, carry-filling}
 use Rattle.formula.specs.Tables.{cut}
 use Rattle.formula.specs.Causes.{ClauseCause}
@@ -112,7 +112,7 @@ agrees_under rule f x none u =
     agrees_with_demand_2 (read_by rule f) (read_sound rule f.n f.prefix (length f.clauses) ruled) x u
 
 -- Where rule 1 accepts a prefix both rules promise the same.
-pub set_agrees : (f : Formula) (ds : List ℕ) → NoneOf (listed_prefix 1 f (length ds)) → (scheme : Scheme) (x : ℕ) (before after : List ℕ) (r : Filled)
+pub set_agrees : (f : Formula) (ds : List ℕ) → NoneOf (listed_prefix 1 f (length ds)) → (scheme : Scheme) (x : ℕ) (before after : List ℕ) (r : Answer ℕ)
     → SetByLists 1 scheme f ds x before after r ↔ SetByLists 2 scheme f ds x before after r
 set_agrees f ds none scheme x before after r =
     agreed f (length ds) none (λ order read. Listing order (Depends read) before after r)
@@ -124,7 +124,7 @@ set_agrees f ds none scheme x before after r =
     Depends read = DependsOnBy scheme (formula_of f.n read f.clauses) ds x
 
 -- Any two outcomes that the promise allows are equal.
-pub set_settled : (rule : ℕ) (scheme : Scheme) (f : Formula) (ds : List ℕ) (x : ℕ) (before after after' : List ℕ) (r r' : Filled)
+pub set_settled : (rule : ℕ) (scheme : Scheme) (f : Formula) (ds : List ℕ) (x : ℕ) (before after after' : List ℕ) (r r' : Answer ℕ)
     → SetByLists rule scheme f ds x before after r → SetByLists rule scheme f ds x before after' r' → (r ≡ r') × (after ≡ after')
 set_settled rule scheme f ds x before =
     let Depends = DependsOnBy scheme (read_by rule f) ds x in

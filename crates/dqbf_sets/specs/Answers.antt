@@ -3,8 +3,8 @@
 use Rattle.std.specs.Prelude.{ℕ, List, [], ◌∷◌, length}
 use Rattle.terms.specs.Answers.{Listing}
 use Rattle.terms.specs.Refusals.{Causes}
-use Rattle.terms.specs.declared.Filled.{Filled}
 use Rattle.terms.specs.declared.Scheme.{Scheme}
+use Rattle.terms.specs.Says.{Answer}
 use Rattle.formula.specs.Causes.{VariableCount, ClauseCause}
 use Rattle.formula.specs.Lent.{Formula}
 use Rattle.formula_rules.specs.Rules.{read_as, read_by, RuleCause, PrefixCauseBy}
@@ -21,6 +21,6 @@ set_order rule f ds x P before =
     ∷ OutputCause P before ∷ []
 
 -- the set of x by a scheme, by the formula as the rule reads it
-abbrev pub SetByLists : ℕ → Scheme → Formula → List ℕ → ℕ → List ℕ → List ℕ → Filled → Type 0
+abbrev pub SetByLists : ℕ → Scheme → Formula → List ℕ → ℕ → List ℕ → List ℕ → Answer ℕ → Type 0
 SetByLists rule scheme f ds x before =
     Listing (set_order rule f ds x (DependsOnBy scheme (read_by rule f) ds x) before) (DependsOnBy scheme (read_by rule f) ds x) before

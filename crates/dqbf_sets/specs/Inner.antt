@@ -1,12 +1,10 @@
 -- What the inner functions promise that find the set of a universal by dependency lists. What a reader must believe of the call is in Depends and Answers.
-use Rattle.std.specs.Prelude.{ℕ, ◌≤◌, ◌<◌, ◌≡◌, Bool, true, List, [], ◌∷◌, ◌++◌, ◌⊎◌, ◌≢◌, ℤ, get_or}
+use Rattle.std.specs.Prelude.{ℕ, ◌≤◌, ◌<◌, ◌≡◌, Bool, true, List, [], ◌∷◌, ◌++◌, ◌⊎◌, ◌≢◌, ℤ, get_or, Ok, Err}
+use Rattle.terms.specs.Says.{Answer, Verdict}
 use Rattle.terms.specs.Answers.{Listing}
 use Rattle.terms.specs.Limits.{most_variables}
 use Rattle.terms.specs.Refusals.{Causes}
-use Rattle.terms.specs.declared.Filled.{Filled}
 use Rattle.terms.specs.declared.Scheme.{Scheme}
-use Rattle.terms.specs.declared.Verdict.{Verdict}
-use Rattle.terms.specs.declared.Verdict.TheVariants.{Accepted, Refused}
 use Rattle.formula.specs.Lent.{Formula}
 use Rattle.forest_theory.specs.Reach.{Reach}
 use Rattle.forest_theory.specs.Tables.{row}
@@ -23,7 +21,7 @@ abbrev pub behind_formula : ℕ → List ℕ → List ℕ → ℕ → List Cause
 behind_formula n es ds x = ListCause n es ds ∷ AskedCause n es x ∷ []
 
 -- what the call promises of an accepted formula: the set of x by a scheme, with the lists, 13 and 14 left to refuse
-abbrev pub SetBehind : Scheme → Formula → List ℕ → ℕ → List ℕ → List ℕ → Filled → Type 0
+abbrev pub SetBehind : Scheme → Formula → List ℕ → ℕ → List ℕ → List ℕ → Answer ℕ → Type 0
 SetBehind scheme f ds x before =
     Listing (behind_formula f.n f.prefix ds x ++ (OutputCause (DependsOnBy scheme f ds x) before ∷ [])) (DependsOnBy scheme f ds x) before
 
@@ -44,8 +42,8 @@ WithGiven ds x n old new = (v : ℕ) → ((row n new v ≡ 1) × GivenAt ds x v)
 
 -- where nothing is refused the rows tell whose list has x
 abbrev pub OpensRows : ℕ → List ℕ → List ℕ → ℕ → List ℕ → Verdict → Type 0
-OpensRows n es ds x rows Accepted = ToldRows (ListHas n es ds x) n rows
-OpensRows n es ds x rows (Refused number place) = Unit {0}
+OpensRows n es ds x rows (Ok _) = ToldRows (ListHas n es ds x) n rows
+OpensRows n es ds x rows (Err refusal) = Unit {0}
 
 -- every row is 1 or 0
 abbrev pub Flat : ℕ → List ℕ → Type 0

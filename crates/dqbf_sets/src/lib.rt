@@ -15,12 +15,11 @@ ghost use Rattle.dqbf_sets.specs.Answers.{SetByLists};
 ghost use Rattle.dqbf_sets.specs.Inner.{SetBehind};
 
 use classing::class_rows;
-use dqbf_lists::reading::read_listed;
+use dqbf_lists::reading::take_listed;
 use forest_entries::flag_entries;
 use forest_members::{Asked, list_picked};
-use formula_rules::as_read;
 use opening::open_rows;
-use terms::{Filled, Level, Scheme, Variable, Verdict};
+use terms::{Level, Refusal, Scheme, Variable};
 
 // The set of x by a scheme and by the lists, with the prefix read by a rule, written ascending into `out`, with the count of its members.
 pub fn set_of(
@@ -32,17 +31,12 @@ pub fn set_of(
     lists: &[u32],
     x: Variable,
     out: &mut [u32],
-) -> Filled
+) -> Result<u32, Refusal>
     ensures listed { SetByLists rule scheme (formula_in n prefix clauses) lists.now x.0 out.old out.new result }
 {
     let mut joined = [0u32; Level::JOINED];
-    match read_listed(rule, n, prefix, clauses, lists.len(), &mut joined) {
-        Filled::Refused(number, place) => Filled::Refused(number, place),
-        Filled::Count(count) => {
-            let read = as_read(rule, prefix, &joined, count);
-            sound_set(scheme, n, read, clauses, lists, x, out)
-        }
-    }
+    let read = take_listed(rule, n, prefix, clauses, lists.len(), &mut joined)?;
+    sound_set(scheme, n, read, clauses, lists, x, out)
 }
 
 // The set of x, of an accepted formula: what may be stepped on from x is put into classes, those that share a clause with x are flagged by the scheme, and
@@ -55,19 +49,15 @@ fn sound_set(
     lists: &[u32],
     x: Variable,
     out: &mut [u32],
-) -> Filled
+) -> Result<u32, Refusal>
     requires sound { SoundPrefix n prefix.now × SoundClauses clauses.now }
     requires short { length lists.now ≤ list_entries }
     ensures listed { SetBehind scheme (formula_in n prefix clauses) lists.now x.0 out.old out.new result }
 {
     let mut rows = [0u32; Variable::ROWS];
-    match open_rows(n, prefix, lists, x, &mut rows) {
-        Verdict::Refused(number, place) => Filled::Refused(number, place),
-        Verdict::Accepted => {
-            let mut flags = [false; Variable::ROWS];
-            class_rows(n, clauses, &mut rows);
-            flag_entries(scheme, n, clauses, x, &mut rows, &mut flags);
-            list_picked(n, Asked::Set, &flags, &rows, out)
-        }
-    }
+    open_rows(n, prefix, lists, x, &mut rows)?;
+    let mut flags = [false; Variable::ROWS];
+    class_rows(n, clauses, &mut rows);
+    flag_entries(scheme, n, clauses, x, &mut rows, &mut flags);
+    list_picked(n, Asked::Set, &flags, &rows, out)
 }

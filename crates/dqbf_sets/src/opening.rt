@@ -13,10 +13,16 @@ ghost use Rattle.dqbf_sets.specs.Inner.{behind_formula, Told, ToldRows, Over, Wi
 use dqbf_lists::checking::check_lists;
 use forest_tables::rows::{existential_at, level_at, universal_at};
 use formula_levels::fill_levels;
-use terms::{Level, Variable, Verdict};
+use terms::{Fault, Level, Refusal, Variable};
 
 // Judges the lists, and then x (13), by an accepted prefix. Where nothing is refused, the rows are filled.
-pub fn open_rows(n: u32, prefix: &[u32], lists: &[u32], x: Variable, rows: &mut [u32]) -> Verdict
+pub fn open_rows(
+    n: u32,
+    prefix: &[u32],
+    lists: &[u32],
+    x: Variable,
+    rows: &mut [u32],
+) -> Result<(), Refusal>
     requires sound { SoundPrefix n prefix.now }
     requires short { length lists.now ≤ list_entries }
     requires rows { length rows.old ≡ variable_rows }
@@ -26,17 +32,12 @@ pub fn open_rows(n: u32, prefix: &[u32], lists: &[u32], x: Variable, rows: &mut 
     let mut levels = [0u32; Variable::ROWS];
     let mut universals = [false; Variable::ROWS];
     fill_levels(prefix, &mut levels, &mut universals);
-    match check_lists(n, prefix, &universals, lists) {
-        Verdict::Refused(number, place) => Verdict::Refused(number, place),
-        Verdict::Accepted => {
-            if universal_at(n, &universals, x) {
-                open_for(n, prefix, &levels, &universals, lists, x, rows);
-                Verdict::Accepted
-            } else {
-                Verdict::Refused(13, 0)
-            }
-        }
+    check_lists(n, prefix, &universals, lists)?;
+    if !universal_at(n, &universals, x) {
+        return Err(Refusal(Fault::NotAskable, 0));
     }
+    open_for(n, prefix, &levels, &universals, lists, x, rows);
+    Ok(())
 }
 
 // Fills the rows for a universal, by accepted lists: first by the blocks, then by the lists.
@@ -65,11 +66,9 @@ fn open_blocks(n: u32, levels: &[u32], universals: &[bool], floor: Level, rows: 
     requires room { n ≤ length rows.old }
     ensures told { ToldRows (Over n levels.now universals.now floor.0) n rows.new }
 {
-    let mut passed: u32 = 0;
-    while passed < n {
+    for passed in 0..n {
         let v = Variable::new(passed + 1);
         rows[passed as usize] = block_row(n, levels, universals, floor, v);
-        passed += 1;
     }
 }
 
@@ -77,14 +76,7 @@ fn open_blocks(n: u32, levels: &[u32], universals: &[bool], floor: Level, rows: 
 fn block_row(n: u32, levels: &[u32], universals: &[bool], floor: Level, v: Variable) -> u32
     ensures told { Told (Over n levels.now universals.now floor.0) v.0 result }
 {
-    if !existential_at(n, universals, v) {
-        return 0;
-    }
-    let level = level_at(levels, v);
-    if floor.0 < level.0 {
-        return 1;
-    }
-    0
+    u32::from(existential_at(n, universals, v) && floor < level_at(levels, v))
 }
 
 // Opens the existentials whose own lists have x.
@@ -94,21 +86,17 @@ fn open_lists(n: u32, prefix: &[u32], lists: &[u32], x: Variable, rows: &mut [u3
     requires room { (n ≤ most_variables) × (n ≤ length rows.old) }
     ensures opened { WithGiven lists.now x.0 n rows.old rows.new }
 {
-    let mut opens = true;
-    let mut y: u32 = 0;
-    let mut i: usize = 0;
-    while i < lists.len() {
-        let entry = lists[i];
-        if opens {
-            y = entry;
-            opens = false;
-            i += 1;
-        } else if entry == x.0 {
+    // the existential of the list that is open, where one is
+    let mut open = None;
+    for &entry in lists {
+        let Some(y) = open else {
+            open = Some(entry);
+            continue;
+        };
+        if entry == x.0 {
             rows[y as usize - 1] = 1;
-            i += 1;
-        } else {
-            opens = entry == 0;
-            i += 1;
+        } else if entry == 0 {
+            open = None;
         }
     }
 }

@@ -1,4 +1,7 @@
 -- Tables that the check of lists accepts can be written, and read back as they are lent, under either rule.
+use Rattle.std.specs.Prelude.{Ok}
+use Rattle.terms.specs.Says.{Answer}
+use Rattle.terms.specs.declared.ListedCounts.{ListedCounts}
 use Prim.Native.Nat.{ℕ, ◌≤◌, ◌<◌}
 use mathlib.Core.Path.{◌≡◌, refl, subst}
 use mathlib.Core.Bool.{true, false}
@@ -17,13 +20,11 @@ use Rattle.formula.specs.Lent.{Formula}
 use Rattle.formula_rules.specs.Rules.{check_order}
 use Rattle.formula_rules.proofs.Orders.{limits}
 use Rattle.terms.proofs.Common.{by_test}
-use Rattle.terms.specs.declared.Filled.TheVariants.{Count}
 use Rattle.text_write.specs.InnerBytes.{SmallEntries}
 use Rattle.text_write.specs.Texts.{TEXT-MOST, overlong}
 use Rattle.text_write.proofs.Outputs.{text_front}
 use Rattle.text_qdimacs.proofs.Accepted.{groups_from, small, holdable}
 use Rattle.dqbf_lists.specs.Causes.{ListCause, check_lists_order}
-use Rattle.terms.specs.declared.ListedReading.{ListedReading}
 use Rattle.dqbf_text.specs.Reading.{Tables, ListedReadIs}
 use Rattle.dqbf_text.specs.InnerText.{listed_by_entries, WritableLists}
 use Rattle.dqbf_text.specs.Stored.{listed_text, WritesListed}
@@ -89,7 +90,7 @@ module _ (rule : ℕ) (f : Formula) (ds : List ℕ) (none : NoneOf (check_lists_
 -- What write leaves in front in the buffer reads back as the tables that were lent.
 pub written_reads_back : (rule : ℕ) (f : Formula) (ds : List ℕ) (before after : Tables) → length f.prefix ≤ length before.0
     → length f.clauses ≤ length before.1 → length ds ≤ length before.2
-    → (out out' : List ℕ) (count : ℕ) → WritesListed rule f ds out out' (Count count) → (r : ListedReading) → ListedReadIs (take count out') before after r
+    → (out out' : List ℕ) (count : ℕ) → WritesListed rule f ds out out' (Ok count) → (r : Answer ListedCounts) → ListedReadIs (take count out') before after r
     → ReadsBack f.n f.prefix f.clauses ds before after r
 written_reads_back rule f ds before after p c l out out' count w r read =
     let none = w.0 in

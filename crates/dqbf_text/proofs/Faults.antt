@@ -10,8 +10,7 @@ use lib.ListN.{length, drop}
 use lib.IntN.{ℤ}
 use Rattle.text_lines.specs.declared.Stage.{Stage}
 use Rattle.text_lines.specs.declared.Stage.TheVariants.{Body}
-use Rattle.text_words.specs.declared.Spelt.{Spelt}
-use Rattle.text_words.specs.declared.Spelt.TheVariants.{Missing, Spelled}
+use Rattle.std.specs.Prelude.{Option, None, Some}
 use Rattle.text_words.specs.Words.{LF, pieces, filled, words}
 use Rattle.text_words.specs.InnerNumbers.{entries_of, variables}
 use Rattle.text_lines.specs.InnerGrammar.{Line, TooMany, Fault}
@@ -66,13 +65,13 @@ module _ {listed : Bool} {stage : Stage} {text : List ℕ} {at : ℕ} (h : at < 
       list_fault (λ y next others f. let same : entries ≡ y ∷ next ∷ others = cc in let size = ap length same in omega arith)
 
 -- Whether it does so.
-pub list_mark_lem : {stage : Stage} {n m : ℕ} (text : List ℕ) (at : ℕ) → stage ≡ Body n m 0 → (r : Spelt) → SpeltIs (LETTER-D ∷ []) text at r
+pub list_mark_lem : {stage : Stage} {n m : ℕ} (text : List ℕ) (at : ℕ) → stage ≡ Body n m 0 → (r : Option ℕ) → SpeltIs (LETTER-D ∷ []) text at r
     → ListMarkIs stage text at r
-list_mark_lem text at is Missing missing = λ n' m' l e x. no_list x
+list_mark_lem text at is None missing = λ n' m' l e x. no_list x
   where
     no_list : {l : List ℕ} → ListLine (line_at text at) l → ⊥
     no_list x = let w = list_words x in missing w.more w.begins
-list_mark_lem {n = n} {m = m} text at is (Spelled next) goes = record { n = n; m = m; stands = is; goes = goes }
+list_mark_lem {n = n} {m = m} text at is (Some next) goes = record { n = n; m = m; stands = is; goes = goes }
 
 -- A fault of QDIMACS is one here where no list line may stand, or none stands.
 no_list_line : {listed then : Bool} {s t : Stage} {line p l : List ℕ} {c : List ℤ} → ((n m : ℕ) (l : List ℕ) → s ≡ Body n m 0 → ListLine line l → ⊥)

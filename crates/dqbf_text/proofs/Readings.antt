@@ -1,4 +1,7 @@
 -- The laws of read's answers: what a scan finds is the first cause in read's order, or that there is none.
+use Rattle.std.specs.Prelude.{Ok, Err}
+use Rattle.terms.specs.Says.{Answer, fault_number}
+use Rattle.terms.specs.declared.ListedCounts.{ListedCounts}
 use Prim.Native.Nat.{ℕ, ◌≤◌}
 use mathlib.Core.Path.{ap, ◌∙◌}
 use mathlib.Core.List.{List}
@@ -11,8 +14,6 @@ use Rattle.terms.specs.Refusals.{First, FirstOf, None, NoneOf}
 use Rattle.terms.proofs.Overwritten.{stored_overwritten}
 use Rattle.text_write.specs.Texts.{TEXT-MOST}
 use Rattle.text_write.proofs.Outputs.{not_overlong}
-use Rattle.terms.specs.declared.ListedReading.{ListedReading}
-use Rattle.terms.specs.declared.ListedReading.TheVariants.{Read, Refused}
 use Rattle.text_lines.specs.Format.{LineCause}
 use Rattle.dqbf_text.specs.Format.{ListedText, ListedFollow}
 use Rattle.dqbf_text.specs.InnerSteps.{Adds, ScanIs}
@@ -54,10 +55,10 @@ module _ (text : List ℕ) (before : Tables) (short : length text ≤ TEXT-MOST)
         room number place (no_room_lists t h) = let same = ap length (text_same text_of t).lists in omega arith
 
     -- the answer of the second scan, where the text is known to be within the rules and to fit
-    pub read_all : length P ≤ length before.0 → length C ≤ length before.1 → length L ≤ length before.2 → (after : Tables) (r : ListedReading)
+    pub read_all : length P ≤ length before.0 → length C ≤ length before.1 → length L ≤ length before.2 → (after : Tables) (r : Answer ListedCounts)
         → ScanIs text before after r → ListedReadIs text before after r
-    read_all p c l after (Refused number place) f = absurd (no_cause text_of number place f.holds)
-    read_all p c l after (Read n' entries literals rows) s =
+    read_all p c l after (Err refusal) f = absurd (no_cause text_of (fault_number refusal.0) refusal.1 f.holds)
+    read_all p c l after (Ok counts) s =
         let same = text_same text_of s.text_of in
         let lp = ap length same.prefix in
         let lc = ap length same.clauses in

@@ -1,4 +1,7 @@
 -- The laws of a scan: the lines passed lead to a stage, and what they added stands in the tables.
+use Rattle.std.specs.Prelude.{Ok, Err}
+use Rattle.terms.specs.Says.{Answer, fault_number}
+use Rattle.terms.specs.declared.ListedCounts.{ListedCounts}
 use Prim.Native.Nat.{ℕ, ◌<◌, ◌≤◌}
 use mathlib.Core.Path.{◌≡◌, refl, sym, ap, ◌∙◌, subst}
 use mathlib.Core.Bool.{Bool, false}
@@ -18,8 +21,6 @@ use Rattle.text_words.proofs.Lines.{line_length}
 use Rattle.text_lines.proofs.Bodies.{line_then}
 use Rattle.text_qdimacs.proofs.Scans.{line_sound, place_more, stored_more}
 use Rattle.terms.specs.Refusals.{First}
-use Rattle.terms.specs.declared.ListedReading.{ListedReading}
-use Rattle.terms.specs.declared.ListedReading.TheVariants.{Read, Refused}
 use Rattle.dqbf_text.specs.Format.{ListedFollow}
 use Rattle.dqbf_text.specs.InnerGrammar.{ListedLine, a_line, a_list, ListedLines, no_line, one_more, ListedFault}
 use Rattle.dqbf_text.specs.Reading.{Tables}
@@ -148,9 +149,9 @@ module _ {text : List ℕ} {before : Tables} {at : ℕ} {listed : Bool} {stage :
       })
 
   -- the text's end
-  pub reached_end : length text ≤ at → (r : ListedReading) → FinishIs stage at counts r → ScanIs text before now r
+  pub reached_end : length text ≤ at → (r : Answer ListedCounts) → FinishIs stage at counts r → ScanIs text before now r
   unfolding pieces
-  reached_end h (Read n entries literals rows) f =
+  reached_end h (Ok listed-counts) f =
       record {
         P = reached.P;
         C = reached.C;
@@ -169,6 +170,6 @@ module _ {text : List ℕ} {before : Tables} {at : ℕ} {listed : Bool} {stage :
         clauses_adds = record { counted = f.2 ∙ reached.clauses_adds.counted; stored = reached.clauses_adds.stored };
         lists_adds = record { counted = f.3 ∙ reached.lists_adds.counted; stored = reached.lists_adds.stored };
       }
-  reached_end h (Refused number place) f =
-      subst (First (LineCause ListedFollow text) number) (sym f.1)
-      (reached_fault (subst (λ (xs : List ℕ). ListedFault number listed stage (pieces LF xs)) (sym (drop_of_length-le text h)) (f.0 listed)))
+  reached_end h (Err refusal) f =
+      subst (First (LineCause ListedFollow text) (fault_number refusal.0)) (sym f.1)
+      (reached_fault (subst (λ (xs : List ℕ). ListedFault (fault_number refusal.0) listed stage (pieces LF xs)) (sym (drop_of_length-le text h)) (f.0 listed)))

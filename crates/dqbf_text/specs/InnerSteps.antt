@@ -1,13 +1,12 @@
 -- What the functions on one line and on a whole text promise, in the grammar's words, for the line that stands at a place of a text.
-use Rattle.std.specs.Prelude.{ℕ, ◌+◌, ◌≤◌, ◌≡◌, Bool, true, false, List, [], ◌∷◌, length, drop, ℤ}
+use Rattle.terms.specs.Says.{Answer, fault_number}
+use Rattle.terms.specs.declared.ListedCounts.{ListedCounts}
+use Rattle.std.specs.Prelude.{ℕ, ◌+◌, ◌≤◌, ◌≡◌, Bool, true, false, List, [], ◌∷◌, length, drop, ℤ, Option, None, Some, Result, Ok, Err}
 use Rattle.std.proofs.Math.Option.{some}
 use Rattle.std.proofs.lemmas.List.Edits.{sets}
 use Rattle.text_lines.specs.declared.Stage.{Stage}
 use Rattle.text_lines.specs.declared.Stage.TheVariants.{Body}
-use Rattle.text_words.specs.declared.Spelt.{Spelt}
-use Rattle.text_words.specs.declared.Spelt.TheVariants.{Missing, Spelled}
 use Rattle.text_words.specs.declared.Row.{Row}
-use Rattle.text_words.specs.declared.Row.TheVariants.{Broken, Whole}
 use Rattle.text_words.specs.Words.{LF, pieces}
 use Rattle.text_words.specs.InnerNumbers.{entries_of, variables}
 use Rattle.text_words.specs.InnerPlaces.{line_at, words_at, Passed, WholeRow, NoRow}
@@ -15,10 +14,8 @@ use Rattle.text_words.specs.InnerExpected.{Goes}
 use Rattle.text_lines.specs.InnerSteps.{announced_at}
 use Rattle.terms.specs.Refusals.{First}
 use Rattle.text_lines.specs.Format.{LineCause}
-use Rattle.terms.specs.declared.ListedReading.{ListedReading}
-use Rattle.terms.specs.declared.ListedReading.TheVariants.{Read, Refused}
 use Rattle.dqbf_text.specs.declared.Onward.{Onward}
-use Rattle.dqbf_text.specs.declared.Onward.TheVariants.{Wrong, On}
+use Rattle.terms.specs.declared.Fault as terms
 use Rattle.dqbf_text.specs.Format.{LETTER-D, ListLine, ListedText, ListedFollow}
 use Rattle.dqbf_text.specs.InnerGrammar.{ListedLine, ListedFault}
 use Rattle.dqbf_text.specs.Reading.{Tables}
@@ -36,9 +33,9 @@ pub data NoList (text : List ℕ) (at : ℕ) : Type 0 where
   no_row : NoRow variables text at → NoList text at
   alone : {entries : List ℕ} → entries_of variables (words_at text at) ≡ some entries → length entries ≤ 1 → NoList text at
 
-abbrev pub ListIs : List ℕ → ℕ → ℕ → List ℕ → List ℕ → Row → Type 0
-ListIs text at from before after Broken = NoList text at
-ListIs text at from before after (Whole next count) = WholeList text at from before after next count
+abbrev pub ListIs : List ℕ → ℕ → ℕ → List ℕ → List ℕ → Option Row → Type 0
+ListIs text at from before after None = NoList text at
+ListIs text at from before after (Some row) = WholeList text at from before after row.next row.count
 
 -- No list line may stand at a stage at a place, or none stands there.
 abbrev pub Unlisted : Stage → List ℕ → ℕ → Type 0
@@ -51,9 +48,9 @@ pub record ListMark (stage : Stage) (text : List ℕ) (at next : ℕ) : Type 0 w
   pub stands : stage ≡ Body n m 0
   pub goes : Goes (LETTER-D ∷ []) text at next
 
-abbrev pub ListMarkIs : Stage → List ℕ → ℕ → Spelt → Type 0
-ListMarkIs stage text at Missing = Unlisted stage text at
-ListMarkIs stage text at (Spelled next) = ListMark stage text at next
+abbrev pub ListMarkIs : Stage → List ℕ → ℕ → Option ℕ → Type 0
+ListMarkIs stage text at None = Unlisted stage text at
+ListMarkIs stage text at (Some next) = ListMark stage text at next
 
 -- A quantifier line after a list line: the entries of the prefix table were counted before the line, and after it.
 pub record Late (listed : Bool) (before after : ℕ) : Type 0 where
@@ -91,13 +88,13 @@ pub record Went (listed : Bool) (stage : Stage) (text : List ℕ) (at : ℕ) (fr
   pub few : Few counts next
 
 -- What a line makes of a stage and three tables: a fault, or the next stage.
-abbrev pub OnwardIs : Bool → Stage → List ℕ → ℕ → Counts → Tables → Tables → Onward → Type 0
-OnwardIs listed stage text at from before after (Wrong number) = ListedFault number listed stage (pieces LF (drop at text))
-OnwardIs listed stage text at from before after (On listed' stage' next entries literals rows) =
-    Went listed stage text at from before after listed' stage' next (entries, literals, rows)
+abbrev pub OnwardIs : Bool → Stage → List ℕ → ℕ → Counts → Tables → Tables → Result Onward terms.Fault → Type 0
+OnwardIs listed stage text at from before after (Err fault) = ListedFault (fault_number fault) listed stage (pieces LF (drop at text))
+OnwardIs listed stage text at from before after (Ok onward) =
+    Went listed stage text at from before after onward.listed onward.step.stage onward.step.next (onward.step.entries, onward.step.literals, onward.rows)
 
 -- A line that is no list line, and the two tables to which it may add.
-abbrev pub PlainIs : Bool → Stage → List ℕ → ℕ → Counts → List ℕ × List ℤ → List ℕ × List ℤ → Onward → Type 0
+abbrev pub PlainIs : Bool → Stage → List ℕ → ℕ → Counts → List ℕ × List ℤ → List ℕ × List ℤ → Result Onward terms.Fault → Type 0
 PlainIs listed stage text at from before after r =
     (lists : List ℕ) → OnwardIs listed stage text at from (before.0, before.1, lists) (after.0, after.1, lists) r
 
@@ -111,12 +108,12 @@ pub record Scanned (n : ℕ) (counts : Counts) (text : List ℕ) (before after :
   pub clauses_adds : Adds C 0 counts.1 before.1 after.1
   pub lists_adds : Adds L 0 counts.2 before.2 after.2
 
-abbrev pub ScanIs : List ℕ → Tables → Tables → ListedReading → Type 0
-ScanIs text before after (Read n entries literals rows) = Scanned n (entries, literals, rows) text before after
-ScanIs text before after (Refused number place) = First (LineCause ListedFollow text) number place
+abbrev pub ScanIs : List ℕ → Tables → Tables → Answer ListedCounts → Type 0
+ScanIs text before after (Ok counts) = Scanned counts.n (counts.prefix, counts.clauses, counts.lists) text before after
+ScanIs text before after (Err refusal) = First (LineCause ListedFollow text) (fault_number refusal.0) refusal.1
 
 -- What lies at the end of a text, after all its lines, at a stage: a fault, whether list lines have stood or not, or nothing.
-abbrev pub FinishIs : Stage → ℕ → Counts → ListedReading → Type 0
-FinishIs stage at counts (Read n entries literals rows) =
-    (stage ≡ Body n (announced_at stage) (announced_at stage)) × (entries ≡ counts.0) × (literals ≡ counts.1) × (rows ≡ counts.2)
-FinishIs stage at counts (Refused number place) = ((listed : Bool) → ListedFault number listed stage ([] ∷ [])) × (place ≡ at)
+abbrev pub FinishIs : Stage → ℕ → Counts → Answer ListedCounts → Type 0
+FinishIs stage at counts (Ok listed) =
+    (stage ≡ Body listed.n (announced_at stage) (announced_at stage)) × (listed.prefix ≡ counts.0) × (listed.clauses ≡ counts.1) × (listed.lists ≡ counts.2)
+FinishIs stage at counts (Err refusal) = ((listed : Bool) → ListedFault (fault_number refusal.0) listed stage ([] ∷ [])) × (refusal.1 ≡ at)

@@ -1,12 +1,12 @@
 -- What reading a text promises (rule 13.4, rule 8.3): n and the tables of the text, or the first cause
 -- in the order 15, then 16 and 17 by the earliest line, 16 first at one line, then 14.
+use Rattle.terms.specs.declared.ListedCounts.{ListedCounts}
 use Rattle.std.specs.Prelude.{ℕ, ◌<◌, ◌≡◌, List, [], ◌∷◌, length, ℤ}
 use Rattle.terms.specs.Overwritten.{overwritten}
-use Rattle.terms.specs.Says.{listed_said}
+use Rattle.terms.specs.Says.{listed_said, Answer}
 use Rattle.terms.specs.Answers.{Settles}
 use Rattle.terms.specs.Refusals.{Causes}
 use Rattle.text_write.specs.Texts.{Overlong}
-use Rattle.terms.specs.declared.ListedReading.{ListedReading}
 use Rattle.text_lines.specs.Format.{LineCause}
 use Rattle.dqbf_text.specs.Format.{ListedText, ListedFollow}
 
@@ -39,7 +39,7 @@ pub record ListedReadInto (n entries literals rows : ℕ) (text : List ℕ) (bef
   pub lists_filled : FrontFilled L rows before.2 after.2
 
 -- Each answer: accepted, with n and the three counts, or refused, with the tables as they were.
-abbrev pub ListedReadIs : List ℕ → Tables → Tables → ListedReading → Type 0
+abbrev pub ListedReadIs : List ℕ → Tables → Tables → Answer ListedCounts → Type 0
 ListedReadIs text before after answer =
     Settles (listed_read_order text before) (λ (counts : ℕ × ℕ × ℕ × ℕ). ListedReadInto counts.0 counts.1 counts.2 counts.3 text before after)
     ((after.0 ≡ before.0) × (after.1 ≡ before.1) × (after.2 ≡ before.2)) (listed_said answer)

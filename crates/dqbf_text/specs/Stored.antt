@@ -1,8 +1,8 @@
 -- What writing promises (rule 13.4, rule 8.2): the text of a formula and its lists stands in front in the lent
 -- buffer, or the first cause in the order of the check of lists under the rule, then 15, then 14.
+use Rattle.terms.specs.Says.{Answer}
 use Rattle.std.specs.Prelude.{ℕ, List, [], ◌∷◌, length}
 use Rattle.terms.specs.Refusals.{Causes}
-use Rattle.terms.specs.declared.Filled.{Filled}
 use Rattle.formula.specs.Causes.{VariableCount, ClauseCause}
 use Rattle.formula.specs.Lent.{Formula}
 use Rattle.formula_rules.specs.Rules.{read_as, RuleCause, PrefixCauseBy}
@@ -23,5 +23,5 @@ listed_writing_order rule f ds out =
     ∷ ShortOut (listed_text f ds) out ∷ []
 
 -- The prefix is written as it is lent, so that the text reads back as that table.
-abbrev pub WritesListed : ℕ → Formula → List ℕ → List ℕ → List ℕ → Filled → Type 0
+abbrev pub WritesListed : ℕ → Formula → List ℕ → List ℕ → List ℕ → Answer ℕ → Type 0
 WritesListed rule f ds out = WritesBy (listed_writing_order rule f ds out) (listed_text f ds) out

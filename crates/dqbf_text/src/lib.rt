@@ -11,8 +11,8 @@ ghost use Rattle.dqbf_text.specs.Stored.{WritesListed};
 ghost use Rattle.formula.specs.Lent.{formula_in};
 
 use scanning::scan;
-use terms::{Filled, ListedReading, Verdict};
-use text_lines::Stage;
+use terms::{Fault, ListedCounts, Refusal};
+use text_lines::Step;
 use text_write::TEXT_MOST;
 use writing::write_accepted;
 
@@ -23,41 +23,29 @@ pub fn read(
     prefix: &mut [u32],
     clauses: &mut [i32],
     lists: &mut [u32],
-) -> ListedReading
+) -> Result<ListedCounts, Refusal>
     ensures answered { ListedReadIs text.now (prefix.old, clauses.old, lists.old)
         (prefix.new, clauses.new, lists.new) result }
 {
     if TEXT_MOST < text.len() {
-        return ListedReading::Refused(15, TEXT_MOST);
+        return Err(Refusal(Fault::TextTooLong, TEXT_MOST));
     }
     let mut unseen_entries = [0u32; 1];
     let mut unseen_literals = [0i32; 1];
     let mut unseen_rows = [0u32; 1];
-    match scan(
+    let counts = scan(
         text,
         &mut unseen_entries,
         &mut unseen_literals,
         &mut unseen_rows,
-    ) {
-        ListedReading::Refused(number, place) => ListedReading::Refused(number, place),
-        ListedReading::Read {
-            n: _,
-            prefix: entries,
-            clauses: literals,
-            lists: rows,
-        } => {
-            if prefix.len() < entries {
-                return ListedReading::Refused(14, 0);
-            }
-            if clauses.len() < literals {
-                return ListedReading::Refused(14, 0);
-            }
-            if lists.len() < rows {
-                return ListedReading::Refused(14, 0);
-            }
-            scan(text, prefix, clauses, lists)
-        }
+    )?;
+    if prefix.len() < counts.prefix
+        || clauses.len() < counts.clauses
+        || lists.len() < counts.lists
+    {
+        return Err(Refusal(Fault::TooLittleRoom, 0));
     }
+    scan(text, prefix, clauses, lists)
 }
 
 // Writes the text of a formula with dependency lists, its prefix as it is lent, into a lent buffer: refused as the check of lists refuses it under
@@ -69,26 +57,18 @@ pub fn write(
     clauses: &[i32],
     lists: &[u32],
     out: &mut [u8],
-) -> Filled
+) -> Result<u32, Refusal>
     ensures answered { WritesListed rule (formula_in n prefix clauses) lists.now out.old out.new result }
 {
-    match dqbf_lists::check(rule, n, prefix, clauses, lists) {
-        Verdict::Refused(number, place) => Filled::Refused(number, place),
-        Verdict::Accepted => write_accepted(n, prefix, clauses, lists, out),
-    }
+    dqbf_lists::check(rule, n, prefix, clauses, lists)?;
+    write_accepted(n, prefix, clauses, lists, out)
 }
 
-// What a line makes of a stage: the number of the refusal if it may not stand there, or the stage that it leads to, whether a list line has stood
-// by then, and the counts of entries.
+// What a line that may stand at a stage makes of it: what a line of QDIMACS would, whether a list line has stood by then, and the count of entries of the
+// table of lists.
 #[derive(Clone, Copy)]
-enum Onward {
-    Wrong(u32),
-    On {
-        listed: bool,
-        stage: Stage,
-        next: usize,
-        entries: usize,
-        literals: usize,
-        rows: usize,
-    },
+struct Onward {
+    listed: bool,
+    step: Step,
+    rows: usize,
 }

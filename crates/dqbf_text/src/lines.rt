@@ -6,10 +6,11 @@ ghost use Rattle.dqbf_text.specs.InnerSteps.{ListMarkIs, ListIs, Unlisted, LateI
 
 use crate::Onward;
 use crate::writing::LETTER_D;
+use terms::Fault;
 use text_lines::tables::variables_at;
 use text_lines::{Stage, Step};
+use text_words::Row;
 use text_words::expected::letter_at;
-use text_words::{Row, Spelt};
 
 // The line at a place, at a stage: list lines stand only after the problem line and before the clause lines.
 pub fn line_at(
@@ -23,42 +24,44 @@ pub fn line_at(
     literals: usize,
     lists: &mut [u32],
     rows: usize,
-) -> Onward
+) -> Result<Onward, Fault>
     requires within { (at < length text.now) × Few (entries, literals, rows) at × Sound stage }
     ensures steps { OnwardIs listed stage text.now at (entries, literals, rows)
         (prefix.old, clauses.old, lists.old) (prefix.new, clauses.new, lists.new) result }
 {
-    match list_mark(text, at, stage) {
-        Spelt::Missing => plain_line(
+    let Some(after) = list_mark(text, at, stage) else {
+        return plain_line(
             text, at, listed, stage, prefix, entries, clauses, literals, rows,
-        ),
-        Spelt::Spelled(after) => match list_at(text, after, lists, rows) {
-            Row::Broken => Onward::Wrong(16),
-            Row::Whole { next, count } => Onward::On {
-                listed: true,
-                stage,
-                next,
-                entries,
-                literals,
-                rows: count,
-            },
+        );
+    };
+    let Some(list) = list_at(text, after, lists, rows) else {
+        return Err(Fault::WrongLine);
+    };
+    Ok(Onward {
+        listed: true,
+        step: Step {
+            stage,
+            next: list.next,
+            entries,
+            literals,
         },
-    }
+        rows: list.count,
+    })
 }
 
-// Whether a line begins with `d` where list lines may stand, and where it goes on. No byte of a line after the first clause line is looked at.
-fn list_mark(text: &[u8], at: usize, stage: Stage) -> Spelt
+// Where a line goes on that begins with `d`, where list lines may stand. No byte of a line after the first clause line is looked at.
+fn list_mark(text: &[u8], at: usize, stage: Stage) -> Option<usize>
     ensures marked { ListMarkIs stage text.now at result }
 {
     match stage {
-        Stage::Opening => Spelt::Missing,
+        Stage::Opening => None,
         Stage::Body {
             n: _,
             announced: _,
             stood,
         } => {
             if stood != 0 {
-                return Spelt::Missing;
+                return None;
             }
             letter_at(text, at, LETTER_D)
         }
@@ -66,19 +69,15 @@ fn list_mark(text: &[u8], at: usize, stage: Stage) -> Spelt
 }
 
 // The numbers of a list line, stored in the table of lists from a row on: at least y and the closing 0. The place is the one after the letter.
-fn list_at(text: &[u8], at: usize, lists: &mut [u32], from: usize) -> Row
+fn list_at(text: &[u8], at: usize, lists: &mut [u32], from: usize) -> Option<Row>
     requires behind { from < at }
     ensures stored { ListIs text.now at from lists.old lists.new result }
 {
-    match variables_at(text, at, lists, from) {
-        Row::Broken => Row::Broken,
-        Row::Whole { next, count } => {
-            if count <= from + 1 {
-                return Row::Broken;
-            }
-            Row::Whole { next, count }
-        }
+    let row = variables_at(text, at, lists, from)?;
+    if row.count <= from + 1 {
+        return None;
     }
+    Some(row)
 }
 
 // A line of QDIMACS, which after a list line is no quantifier line.
@@ -92,32 +91,18 @@ fn plain_line(
     clauses: &mut [i32],
     literals: usize,
     rows: usize,
-) -> Onward
+) -> Result<Onward, Fault>
     requires within { (at < length text.now) × Few (entries, literals, rows) at × Sound stage × Unlisted stage text.now at }
     ensures steps { PlainIs listed stage text.now at (entries, literals, rows)
         (prefix.old, clauses.old) (prefix.new, clauses.new) result }
 {
-    match text_qdimacs::scanning::line_at(text, at, stage, prefix, entries, clauses, literals) {
-        Step::Wrong(number) => Onward::Wrong(number),
-        Step::On {
-            stage: reached,
-            next,
-            entries: entries_now,
-            literals: literals_now,
-        } => {
-            if is_late(listed, entries, entries_now) {
-                return Onward::Wrong(16);
-            }
-            Onward::On {
-                listed,
-                stage: reached,
-                next,
-                entries: entries_now,
-                literals: literals_now,
-                rows,
-            }
-        }
+    let step = text_qdimacs::scanning::line_at(
+        text, at, stage, prefix, entries, clauses, literals,
+    )?;
+    if is_late(listed, entries, step.entries) {
+        return Err(Fault::WrongLine);
     }
+    Ok(Onward { listed, step, rows })
 }
 
 // Whether a line after a list line added to the prefix table.

@@ -3,9 +3,8 @@
 ghost use Rattle.text_lines.specs.InnerSteps.{Sound};
 ghost use Rattle.dqbf_text.specs.InnerSteps.{FinishIs, ScanIs};
 
-use crate::Onward;
 use crate::lines::line_at;
-use terms::{ListedReading, Reading};
+use terms::{ListedCounts, Refusal};
 use text_lines::Stage;
 
 // Scans a whole text line by line, and stores what its lines add as far as the tables have rows: a short table only learns the counts.
@@ -14,7 +13,7 @@ pub fn scan(
     prefix: &mut [u32],
     clauses: &mut [i32],
     lists: &mut [u32],
-) -> ListedReading
+) -> Result<ListedCounts, Refusal>
     ensures scanned { ScanIs text.now (prefix.old, clauses.old, lists.old)
         (prefix.new, clauses.new, lists.new) result }
 {
@@ -24,27 +23,19 @@ pub fn scan(
     let mut entries = 0;
     let mut literals = 0;
     let mut rows = 0;
+    // A walk along the lines: each says where the next one begins.
     while at < text.len() {
         match line_at(
             text, at, listed, stage, prefix, entries, clauses, literals, lists, rows,
         ) {
-            Onward::Wrong(number) => {
-                return ListedReading::Refused(number, at);
-            }
-            Onward::On {
-                listed: listed_now,
-                stage: reached,
-                next,
-                entries: entries_now,
-                literals: literals_now,
-                rows: rows_now,
-            } => {
-                listed = listed_now;
-                stage = reached;
-                at = next;
-                entries = entries_now;
-                literals = literals_now;
-                rows = rows_now;
+            Err(fault) => return Err(Refusal(fault, at)),
+            Ok(onward) => {
+                listed = onward.listed;
+                stage = onward.step.stage;
+                at = onward.step.next;
+                entries = onward.step.entries;
+                literals = onward.step.literals;
+                rows = onward.rows;
             }
         }
     }
@@ -52,21 +43,21 @@ pub fn scan(
 }
 
 // What the end of a text makes of the stage that its lines led to: list lines change nothing of what is missing then.
-fn finish(stage: Stage, at: usize, entries: usize, literals: usize, rows: usize) -> ListedReading
+fn finish(
+    stage: Stage,
+    at: usize,
+    entries: usize,
+    literals: usize,
+    rows: usize,
+) -> Result<ListedCounts, Refusal>
     requires sound { Sound stage }
     ensures finished { FinishIs stage at (entries, literals, rows) result }
 {
-    match text_qdimacs::scanning::finish(stage, at, entries, literals) {
-        Reading::Refused(number, place) => ListedReading::Refused(number, place),
-        Reading::Read {
-            n,
-            prefix: _,
-            clauses: _,
-        } => ListedReading::Read {
-            n,
-            prefix: entries,
-            clauses: literals,
-            lists: rows,
-        },
-    }
+    let counts = text_qdimacs::scanning::finish(stage, at, entries, literals)?;
+    Ok(ListedCounts {
+        n: counts.n,
+        prefix: entries,
+        clauses: literals,
+        lists: rows,
+    })
 }

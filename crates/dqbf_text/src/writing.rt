@@ -7,7 +7,7 @@ ghost use Rattle.text_write.specs.InnerOrders.{WriteIs};
 ghost use Rattle.dqbf_lists.specs.Lists.{list_entries};
 ghost use Rattle.dqbf_text.specs.InnerText.{lettered, list_text, list_bytes, listed_by_entries, WritableLists};
 
-use terms::Filled;
+use terms::{Fault, Refusal};
 use text_write::TEXT_MOST;
 use text_write::bytes::put_byte;
 use text_write::writing::{count_clauses, put_clauses, put_entry, put_prefix, put_problem};
@@ -23,7 +23,7 @@ pub fn write_accepted(
     clauses: &[i32],
     lists: &[u32],
     out: &mut [u8],
-) -> Filled
+) -> Result<u32, Refusal>
     requires writable { WritableLists n prefix.now clauses.now lists.now }
     ensures answered { WriteIs (listed_by_entries n prefix.now clauses.now lists.now)
         out.old out.new result }
@@ -31,13 +31,13 @@ pub fn write_accepted(
     let mut unseen = [0u8; 1];
     let count = put_text(&mut unseen, n, prefix, clauses, lists);
     if TEXT_MOST < count {
-        return Filled::Refused(15, TEXT_MOST);
+        return Err(Refusal(Fault::TextTooLong, TEXT_MOST));
     }
     if out.len() < count {
-        return Filled::Refused(14, 0);
+        return Err(Refusal(Fault::TooLittleRoom, 0));
     }
     let written = put_text(out, n, prefix, clauses, lists);
-    Filled::Count(written as u32)
+    Ok(written as u32)
 }
 
 // The text of n and three tables.
@@ -58,14 +58,11 @@ fn put_lists(out: &mut [u8], at: usize, lists: &[u32]) -> usize
     requires small { (at < 131072) × (length lists.now ≤ list_entries) × SmallEntries lists.now }
     ensures wrote { Wrote (list_text true lists.now) out.old out.new at result }
 {
-    let mut i = 0;
     let mut next = at;
     let mut first = true;
-    while i < lists.len() {
-        let entry = lists[i];
+    for &entry in lists {
         next = put_list_entry(out, next, first, entry);
         first = entry == 0;
-        i += 1;
     }
     next
 }

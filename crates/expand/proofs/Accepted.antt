@@ -10,9 +10,10 @@ use borrow.Author.Tests.{eq-eqb, ne_eqb, eqb-true, eqb-false, le-leb}
 use lib.Dec.{eqb, leb}
 use lib.IntN.{ℤ, pos, negsuc, neg_ℤ}
 use lib.ListN.{length, get_or, take}
+use Rattle.std.specs.Prelude.{Ok, None, Some}
 use Rattle.terms.specs.Literals.{variable_of}
-use Rattle.terms.specs.Refusals.{None, NoneOf}
-use Rattle.terms.specs.declared.Expanded.{Expanded}
+use Rattle.terms.specs.Refusals.{None as NoCause, NoneOf}
+use Rattle.terms.specs.declared.Counts.{Counts}
 use Rattle.terms.proofs.Common.{clash, by_test}
 use Rattle.terms.proofs.Overwritten.{overwritten_front}
 use Rattle.terms.proofs.Verdicts.{at0_none}
@@ -205,65 +206,65 @@ module _ {n most : ℕ} {copy : ℕ → ℕ} (distinct : Distinct n most copy) w
   module _ (x : ℕ) where
     -- What is left to write passes the test.
     abbrev Goes : Bool → ℕ → ℕ → List ℕ → List ℕ → Type 0
-    Goes true last count names es = (mark wlast wcount : ℕ) (written : List ℕ) → Behind last count wlast wcount → Written names written
-        → prefix_passes most (left x copy true mark wlast es) (eqb wlast 0) false wlast wcount written ≡ true
+    Goes true last count names es = (wlast wcount : ℕ) (written : List ℕ) → Behind last count wlast wcount → Written names written
+        → prefix_passes most (left x copy None wlast es) (eqb wlast 0) false wlast wcount written ≡ true
     Goes false last count names es = (mark wlast wcount : ℕ) (written : List ℕ) → IsMark mark → (mark ≡ last) ⊎ (starts_zero es ≡ true) → Behind last count wlast wcount → Written names written
-        → prefix_passes most (left x copy false mark wlast es) (eqb wlast 0) false wlast wcount written ≡ true
+        → prefix_passes most (left x copy (Some mark) wlast es) (eqb wlast 0) false wlast wcount written ≡ true
 
     went : (last count : ℕ) (names more : List ℕ) (v : ℕ) → v ≢ 0 → v ≤ n → has names v ≡ false → Goes false last count (v ∷ names) more → Goes false last count names (v ∷ more)
     unfolding left starts_zero
     went last count names more v some low new on mark wlast wcount written good (inr t) b s = absurd (some (eqb-true v 0 t))
     went last count names more v some low new on mark wlast wcount written good (inl same) b s =
-        ap (λ e. prefix_passes most (cond e (left x copy true mark wlast more)
-        (cond (eqb v x) (left x copy false mark wlast more) (beginning mark wlast ++ (with_copy copy v ++ left x copy false mark mark more)))) (eqb
+        ap (λ e. prefix_passes most (cond e (left x copy None wlast more)
+        (cond (eqb v x) (left x copy (Some mark) wlast more) (beginning mark wlast ++ (with_copy copy v ++ left x copy (Some mark) mark more)))) (eqb
         wlast 0) false wlast wcount written) (ne_eqb v 0 some)
         ∙ by_test (eqb v x) gone stays
       where
         m : mark ≢ 0
         m = mark_some mark good
 
-        gone : eqb v x ≡ true → prefix_passes most (cond (eqb v x) (left x copy false mark wlast more)
-            (beginning mark wlast ++ (with_copy copy v ++ left x copy false mark mark more))) (eqb wlast 0) false wlast wcount written ≡ true
+        gone : eqb v x ≡ true → prefix_passes most (cond (eqb v x) (left x copy (Some mark) wlast more)
+            (beginning mark wlast ++ (with_copy copy v ++ left x copy (Some mark) mark more))) (eqb wlast 0) false wlast wcount written ≡ true
         gone t =
-            ap (λ e. prefix_passes most (cond e (left x copy false mark wlast more)
-            (beginning mark wlast ++ (with_copy copy v ++ left x copy false mark mark more))) (eqb wlast 0) false wlast wcount written) t
+            ap (λ e. prefix_passes most (cond e (left x copy (Some mark) wlast more)
+            (beginning mark wlast ++ (with_copy copy v ++ left x copy (Some mark) mark more))) (eqb wlast 0) false wlast wcount written) t
             ∙ on mark wlast wcount written good (inl same) b (named_only s v some low new)
 
         -- behind its own mark
-        next : (wcount' : ℕ) → wcount' ≤ count → (after : List ℕ) → Written (v ∷ names) after → prefix_passes most (left x copy false mark mark more) false false mark wcount' after ≡ true
+        next : (wcount' : ℕ) → wcount' ≤ count → (after : List ℕ) → Written (v ∷ names) after → prefix_passes most (left x copy (Some mark) mark more) false false mark wcount' after ≡ true
         next wcount' l after s' =
-            sym (ap (λ (o : Bool). prefix_passes most (left x copy false mark mark more) o false mark wcount' after) (ne_eqb mark 0 m))
+            sym (ap (λ (o : Bool). prefix_passes most (left x copy (Some mark) mark more) o false mark wcount' after) (ne_eqb mark 0 m))
             ∙ on mark mark wcount' after good (inl same) (record { few = b.few; most_count = l; less = λ other. absurd (other same) }) s'
 
-        laid : Dec (mark ≡ wlast) → prefix_passes most (beginning mark wlast ++ (with_copy copy v ++ left x copy false mark mark more)) (eqb wlast 0) false wlast wcount written ≡ true
-        laid (yes q) = pass_on s v some low new (left x copy false mark mark more) mark wlast wcount q m (next wcount b.most_count)
+        laid : Dec (mark ≡ wlast) → prefix_passes most (beginning mark wlast ++ (with_copy copy v ++ left x copy (Some mark) mark more)) (eqb wlast 0) false wlast wcount written ≡ true
+        laid (yes q) = pass_on s v some low new (left x copy (Some mark) mark more) mark wlast wcount q m (next wcount b.most_count)
         laid (no other) =
             let l = b.less (λ q. other (same ∙ sym q)) in
             let few = b.few in
-            pass_begun s v some low new (left x copy false mark mark more) mark wlast wcount other good (λ z. omega arith) (next (suc wcount) l)
+            pass_begun s v some low new (left x copy (Some mark) mark more) mark wlast wcount other good (λ z. omega arith) (next (suc wcount) l)
 
-        stays : eqb v x ≡ false → prefix_passes most (cond (eqb v x) (left x copy false mark wlast more)
-            (beginning mark wlast ++ (with_copy copy v ++ left x copy false mark mark more))) (eqb wlast 0) false wlast wcount written ≡ true
+        stays : eqb v x ≡ false → prefix_passes most (cond (eqb v x) (left x copy (Some mark) wlast more)
+            (beginning mark wlast ++ (with_copy copy v ++ left x copy (Some mark) mark more))) (eqb wlast 0) false wlast wcount written ≡ true
         stays f =
-            ap (λ e. prefix_passes most (cond e (left x copy false mark wlast more)
-            (beginning mark wlast ++ (with_copy copy v ++ left x copy false mark mark more))) (eqb wlast 0) false wlast wcount written) f
+            ap (λ e. prefix_passes most (cond e (left x copy (Some mark) wlast more)
+            (beginning mark wlast ++ (with_copy copy v ++ left x copy (Some mark) mark more))) (eqb wlast 0) false wlast wcount written) f
             ∙ laid (ℕ_discrete mark wlast)
 
     goes : {opening : Bool} {last count : ℕ} {names es : List ℕ} → Passes n opening last count names es → Goes opening last count names es
     unfolding left
-    goes no_more = λ mark wlast wcount written b s. ended wlast wcount written
-    goes (begin {mark} {last} {count} good new few d) = λ _ wlast wcount written b s.
+    goes no_more = λ wlast wcount written b s. ended wlast wcount written
+    goes (begin {mark} {last} {count} good new few d) = λ wlast wcount written b s.
         goes d mark wlast wcount written good (inl refl) (record { few = omega (arith, b.few, few); most_count = omega (arith, b.most_count); less = λ _. omega (arith, b.most_count) }) s
-    goes (go_on {mark} {last} {count} {names} {more} good old d) = λ _ wlast wcount written b s.
+    goes (go_on {mark} {last} {count} {names} {more} good old d) = λ wlast wcount written b s.
         goes d mark wlast wcount written good (by_test (starts_zero more) inr (λ f. inl (old_mark mark last more f old))) b s
-    goes (close_block d) = λ mark wlast wcount written good is b s. goes d mark wlast wcount written b s
+    goes (close_block d) = λ mark wlast wcount written good is b s. goes d wlast wcount written b s
     goes (name {v} {last} {count} {names} {more} some low new d) = went last count names more v some low new (goes d)
 
     -- So for a whole prefix.
     prefix_passes_lem : {es : List ℕ} → SoundPrefix n es → prefix_passes most (expanded_prefix x copy es) true false 0 0 [] ≡ true
     prefix_passes_lem {es} sound =
         sym (ap (λ (r : List ℕ). prefix_passes most r true false 0 0 []) (left_expanded x copy sound))
-        ∙ goes (passes (also_accepted sound.few sound.faultless)) 0 0 0 []
+        ∙ goes (passes (also_accepted sound.few sound.faultless)) 0 0 []
         (record { few = omega arith; most_count = omega arith; less = λ other. absurd (other refl) })
         (record { low = λ w t. absurd (clash t refl); each = λ w t. absurd (clash t refl) })
 
@@ -290,7 +291,7 @@ cut_low n (z ∷ zs) low = go (is_zero (variable_of z)) (cut (λ (literal : ℤ)
     go false [] all = tt
     go false (c ∷ cs) all = ((low.0, all.0), all.1)
 
-clauses_low : {n : ℕ} (ls : List ℤ) → None (ClauseCause n ls) → AllLow n (clauses ls)
+clauses_low : {n : ℕ} (ls : List ℤ) → NoCause (ClauseCause n ls) → AllLow n (clauses ls)
 unfolding clauses
 clauses_low {n} ls none =
     cut_low n ls
@@ -352,7 +353,7 @@ module _ {n most : ℕ} {copy : ℕ → ℕ} (distinct : Distinct n most copy) w
   table_passes [] all = refl
   table_passes (c ∷ cs) all = clause_passes c (clause_table cs) false all.0 (table_passes cs all.1)
 
-  clauses_pass_lem : (x : ℕ) (ls : List ℤ) → None (ClauseCause n ls) → clauses_pass most (expanded_clauses x copy ls) false ≡ true
+  clauses_pass_lem : (x : ℕ) (ls : List ℤ) → NoCause (ClauseCause n ls) → clauses_pass most (expanded_clauses x copy ls) false ≡ true
   unfolding expanded_clauses expanded_list
   clauses_pass_lem x ls none =
       let all = clauses_low ls none in
@@ -361,7 +362,7 @@ module _ {n most : ℕ} {copy : ℕ → ℕ} (distinct : Distinct n most copy) w
       (copies_low true x (clauses ls) all))
 
 -- An accepted formula expanded by the copies of some members, within the limits, is accepted.
-numbered_accepted : (f : Formula) (x : ℕ) (members : List ℕ) → SoundPrefix f.n f.prefix → None (ClauseCause f.n f.clauses)
+numbered_accepted : (f : Formula) (x : ℕ) (members : List ℕ) → SoundPrefix f.n f.prefix → NoCause (ClauseCause f.n f.clauses)
     → (let g = expanded_with (f.n + length members) x (copy_of f.n members) f in ¬ ManyVariables g → ¬ Long g → NoneOf (check_order 1 g))
 numbered_accepted f x members sound low few short =
     let g = expanded_with (f.n + length members) x (copy_of f.n members) f in
@@ -372,7 +373,7 @@ numbered_accepted f x members sound low few short =
       accepts g.n g.prefix g.clauses (omega arith) (omega arith) (omega arith) passes' (clauses_pass_lem (numbered f.n members) x f.clauses low),
     )
 
-expanded_accepted : (f : Formula) (x : ℕ) (members : List ℕ) → SoundPrefix f.n f.prefix → None (ClauseCause f.n f.clauses)
+expanded_accepted : (f : Formula) (x : ℕ) (members : List ℕ) → SoundPrefix f.n f.prefix → NoCause (ClauseCause f.n f.clauses)
     → ¬ ManyVariables (expanded_by f x members) → ¬ Long (expanded_by f x members) → NoneOf (check_order 1 (expanded_by f x members))
 expanded_accepted f x members sound low few short =
     let same = expanded_same x members f in
@@ -416,10 +417,9 @@ result_is out out' count entries literals g leaves =
     λ i. formula_of (sym leaves.count_is i) (sym front i) (sym fronts i)
 
 -- So it is a formula that check accepts, under rule 1 as under rule 2.
-pub result_accepted : (rule : ℕ) (f : Formula) (x : ℕ) (out out' : ResultTables) (count entries literals : ℕ)
-    → Expands rule f x out out' (Expanded.Formula count entries literals)
-    → NoneOf (check_order 1 (written out' count entries literals)) × NoneOf (check_order 2 (written out' count entries literals))
-result_accepted rule f x out out' count entries literals (none, (members, set, leaves)) =
+pub result_accepted : (rule : ℕ) (f : Formula) (x : ℕ) (out out' : ResultTables) (counts : Counts) → Expands rule f x out out' (Ok counts)
+    → NoneOf (check_order 1 (written out' counts.n counts.prefix counts.clauses)) × NoneOf (check_order 2 (written out' counts.n counts.prefix counts.clauses))
+result_accepted rule f x out out' counts (none, (members, set, leaves)) =
     let read = read_by rule f in
     let g = expanded_by read x members in
     let sound = read_sound rule f.n f.prefix (length f.clauses) (none.0, (none.1.0, (none.1.1.0, (none.1.1.1.0, tt)))) in
@@ -427,5 +427,5 @@ result_accepted rule f x out out' count entries literals (none, (members, set, l
     let few : ¬ ManyVariables g = λ over. behind.0 1 0 (refl, refl, (members, set, over)) in
     let short : ¬ Long g = λ over. behind.1.0 2 0 (refl, refl, (members, set, over)) in
     let accepted = expanded_accepted read x members sound none.1.1.1.1.0 few short in
-    subst (λ (h : Formula). NoneOf (check_order 1 h) × NoneOf (check_order 2 h)) (result_is out out' count entries literals g leaves)
+    subst (λ (h : Formula). NoneOf (check_order 1 h) × NoneOf (check_order 2 h)) (result_is out out' counts.n counts.prefix counts.clauses g leaves)
     (accepted, other_rule g accepted)

@@ -46,15 +46,16 @@ pub begun_new : (mark last : ℕ) {out mid after : List ℕ} {at k : ℕ} → ma
 begun_new mark last {k = k} other closed s = stored_as (sym (begin_new mark last other)) (stored_more (closing last) (mark ∷ []) closed (stored_one mark k s))
 
 -- A variable, and its copy behind it where it has one.
-module _ (copies : List ℕ) (v : ℕ) {out mid : List ℕ} (at : ℕ) {copy : ℕ} (first : Stored (v ∷ []) out mid at (at + 1)) (is : copy ≡ tabled copies v) where
-  pub placed_alone : copy ≡ 0 → Stored (with_copy (tabled copies) v) out mid at (at + 1)
+module _ (copies : List ℕ) (v : ℕ) {out mid : List ℕ} (at : ℕ) (first : Stored (v ∷ []) out mid at (at + 1)) where
+  pub placed_alone : tabled copies v ≡ 0 → Stored (with_copy (tabled copies) v) out mid at (at + 1)
   unfolding with_copy
-  placed_alone none = stored_as (sym (ap (λ b. cond b (v ∷ []) (v ∷ tabled copies v ∷ [])) (eq-eqb (tabled copies v) 0 (sym is ∙ none)))) first
+  placed_alone none = stored_as (sym (ap (λ b. cond b (v ∷ []) (v ∷ tabled copies v ∷ [])) (eq-eqb (tabled copies v) 0 none))) first
 
-  pub placed_both : {after : List ℕ} → copy ≢ 0 → Stored (copy ∷ []) mid after (at + 1) (at + 1 + 1) → Stored (with_copy (tabled copies) v) out after at (at + 2)
+  pub placed_both : {copy : ℕ} {after : List ℕ} → (tabled copies v ≢ 0) × (copy ≡ tabled copies v) → Stored (copy ∷ []) mid after (at + 1) (at + 1 + 1)
+      → Stored (with_copy (tabled copies) v) out after at (at + 2)
   unfolding with_copy
-  placed_both {after} some second =
+  placed_both {copy} {after} (some, is) second =
       let both : Stored (v ∷ copy ∷ []) out after at (at + 1 + 1) = stored_more (v ∷ []) (copy ∷ []) first second in
       let q : at + 1 + 1 ≡ at + 2 = omega arith in
       subst (λ (k : ℕ). Stored (with_copy (tabled copies) v) out after at k) q
-      (stored_as (ap (λ (k : ℕ). v ∷ k ∷ []) is ∙ sym (ap (λ b. cond b (v ∷ []) (v ∷ tabled copies v ∷ [])) (ne_eqb (tabled copies v) 0 (λ z. some (is ∙ z))))) both)
+      (stored_as (ap (λ (k : ℕ). v ∷ k ∷ []) is ∙ sym (ap (λ b. cond b (v ∷ []) (v ∷ tabled copies v ∷ [])) (ne_eqb (tabled copies v) 0 some))) both)

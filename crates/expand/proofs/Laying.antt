@@ -11,6 +11,7 @@ use borrow.Author.Tests.{eq-eqb, ne_eqb}
 use lib.Dec.{eqb}
 use lib.ListN.{length, drop, drop_of_length-le, length-append}
 use lib.Seq.{drop-cons}
+use Rattle.std.specs.Prelude.{Option, None, Some}
 use Rattle.formula.specs.InnerLevels.{SoundPrefix}
 use Rattle.formula.specs.Meaning.{blocks}
 use Rattle.formula.specs.Tables.{at, cut, push}
@@ -24,18 +25,18 @@ use Rattle.formula_rules.proofs.Agreement.{also_accepted}
 use Rattle.expand_clauses.specs.InnerCopies.{with_copy, placed, expanded_block, expanded_prefix}
 use Rattle.expand_clauses.specs.InnerCopied.{Stored}
 use Rattle.expand.specs.InnerWriting.{beginning}
-use Rattle.expand_clauses.proofs.Storing.{stored_as, Onward, onward_none, onward_as, onward_all, onward_more}
+use Rattle.expand_clauses.proofs.Storing.{stored_as, Onward, onward_as, onward_all, onward_more}
 use Rattle.expand.proofs.Blocking.{closing_most, begin_none, begin_new}
 
 module _ (x : ℕ) (copy : ℕ → ℕ) where
-  -- What is still to be written for what is left of a prefix: by whether a block may open, by the mark of the block that is read, and by the mark of the
-  -- block that is not closed yet, 0 if there is none.
-  unfoldable pub left : Bool → ℕ → ℕ → List ℕ → List ℕ
-  left opening mark last [] = closing last
-  left true mark last (entry ∷ more) = left false entry last more
-  left false mark last (entry ∷ more) =
-      cond (eqb entry 0) (left true mark last more)
-      (cond (eqb entry x) (left false mark last more) (beginning mark last ++ (with_copy copy entry ++ left false mark mark more)))
+  -- What is still to be written for what is left of a prefix: by the mark of the block that is read, where one is, and by the mark of the block that is not
+  -- closed yet, 0 if there is none.
+  unfoldable pub left : Option ℕ → ℕ → List ℕ → List ℕ
+  left block last [] = closing last
+  left None last (entry ∷ more) = left (Some entry) last more
+  left (Some mark) last (entry ∷ more) =
+      cond (eqb entry 0) (left None last more)
+      (cond (eqb entry x) (left (Some mark) last more) (beginning mark last ++ (with_copy copy entry ++ left (Some mark) mark more)))
 
   abbrev expanded : List (List ℕ) → List (List ℕ)
   expanded bs = joined_blocks (map (expanded_block x copy) bs)
@@ -75,10 +76,10 @@ module _ (x : ℕ) (copy : ℕ → ℕ) where
     variables : List ℕ
     later : List (List ℕ)
     is : blocks es ≡ variables ∷ later
-    written : (mark last : ℕ) → mark ≢ 0 → left false mark last es ≡ laid last (in_front (mark ∷ placed x copy variables) (expanded later))
+    written : (mark last : ℕ) → mark ≢ 0 → left (Some mark) last es ≡ laid last (in_front (mark ∷ placed x copy variables) (expanded later))
 
   abbrev Left : Bool → List ℕ → Type 0
-  Left true es = (mark last : ℕ) → left true mark last es ≡ laid last (expanded (blocks es))
+  Left true es = (last : ℕ) → left None last es ≡ laid last (expanded (blocks es))
   Left false es = Inside es
 
   named : (v : ℕ) (more : List ℕ) → v ≢ 0 → Inside more → Inside (v ∷ more)
@@ -89,22 +90,22 @@ module _ (x : ℕ) (copy : ℕ → ℕ) where
         later = s.later;
         is = blocks_cons v more some ∙ ap (push v) s.is;
         written = λ mark last m.
-            ap (λ b. cond b (left true mark last more) (cond (eqb v x) (left false mark last more) (beginning mark last ++ (with_copy copy v ++ left false mark mark more)))) (ne_eqb v 0 some)
+            ap (λ b. cond b (left None last more) (cond (eqb v x) (left (Some mark) last more) (beginning mark last ++ (with_copy copy v ++ left (Some mark) mark more)))) (ne_eqb v 0 some)
             ∙ by_test (eqb v x) (gone mark last m) (stays mark last m);
       }
     where
-      gone : (mark last : ℕ) → mark ≢ 0 → eqb v x ≡ true → cond (eqb v x) (left false mark last more)
-          (beginning mark last ++ (with_copy copy v ++ left false mark mark more)) ≡ laid last
+      gone : (mark last : ℕ) → mark ≢ 0 → eqb v x ≡ true → cond (eqb v x) (left (Some mark) last more)
+          (beginning mark last ++ (with_copy copy v ++ left (Some mark) mark more)) ≡ laid last
           (in_front (mark ∷ cond (eqb v x) (placed x copy s.variables) (with_copy copy v ++ placed x copy s.variables)) (expanded s.later))
       gone mark last m t =
-          ap (λ b. cond b (left false mark last more) (beginning mark last ++ (with_copy copy v ++ left false mark mark more))) t ∙ s.written mark last m
+          ap (λ b. cond b (left (Some mark) last more) (beginning mark last ++ (with_copy copy v ++ left (Some mark) mark more))) t ∙ s.written mark last m
           ∙ sym (ap (λ b. laid last (in_front (mark ∷ cond b (placed x copy s.variables) (with_copy copy v ++ placed x copy s.variables)) (expanded s.later))) t)
 
-      stays : (mark last : ℕ) → mark ≢ 0 → eqb v x ≡ false → cond (eqb v x) (left false mark last more)
-          (beginning mark last ++ (with_copy copy v ++ left false mark mark more)) ≡ laid last
+      stays : (mark last : ℕ) → mark ≢ 0 → eqb v x ≡ false → cond (eqb v x) (left (Some mark) last more)
+          (beginning mark last ++ (with_copy copy v ++ left (Some mark) mark more)) ≡ laid last
           (in_front (mark ∷ cond (eqb v x) (placed x copy s.variables) (with_copy copy v ++ placed x copy s.variables)) (expanded s.later))
       stays mark last m f =
-          ap (λ b. cond b (left false mark last more) (beginning mark last ++ (with_copy copy v ++ left false mark mark more))) f
+          ap (λ b. cond b (left (Some mark) last more) (beginning mark last ++ (with_copy copy v ++ left (Some mark) mark more))) f
           ∙ ap (λ (r : List ℕ). beginning mark last ++ (with_copy copy v ++ r)) (s.written mark mark m ∙ laid_own mark (placed x copy s.variables) (expanded s.later) m)
           ∙ laid_variable mark last v (placed x copy s.variables) (expanded s.later) m
           ∙ sym (ap (λ b. laid last (in_front (mark ∷ cond b (placed x copy s.variables) (with_copy copy v ++ placed x copy s.variables)) (expanded s.later))) f)
@@ -112,24 +113,24 @@ module _ (x : ℕ) (copy : ℕ → ℕ) where
   opened : (m : ℕ) (more : List ℕ) → m ≢ 0 → Inside more → Left true (m ∷ more)
   unfolding left joined_blocks expanded_block
   opened m more some s =
-      λ _ last. s.written m last some ∙ sym (ap (λ (bs : List (List ℕ)). laid last (expanded bs)) (blocks_cons m more some ∙ ap (push m) s.is))
+      λ last. s.written m last some ∙ sym (ap (λ (bs : List (List ℕ)). laid last (expanded bs)) (blocks_cons m more some ∙ ap (push m) s.is))
 
   left_is : {n : ℕ} {opening : Bool} {last count : ℕ} {names es : List ℕ} → Passes n opening last count names es → Left opening es
   unfolding left laid joined_blocks blocks cut table_of closing expanded_block in_front placed
-  left_is no_more = λ mark last. ending last
+  left_is no_more = ending
     where
       ending : (last : ℕ) → closing last ≡ laid last []
       ending zero = refl
       ending (suc last) = refl
   left_is (begin {mark} {more = more} good new few d) = opened mark more (mark_some mark good) (left_is d)
   left_is (go_on {mark} {more = more} good old d) = opened mark more (mark_some mark good) (left_is d)
-  left_is (close_block {more = more} d) = record { variables = []; later = blocks more; is = refl; written = λ mark last m. left_is d mark last }
+  left_is (close_block {more = more} d) = record { variables = []; later = blocks more; is = refl; written = λ mark last m. left_is d last }
   left_is (name {v} {more = more} some low new d) = named v more some (left_is d)
 
   -- So for a whole prefix.
-  pub left_expanded : {n : ℕ} {es : List ℕ} → SoundPrefix n es → left true 0 0 es ≡ expanded_prefix x copy es
+  pub left_expanded : {n : ℕ} {es : List ℕ} → SoundPrefix n es → left None 0 es ≡ expanded_prefix x copy es
   unfolding expanded_prefix laid
-  left_expanded sound = left_is (passes (also_accepted sound.few sound.faultless)) 0 0
+  left_expanded sound = left_is (passes (also_accepted sound.few sound.faultless)) 0
 
 -- the parts of a block are at most two entries each
 begin_most : (mark last : ℕ) → length (beginning mark last) ≤ 2
@@ -148,62 +149,56 @@ copy_most copy v = by (eqb (copy v) 0)
     by false = omega arith
 
 -- The entries before i are passed, and what they give is stored.
-pub record Laid (x : ℕ) (copy : ℕ → ℕ) (es out₀ : List ℕ) (i : ℕ) (opening : Bool) (mark last : ℕ) (out : List ℕ) (count : ℕ) : Type 0 where
+pub record Laid (x : ℕ) (copy : ℕ → ℕ) (es out₀ : List ℕ) (i : ℕ) (block : Option ℕ) (last : ℕ) (out : List ℕ) (count : ℕ) : Type 0 where
   pub within : i ≤ length es
   pub few : count ≤ 4 * i
-  pub on : Onward (left x copy true 0 0 es) out₀ 0 (left x copy opening mark last (drop i es)) out count
+  pub on : Onward (left x copy None 0 es) out₀ 0 (left x copy block last (drop i es)) out count
 
-pub laid_none : (x : ℕ) (copy : ℕ → ℕ) (es out : List ℕ) → Laid x copy es out 0 true 0 0 out 0
-laid_none x copy es out = record { within = omega arith; few = omega arith; on = onward_none }
-
-module _ {x : ℕ} {copy : ℕ → ℕ} {es out₀ : List ℕ} {i : ℕ} {opening : Bool} {mark last : ℕ} {out : List ℕ} {count : ℕ} (s : Laid x copy es out₀ i opening mark last out count) where
+module _ {x : ℕ} {copy : ℕ → ℕ} {es out₀ : List ℕ} {i : ℕ} {block : Option ℕ} {last : ℕ} {out : List ℕ} {count : ℕ} (s : Laid x copy es out₀ i block last out count) where
   module _ (more : i < length es) where
-    here : left x copy opening mark last (drop i es) ≡ left x copy opening mark last (at es i ∷ drop (suc i) es)
-    here = ap (left x copy opening mark last) (drop-cons es i 0 more)
+    here : {block' : Option ℕ} → block ≡ block' → left x copy block last (drop i es) ≡ left x copy block' last (at es i ∷ drop (suc i) es)
+    here is = λ j. left x copy (is j) last (drop-cons es i 0 more j)
 
-    pub laid_mark : opening ≡ true → Laid x copy es out₀ (i + 1) false (at es i) last out count
+    pub laid_mark : block ≡ None → Laid x copy es out₀ (i + 1) (Some (at es i)) last out count
     unfolding left
-    laid_mark t =
-        rw (add-one i)
-        record { within = more; few = omega (arith, s.few); on = onward_as s.on (here ∙ ap (λ o. left x copy o mark last (at es i ∷ drop (suc i) es)) t) }
+    laid_mark none = rw (add-one i) record { within = more; few = omega (arith, s.few); on = onward_as s.on (here none) }
 
-    module _ (shut : opening ≡ false) where
-      inside : left x copy opening mark last (drop i es) ≡ cond (eqb (at es i) 0) (left x copy true mark last (drop (suc i) es))
-          (cond (eqb (at es i) x) (left x copy false mark last (drop (suc i) es))
-          (beginning mark last ++ (with_copy copy (at es i) ++ left x copy false mark mark (drop (suc i) es))))
+    module _ {mark : ℕ} (is : block ≡ Some mark) where
+      inside : left x copy block last (drop i es) ≡ cond (eqb (at es i) 0) (left x copy None last (drop (suc i) es))
+          (cond (eqb (at es i) x) (left x copy (Some mark) last (drop (suc i) es))
+          (beginning mark last ++ (with_copy copy (at es i) ++ left x copy (Some mark) mark (drop (suc i) es))))
       unfolding left
-      inside = here ∙ ap (λ o. left x copy o mark last (at es i ∷ drop (suc i) es)) shut
+      inside = here is
 
-      pub laid_close : at es i ≡ 0 → Laid x copy es out₀ (i + 1) true mark last out count
+      pub laid_close : at es i ≡ 0 → Laid x copy es out₀ (i + 1) None last out count
       laid_close z =
           rw (add-one i)
           record {
             within = more;
             few = omega (arith, s.few);
             on = onward_as s.on
-                (inside ∙ ap (λ b. cond b (left x copy true mark last (drop (suc i) es))
-                (cond (eqb (at es i) x) (left x copy false mark last (drop (suc i) es))
-                (beginning mark last ++ (with_copy copy (at es i) ++ left x copy false mark mark (drop (suc i) es))))) (eq-eqb (at es i) 0 z));
+                (inside ∙ ap (λ b. cond b (left x copy None last (drop (suc i) es))
+                (cond (eqb (at es i) x) (left x copy (Some mark) last (drop (suc i) es))
+                (beginning mark last ++ (with_copy copy (at es i) ++ left x copy (Some mark) mark (drop (suc i) es))))) (eq-eqb (at es i) 0 z));
           }
 
       module _ (some : at es i ≢ 0) where
-        variable : left x copy opening mark last (drop i es) ≡ cond (eqb (at es i) x) (left x copy false mark last (drop (suc i) es))
-            (beginning mark last ++ (with_copy copy (at es i) ++ left x copy false mark mark (drop (suc i) es)))
+        variable : left x copy block last (drop i es) ≡ cond (eqb (at es i) x) (left x copy (Some mark) last (drop (suc i) es))
+            (beginning mark last ++ (with_copy copy (at es i) ++ left x copy (Some mark) mark (drop (suc i) es)))
         variable =
-            inside ∙ ap (λ b. cond b (left x copy true mark last (drop (suc i) es))
-            (cond (eqb (at es i) x) (left x copy false mark last (drop (suc i) es))
-            (beginning mark last ++ (with_copy copy (at es i) ++ left x copy false mark mark (drop (suc i) es))))) (ne_eqb (at es i) 0 some)
+            inside ∙ ap (λ b. cond b (left x copy None last (drop (suc i) es))
+            (cond (eqb (at es i) x) (left x copy (Some mark) last (drop (suc i) es))
+            (beginning mark last ++ (with_copy copy (at es i) ++ left x copy (Some mark) mark (drop (suc i) es))))) (ne_eqb (at es i) 0 some)
 
-        pub laid_x : at es i ≡ x → Laid x copy es out₀ (i + 1) opening mark last out count
+        pub laid_x : at es i ≡ x → Laid x copy es out₀ (i + 1) (Some mark) last out count
         laid_x q =
             rw (add-one i)
             record {
               within = more;
               few = omega (arith, s.few);
               on = onward_as s.on
-                  (variable ∙ ap (λ b. cond b (left x copy false mark last (drop (suc i) es))
-                  (beginning mark last ++ (with_copy copy (at es i) ++ left x copy false mark mark (drop (suc i) es)))) (eq-eqb (at es i) x q)
-                  ∙ ap (λ o. left x copy o mark last (drop (suc i) es)) (sym shut));
+                  (variable ∙ ap (λ b. cond b (left x copy (Some mark) last (drop (suc i) es))
+                  (beginning mark last ++ (with_copy copy (at es i) ++ left x copy (Some mark) mark (drop (suc i) es)))) (eq-eqb (at es i) x q));
             }
 
         -- The block begins where it has not, and the variable follows with its copy.
@@ -211,23 +206,22 @@ module _ {x : ℕ} {copy : ℕ → ℕ} {es out₀ : List ℕ} {i : ℕ} {openin
           pub begun_few : k ≤ 4 * i + 2
           begun_few = omega (arith, begun.count, begin_most mark last, s.few)
 
-          pub laid_variable_on : {out' : List ℕ} {count' v : ℕ} → v ≡ at es i → at es i ≢ x → Stored (with_copy copy v) mid out' k count' → Laid x copy es out₀ (i + 1) opening mark mark out' count'
-          laid_variable_on {out'} {count'} is other stored =
-              let placed' = stored_as (ap (with_copy copy) is) stored in
+          pub laid_variable_on : {out' : List ℕ} {count' v : ℕ} → v ≡ at es i → at es i ≢ x → Stored (with_copy copy v) mid out' k count'
+              → Laid x copy es out₀ (i + 1) (Some mark) mark out' count'
+          laid_variable_on {out'} {count'} same other stored =
+              let placed' = stored_as (ap (with_copy copy) same) stored in
               rw (add-one i)
               record {
                 within = more;
                 few = omega (arith, placed'.count, copy_most copy (at es i), begun_few);
-                on = onward_as
-                    (onward_more (with_copy copy (at es i)) (left x copy false mark mark (drop (suc i) es))
-                    (onward_more (beginning mark last) (with_copy copy (at es i) ++ left x copy false mark mark (drop (suc i) es))
-                    (onward_as s.on (variable ∙ ap (λ b. cond b (left x copy false mark last (drop (suc i) es))
-                    (beginning mark last ++ (with_copy copy (at es i) ++ left x copy false mark mark (drop (suc i) es)))) (ne_eqb (at es i) x other)))
-                    begun) placed')
-                    (ap (λ o. left x copy o mark mark (drop (suc i) es)) (sym shut));
+                on = onward_more (with_copy copy (at es i)) (left x copy (Some mark) mark (drop (suc i) es))
+                    (onward_more (beginning mark last) (with_copy copy (at es i) ++ left x copy (Some mark) mark (drop (suc i) es))
+                    (onward_as s.on (variable ∙ ap (λ b. cond b (left x copy (Some mark) last (drop (suc i) es))
+                    (beginning mark last ++ (with_copy copy (at es i) ++ left x copy (Some mark) mark (drop (suc i) es)))) (ne_eqb (at es i) x other)))
+                    begun) placed';
               }
 
   -- At the end the last block is closed, and the expanded prefix stands in front.
   pub laid_all : {n : ℕ} {out' : List ℕ} {end : ℕ} → SoundPrefix n es → length es ≤ i → Stored (closing last) out out' count end → Stored (expanded_prefix x copy es) out₀ out' 0 end
   unfolding left
-  laid_all sound done closed = stored_as (left_expanded x copy sound) (onward_all (onward_as s.on (ap (left x copy opening mark last) (drop_of_length-le es done))) closed)
+  laid_all sound done closed = stored_as (left_expanded x copy sound) (onward_all (onward_as s.on (ap (left x copy block last) (drop_of_length-le es done))) closed)

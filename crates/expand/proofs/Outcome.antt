@@ -8,13 +8,15 @@ use native.Mathlib.Omega.{arith}
 use lib.Dec.{eqb}
 use lib.ListN.{length, get_or, take}
 use lib.Seq.{sets, length-sets}
+use Rattle.std.specs.Prelude.{Ok, Err}
 use Rattle.terms.specs.Limits.{most_variables}
 use Rattle.terms.specs.InnerLimits.{variable_rows}
+use Rattle.terms.specs.Says.{counts_said, Answer, fault_number, refused}
 use Rattle.terms.specs.Refusals.{Causes, At0}
-use Rattle.terms.specs.declared.Expanded.{Expanded}
+use Rattle.terms.specs.declared.Counts.{Counts}
+use Rattle.terms.specs.declared.Fault.TheVariants.{TooManyVariables}
 use Rattle.terms.proofs.Listed.{listed_one, listed_most}
 use Rattle.terms.proofs.Overwritten.{stored_overwritten, overwritten_front}
-use Rattle.terms.specs.Says.{expanded_said}
 use Rattle.terms.proofs.Answers.{carry_settles}
 use Rattle.terms.proofs.Orders.{Carries, one_more, same_order, carries_then, behind_none}
 use Rattle.terms.proofs.Verdicts.{at0_first, at0_none}
@@ -73,10 +75,10 @@ module _ (f : Formula) (x : ℕ) (sound : SoundPrefix f.n f.prefix) {before afte
       subst (SetOf f x) (sym (ap (λ (k : ℕ). take k after) all ∙ ap (take (length list)) (put ∙ stored_overwritten list before short) ∙ overwritten_front list before)) set
 
 -- What is promised by one order is promised by another that says as much.
-pub carry_expands : (f : Formula) (x : ℕ) (out out' : ResultTables) (r : Expanded) (order order' : List Causes)
+pub carry_expands : (f : Formula) (x : ℕ) (out out' : ResultTables) (r : Answer Counts) (order order' : List Causes)
     → Carries order order' → ExpandsBy order f x out out' r → ExpandsBy order' f x out out' r
 carry_expands f x out out' r =
-    carry_settles (λ (counts : ℕ × ℕ × ℕ). OfExpanded f x (LeavesFormula out out' counts.0 counts.1 counts.2)) (out' ≡ out) (expanded_said r)
+    carry_settles (λ (counts : ℕ × ℕ × ℕ). OfExpanded f x (LeavesFormula out out' counts.0 counts.1 counts.2)) (out' ≡ out) (counts_said r)
 
 module _ (f : Formula) (x : ℕ) {members : List ℕ} (set : SetOf f x members) (out : ResultTables) where
   abbrev result : Formula
@@ -98,10 +100,10 @@ module _ (f : Formula) (x : ℕ) {members : List ℕ} (set : SetOf f x members) 
       (one_more (At0 14 (Short out result)) (At0 14 (OfExpanded f x (Short out))) (there (Short out) 14) (back (Short out) 14) (same_order []))
 
   -- The result has too many variables; or it is written, or refused as what is to be written is.
-  pub expand_many : ManyVariables result → ExpandsBy (result_order f x out) f x out out (Expanded.Refused 1 0)
+  pub expand_many : ManyVariables result → ExpandsBy (result_order f x out) f x out out (refused TooManyVariables 0)
   expand_many over = (inl (at0_first 1 (members, set, over)), refl)
 
-  pub expand_filled : (out' : ResultTables) → ¬ ManyVariables result → (r : Expanded)
+  pub expand_filled : (out' : ResultTables) → ¬ ManyVariables result → (r : Answer Counts)
       → Fits result out out' r → ExpandsBy (result_order f x out) f x out out' r
   expand_filled out' few = by
     where
@@ -111,6 +113,6 @@ module _ (f : Formula) (x : ℕ) {members : List ℕ} (set : SetOf f x members) 
           (behind_none (At0 1 (OfExpanded f x ManyVariables) ∷ []) (At0 2 (OfExpanded f x Long) ∷ At0 14 (OfExpanded f x (Short out)) ∷ [])
           (at0_none 1 (λ w. few (of_result ManyVariables w)), tt))
 
-      by : (r : Expanded) → Fits result out out' r → ExpandsBy (result_order f x out) f x out out' r
-      by (Expanded.Formula count entries literals) (none, leaves) = (whole.none none, (members, set, leaves))
-      by (Expanded.Refused number place) (first, same) = (whole.first number place first, same)
+      by : (r : Answer Counts) → Fits result out out' r → ExpandsBy (result_order f x out) f x out out' r
+      by (Ok counts) (none, leaves) = (whole.none none, (members, set, leaves))
+      by (Err refusal) (first, same) = (whole.first (fault_number refusal.0) refusal.1 first, same)

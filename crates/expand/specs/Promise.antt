@@ -1,16 +1,16 @@
 -- What expanding one universal promises (rule 12.1): the order in which it looks for refusals (rule 8.5), its answer, and what it leaves in the lent
 -- tables. All but the order of check speaks of the formula as the reading rule reads it.
+use denote.Triple.Both.{Both}
 use Rattle.std.specs.Prelude.{ℕ, ◌+◌, ◌<◌, ◌≡◌, List, [], ◌∷◌, ◌⊎◌, ℤ, length}
 use Rattle.std.specs.Borrow.{MutBor}
-use denote.Triple.Both.{Both}
 use Rattle.terms.specs.Limits.{most_variables, prefix_entries, clause_entries}
 use Rattle.terms.specs.Listed.{Listed}
 use Rattle.terms.specs.Overwritten.{overwritten}
-use Rattle.terms.specs.Says.{expanded_said}
+use Rattle.terms.specs.Says.{counts_said, Answer}
 use Rattle.terms.specs.Answers.{Settles}
 use Rattle.terms.specs.Refusals.{Causes, At0}
-use Rattle.terms.specs.declared.Expanded.{Expanded}
 use Rattle.terms.specs.declared.Scheme.TheVariants.{Standard}
+use Rattle.terms.specs.declared.Counts.{Counts}
 use Rattle.formula.specs.Causes.{VariableCount, LengthCause, ClauseCause}
 use Rattle.formula.specs.Lent.{Formula, formula_of}
 use Rattle.formula_rules.specs.Rules.{read_as, read_by, RuleCause, PrefixCauseBy}
@@ -84,10 +84,10 @@ pub record LeavesFormula (out out' : ResultTables) (count entries literals : ℕ
   pub clauses_is : out'.clauses ≡ overwritten g.clauses out.clauses
 
 -- What the call answers by an order of refusals, and by the formula as it is read; a refusal leaves both tables.
-abbrev pub ExpandsBy : List Causes → Formula → ℕ → ResultTables → ResultTables → Expanded → Type 0
+abbrev pub ExpandsBy : List Causes → Formula → ℕ → ResultTables → ResultTables → Answer Counts → Type 0
 ExpandsBy order f x out out' answer =
-    Settles order (λ (counts : ℕ × ℕ × ℕ). OfExpanded f x (LeavesFormula out out' counts.0 counts.1 counts.2)) (out' ≡ out) (expanded_said answer)
+    Settles order (λ (counts : ℕ × ℕ × ℕ). OfExpanded f x (LeavesFormula out out' counts.0 counts.1 counts.2)) (out' ≡ out) (counts_said answer)
 
 -- What the call promises.
-abbrev pub Expands : ℕ → Formula → ℕ → ResultTables → ResultTables → Expanded → Type 0
+abbrev pub Expands : ℕ → Formula → ℕ → ResultTables → ResultTables → Answer Counts → Type 0
 Expands rule f x out = ExpandsBy (expand_order rule f x out) (read_by rule f) x out

@@ -7,7 +7,7 @@ ghost use Rattle.expand_clauses.specs.InnerCopies.{with_copy, expanded_prefix};
 ghost use Rattle.expand_clauses.specs.InnerCopied.{Stored, tabled};
 ghost use Rattle.expand.specs.InnerWriting.{beginning};
 
-use expand_clauses::stores::{copy_at, store_entry};
+use expand_clauses::stores::{copy_at, store};
 use terms::Variable;
 
 // Writes the prefix into a table as far as that has rows, and gives the count of all entries. A block begins with its first variable that stays.
@@ -16,27 +16,21 @@ pub fn lay(prefix: &[u32], x: Variable, copies: &[u32], out: &mut [u32]) -> usiz
     ensures stored { Stored (expanded_prefix x.0 (tabled copies.now) prefix.now)
         out.old out.new 0 result }
 {
-    let mut opens = true;
-    let mut mark: u32 = 0;
+    // the mark of the block that is read, where one is
+    let mut block = None;
     let mut last: u32 = 0;
     let mut count = 0;
-    let mut i = 0;
-    while i < prefix.len() {
-        let entry = prefix[i];
-        if opens {
-            mark = entry;
-            opens = false;
-            i += 1;
-        } else if entry == 0 {
-            opens = true;
-            i += 1;
-        } else if entry == x.0 {
-            i += 1;
-        } else {
+    for &entry in prefix {
+        let Some(mark) = block else {
+            block = Some(entry);
+            continue;
+        };
+        if entry == 0 {
+            block = None;
+        } else if entry != x.0 {
             let begun = begin(mark, last, out, count);
             count = place(copies, Variable::new(entry), out, begun);
             last = mark;
-            i += 1;
         }
     }
     close(last, out, count)
@@ -51,7 +45,7 @@ fn begin(mark: u32, last: u32, out: &mut [u32], at: usize) -> usize
         return at;
     }
     let closed = close(last, out, at);
-    store_entry(out, closed, mark);
+    store(out, closed, mark);
     closed + 1
 }
 
@@ -63,7 +57,7 @@ fn close(last: u32, out: &mut [u32], at: usize) -> usize
     if last == 0 {
         return at;
     }
-    store_entry(out, at, 0);
+    store(out, at, 0);
     at + 1
 }
 
@@ -72,11 +66,10 @@ fn place(copies: &[u32], v: Variable, out: &mut [u32], at: usize) -> usize
     requires within { at ≤ 65536 }
     ensures stored { Stored (with_copy (tabled copies.now) v.0) out.old out.new at result }
 {
-    store_entry(out, at, v.0);
-    let copy = copy_at(copies, v);
-    if copy.0 == 0 {
+    store(out, at, v.0);
+    let Some(copy) = copy_at(copies, v) else {
         return at + 1;
-    }
-    store_entry(out, at + 1, copy.0);
+    };
+    store(out, at + 1, copy.0);
     at + 2
 }

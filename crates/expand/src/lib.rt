@@ -5,26 +5,24 @@
 mod blocks;
 mod members;
 
-ghost use Rattle.std.specs.Prelude.{ℕ, ◌≤◌, ◌≡◌, length};
+ghost use Rattle.std.specs.Prelude.{ℕ, ◌≡◌, length};
 ghost use Rattle.formula.specs.Lent.{formula_of, formula_in};
 ghost use Rattle.formula.specs.InnerLevels.{SoundPrefix};
 ghost use Rattle.formula.specs.InnerLookup.{SoundClauses};
-ghost use Rattle.formula.specs.Meaning.{level};
-ghost use Rattle.forest_tables.specs.Formula.{universal};
 ghost use Rattle.expand_clauses.specs.InnerCopies.{expanded_prefix, expanded_clauses};
 ghost use Rattle.expand_clauses.specs.InnerCopied.{tabled, Copies};
 ghost use Rattle.expand.specs.Promise.{result_in, result_out, SetOf, ExpandsBy, Expands};
 ghost use Rattle.expand.specs.InnerOrders.{result_order, behind_expand};
-ghost use Rattle.expand.specs.InnerWriting.{expanded_with, Fits};
+ghost use Rattle.expand.specs.InnerWriting.{UniversalLevel, expanded_with, Fits};
 
 use blocks::lay;
 use expand_clauses::literals::copy_clauses;
 use expand_clauses::numbers::number;
 use forest_tables::rows::{level_at, universal_at};
 use formula_levels::fill_levels;
-use formula_rules::{as_read, read_formula};
+use formula_rules::take_formula;
 use members::find;
-use terms::{Expanded, Filled, Level, Literal, Variable};
+use terms::{Counts, Fault, Level, Literal, Refusal, Variable};
 
 // Writes the formula with the universal x expanded, its prefix read by a rule: the standard set of x is found from the clauses and gets copies
 // numbered from n + 1.
@@ -36,18 +34,13 @@ pub fn expand(
     x: Variable,
     out_prefix: &mut [u32],
     out_clauses: &mut [i32],
-) -> Expanded
+) -> Result<Counts, Refusal>
     ensures expanded { Expands rule (formula_in n prefix clauses) x.0
         (result_in out_prefix out_clauses) (result_out out_prefix out_clauses) result }
 {
     let mut joined = [0u32; Level::JOINED];
-    match read_formula(rule, n, prefix, clauses, &mut joined) {
-        Filled::Refused(number, place) => Expanded::Refused(number, place),
-        Filled::Count(count) => {
-            let read = as_read(rule, prefix, &joined, count);
-            sound_expand(n, read, clauses, x, out_prefix, out_clauses)
-        }
-    }
+    let read = take_formula(rule, n, prefix, clauses, &mut joined)?;
+    sound_expand(n, read, clauses, x, out_prefix, out_clauses)
 }
 
 // Expands x in an accepted formula, if it is universal: its set is found first.
@@ -58,17 +51,16 @@ fn sound_expand(
     x: Variable,
     out_prefix: &mut [u32],
     out_clauses: &mut [i32],
-) -> Expanded
+) -> Result<Counts, Refusal>
     requires sound { SoundPrefix n prefix.now × SoundClauses clauses.now }
     ensures expanded { ExpandsBy (behind_expand (formula_in n prefix clauses) x.0 (result_in out_prefix out_clauses))
         (formula_in n prefix clauses) x.0 (result_in out_prefix out_clauses) (result_out out_prefix out_clauses) result }
 {
-    let standing = look_up(n, prefix, x);
-    if !standing.universal {
-        return Expanded::Refused(13, 0);
-    }
+    let Some(level) = universal_level(n, prefix, x) else {
+        return Err(Refusal(Fault::NotAskable, 0));
+    };
     let mut members = [0u32; Variable::ROWS];
-    let size = find(n, prefix, clauses, x, standing.level, &mut members);
+    let size = find(n, prefix, clauses, x, level, &mut members);
     expand_set(
         n,
         prefix,
@@ -80,26 +72,18 @@ fn sound_expand(
     )
 }
 
-// Where a variable stands in the prefix: whether it is universal, and its level.
-#[derive(Clone, Copy)]
-struct Standing {
-    universal: bool,
-    level: Level,
-}
-
-// Looks a variable up, in a level table that is gone before the set is searched for: both at a time would take a fifth more of the stack.
-fn look_up(n: u32, prefix: &[u32], x: Variable) -> Standing
+// The level of a variable, where it is universal, by tables that are gone before the set is searched for: both at a time would take a fifth more of the stack.
+fn universal_level(n: u32, prefix: &[u32], x: Variable) -> Option<Level>
     requires sound { SoundPrefix n prefix.now }
-    ensures universal { result.universal ≡ universal n prefix.now x.0 }
-    ensures level { x.0 ≤ n → result.level.0 ≡ level prefix.now x.0 }
+    ensures found { UniversalLevel n prefix.now x.0 result }
 {
     let mut levels = [0u32; Variable::ROWS];
     let mut universals = [false; Variable::ROWS];
     fill_levels(prefix, &mut levels, &mut universals);
-    Standing {
-        universal: universal_at(n, &universals, x),
-        level: level_at(&levels, x),
+    if !universal_at(n, &universals, x) {
+        return None;
     }
+    Some(level_at(&levels, x))
 }
 
 // Expands x by the list of its set: each member gets a copy, if the result has no more variables than a formula may have.
@@ -111,7 +95,7 @@ fn expand_set(
     members: &[u32],
     out_prefix: &mut [u32],
     out_clauses: &mut [i32],
-) -> Expanded
+) -> Result<Counts, Refusal>
     requires sound { SoundPrefix n prefix.now × SoundClauses clauses.now }
     requires set { SetOf (formula_of n prefix.now clauses.now) x.0 members.now }
     ensures expanded { ExpandsBy (result_order (formula_in n prefix clauses) x.0 (result_in out_prefix out_clauses))
@@ -119,7 +103,7 @@ fn expand_set(
 {
     let count = n + members.len() as u32;
     if Variable::MOST < count {
-        return Expanded::Refused(1, 0);
+        return Err(Refusal(Fault::TooManyVariables, 0));
     }
     let mut copies = [0u32; Variable::ROWS];
     number(n, members, &mut copies);
@@ -135,28 +119,32 @@ fn fill(
     copies: &[u32],
     out_prefix: &mut [u32],
     out_clauses: &mut [i32],
-) -> Expanded
+) -> Result<Counts, Refusal>
     requires sound { ((n : ℕ) × SoundPrefix n prefix.now) × SoundClauses clauses.now × Copies copies.now }
     ensures fits { Fits (expanded_with count x.0 (tabled copies.now) (formula_in count prefix clauses))
         (result_in out_prefix out_clauses) (result_out out_prefix out_clauses) result }
 {
     let entries = prefix_entries(prefix, x, copies);
     if Level::ENTRIES < entries {
-        return Expanded::Refused(2, 0);
+        return Err(Refusal(Fault::TooManyEntries, 0));
     }
     let literals = clause_entries(clauses, x, copies);
     if Literal::ENTRIES < literals {
-        return Expanded::Refused(2, 0);
+        return Err(Refusal(Fault::TooManyEntries, 0));
     }
     if out_prefix.len() < entries {
-        return Expanded::Refused(14, 0);
+        return Err(Refusal(Fault::TooLittleRoom, 0));
     }
     if out_clauses.len() < literals {
-        return Expanded::Refused(14, 0);
+        return Err(Refusal(Fault::TooLittleRoom, 0));
     }
     lay(prefix, x, copies, out_prefix);
     copy_clauses(clauses, x, copies, out_clauses);
-    Expanded::Formula(count, entries as u32, literals as u32)
+    Ok(Counts {
+        n: count,
+        prefix: entries,
+        clauses: literals,
+    })
 }
 
 // How many entries the prefix of the result has. `lay` counts all of them, and stores only as many as fit into a table of one row.

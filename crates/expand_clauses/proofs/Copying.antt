@@ -27,9 +27,6 @@ pub record Literals (value : Bool) (x : ℕ) (copy : ℕ → ℕ) (clause out₀
   pub few : end ≤ at + i
   pub on : Onward (closed value x copy clause) out₀ at (closed value x copy (drop i clause)) out end
 
-pub literals_none : (value : Bool) (x : ℕ) (copy : ℕ → ℕ) (clause out : List ℤ) (at : ℕ) → Literals value x copy clause out at 0 out at
-literals_none value x copy clause out at = record { within = omega arith; few = omega arith; on = onward_none }
-
 module _ {value : Bool} {x : ℕ} {copy : ℕ → ℕ} {clause out₀ : List ℤ} {at i : ℕ} {out : List ℤ} {end : ℕ}
     (s : Literals value x copy clause out₀ at i out end) where
   module _ (more : i < length clause) {variable : ℕ} (is : variable ≡ variable_of (literal_at clause i)) where

@@ -4,7 +4,7 @@ use mathlib.Core.Path.{◌≡◌, refl, sym, ap, ◌∙◌, subst}
 use mathlib.Core.List.{List, [], ◌∷◌, ◌++◌}
 use native.Mathlib.Omega.{arith}
 use lib.ListN.{length, set, length-append}
-use lib.Seq.{sets, length-sets}
+use lib.Seq.{sets}
 use Rattle.terms.proofs.Common.{sets_append}
 use Rattle.expand_clauses.specs.InnerCopied.{Stored}
 
@@ -39,10 +39,6 @@ module _ {A : Type 0} {whole before : List A} {from : ℕ} where
   onward_none = record { count = refl; store = refl }
 
   module _ {rest now : List A} {at : ℕ} (o : Onward whole before from rest now at) where
-    -- all that is stored or still to be stored keeps the table's length
-    pub onward_length : length now ≡ length before
-    onward_length = sym (length-sets now at rest) ∙ ap length o.store ∙ length-sets before from whole
-
     pub onward_as : {other : List A} → rest ≡ other → Onward whole before from other now at
     onward_as q = subst (λ (r : List A). Onward whole before from r now at) q o
 

@@ -1,79 +1,42 @@
--- A clause tested literal by literal: what is left decides as the whole does.
-use Prim.Native.Nat.{ℕ, suc, ◌+◌, ◌≤◌, ◌<◌}
+-- A clause tested literal by literal, and whether it has a copy.
+use Prim.Native.Nat.{ℕ}
 use mathlib.Core.Path.{◌≡◌, refl, sym, ap, ◌∙◌}
 use mathlib.Core.Bool.{Bool, true, false, not, ◌&&◌, ◌||◌}
-use mathlib.Core.List.{List}
-use mathlib.Core.Logic.{◌≢◌}
-use native.Mathlib.Numerals.{add-one}
-use borrow.Author.Tests.{eq-eqb, ne_eqb}
+use mathlib.Core.List.{List, [], ◌∷◌}
 use lib.Dec.{eqb}
-use lib.IntN.{ℤ, pos}
-use lib.ListN.{length, drop, drop_of_length-le}
-use lib.Seq.{drop-cons}
+use lib.IntN.{ℤ}
+use Rattle.std.specs.List.{list_any}
 use Rattle.terms.specs.Literals.{variable_of}
 use Rattle.formula.specs.Meaning.{always_true}
-use Rattle.formula.specs.Tables.{literal_at}
 use Rattle.expand_clauses.specs.Expansion.{made_true, satisfied, has_x}
 use Rattle.expand_clauses.specs.InnerCopies.{has_member, has_copy}
 
-pub or-true : (b : Bool) → (b || true) ≡ true
-or-true true = refl
-or-true false = refl
-
--- x satisfies what is left exactly if it satisfies the clause
-module _ (value : Bool) (x : ℕ) (clause : List ℤ) (i : ℕ) (same : satisfied value x (drop i clause) ≡ satisfied value x clause) where
-  module _ (more : i < length clause) {literal : ℤ} (is : literal ≡ literal_at clause i) {test : Bool} (tested : test ≡ made_true value x literal) where
-    satisfied_here : satisfied value x (drop i clause) ≡ (test || satisfied value x (drop (suc i) clause))
-    unfolding satisfied
-    satisfied_here =
-        ap (satisfied value x) (drop-cons clause i (pos 0) more)
-        ∙ ap (λ b. b || satisfied value x (drop (suc i) clause)) (sym (tested ∙ ap (made_true value x) is))
-
-    pub satisfied_found : test ≡ true → true ≡ satisfied value x clause
-    satisfied_found t = sym (ap (λ b. b || satisfied value x (drop (suc i) clause)) t) ∙ sym satisfied_here ∙ same
-
-    pub satisfied_more : test ≡ false → satisfied value x (drop (i + 1) clause) ≡ satisfied value x clause
-    satisfied_more f = rw (add-one i) (sym (satisfied_here ∙ ap (λ b. b || satisfied value x (drop (suc i) clause)) f) ∙ same)
-
-  pub satisfied_none : length clause ≤ i → false ≡ satisfied value x clause
-  unfolding satisfied
-  satisfied_none done = sym (ap (satisfied value x) (drop_of_length-le clause done)) ∙ same
+-- x satisfies a clause exactly if it makes some literal true
+pub satisfied_any : (value : Bool) (x : ℕ) (clause : List ℤ) → list_any (made_true value x) clause ≡ satisfied value x clause
+unfolding satisfied
+satisfied_any value x [] = refl
+satisfied_any value x (literal ∷ more) = ap (λ b. made_true value x literal || b) (satisfied_any value x more)
 
 -- a clause has x or a member
 abbrev pub touched : ℕ → (ℕ → ℕ) → List ℤ → Bool
 touched x copy clause = has_x x clause || has_member copy clause
 
--- and what is left does exactly if the clause does
-module _ (x : ℕ) (copy : ℕ → ℕ) (clause : List ℤ) (i : ℕ) (same : touched x copy (drop i clause) ≡ touched x copy clause) where
-  module _ (more : i < length clause) {variable : ℕ} (is : variable ≡ variable_of (literal_at clause i)) where
-    touched_here : touched x copy (drop i clause)
-        ≡ ((eqb variable x || has_x x (drop (suc i) clause)) || (not (eqb (copy variable) 0) || has_member copy (drop (suc i) clause)))
-    unfolding has_x has_member
-    touched_here =
-        ap (touched x copy) (drop-cons clause i (pos 0) more)
-        ∙ ap (λ (v : ℕ). (eqb v x || has_x x (drop (suc i) clause)) || (not (eqb (copy v) 0) || has_member copy (drop (suc i) clause))) (sym is)
+-- a variable is x or a member
+abbrev pub touches : ℕ → (ℕ → ℕ) → ℕ → Bool
+touches x copy v = eqb v x || not (eqb (copy v) 0)
 
-    pub touched_x : variable ≡ x → true ≡ touched x copy clause
-    touched_x q =
-        sym (ap (λ b. (b || has_x x (drop (suc i) clause)) || (not (eqb (copy variable) 0) || has_member copy (drop (suc i) clause))) (eq-eqb variable x q))
-        ∙ sym touched_here ∙ same
-
-    pub touched_member : copy variable ≢ 0 → true ≡ touched x copy clause
-    touched_member some =
-        sym (or-true (eqb variable x || has_x x (drop (suc i) clause)))
-        ∙ sym (ap (λ b. (eqb variable x || has_x x (drop (suc i) clause)) || (not b || has_member copy (drop (suc i) clause))) (ne_eqb (copy variable) 0 some))
-        ∙ sym touched_here ∙ same
-
-    pub touched_more : variable ≢ x → copy variable ≡ 0 → touched x copy (drop (i + 1) clause) ≡ touched x copy clause
-    touched_more other none =
-        rw (add-one i)
-        (sym (touched_here
-        ∙ ap (λ b. (b || has_x x (drop (suc i) clause)) || (not (eqb (copy variable) 0) || has_member copy (drop (suc i) clause))) (ne_eqb variable x other)
-        ∙ ap (λ b. has_x x (drop (suc i) clause) || (not b || has_member copy (drop (suc i) clause))) (eq-eqb (copy variable) 0 none)) ∙ same)
-
-  pub touched_none : length clause ≤ i → false ≡ touched x copy clause
-  unfolding has_x has_member
-  touched_none done = sym (ap (touched x copy) (drop_of_length-le clause done)) ∙ same
+pub touched_any : (x : ℕ) (copy : ℕ → ℕ) (clause : List ℤ) → list_any (λ literal. touches x copy (variable_of literal)) clause ≡ touched x copy clause
+unfolding has_x has_member
+touched_any x copy [] = refl
+touched_any x copy (literal ∷ more) =
+    ap (λ b. touches x copy (variable_of literal) || b) (touched_any x copy more)
+    ∙ go (eqb (variable_of literal) x) (not (eqb (copy (variable_of literal)) 0)) (has_x x more) (has_member copy more)
+  where
+    go : (a b c d : Bool) → (a || b) || (c || d) ≡ (a || c) || (b || d)
+    go true b c d = refl
+    go false true true d = refl
+    go false true false d = refl
+    go false false c d = refl
 
 -- Whether a clause has a copy, test by test.
 module _ (value : Bool) (x : ℕ) (copy : ℕ → ℕ) (clause : List ℤ) where

@@ -8,6 +8,7 @@ use borrow.Author.Tests.{eqb-true, eq-eqb}
 use lib.Dec.{eqb}
 use lib.IntN.{ℤ, pos, negsuc}
 use lib.ListN.{length, length-map, length-append}
+use Rattle.std.proofs.Math.Bool.{or-true}
 use Rattle.terms.specs.Literals.{variable_of}
 use Rattle.terms.proofs.Common.{clash, by_test}
 use Rattle.formula.specs.Meaning.{clauses, opposite, denied, always_true}
@@ -15,7 +16,7 @@ use Rattle.expand_clauses.specs.Expansion.{made_true, satisfied, has_x, without,
 use Rattle.expand_clauses.specs.InnerCopies.{has_member, named, has_copy, copies, expanded_list, expanded_clauses}
 use Rattle.expand_clauses.specs.Total.{literals, x_literals}
 use Rattle.expand_clauses.specs.InnerCopies.{counts, total_of, literal_total}
-use Rattle.expand_clauses.proofs.Testing.{or-true, copy_always, copy_satisfied, copy_touched, copy_first}
+use Rattle.expand_clauses.proofs.Testing.{copy_always, copy_satisfied, copy_touched, copy_first}
 
 -- x leaves all literals but its own
 without_length : (x : ℕ) (clause : List ℤ) → length (without x clause) + x_literals x clause ≡ length clause

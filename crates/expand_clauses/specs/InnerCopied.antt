@@ -1,7 +1,8 @@
 -- What the functions that number the copies and write the clauses say of their tables. What a reader must believe is in Expansion and Total.
-use Rattle.std.specs.Prelude.{ℕ, ◌+◌, ◌≤◌, ◌≡◌, Bool, List, [], ◌∷◌, ◌++◌, map, ℤ, pos, length, get_or}
+use Rattle.std.specs.Prelude.{ℕ, ◌+◌, ◌≤◌, ◌≡◌, ◌≢◌, Bool, List, [], ◌∷◌, ◌++◌, map, ℤ, pos, length, get_or, Option, None, Some}
 use Rattle.std.proofs.lemmas.List.Edits.{sets}
 use Rattle.terms.specs.InnerLimits.{variable_rows}
+use Rattle.terms.specs.declared.Variable.{Variable}
 use Rattle.expand_clauses.specs.Expansion.{without, clause_table}
 use Rattle.expand_clauses.specs.InnerCopies.{named, copies}
 
@@ -13,6 +14,11 @@ pub record Stored {A : Type 0} (entries before after : List A) (at end : ℕ) : 
 -- the copies that a table has, row v for the variable v
 abbrev pub tabled : List ℕ → ℕ → ℕ
 tabled table v = get_or table v 0
+
+-- the copy that a variable has in it: a 0 in its row stands for none
+abbrev pub CopyOf : List ℕ → ℕ → Option Variable → Type 0
+CopyOf table v None = tabled table v ≡ 0
+CopyOf table v (Some copy) = (tabled table v ≢ 0) × (copy.0 ≡ tabled table v)
 
 -- the most that an expanded formula can have of variables, and of clause entries: twice what a formula has
 abbrev pub expanded_variables : ℕ

@@ -8,8 +8,8 @@ ghost use Rattle.expand_clauses.specs.Expansion.{made_true, satisfied, has_x};
 ghost use Rattle.expand_clauses.specs.InnerCopies.{has_member, renamed, named, has_copy, expanded_clauses};
 ghost use Rattle.expand_clauses.specs.InnerCopied.{Stored, tabled, expanded_entries, Copies, closed, copied};
 
-use crate::stores::{copy_at, store_literal};
-use formula::clauses::{literal_at, next_zero};
+use crate::stores::{copy_at, store};
+use formula::clauses::next_zero;
 use formula::truth::always_true;
 use terms::{Literal, Variable};
 
@@ -40,6 +40,7 @@ fn copy_all(
     let mut seen = [0u16; Literal::ROWS];
     let mut end = at;
     let mut start = 0;
+    // A clause at a time: the 0 that closes it says where the next one begins.
     while start < clauses.len() {
         let stop = next_zero(clauses, start);
         if clauses.len() <= stop {
@@ -112,22 +113,16 @@ fn has_copy(
 fn is_satisfied(value: bool, clause: &[i32], x: Variable) -> bool
     ensures told { result ≡ satisfied value x.0 clause.now }
 {
-    let mut i = 0;
-    while i < clause.len() {
-        if makes_true(value, literal_at(clause, i), x) {
-            return true;
-        }
-        i += 1;
-    }
-    false
+    clause
+        .iter()
+        .any(|&entry| makes_true(value, Literal::new(entry), x))
 }
 
 // Whether x makes a literal true by its value.
 fn makes_true(value: bool, literal: Literal, x: Variable) -> bool
     ensures told { result ≡ made_true value x.0 literal.0 }
 {
-    let variable = literal.variable();
-    if variable.0 != x.0 {
+    if literal.variable() != x {
         return false;
     }
     if literal.0 < 0 { !value } else { value }
@@ -137,19 +132,10 @@ fn makes_true(value: bool, literal: Literal, x: Variable) -> bool
 fn is_touched(clause: &[i32], x: Variable, copies: &[u32]) -> bool
     ensures told { result ≡ (has_x x.0 clause.now || has_member (tabled copies.now) clause.now) }
 {
-    let mut i = 0;
-    while i < clause.len() {
-        let variable = literal_at(clause, i).variable();
-        if variable.0 == x.0 {
-            return true;
-        }
-        let copy = copy_at(copies, variable);
-        if copy.0 != 0 {
-            return true;
-        }
-        i += 1;
-    }
-    false
+    clause.iter().any(|&entry| {
+        let variable = Literal::new(entry).variable();
+        variable == x || copy_at(copies, variable).is_some()
+    })
 }
 
 // Writes the copy of a clause with x at a value and its 0, from the row `at` on; gives the row behind them.
@@ -166,20 +152,16 @@ fn copy_one(
         out.old out.new at result }
 {
     let mut end = at;
-    let mut i = 0;
-    while i < clause.len() {
-        let literal = literal_at(clause, i);
-        let variable = literal.variable();
-        if variable.0 == x.0 {
-            i += 1;
-        } else {
-            let name = name_by(value, literal, copies);
-            store_literal(out, end, name.0);
-            end += 1;
-            i += 1;
+    for &entry in clause {
+        let literal = Literal::new(entry);
+        if literal.variable() == x {
+            continue;
         }
+        let name = name_by(value, literal, copies);
+        store(out, end, name.0);
+        end += 1;
     }
-    store_literal(out, end, 0);
+    store(out, end, 0);
     end + 1
 }
 
@@ -200,10 +182,9 @@ fn rename(literal: Literal, copies: &[u32]) -> Literal
     requires few { Copies copies.now }
     ensures renamed { result.0 ≡ renamed (tabled copies.now) literal.0 }
 {
-    let copy = copy_at(copies, literal.variable());
-    if copy.0 == 0 {
+    let Some(copy) = copy_at(copies, literal.variable()) else {
         return literal;
-    }
+    };
     if literal.0 < 0 {
         copy.negation()
     } else {

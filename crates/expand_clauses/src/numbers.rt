@@ -13,10 +13,7 @@ pub fn number(n: u32, members: &[u32], copies: &mut [u32])
     ensures numbered { (length copies.new ≡ variable_rows)
         × ((v : ℕ) → tabled copies.new v ≡ copy_of n members.now v) }
 {
-    let mut k = members.len();
-    while 0 < k {
-        k -= 1;
-        let member = members[k] as usize;
-        copies[member] = n + k as u32 + 1;
+    for (k, &member) in members.iter().enumerate().rev() {
+        copies[member as usize] = n + k as u32 + 1;
     }
 }

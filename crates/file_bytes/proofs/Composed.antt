@@ -1,5 +1,5 @@
 -- The records of a file, put together from the runs of bytes that are stored for each.
-use Rattle.std.proofs.Common.{◌≡◌, ℕ, ◌+◌, ◌*◌, ◌%◌, ◌<◌, ◌≤◌, List, ◌∷◌, ◌++◌, map, length, take, drop, ℤ, sym, ap, ◌∙◌, subst, append_assoc, arith, length-append, length-take-le, take_at}
+use Rattle.std.proofs.Common.{◌≡◌, ℕ, ◌+◌, ◌-◌, ◌*◌, ◌%◌, ◌≤◌, List, ◌∷◌, ◌++◌, map, length, take, drop, ℤ, sym, ap, ◌∙◌, subst, append_assoc, arith, length-append, length-take-le, take_at}
 use lib.ListN.{length-map}
 use lib.Seq.{sets-eq}
 use Rattle.text_write.specs.InnerBytes.{Wrote}
@@ -66,8 +66,8 @@ pub tables_bytes : (classes parents counts : List ℕ)
 tables_bytes classes parents counts =
     ap (λ (rest : List ℕ). bytes_of 4 classes ++ rest) (sym (bytes_append 4 parents counts)) ∙ sym (bytes_append 4 classes (parents ++ counts))
 
--- the only word with which the sum wraps to zero is the closing word
-pub closing_is : (front : List ℕ) (sum word : ℕ) → sum ≡ word_sum (front ++ head_bytes 2 closing_kind) % 65536 → word < 65536
-    → (word + sum) % 65536 ≡ 0 → word ≡ closing front
+-- what is missing from the sum to zero is the closing word
+pub closing_is : (front : List ℕ) (sum word : ℕ) → sum ≡ word_sum (front ++ head_bytes 2 closing_kind) % 65536 → word ≡ (0 + (65536 - sum)) % 65536
+    → word ≡ closing front
 unfolding closing
-closing_is front sum word q fits zero = omega arith
+closing_is front sum word q is = omega arith

@@ -1,5 +1,5 @@
--- Where what is stored ends: behind a head, behind a number, behind numbers; and how long numbers are at most.
-use Rattle.std.proofs.Common.{◌≡◌, ℕ, ◌+◌, ◌*◌, ◌≤◌, List, [], ◌∷◌, length, arith, length-append}
+-- Where what is stored ends: behind a head, behind a number, behind numbers.
+use Rattle.std.proofs.Common.{◌≡◌, ℕ, ◌+◌, ◌*◌, List, length, arith, length-append}
 use Rattle.text_write.specs.InnerBytes.{Wrote}
 use Rattle.file_format.specs.Numbers.{number_bytes, bytes_of}
 use Rattle.file_format.proofs.Lengths.{number_length, bytes_length}
@@ -21,13 +21,3 @@ module _ {before after : List ℕ} {at next : ℕ} where
 
   pub numbers_end : (width : ℕ) (numbers : List ℕ) → Wrote (bytes_of width numbers) before after at next → next ≡ at + width * length numbers
   numbers_end width numbers w = omega (arith, w.end, bytes_length width numbers)
-
--- numbers of at most four bytes each
-pub bytes_most : (width : ℕ) (numbers : List ℕ) → width ≤ 4 → length (bytes_of width numbers) ≤ 4 * length numbers
-unfolding bytes_of
-bytes_most width [] h = omega arith
-bytes_most width (number ∷ more) h =
-    let l = length-append (number_bytes width number) (bytes_of width more) in
-    let one = number_length width number in
-    let rest = bytes_most width more h in
-    omega arith

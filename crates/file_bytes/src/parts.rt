@@ -7,8 +7,9 @@ ghost use Rattle.file_format.specs.Numbers.{bytes_of};
 ghost use Rattle.file_format.specs.Layout.{prefix_record, clauses_record, rows_record, closing_record};
 ghost use Rattle.file_bytes.specs.InnerParts.{closing};
 
-use crate::bytes::{put_head, put_literals, put_number, put_numbers};
+use crate::bytes::{put_entries, put_head, put_number, put_numbers};
 use file_format::Record;
+use file_format::numbers::literal_number;
 use file_format::sums::sum_words;
 
 // Kind 1: n and the prefix.
@@ -35,7 +36,7 @@ pub fn put_clauses(out: &mut [u8], at: usize, clauses: &[i32]) -> usize
         size: 4 * (clauses.len() as u32),
     };
     let start = put_head(out, at, head);
-    put_literals(out, start, clauses)
+    put_entries(out, start, 4, clauses, literal_number)
 }
 
 // Kind 3: the rows.
@@ -82,6 +83,6 @@ pub fn put_closing(out: &mut [u8], at: usize) -> usize
     };
     let next = put_head(out, at, head);
     let sum = sum_words(&out[..next]);
-    let word = std::num::wrapping_sub_u16(0, sum);
-    put_number(out, next, 2, word as u32)
+    let word = 0u16.wrapping_sub(sum);
+    put_number(out, next, 2, u32::from(word))
 }

@@ -1,9 +1,9 @@
 -- Where rule 1 accepts a prefix, writing and reading a file promise the same under both reading rules (rule 6.3).
+use Rattle.terms.specs.Says.{Answer}
+use Rattle.terms.specs.declared.Loaded.{Loaded}
 use Rattle.std.proofs.Common.{◌≡◌, ℕ, false, ◌↔◌, List, [], ◌∷◌, ◌++◌, length, sym, subst}
 use Rattle.terms.specs.Answers.{Filling}
 use Rattle.terms.specs.Refusals.{Causes, At0, NoneOf}
-use Rattle.terms.specs.declared.Filled.{Filled}
-use Rattle.terms.specs.declared.Loaded.{Loaded}
 use Rattle.terms.proofs.Answers.{carry-filling}
 use Rattle.terms.proofs.Orders.{Carries, exchanged, one_more, behind}
 use Rattle.formula.specs.Causes.{VariableCount, LengthCause, ClauseCause}
@@ -17,7 +17,7 @@ use Rattle.file_format.specs.InnerOrders.{file_order, behind_store}
 use Rattle.file_format.specs.Promises.{Stores, Loading, Loads}
 use Rattle.file_format.proofs.Orders.{carry_loading}
 
-pub store_agrees : (f : Formula) → NoneOf (ruled_prefix 1 f.n f.prefix (length f.clauses)) → (before after : List ℕ) (r : Filled)
+pub store_agrees : (f : Formula) → NoneOf (ruled_prefix 1 f.n f.prefix (length f.clauses)) → (before after : List ℕ) (r : Answer ℕ)
     → Stores 1 f before after r ↔ Stores 2 f before after r
 store_agrees f none before after r =
     let S : List Causes → List ℕ → Type 0 = λ order read. Filling order (FileWith false f read) before after r in
@@ -27,7 +27,7 @@ store_agrees f none before after r =
     (one_to_two S carry later f.n f.prefix (length f.clauses) none, two_to_one S carry later f.n f.prefix (length f.clauses) none)
 
 -- Reading has the causes of the records of the file between 23 and the others, under both rules alike.
-module _ (file : List ℕ) (lent lent' : Lent) (answer : Loaded) where
+module _ (file : List ℕ) (lent lent' : Lent) (answer : Answer Loaded) where
   abbrev front : ℕ → List Causes
   front rule = ruled_prefix rule (count_in file) (prefix_held file) (length (clauses_in file))
 

@@ -1,10 +1,13 @@
 -- A file that is accepted under a reading rule is refused under every one once one of its 16-bit words is changed (rule 10.6).
-use Rattle.std.proofs.Common.{◌≡◌, ℕ, zero, suc, ◌+◌, ◌*◌, ◌/◌, ◌%◌, ◌<◌, Bool, ◌≢◌, List, [], ◌∷◌, length, get_or, sym, refl, ap, ◌∙◌, ap₂, arith}
+use Rattle.std.specs.Prelude.{Ok, Err}
+use Rattle.terms.specs.declared.Refusal.{Refusal}
+use Rattle.terms.specs.Says.{Answer}
+use Rattle.terms.specs.declared.Loaded.{Loaded}
+use Rattle.std.proofs.Common.{◌≡◌, ℕ, zero, suc, ◌+◌, ◌*◌, ◌/◌, ◌%◌, ◌<◌, ◌≢◌, List, [], ◌∷◌, length, get_or, sym, refl, ap, ◌∙◌, ap₂, arith}
 use mathlib.Core.Logic.{by_cases}
 use native.Mathlib.Decide.{ℕ_discrete}
 use lib.Seq.{sets}
 use Rattle.terms.specs.Refusals.{NoneOf}
-use Rattle.terms.specs.declared.Loaded.{Loaded}
 use Rattle.file_format.specs.Numbers.{word_sum}
 use Rattle.file_format.specs.Layout.{SumsToZero}
 use Rattle.file_format.specs.Causes.{Lent, load_order}
@@ -60,18 +63,18 @@ sums rule file lent none = by_cases (ℕ_discrete (word_sum file % 65536) 0) (λ
 -- A file whose words sum to zero is refused under every rule once one of them is changed ...
 pub other_word_refused : (rule : ℕ) (file : List ℕ) (p low high : ℕ) → Bytes file → SumsToZero file → p % 2 ≡ 0 → p + 1 < length file
     → low < 256 → high < 256 → sets file p (low ∷ high ∷ []) ≢ file
-    → (lent lent' : Lent) (answer : Loaded) → Loads rule (sets file p (low ∷ high ∷ [])) lent lent' answer
-    → (number : ℕ) × (place : ℕ) × (answer ≡ Loaded.Refused number place)
-other_word_refused rule file p low high bytes a even within l h changed lent lent' (Loaded.Formula n entries literals with_sets) loads =
+    → (lent lent' : Lent) (answer : Answer Loaded) → Loads rule (sets file p (low ∷ high ∷ [])) lent lent' answer
+    → (refusal : Refusal) × (answer ≡ Err refusal)
+other_word_refused rule file p low high bytes a even within l h changed lent lent' (Ok _) loads =
     let b = sums rule (sets file p (low ∷ high ∷ [])) lent loads.0 in
     absurd (changed (same_sum file p low high 0 even within bytes l h (omega arith)))
-other_word_refused rule file p low high bytes a even within l h changed lent lent' (Loaded.Refused number place) loads = (number, place, refl)
+other_word_refused rule file p low high bytes a even within l h changed lent lent' (Err refusal) loads = (refusal, refl)
 
 -- ... and so is a file that is accepted.
 pub changed_word_refused : (rule rule' : ℕ) (file : List ℕ) (p low high : ℕ) → Bytes file → p % 2 ≡ 0 → p + 1 < length file
     → low < 256 → high < 256 → sets file p (low ∷ high ∷ []) ≢ file
-    → (lent lent' : Lent) {n entries literals : ℕ} {with_sets : Bool} → Loads rule file lent lent' (Loaded.Formula n entries literals with_sets)
-    → (other other' : Lent) (answer : Loaded) → Loads rule' (sets file p (low ∷ high ∷ [])) other other' answer
-    → (number : ℕ) × (place : ℕ) × (answer ≡ Loaded.Refused number place)
+    → (lent lent' : Lent) {held : Loaded} → Loads rule file lent lent' (Ok held)
+    → (other other' : Lent) (answer : Answer Loaded) → Loads rule' (sets file p (low ∷ high ∷ [])) other other' answer
+    → (refusal : Refusal) × (answer ≡ Err refusal)
 changed_word_refused rule rule' file p low high bytes even within l h changed lent lent' accepted =
     other_word_refused rule' file p low high bytes (sums rule file lent accepted.0) even within l h changed

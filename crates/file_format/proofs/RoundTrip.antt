@@ -1,14 +1,14 @@
 -- What is written under a reading rule reads back the same under it (rule 10.6): the formula as it was lent, and its rows. A file with kind 4, which is
 -- no longer written, is still accepted, and reading tells that sets were there (rule 10.5).
+use Rattle.std.specs.Prelude.{Ok, Err}
+use Rattle.terms.specs.Says.{Said, gives, Answer}
+use Rattle.terms.specs.declared.Loaded.{Loaded}
 use Rattle.std.proofs.Common.{◌≡◌, ℕ, ◌+◌, ◌-◌, ◌/◌, ◌<◌, ◌≤◌, Bool, true, false, List, [], ◌∷◌, ◌++◌, map, length, take, ℤ, sym, refl}
 use Rattle.std.proofs.Common.{ap, ◌∙◌, subst, ⊎_elim, append_assoc, append-nil, arith, length-append, eq-eqb, ne_eqb}
 use mathlib.Core.Bool.{false≢true}
 use lib.ListN.{length-map}
 use Rattle.terms.specs.Refusals.{At0, None, NoneOf}
-use Rattle.terms.specs.declared.Filled.TheVariants.{Count}
-use Rattle.terms.specs.declared.Loaded.{Loaded}
-use Rattle.terms.specs.declared.Verdict.TheVariants.{Accepted}
-use Rattle.terms.proofs.Verdicts.{at0_none, accepted_then, first_or_none}
+use Rattle.terms.proofs.Verdicts.{at0_none, judges_later, first_or_none}
 use Rattle.formula.specs.Lent.{Formula, formula_of}
 use Rattle.formula_rules.specs.Rules.{read_as, read_by, check_order}
 use Rattle.formula_rules.proofs.Orders.{limits}
@@ -201,29 +201,30 @@ module _ (rule : ℕ) (f : Formula) (there : Bool) (file : List ℕ) (none : Non
     pub clear : NoneOf (load_order rule file lent)
     clear =
         let later = ForestFileCause read file ∷ At0 14 (NoFileRoom (formula_held file) lent) ∷ [] in
-        let order = table_order rule (formula_held file) in (
+        let order = table_order rule (formula_held file) in
+        let nothing : Said (Unit {0}) = gives tt in (
           none.0,
-          accepted_then (file_order file) (order ++ later) Accepted refl file_clear
-              (accepted_then order later Accepted refl (subst (λ (h : Formula). NoneOf (check_order rule h)) (sym held) none).1
+          judges_later (file_order file) (order ++ later) nothing file_clear
+              (judges_later order later nothing (subst (λ (h : Formula). NoneOf (check_order rule h)) (sym held) none).1
               (no_disagreement, (at0_none 14 roomy, tt))),
         )
 
     -- So reading it gives the formula back, its rows, and whether sets are there.
-    pub reads_back : (lent' : Lent) (answer : Loaded) → Loads rule file lent lent' answer
-        → (answer ≡ Loaded.Formula f.n (length f.prefix) (length f.clauses) there) × (lent' ≡ stored_in lent f g.rows)
-    reads_back lent' (Loaded.Formula m entries literals with_sets) (none', (count, prefix, clauses, told, filled)) =
+    pub reads_back : (lent' : Lent) (answer : Answer Loaded) → Loads rule file lent lent' answer
+        → (answer ≡ Ok (record { n = f.n; prefix = length f.prefix; clauses = length f.clauses; sets = there })) × (lent' ≡ stored_in lent f g.rows)
+    reads_back lent' (Ok _) (none', (count, prefix, clauses, told, filled)) =
         let m-is = count ∙ count_is in
         let e_is = prefix ∙ ap length prefix_is in
         let l_is = clauses ∙ ap length clauses_is in
         let s_is = told ∙ told_sets.0 in
         let same = rows_unique read filled.right.0 right_rows.0 in
-        (λ i. Loaded.Formula (m-is i) (e_is i) (l_is i) (s_is i), filled.left ∙ (λ i. stored_in lent (held i) (same i)))
-    reads_back lent' (Loaded.Refused number place) (first', same) = absurd (first_or_none (load_order rule file lent) number place first' clear)
+        (λ i. Ok (record { n = m-is i; prefix = e_is i; clauses = l_is i; sets = s_is i }), filled.left ∙ (λ i. stored_in lent (held i) (same i)))
+    reads_back lent' (Err refusal) (first', same) = absurd (first_or_none (load_order rule file lent) _ _ first' clear)
 
 -- What writing leaves in front in its table, read into tables with room for it, gives the same formula and the rows of its forest.
-pub written_reads_back : (rule : ℕ) (f : Formula) (before after : List ℕ) (count : ℕ) → Stores rule f before after (Count count)
-    → (lent : Lent) → Roomy f lent → (lent' : Lent) (answer : Loaded) → Loads rule (take count after) lent lent' answer
-    → (answer ≡ Loaded.Formula f.n (length f.prefix) (length f.clauses) false)
+pub written_reads_back : (rule : ℕ) (f : Formula) (before after : List ℕ) (count : ℕ) → Stores rule f before after (Ok count)
+    → (lent : Lent) → Roomy f lent → (lent' : Lent) (answer : Answer Loaded) → Loads rule (take count after) lent lent' answer
+    → (answer ≡ Ok (record { n = f.n; prefix = length f.prefix; clauses = length f.clauses; sets = false }))
     × ((r : Rows) × ForestRows (read_by rule f) r × (lent' ≡ stored_in lent f r))
 written_reads_back rule f before after count stores lent room lent' answer loads =
     let (file, g, is) = in_front_lem rule f before after count stores in

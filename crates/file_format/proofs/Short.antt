@@ -1,15 +1,12 @@
 -- The file of a formula that a rule accepts has at most 131,100 bytes: writing never gives 19 (rule 8.4). Where it is written, it stands in front in the
 -- lent table.
-use Rattle.std.proofs.Common.{◌≡◌, ℕ, ◌+◌, ◌<◌, ◌≤◌, false, List, ◌++◌, length, take, drop, sym, refl, ap, ◌∙◌, arith, length-append, take_at}
+use Rattle.std.specs.Prelude.{Ok}
+use Rattle.std.proofs.Common.{◌≡◌, ℕ, ◌+◌, ◌≤◌, false, List, ◌++◌, length, take, drop, sym, ap, ◌∙◌, arith, length-append, take_at}
 use lib.Seq.{sets, sets-eq}
 use Rattle.terms.specs.Limits.{most_variables, prefix_entries, clause_entries}
-use Rattle.terms.specs.declared.Filled.TheVariants.{Count}
-use Rattle.terms.proofs.Orders.{none_later}
 use Rattle.formula.specs.Lent.{Formula}
-use Rattle.formula_rules.specs.Rules.{read_as, check_order}
 use Rattle.file_format.specs.Layout.{prefix_record, clauses_record, rows_record, closing_record, FileWith, FileOf}
 use Rattle.file_format.specs.Causes.{FileTooLarge}
-use Rattle.file_format.specs.InnerOrders.{behind_store}
 use Rattle.file_format.specs.Promises.{Stores}
 use Rattle.file_format.proofs.Lengths.{prefix_length, clauses_length, rows_length, closing_length}
 
@@ -49,7 +46,7 @@ module _ (f : Formula) (read : List ℕ) (within : Within f) where
 pub take_stored : {A : Type 0} (table xs : List A) (count : ℕ) → count ≡ length xs → length xs ≤ length table → take count (sets table 0 xs) ≡ xs
 take_stored table xs count many room = ap (take count) (sets-eq xs table 0 (omega arith)) ∙ take_at xs (drop (0 + length xs) table) count (sym many)
 
-pub in_front_lem : (rule : ℕ) (f : Formula) (before after : List ℕ) (count : ℕ) → Stores rule f before after (Count count)
+pub in_front_lem : (rule : ℕ) (f : Formula) (before after : List ℕ) (count : ℕ) → Stores rule f before after (Ok count)
     → (file : List ℕ) × FileOf rule f file × (take count after ≡ file)
 in_front_lem rule f before after count (none, (file, g, size, stored)) =
     (file, g, ap (take count) stored ∙ take_at file (drop (length file) before) count (sym size))

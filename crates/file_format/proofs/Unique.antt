@@ -1,5 +1,5 @@
 -- A formula has one forest, one list of sets and so, by one reading of its prefix, one file.
-use Rattle.std.proofs.Common.{◌≡◌, ℕ, ◌+◌, ◌%◌, ◌<◌, ◌≤◌, false, List, [], ◌++◌, length, get_or, sym, ap, ◌∙◌, subst, arith}
+use Rattle.std.proofs.Common.{◌≡◌, ℕ, ◌+◌, ◌%◌, ◌<◌, ◌≤◌, false, List, ◌++◌, length, get_or, sym, ap, ◌∙◌, subst, arith}
 use lib.ListN.{get_or-eq_default}
 use Rattle.terms.specs.declared.Scheme.TheVariants.{Standard}
 use Rattle.formula.specs.Lent.{Formula, formula_of}

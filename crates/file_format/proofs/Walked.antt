@@ -1,5 +1,5 @@
 -- The records of a formula's file one after the other: no other place is reached, and none of them has a cause of 19 or 20.
-use Rattle.std.proofs.Common.{◌≡◌, ℕ, ◌+◌, ◌%◌, ◌<◌, ◌≤◌, Bool, true, false, ◌≢◌, List, [], ◌∷◌, ◌++◌, map, length, ℤ, sym, refl, ap, ◌∙◌, subst, append_assoc, append-nil, arith, length-append}
+use Rattle.std.proofs.Common.{◌≡◌, ℕ, ◌%◌, ◌<◌, ◌≤◌, Bool, true, false, ◌≢◌, List, [], ◌∷◌, ◌++◌, map, length, ℤ, sym, refl, ap, ◌∙◌, subst, append_assoc, append-nil, arith, length-append}
 use Rattle.terms.specs.Refusals.{None}
 use Rattle.formula.specs.Lent.{Formula}
 use Rattle.file_format.specs.Numbers.{number_bytes, bytes_of, literal_number}

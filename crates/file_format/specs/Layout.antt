@@ -1,6 +1,6 @@
 -- The records of a file (rule 10.1, rule 10.2), and the file of a formula (rule 10.3, rule 10.4). A record is its payload length in four bytes, its kind
 -- in two, and the payload.
-use Rattle.std.specs.Prelude.{◌≡◌, ℕ, ◌+◌, ◌%◌, ◌<◌, Bool, true, false, List, [], ◌∷◌, ◌++◌, map, length, ℤ}
+use Rattle.std.specs.Prelude.{◌≡◌, ℕ, ◌%◌, ◌<◌, Bool, true, false, List, [], ◌∷◌, ◌++◌, map, length, ℤ}
 use Rattle.terms.specs.declared.Scheme.TheVariants.{Standard}
 use Rattle.formula.specs.Lent.{Formula, formula_of}
 use Rattle.forest_theory.specs.Tables.{row}

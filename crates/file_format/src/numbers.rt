@@ -27,17 +27,7 @@ pub fn four_at(file: &[u8], at: usize) -> u32
 fn byte_at(file: &[u8], at: usize) -> u32
     ensures read { (result ≡ slice_index file.now at) × (result < 256) }
 {
-    if at < file.len() {
-        return wide(file[at]);
-    }
-    0
-}
-
-// A byte as a number.
-fn wide(byte: u8) -> u32
-    ensures same { (result ≡ byte) × (result < 256) }
-{
-    byte as u32
+    file.get(at).map_or(0, |&byte| u32::from(byte))
 }
 
 // A literal as a four-byte number, in two's complement. The bits of a negative one are flipped first, since its negation may not fit.

@@ -1,4 +1,5 @@
 -- A file that has no cause of 19 to 21 has its records in their order, one behind the other within the longest file; and the order of these refusals.
+use Rattle.terms.specs.Says.{Verdict, said}
 use Prim.Native.Nat.{ℕ, ◌≤◌, ◌<◌}
 use mathlib.Core.Path.{◌≡◌, refl, sym, ◌∙◌}
 use mathlib.Core.Bool.{Bool, true, false}
@@ -9,8 +10,7 @@ use native.Mathlib.Omega.{arith}
 use borrow.Author.Tests.{eqb-true}
 use lib.ListN.{length}
 use Rattle.terms.specs.Refusals.{At0, None, NoneOf, Judged}
-use Rattle.terms.specs.declared.Verdict.{Verdict}
-use Rattle.terms.proofs.Verdicts.{at0_none, accepted_then}
+use Rattle.terms.proofs.Verdicts.{at0_none, judges_later}
 use Rattle.file_format.specs.Layout.{prefix_kind, clauses_kind, rows_kind, closing_kind, SumsToZero}
 use Rattle.file_format.specs.Places.{size_at, kind_at, next_at, second_at, third_at, fourth_at}
 use Rattle.file_format.specs.InnerPlaces.{Reached, start, behind, may_follow, StepCause, wrong, missing}
@@ -93,5 +93,5 @@ module _ (file : List ℕ) (none : NoneOf (file_order file)) where
 pub size_then : (file : List ℕ) → length file ≤ file_bytes → (v : Verdict)
     → Judged (RecordCause file ∷ OrderCause file ∷ At0 21 (SumsToZero file → ⊥) ∷ []) v → Judged (file_order file) v
 size_then file fits v judged =
-    accepted_then (At0 19 (TooLarge file) ∷ []) (RecordCause file ∷ OrderCause file ∷ At0 21 (SumsToZero file → ⊥) ∷ []) v refl
+    judges_later (At0 19 (TooLarge file) ∷ []) (RecordCause file ∷ OrderCause file ∷ At0 21 (SumsToZero file → ⊥) ∷ []) (said v)
     (at0_none 19 (λ l. omega arith), tt) judged

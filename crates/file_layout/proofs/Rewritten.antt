@@ -1,5 +1,8 @@
 -- Writing again what was read from an accepted file gives the same file where it has no kind 4, and where it has one the file without that
 -- record and with another closing word (rule 10.7).
+use Rattle.std.specs.Prelude.{Ok, Err}
+use Rattle.terms.specs.Says.{Said, gives, Answer}
+use Rattle.terms.specs.declared.Loaded.{Loaded}
 use Prim.Native.Nat.{ℕ, ◌≤◌}
 use mathlib.Core.Path.{◌≡◌, refl, sym, ap, ◌∙◌, subst}
 use mathlib.Core.Bool.{Bool, true, false}
@@ -8,12 +11,8 @@ use native.Mathlib.Omega.{arith}
 use lib.ListN.{length, take, drop, length-append}
 use lib.Seq.{take_at}
 use Rattle.terms.specs.Refusals.{Causes, At0, NoneOf}
-use Rattle.terms.specs.declared.Filled.{Filled}
-use Rattle.terms.specs.declared.Filled.TheVariants.{Count, Refused}
-use Rattle.terms.specs.declared.Loaded.{Loaded}
-use Rattle.terms.specs.declared.Verdict.TheVariants.{Accepted}
 use Rattle.terms.proofs.Orders.{none_later}
-use Rattle.terms.proofs.Verdicts.{at0_none, accepted_then, first_or_none}
+use Rattle.terms.proofs.Verdicts.{at0_none, judges_later, first_or_none}
 use Rattle.formula.specs.Lent.{Formula, formula_of}
 use Rattle.formula_rules.specs.Rules.{read_as, read_by, check_order}
 use Rattle.formula_rules.proofs.Orders.{limits}
@@ -84,8 +83,8 @@ without_length (refitted head sets word word' at is is' sum) =
     omega arith
 
 -- Reading a file that is accepted, and writing under the same rule what was read into a table as long as the file, gives the file without its kind 4.
-module _ (rule : ℕ) (file : List ℕ) (bytes : Bytes file) (lent lent' : Lent) {n entries literals : ℕ} {with_sets : Bool}
-    (loads : Loads rule file lent lent' (Loaded.Formula n entries literals with_sets)) where
+module _ (rule : ℕ) (file : List ℕ) (bytes : Bytes file) (lent lent' : Lent) {told : Loaded}
+    (loads : Loads rule file lent lent' (Ok told)) where
   abbrev f : Formula
   f = formula_held file
 
@@ -112,35 +111,36 @@ module _ (rule : ℕ) (file : List ℕ) (bytes : Bytes file) (lent lent' : Lent)
 
   -- the formula that was read, as it stands in front in the lent tables, is the one that the file holds
   abbrev pub back : Formula
-  back = formula_of n (take entries lent'.prefix) (take literals lent'.clauses)
+  back = formula_of told.n (take told.prefix lent'.prefix) (take told.clauses lent'.clauses)
 
   held_back : back ≡ f
   held_back =
-      let prefix = ap (λ (l : Lent). take entries l.prefix) loads.1.4.left
-      ∙ take_at (prefix_held file) (drop (length (prefix_held file)) lent.prefix) entries (sym loads.1.1) in
-      let clauses = ap (λ (l : Lent). take literals l.clauses) loads.1.4.left
-      ∙ take_at (clauses_in file) (drop (length (clauses_in file)) lent.clauses) literals (sym loads.1.2) in
+      let prefix = ap (λ (l : Lent). take told.prefix l.prefix) loads.1.4.left
+      ∙ take_at (prefix_held file) (drop (length (prefix_held file)) lent.prefix) told.prefix (sym loads.1.1) in
+      let clauses = ap (λ (l : Lent). take told.clauses l.clauses) loads.1.4.left
+      ∙ take_at (clauses_in file) (drop (length (clauses_in file)) lent.clauses) told.clauses (sym loads.1.2) in
       λ i. formula_of (loads.1.0 i) (prefix i) (clauses i)
 
   never_refused : (before : List ℕ) → length file ≤ length before → NoneOf (store_order rule f before)
   never_refused before room =
       let read = read_as rule (prefix_held file) in
-      accepted_then order (behind_store f read before) Accepted refl accepted (
+      let nothing : Said (Unit {0}) = gives tt in
+      judges_later order (behind_store f read before) nothing accepted (
         at0_none 19 (never_too_large f read (limits rule f accepted)),
         (at0_none 14 (λ over. let l = without_length (without over.0 over.1) in let m = over.2 in omega arith), tt),
       )
 
-  pub written_again : (before after : List ℕ) (answer : Filled) → length file ≤ length before → Stores rule back before after answer
-      → (count : ℕ) × (answer ≡ Count count) × WithoutSets file with_sets (take count after)
+  pub written_again : (before after : List ℕ) (answer : Answer ℕ) → length file ≤ length before → Stores rule back before after answer
+      → (count : ℕ) × (answer ≡ Ok count) × WithoutSets file told.sets (take count after)
   written_again before after answer room stores = go answer (subst (λ (h : Formula). Stores rule h before after answer) held_back stores)
     where
-      go : (answer : Filled) → Stores rule f before after answer
-          → (count : ℕ) × (answer ≡ Count count) × WithoutSets file with_sets (take count after)
-      go (Count count) said =
+      go : (answer : Answer ℕ) → Stores rule f before after answer
+          → (count : ℕ) × (answer ≡ Ok count) × WithoutSets file told.sets (take count after)
+      go (Ok count) said =
           let (w, g, is) = in_front_lem rule f before after count said in (
             count,
             refl,
             subst (λ (b : Bool). WithoutSets file b (take count after)) (sym loads.1.3)
                 (subst (WithoutSets file (has_sets file)) (sym is) (without w g)),
           )
-      go (Refused number place) said = absurd (first_or_none (store_order rule f before) number place said.0 (never_refused before room))
+      go (Err refusal) said = absurd (first_or_none (store_order rule f before) _ _ said.0 (never_refused before room))

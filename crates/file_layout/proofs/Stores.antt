@@ -1,107 +1,50 @@
--- Numbers of a file one after the other: stored in a table, or held against it, one by one.
-use Prim.Native.Nat.{ℕ, suc, ◌+◌, ◌*◌, ◌-◌, ◌<◌, ◌≤◌}
-use mathlib.Core.Path.{◌≡◌, refl, sym, ap, ◌∙◌}
-use mathlib.Core.List.{List, [], ◌∷◌, map, head-eq_of_cons-eq, tail-eq_of_cons-eq}
-use mathlib.Core.Logic.{◌↔◌, ◌≢◌}
-use native.Mathlib.Omega.{arith}
-use native.Mathlib.Numerals.{add-one}
-use lib.ListN.{length, get_or, set, drop, drop_of_length-le, length-set}
-use lib.Seq.{sets, drop-cons}
+-- Numbers of a file one after the other: stored in a table, or held against it, entry by entry.
+use Rattle.std.proofs.Common.{◌≡◌, ℕ, zero, suc, ◌+◌, ◌*◌, ◌<◌, ◌≤◌, List, [], ◌∷◌, ◌++◌, map, length, get_or, take, drop, length-take-le, refl, sym, ap, ap₂, ◌∙◌, subst, arith}
+use borrow.Author.Count.{below_more}
+use lib.ListN.{set}
+use lib.Seq.{sets, sets-eq, get_or-set_same, get_or-set_other}
 use Rattle.file_format.specs.Numbers.{number_at, numbers_at}
 
--- The place of the next number, and how far the last reaches: so many are left.
-pub record Going (width from many i at : ℕ) : Type 0 where
-  pub within : i ≤ many
-  pub place : at + width * (many - i) ≡ from + width * many
+-- where the first number stands, and those behind it
+place_first : (width from : ℕ) → from ≡ from + width * 0
+place_first width from = omega arith
 
-sub_none : (many : ℕ) → many - 0 ≡ many
-sub_none many = omega arith
+place_more : (width from k : ℕ) → from + width * suc k ≡ from + width + width * k
+place_more width from k = omega arith
 
-pub going_none : (width from many : ℕ) → Going width from many 0 from
-going_none width from many = record { within = omega arith; place = ap (λ (k : ℕ). from + width * k) (sub_none many) }
-
-width_more : (width many i : ℕ) → i < many → width * (many - i) ≡ width + width * (many - (i + 1))
-width_more width many i l =
-    let q : many - i ≡ (many - (i + 1)) + 1 = omega arith in
-    ap (λ (k : ℕ). width * k) q ∙ (let e : width * ((many - (i + 1)) + 1) ≡ width + width * (many - (i + 1)) = omega arith in e)
-
-module _ {width from many i at : ℕ} (g : Going width from many i at) (l : i < many) where
-  pub going_more : Going width from many (i + 1) (at + width)
-  going_more = let w = width_more width many i l in let p = g.place in record { within = omega arith; place = omega arith }
-
-  pub going_small : (most : ℕ) → from + width * many < most → at + width < most
-  going_small most small = let w = width_more width many i l in let p = g.place in omega arith
-
--- One number more.
-numbers_more : (width : ℕ) (file : List ℕ) (at many i : ℕ) → i < many
-    → numbers_at width file at (many - i) ≡ number_at width file at ∷ numbers_at width file (at + width) (many - (i + 1))
+-- each number by its index
+pub number_there : (width : ℕ) (file : List ℕ) (from many i : ℕ) → i < many → get_or (numbers_at width file from many) i 0 ≡ number_at width file (from + width * i)
 unfolding numbers_at
-numbers_more width file at many i l = let q : many - i ≡ suc (many - (i + 1)) = omega arith in ap (numbers_at width file at) q
+number_there width file from zero i l = absurd (omega arith)
+number_there width file from (suc many) zero l = ap (number_at width file) (place_first width from)
+number_there width file from (suc many) (suc i) l =
+    number_there width file (from + width) many i (omega arith) ∙ ap (number_at width file) (sym (place_more width from i))
 
-numbers_none : (width : ℕ) (file : List ℕ) (at many i : ℕ) → many ≤ i → numbers_at width file at (many - i) ≡ []
-unfolding numbers_at
-numbers_none width file at many i l = let q : many - i ≡ 0 = omega arith in ap (numbers_at width file at) q
+module _ {A : Type 0} (f : ℕ → A) (width : ℕ) (file : List ℕ) where
+  -- a table that has at each index what f gives of the number there
+  pub numbers_are : (from : ℕ) (xs : List A) → ((d : A) (k : ℕ) → k < length xs → get_or xs k d ≡ f (number_at width file (from + width * k)))
+      → map f (numbers_at width file from (length xs)) ≡ xs
+  unfolding numbers_at
+  numbers_are from [] each = refl
+  numbers_are from (x ∷ xs) each =
+      let first = ap (λ (p : ℕ). f (number_at width file p)) (place_first width from) ∙ sym (each x 0 (omega arith)) in
+      ap₂ (λ (y : A) (ys : List A). y ∷ ys) first
+      (numbers_are (from + width) xs
+      (λ d k l. each d (suc k) (omega arith) ∙ ap (λ (p : ℕ). f (number_at width file p)) (place_more width from k)))
 
--- A table that is filled by what f gives of the numbers: with the numbers that are left it would be full.
-module _ {A : Type 0} (f : ℕ → A) (width : ℕ) (file : List ℕ) (from many : ℕ) (before : List A) where
-  pub record Storing (table : List A) (i at : ℕ) : Type 0 where
-    pub room : many ≤ length table
-    pub same : length table ≡ length before
-    pub full : sets table i (map f (numbers_at width file at (many - i))) ≡ sets before 0 (map f (numbers_at width file from many))
+  -- a table whose front is filled, entry by entry up to its end
+  pub numbers_stored : (from many i : ℕ) (before front : List A) → many ≤ length before → length front ≡ length (take many before)
+      → length (take many before) ≤ i → ((d : A) (k : ℕ) → k < i → get_or front k d ≡ f (number_at width file (from + width * k)))
+      → front ++ drop many before ≡ sets before 0 (map f (numbers_at width file from many))
+  numbers_stored from many i before front room same done each =
+      let size : length front ≡ many = same ∙ length-take-le many before room in
+      let is = numbers_are from front (λ d k l. each d k (omega arith)) in
+      let end : length front ≡ 0 + length front = omega arith in
+      rw (← size, is, sets-eq front before 0 (omega arith)) (ap (λ (k : ℕ). front ++ drop k before) end)
 
-  pub storing_none : many ≤ length before → Storing before 0 from
-  storing_none room = record { room = room; same = refl; full = ap (λ (k : ℕ). sets before 0 (map f (numbers_at width file from k))) (sub_none many) }
-
-  module _ {table : List A} {i at : ℕ} (s : Storing table i at) where
-    pub storing_more : i < many → (x : A) → x ≡ f (number_at width file at) → Storing (set table i x) (i + 1) (at + width)
-    storing_more l x is =
-        let size = length-set table i x in
-        let room = s.room in
-        let same = s.same in
-        record {
-          room = omega arith;
-          same = omega arith;
-          full =
-              ap (λ (k : ℕ). sets (set table i x) k (map f (numbers_at width file (at + width) (many - (i + 1))))) (add-one i)
-              ∙ ap (λ (y : A). sets (set table i y) (suc i) (map f (numbers_at width file (at + width) (many - (i + 1))))) is
-              ∙ sym (ap (λ (xs : List ℕ). sets table i (map f xs)) (numbers_more width file at many i l))
-              ∙ s.full;
-        }
-
-    pub storing_all : many ≤ i → table ≡ sets before 0 (map f (numbers_at width file from many))
-    storing_all l = sym (ap (λ (xs : List ℕ). sets table i (map f xs)) (numbers_none width file at many i l)) ∙ s.full
-
--- mapping each number to itself changes nothing
-pub map_same : (xs : List ℕ) → map (λ (x : ℕ). x) xs ≡ xs
-map_same [] = refl
-map_same (x ∷ xs) = ap (λ (rest : List ℕ). x ∷ rest) (map_same xs)
-
--- A table that is held against the numbers: it has them all exactly if it has those that are left.
-module _ (width : ℕ) (file : List ℕ) (from : ℕ) (table : List ℕ) where
-  abbrev All : Type 0
-  All = numbers_at width file from (length table) ≡ table
-
-  abbrev pub Left : ℕ → ℕ → Type 0
-  Left i at = (numbers_at width file at (length table - i) ≡ drop i table) ↔ All
-
-  pub left_none : Left 0 from
-  left_none = let q = ap (numbers_at width file from) (sub_none (length table)) in (λ e. sym q ∙ e, λ e. q ∙ e)
-
-  module _ (i at : ℕ) (h : Left i at) where
-    heads : i < length table → (numbers_at width file at (length table - i) ≡ drop i table)
-        → ◌≡◌ {A = List ℕ} (number_at width file at ∷ numbers_at width file (at + width) (length table - (i + 1))) (get_or table i 0 ∷ drop (suc i) table)
-    heads l e = sym (numbers_more width file at (length table) i l) ∙ e ∙ drop-cons table i 0 l
-
-    pub left_more : i < length table → number_at width file at ≡ get_or table i 0 → Left (i + 1) (at + width)
-    left_more l same = (
-      λ e.
-          h.0 (numbers_more width file at (length table) i l ∙ ap (λ (x : ℕ). x ∷ numbers_at width file (at + width) (length table - (i + 1))) same
-          ∙ ap (λ (xs : List ℕ). get_or table i 0 ∷ xs) (e ∙ ap (λ (k : ℕ). drop k table) (add-one i)) ∙ sym (drop-cons table i 0 l)),
-      λ all. tail-eq_of_cons-eq (heads l (h.1 all)) ∙ sym (ap (λ (k : ℕ). drop k table) (add-one i)),
-    )
-
-    pub left_other : i < length table → number_at width file at ≢ get_or table i 0 → All → ⊥
-    left_other l other all = other (head-eq_of_cons-eq (heads l (h.1 all)))
-
-    pub left_all : length table ≤ i → All
-    left_all l = h.0 (numbers_none width file at (length table) i l ∙ sym (drop_of_length-le table l))
+-- what holds of the entries below i holds of one more, which is stored at i
+pub one_more : {A : Type 0} (P : ℕ → A → Type 0) (xs : List A) (i : ℕ) (y : A) → i < length xs → ((d : A) (k : ℕ) → k < i → P k (get_or xs k d)) → P i y
+    → (d : A) (k : ℕ) → k < i + 1 → P k (get_or (set xs i y) k d)
+one_more P xs i y more each here d =
+    below_more (λ k. P k (get_or (set xs i y) k d)) i (λ k l. subst (P k) (sym (get_or-set_other xs i k y d (λ q. omega arith))) (each d k l))
+    (subst (P i) (sym (get_or-set_same xs i y d more)) here)

@@ -4,7 +4,7 @@ use Prim.Native.Nat.{ℕ, ◌<◌, ◌≤◌}
 use mathlib.Core.Path.{◌≡◌, refl, sym, ap, ◌∙◌, subst}
 use mathlib.Core.Bool.{true, false}
 use mathlib.Core.List.{List}
-use mathlib.Core.Logic.{inl, inr, ⊎_elim, ◌≢◌, by_cases}
+use mathlib.Core.Logic.{◌≢◌, by_cases}
 use native.Mathlib.Decide.{dec_lt}
 use native.Mathlib.Omega.{arith}
 use lib.ListN.{length}
@@ -12,12 +12,11 @@ use Rattle.terms.specs.Refusals.{None, First}
 use Rattle.terms.proofs.Common.{clash}
 use Rattle.terms.proofs.Verdicts.{first_at}
 use Rattle.file_format.specs.Layout.{closing_kind}
-use Rattle.file_format.specs.Places.{size_at, kind_at, next_at, RecordAt}
+use Rattle.file_format.specs.Places.{kind_at, next_at, RecordAt}
 use Rattle.file_format.specs.InnerPlaces.{Reached, start, behind, may_follow, last_of, StepCause, wrong, missing}
 use Rattle.file_format.proofs.Passing.{passed_reached, record_reached}
 pub use Rattle.file_format.proofs.Passing.{next_past}
-use Rattle.file_format.specs.Causes.{file_bytes, RecordCause, cut, odd, no_count, part_literal, no_word}
-use Rattle.file_layout.specs.InnerLaid.{WrongSize}
+use Rattle.file_format.specs.Causes.{RecordCause, cut, odd, no_count, part_literal, no_word}
 
 module _ (file : List ℕ) where
   next_same : {p q : ℕ} → p ≡ q → next_at file p ≡ next_at file q
@@ -88,10 +87,6 @@ module _ (file : List ℕ) where
       go (before m) = let n = next_past file e in clean e (omega arith)
       go (after m) = absurd (omega arith)
 
-  -- A record of a file that is not too long begins near enough to be read.
-  pub record_near : {at : ℕ} → length file ≤ file_bytes → RecordAt file at → at < file_bytes
-  record_near short r = omega (arith, r.goes_on)
-
   -- Every cause of 19 stands at a record.
   pub record_cause : {k e : ℕ} → RecordCause file k e → (k ≡ 19) × RecordAt file e
   record_cause (cut n r _) = (n, r)
@@ -99,29 +94,6 @@ module _ (file : List ℕ) where
   record_cause (no_count n r _ _) = (n, r)
   record_cause (part_literal n r _ _) = (n, r)
   record_cause (no_word n r _ _) = (n, r)
-
-  -- One record: what is wrong with it, and what is if its length fits the file.
-  pub wrong_record : {at kind size : ℕ} → RecordAt file at → kind ≡ kind_at file at → size ≡ size_at file at → WrongSize kind size
-      → RecordCause file 19 at
-  wrong_record {at} {kind} r k s w =
-      let w' : WrongSize (kind_at file at) (size_at file at) =
-      subst (λ (x : ℕ). WrongSize x (size_at file at)) k (subst (λ (x : ℕ). WrongSize kind x) s w) in
-      ⊎_elim (λ o. odd refl r o)
-      (⊎_elim (λ c. no_count refl r c.0 c.1) (⊎_elim (λ c. part_literal refl r c.0 c.1) (λ c. no_word refl r c.0 c.1))) w'
-
-  pub right_record : {at kind size : ℕ} → kind ≡ kind_at file at → size ≡ size_at file at → next_at file at ≤ length file
-      → (WrongSize kind size → ⊥) → RecordCause file 19 at → ⊥
-  right_record {at} {kind} {size} k s fits not cause = go cause
-    where
-      not' : WrongSize (kind_at file at) (size_at file at) → ⊥
-      not' w = not (subst (λ (x : ℕ). WrongSize x size) (sym k) (subst (λ (x : ℕ). WrongSize (kind_at file at) x) (sym s) w))
-
-      go : RecordCause file 19 at → ⊥
-      go (cut _ _ l) = omega arith
-      go (odd _ _ o) = not' (inl o)
-      go (no_count _ _ q l) = not' (inr (inl (q, l)))
-      go (part_literal _ _ q l) = not' (inr (inr (inl (q, l))))
-      go (no_word _ _ q l) = not' (inr (inr (inr (q, l))))
 
   -- The walk for 19: no record before a place is wrong.
   pub record Shaped (at : ℕ) : Type 0 where

@@ -1,9 +1,9 @@
 // The numbers of a file, stored in tables or compared with them.
 
-ghost use Rattle.std.specs.Prelude.{◌+◌, ◌*◌, ◌<◌, ◌≤◌, ◌≡◌, map, length};
+ghost use Rattle.std.specs.Prelude.{ℕ, ◌+◌, ◌*◌, ◌<◌, ◌≤◌, ◌≡◌, map, length};
 ghost use Rattle.std.proofs.lemmas.List.Edits.{sets};
 ghost use Rattle.forest_tables.specs.InnerRows.{Tells};
-ghost use Rattle.file_format.specs.Numbers.{number_at, numbers_at, literal_of};
+ghost use Rattle.file_format.specs.Numbers.{number_at, numbers_at};
 ghost use Rattle.file_format.specs.Places.{prefix_held, clauses_in};
 ghost use Rattle.file_layout.specs.InnerLaid.{Laid};
 ghost use Rattle.file_layout.specs.InnerWidths.{Width};
@@ -29,27 +29,25 @@ pub fn fill_numbers(file: &[u8], width: usize, from: usize, many: usize, table: 
     requires room { Width width × (from + width * many < 4294967294) × (many ≤ length table.old) }
     ensures stored { table.new ≡ sets table.old 0 (numbers_at width file.now from many) }
 {
-    let mut i = 0;
-    let mut at = from;
-    while i < many {
-        table[i] = number_in(file, width, at);
-        i += 1;
-        at += width;
-    }
+    fill_entries(file, width, from, many, table, |number| number);
 }
 
-// Stores so many literals from a place on in front in a clause table.
-fn fill_literals(file: &[u8], from: usize, many: usize, table: &mut [i32])
-    requires room { (from + 4 * many < 4294967294) × (many ≤ length table.old) }
-    ensures stored { table.new ≡ sets table.old 0 (map literal_of (numbers_at 4 file.now from many)) }
+// Stores what the conversion makes of so many numbers from a place on, in front in a table: the promise is for each function that the conversion computes.
+fn fill_entries<T: Copy, F: Fn(u32) -> T>(
+    file: &[u8],
+    width: usize,
+    from: usize,
+    many: usize,
+    table: &mut [T],
+    entry_of: F,
+)
+    requires room { Width width × (from + width * many < 4294967294) × (many ≤ length table.old) }
+    requires callable { F.IsAlwaysCallable entry_of }
+    ensures stored { (f : ℕ → T) → ((x : ℕ) (y : T) → F.post entry_of x y → y ≡ f x)
+        → table.new ≡ sets table.old 0 (map f (numbers_at width file.now from many)) }
 {
-    let mut i = 0;
-    let mut at = from;
-    while i < many {
-        let number = four_at(file, at);
-        table[i] = literal_of(number);
-        i += 1;
-        at += 4;
+    for (i, entry) in table[..many].iter_mut().enumerate() {
+        *entry = entry_of(number_in(file, width, from + width * i));
     }
 }
 
@@ -62,9 +60,9 @@ pub fn fill_formula(file: &[u8], prefix: &mut [u32], clauses: &mut [i32])
 {
     let entries = prefix_entries(file);
     fill_numbers(file, 2, 8, entries, prefix);
-    let second = second_at(file);
+    let second = second_at(file) + Record::HEAD;
     let literals = clause_entries(file);
-    fill_literals(file, second + Record::HEAD, literals, clauses);
+    fill_entries(file, 4, second, literals, clauses, literal_of);
 }
 
 // Whether a table has the numbers from a place on.
@@ -72,14 +70,10 @@ pub fn same_numbers(file: &[u8], width: usize, from: usize, table: &[u32]) -> bo
     requires near { Width width × (from + width * length table.now < 4294967294) }
     ensures told { Tells result (numbers_at width file.now from (length table.now) ≡ table.now) }
 {
-    let mut i = 0;
-    let mut at = from;
-    while i < table.len() {
-        if number_in(file, width, at) != table[i] {
+    for (i, &entry) in table.iter().enumerate() {
+        if number_in(file, width, from + width * i) != entry {
             return false;
         }
-        i += 1;
-        at += width;
     }
     true
 }

@@ -1,4 +1,6 @@
 -- The lent tables of a file that is verified: one of them is too short, or all are filled.
+use Rattle.std.specs.Prelude.{Ok}
+use Rattle.terms.specs.declared.Loaded.{Loaded}
 use Prim.Native.Nat.{ℕ, ◌+◌, ◌*◌, ◌≤◌}
 use mathlib.Core.Path.{◌≡◌, refl, sym, subst}
 use mathlib.Core.List.{List}
@@ -8,7 +10,6 @@ use native.Mathlib.Omega.{arith}
 use lib.ListN.{length}
 use lib.Seq.{sets}
 use Rattle.terms.specs.Overwritten.{overwritten}
-use Rattle.terms.specs.declared.Loaded.{Loaded}
 use Rattle.terms.proofs.Overwritten.{stored_overwritten}
 use Rattle.terms.proofs.Verdicts.{at0_none}
 use Rattle.formula.specs.Lent.{Formula}
@@ -50,9 +51,9 @@ stored_in_lem file lent (prefix, clauses, classes, parents, counts) =
     (rows (stored from lent.rows.classes classes i) (stored (from + 4 * n) lent.rows.parents parents i)
     (stored (from + 4 * n + 4 * n) lent.rows.counts counts i))
 
-pub loads_filled : (file : List ℕ) (lent lent' : Lent) (answer : Loaded) → Roomy (formula_held file) lent
-    → lent' ≡ stored_in lent (formula_held file) (rows_held file) → answer ≡ said_of file → LoadsRight file lent lent' answer
-loads_filled file lent lent' answer room left is =
-    subst (LoadsRight file lent lent') (sym is) (λ read right.
+pub loads_filled : (file : List ℕ) (lent lent' : Lent) (held : Loaded) → Roomy (formula_held file) lent
+    → lent' ≡ stored_in lent (formula_held file) (rows_held file) → held ≡ said_of file → LoadsRight file lent lent' (Ok held)
+loads_filled file lent lent' held room left is =
+    subst (λ (h : Loaded). LoadsRight file lent lent' (Ok h)) (sym is) (λ read right.
     let clear = at0_none 14 (roomy_none (formula_held file) lent room) in
     ((clear, tt), (refl, refl, refl, refl, record { rows = rows_held file; right = right; left = left })))

@@ -49,7 +49,7 @@ pub fn has_room(
     true
 }
 
-// Fills the lent tables, and says what the file has.
+// Fills the lent tables, and gives what the file has.
 pub fn fill_lent(
     file: &[u8],
     prefix: &mut [u32],
@@ -90,9 +90,10 @@ fn said_of(file: &[u8]) -> Loaded
     requires laid { Laid file.now }
     ensures said { result ≡ said_of file.now }
 {
-    let n = two_at(file, Record::HEAD);
-    let entries = prefix_entries(file);
-    let literals = clause_entries(file);
-    let with_sets = has_sets(file);
-    Loaded::Formula(n, entries, literals, with_sets)
+    Loaded {
+        n: two_at(file, Record::HEAD),
+        prefix: prefix_entries(file),
+        clauses: clause_entries(file),
+        sets: has_sets(file),
+    }
 }

@@ -11,7 +11,7 @@ ghost use Rattle.file_read.specs.Inner.{LoadsRight};
 
 use file_verify::file_verdict;
 use filling::{fill_lent, has_room};
-use terms::{Loaded, Verdict};
+use terms::{Fault, Loaded, Refusal};
 
 // Reads a file into the lent tables: prefix, clauses, and the rows of class names, parents and counts. Everything is judged before the first row is
 // written. The prefix is read by a rule where its formula is judged, and stored as the file has it.
@@ -23,14 +23,12 @@ pub fn load(
     classes: &mut [u32],
     parents: &mut [u32],
     counts: &mut [u32],
-) -> Loaded
+) -> Result<Loaded, Refusal>
     ensures loaded { Loads rule file.now (lent_in prefix clauses classes parents counts)
         (lent_out prefix clauses classes parents counts) result }
 {
-    match file_verdict(rule, file) {
-        Verdict::Refused(number, place) => Loaded::Refused(number, place),
-        Verdict::Accepted => load_right(file, prefix, clauses, classes, parents, counts),
-    }
+    file_verdict(rule, file)?;
+    load_right(file, prefix, clauses, classes, parents, counts)
 }
 
 // Stores what a verified file has in the lent tables, where they have room for it.
@@ -41,13 +39,13 @@ fn load_right(
     classes: &mut [u32],
     parents: &mut [u32],
     counts: &mut [u32],
-) -> Loaded
+) -> Result<Loaded, Refusal>
     requires laid { Laid file.now }
     ensures loaded { LoadsRight file.now (lent_in prefix clauses classes parents counts)
         (lent_out prefix clauses classes parents counts) result }
 {
     if !has_room(file, prefix, clauses, classes, parents, counts) {
-        return Loaded::Refused(14, 0);
+        return Err(Refusal(Fault::TooLittleRoom, 0));
     }
-    fill_lent(file, prefix, clauses, classes, parents, counts)
+    Ok(fill_lent(file, prefix, clauses, classes, parents, counts))
 }

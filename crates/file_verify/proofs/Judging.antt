@@ -1,16 +1,17 @@
 -- The orders of verifying a file, one after the other.
+use Rattle.std.specs.Prelude.{Err}
+use Rattle.terms.specs.declared.Refusal.{Refusal}
+use Rattle.terms.specs.Says.{Verdict, refused, said}
+use Rattle.terms.specs.declared.Fault.TheVariants.{NoSuchRule, TooManyEntries, TooManyVariables}
 use Prim.Native.Nat.{ℕ, ◌<◌, ◌≤◌}
-use mathlib.Core.Path.{◌≡◌, refl}
 use mathlib.Core.List.{List, [], ◌∷◌, ◌++◌}
 use mathlib.Core.Logic.{◌⊎◌, inl, inr, ⊎_elim}
 use native.Mathlib.Omega.{arith}
 use lib.ListN.{length}
 use Rattle.terms.specs.Limits.{most_variables, prefix_entries, clause_entries}
 use Rattle.terms.specs.Refusals.{Causes, At0, None, Judged, NoneOf}
-use Rattle.terms.specs.declared.Verdict.{Verdict}
-use Rattle.terms.specs.declared.Verdict.TheVariants.{Accepted, Refused}
 use Rattle.terms.proofs.Orders.{Carries, carry_judged, exchanged}
-use Rattle.terms.proofs.Verdicts.{at0_first, at0_none, refused_first, accepted_then}
+use Rattle.terms.proofs.Verdicts.{at0_first, at0_none, first_of_more, judges_later}
 use Rattle.formula.specs.Lent.{Formula}
 use Rattle.formula_rules.specs.Rules.{NoRule, read_by}
 use Rattle.file_format.specs.Places.{formula_held}
@@ -31,30 +32,29 @@ rule_none is = at0_none 23 (λ none. ⊎_elim none.0 none.1 is)
 
 -- 1 and 2 by the numbers alone.
 module _ (rule : ℕ) (f : Formula) (file : List ℕ) (is : IsRule rule) where
-  pub count_over : most_variables < f.n → Judges rule f file (Refused 1 0)
+  pub count_over : most_variables < f.n → Judges rule f file (refused TooManyVariables 0)
   count_over over = (inr (rule_none is, inl (at0_first 1 over)), tt)
 
   pub length_over : f.n ≤ most_variables → (prefix_entries < length f.prefix) ⊎ (clause_entries < length f.clauses)
-      → Judges rule f file (Refused 2 0)
+      → Judges rule f file (refused TooManyEntries 0)
   length_over few over = (inr (rule_none is, inr (at0_none 1 (λ l. omega arith), inl (at0_first 2 over))), tt)
 
 -- The whole file: a number that is no rule's is 23; else a refusal of the records stands, and then what they hold decides, where 23 is behind the order.
-pub no_rule : (rule : ℕ) (file : List ℕ) → (IsRule rule → ⊥) → Verifies rule file (Refused 23 0)
+pub no_rule : (rule : ℕ) (file : List ℕ) → (IsRule rule → ⊥) → Verifies rule file (refused NoSuchRule 0)
 no_rule rule file none = (inl (at0_first 23 (λ one. none (inl one), λ two. none (inr two))), tt)
 
 module _ (rule : ℕ) (file : List ℕ) (is : IsRule rule) where
   abbrev later : List Causes
   later = table_order rule (formula_held file) ++ (ForestFileCause (read_by rule (formula_held file)) file ∷ [])
 
-  pub records_refused : {v : Verdict} {k p : ℕ} → v ≡ Refused k p → Judged (file_order file) v → Verifies rule file (Refused k p)
-  records_refused q judged = (inr (rule_none is, refused_first (file_order file) later q judged), tt)
+  pub records_refused : (r : Refusal) → Judged {Values = Unit {0}} (file_order file) (Err r) → Verifies rule file (Err r)
+  records_refused r first = (inr (rule_none is, first_of_more (file_order file) later _ _ first), tt)
 
-  pub records_then : {v : Verdict} (w : Verdict) → v ≡ Accepted → Judged (file_order file) v → Judges rule (formula_held file) file w
-      → Verifies rule file w
-  records_then w q judged (contents, agreed) =
+  pub records_then : (w : Verdict) → NoneOf (file_order file) → Judges rule (formula_held file) file w → Verifies rule file w
+  records_then w none (contents, agreed) =
       let rule-first = At0 23 (NoRule rule) ∷ [] in
       let unruled = carry_judged (rule-first ++ later) later (exchanged rule-first [] later (rule_none is, tt) tt) w contents in
-      (accepted_then rule-first (file_order file ++ later) w refl (rule_none is, tt) (accepted_then (file_order file) later w q judged unruled), agreed)
+      (judges_later rule-first (file_order file ++ later) (said w) (rule_none is, tt) (judges_later (file_order file) later (said w) none unruled), agreed)
 
 -- So the records of a file that is verified are in order.
 pub verified_laid : (rule : ℕ) (file : List ℕ) → NoneOf (verify_order rule file) → Laid file

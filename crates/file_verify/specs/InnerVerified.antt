@@ -1,8 +1,7 @@
 -- What verifying a file finds. What a reader must believe of the call that reads it is in the definitions of `file_format`.
-use Rattle.std.specs.Prelude.{ℕ, ◌+◌, ◌*◌, ◌≡◌, List, [], ◌∷◌, ◌++◌, ◌⊎◌}
+use Rattle.std.specs.Prelude.{ℕ, ◌+◌, ◌*◌, ◌≡◌, List, [], ◌∷◌, ◌++◌, ◌⊎◌, Ok, Err}
+use Rattle.terms.specs.Says.{Verdict}
 use Rattle.terms.specs.Refusals.{Causes, Judged}
-use Rattle.terms.specs.declared.Verdict.{Verdict}
-use Rattle.terms.specs.declared.Verdict.TheVariants.{Accepted, Refused}
 use Rattle.formula.specs.Lent.{Formula}
 use Rattle.formula.specs.InnerLevels.{SoundPrefix}
 use Rattle.formula.specs.InnerLookup.{SoundClauses}
@@ -48,8 +47,8 @@ rows_held file = rows (classes_in file) (parents_in file) (counts_in file)
 
 -- What a verdict on a file finds by an order, where a formula is read in it: the first cause, or that the file has the rows of the formula.
 abbrev pub Agreed : Formula → List ℕ → Verdict → Type 0
-Agreed f file Accepted = (r : Rows) × RightRows f file r
-Agreed f file (Refused number place) = Unit {0}
+Agreed f file (Ok _) = (r : Rows) × RightRows f file r
+Agreed f file (Err refusal) = Unit {0}
 
 abbrev pub Finds : List Causes → Formula → List ℕ → Verdict → Type 0
 Finds order f file v = Judged order v × Agreed f file v

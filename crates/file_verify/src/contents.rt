@@ -15,17 +15,17 @@ use file_format::Record;
 use file_format::numbers::two_at;
 use file_layout::decoding::{fill_formula, same_numbers};
 use file_layout::places::{clause_entries, fourth_at, has_sets, prefix_entries, size_at, third_at};
-use formula_rules::{as_read, read_formula};
+use formula_rules::take_formula;
 use grow::building::build_sound;
 use sets::formed_sets;
-use terms::{Filled, Level, Literal, Scheme, Variable, Verdict};
+use terms::{Fault, Level, Literal, Refusal, Scheme, Variable};
 
 // The most numbers that the record of kind 4 may have: two bytes each, in the longest file.
 const SET_NUMBERS: usize = 131072;
 
 // The first cause of refusal in the formula of a file, and then in its rows and sets. The formula is read into tables of its own, which hold as much
 // as the limits allow.
-pub fn contents_verdict(rule: u32, file: &[u8]) -> Verdict
+pub fn contents_verdict(rule: u32, file: &[u8]) -> Result<(), Refusal>
     requires laid { Laid file.now × IsRule rule }
     ensures judged { Judges rule (formula_held file.now) file.now result }
 {
@@ -33,19 +33,25 @@ pub fn contents_verdict(rule: u32, file: &[u8]) -> Verdict
     let entries = prefix_entries(file);
     let literals = clause_entries(file);
     if Variable::MOST < n {
-        return Verdict::Refused(1, 0);
+        return Err(Refusal(Fault::TooManyVariables, 0));
     }
     if Level::ENTRIES < entries {
-        return Verdict::Refused(2, 0);
+        return Err(Refusal(Fault::TooManyEntries, 0));
     }
     if Literal::ENTRIES < literals {
-        return Verdict::Refused(2, 0);
+        return Err(Refusal(Fault::TooManyEntries, 0));
     }
     read_verdict(rule, file, n, entries, literals)
 }
 
 // The first cause in the formula of a file and behind it, once its n and its lengths are within the limits.
-fn read_verdict(rule: u32, file: &[u8], n: u32, entries: usize, literals: usize) -> Verdict
+fn read_verdict(
+    rule: u32,
+    file: &[u8],
+    n: u32,
+    entries: usize,
+    literals: usize,
+) -> Result<(), Refusal>
     requires held { Laid file.now × (n ≡ (formula_held file.now).n) × (entries ≡ length (formula_held file.now).prefix)
         × (literals ≡ length (formula_held file.now).clauses) }
     requires limits { (entries ≤ prefix_entries) × (literals ≤ clause_entries) }
@@ -58,22 +64,23 @@ fn read_verdict(rule: u32, file: &[u8], n: u32, entries: usize, literals: usize)
 }
 
 // The first cause in a formula, and then in the rows and sets of a file, by the formula as the rule reads it.
-fn formula_verdict(rule: u32, file: &[u8], n: u32, prefix: &[u32], clauses: &[i32]) -> Verdict
+fn formula_verdict(
+    rule: u32,
+    file: &[u8],
+    n: u32,
+    prefix: &[u32],
+    clauses: &[i32],
+) -> Result<(), Refusal>
     requires laid { Laid file.now }
     ensures judged { Judges rule (formula_in n prefix clauses) file.now result }
 {
     let mut joined = [0u32; Level::JOINED];
-    match read_formula(rule, n, prefix, clauses, &mut joined) {
-        Filled::Refused(number, place) => Verdict::Refused(number, place),
-        Filled::Count(count) => {
-            let read = as_read(rule, prefix, &joined, count);
-            forest_verdict(file, n, read, clauses)
-        }
-    }
+    let read = take_formula(rule, n, prefix, clauses, &mut joined)?;
+    forest_verdict(file, n, read, clauses)
 }
 
 // Refusal 22, by an accepted formula: its forest is built in tables of its own.
-fn forest_verdict(file: &[u8], n: u32, prefix: &[u32], clauses: &[i32]) -> Verdict
+fn forest_verdict(file: &[u8], n: u32, prefix: &[u32], clauses: &[i32]) -> Result<(), Refusal>
     requires sound { Laid file.now × SoundFormula (formula_of n prefix.now clauses.now) }
     ensures judged { JudgesRows (formula_in n prefix clauses) file.now result }
 {
@@ -102,21 +109,18 @@ fn rows_verdict(
     classes: &[u32],
     parents: &[u32],
     counts: &[u32],
-) -> Verdict
+) -> Result<(), Refusal>
     requires sound { Laid file.now × SoundFormula (formula_of n prefix.now clauses.now) }
     requires rows { ForestRows (formula_of n prefix.now clauses.now) (rows classes.now parents.now counts.now) }
     ensures judged { JudgesRows (formula_in n prefix clauses) file.now result }
 {
     if !rows_hold(file, classes, parents, counts) {
-        return Verdict::Refused(22, third_at(file));
+        return Err(Refusal(Fault::WrongContents, third_at(file)));
     }
-    if !has_sets(file) {
-        return Verdict::Accepted;
+    if has_sets(file) && !sets_hold(file, n, prefix, clauses, classes, parents) {
+        return Err(Refusal(Fault::WrongContents, fourth_at(file)));
     }
-    if sets_hold(file, n, prefix, clauses, classes, parents) {
-        return Verdict::Accepted;
-    }
-    Verdict::Refused(22, fourth_at(file))
+    Ok(())
 }
 
 // Whether the record of kind 3 has just these rows.
@@ -174,11 +178,8 @@ fn listed_hold(
     ensures told { Tells result (RightSets (formula_in n prefix clauses) file.now) }
 {
     match formed_sets(Scheme::Standard, n, prefix, clauses, classes, parents, list) {
-        Filled::Refused(_, _) => false,
-        Filled::Count(count) => {
-            let many = count as usize;
-            list_holds(file, &list[..many])
-        }
+        Ok(count) => list_holds(file, &list[..count as usize]),
+        Err(_) => false,
     }
 }
 

@@ -10,30 +10,22 @@ ghost use Rattle.file_verify.specs.InnerVerified.{IsRule, Verifies};
 
 use contents::contents_verdict;
 use file_layout::layout_verdict;
-use terms::Verdict;
+use terms::{Fault, Refusal};
 
 // The first cause of refusal in a file: 23, then 19 to 21 in its records, those of its formula with the prefix read by the rule, and 22.
-pub fn file_verdict(rule: u32, file: &[u8]) -> Verdict
+pub fn file_verdict(rule: u32, file: &[u8]) -> Result<(), Refusal>
     ensures judged { Verifies rule file.now result }
 {
     if !is_rule(rule) {
-        return Verdict::Refused(23, 0);
+        return Err(Refusal(Fault::NoSuchRule, 0));
     }
-    match layout_verdict(file) {
-        Verdict::Refused(number, place) => Verdict::Refused(number, place),
-        Verdict::Accepted => contents_verdict(rule, file),
-    }
+    layout_verdict(file)?;
+    contents_verdict(rule, file)
 }
 
 // Whether a number is that of a reading rule.
 fn is_rule(rule: u32) -> bool
     ensures told { Tells result (IsRule rule) }
 {
-    if rule == 1 {
-        return true;
-    }
-    if rule == 2 {
-        return true;
-    }
-    false
+    rule == 1 || rule == 2
 }

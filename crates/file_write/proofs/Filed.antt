@@ -1,4 +1,7 @@
 -- What is written is the file of the formula, and so the one that the promise speaks of.
+use Rattle.std.specs.Prelude.{Ok, Err}
+use Rattle.terms.specs.Says.{Answer, refused}
+use Rattle.terms.specs.declared.Fault.TheVariants.{TooLittleRoom}
 use Prim.Native.Nat.{ℕ, ◌%◌, ◌<◌, ◌≤◌}
 use mathlib.Core.Path.{◌≡◌, refl, ap, ◌∙◌, subst}
 use mathlib.Core.Bool.{false}
@@ -10,8 +13,6 @@ use Rattle.terms.specs.Overwritten.{overwritten}
 use Rattle.terms.proofs.Overwritten.{stored_overwritten}
 use Rattle.terms.specs.Limits.{most_variables}
 use Rattle.terms.specs.Refusals.{At0, None}
-use Rattle.terms.specs.declared.Filled.{Filled}
-use Rattle.terms.specs.declared.Filled.TheVariants.{Count, Refused}
 use Rattle.terms.proofs.Orders.{Carries, same_order, one_more}
 use Rattle.terms.proofs.Verdicts.{at0_first, at0_none}
 use Rattle.formula.specs.Lent.{Formula, formula_of}
@@ -62,11 +63,11 @@ module _ (f : Formula) (r : Rows) (small : Small f r) where
 
   -- What writes it promises: 14 where it does not fit, and else its bytes.
   module _ (before : List ℕ) where
-    pub no_room : length before < size f r → StoresWhole whole before before (Refused 14 0)
+    pub no_room : length before < size f r → StoresWhole whole before before (refused TooLittleRoom 0)
     no_room short = (inl (at0_first 14 (omega (arith, whole_length f r small))), refl)
 
     pub room : size f r ≤ length before → {after : List ℕ} {count : ℕ} → Wrote whole before after 0 count
-        → StoresWhole whole before after (Count count)
+        → StoresWhole whole before after (Ok count)
     room enough wrote =
         let fits : length whole ≤ length before = omega (arith, whole_length f r small) in
         ((at0_none 14 (λ short. omega arith), tt), (whole, refl, omega (arith, wrote.end), wrote.stored ∙ stored_overwritten whole before fits))
@@ -99,7 +100,7 @@ module _ (f : Formula) (r : Rows) (small : Small f r) where
     short : None (At0 19 (FileTooLarge f read))
     short = at0_none 19 (never_too_large f read (few, small.entries, small.literals))
 
-    pub of_formula : (before after : List ℕ) (answer : Filled) → StoresWhole whole before after answer → StoresRead f read before after answer
-    of_formula before after (Count count) (clear, (file, is, counted, stored)) =
+    pub of_formula : (before after : List ℕ) (answer : Answer ℕ) → StoresWhole whole before after answer → StoresRead f read before after answer
+    of_formula before after (Ok count) (clear, (file, is, counted, stored)) =
         ((short, (carries before).none clear), (whole, file_of, counted ∙ ap length is, stored ∙ ap (λ (rows : List ℕ). overwritten rows before) is))
-    of_formula before after (Refused number place) (first, same) = (inr (short, (carries before).first number place first), same)
+    of_formula before after (Err refusal) (first, same) = (inr (short, (carries before).first _ _ first), same)

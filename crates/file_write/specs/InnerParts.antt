@@ -1,9 +1,9 @@
 -- The parts of a file as they are written one after the other, which only proofs rest on.
+use Rattle.terms.specs.Says.{Answer}
 use Rattle.std.specs.Prelude.{ℕ, ◌+◌, ◌*◌, ◌<◌, ◌≤◌, ◌≡◌, false, List, [], ◌∷◌, ◌++◌, length}
 use Rattle.terms.specs.Answers.{Filling}
 use Rattle.terms.specs.Limits.{most_variables, prefix_entries, clause_entries}
 use Rattle.terms.specs.Refusals.{At0}
-use Rattle.terms.specs.declared.Filled.{Filled}
 use Rattle.formula.specs.Lent.{Formula}
 use Rattle.forest_tables.specs.Lent.{Rows}
 use Rattle.file_format.specs.Layout.{prefix_record, clauses_record, rows_record, closing_record, FileWith}
@@ -34,9 +34,9 @@ pub record Small (f : Formula) (r : Rows) : Type 0 where
   pub counts_many : length r.counts ≡ length r.classes
 
 -- What writing a whole file promises: 14 where it does not fit, and else its bytes in front.
-abbrev pub StoresWhole : List ℕ → List ℕ → List ℕ → Filled → Type 0
+abbrev pub StoresWhole : List ℕ → List ℕ → List ℕ → Answer ℕ → Type 0
 StoresWhole whole before = Filling (At0 14 (length before < length whole) ∷ []) (λ (file : List ℕ). file ≡ whole) before
 
 -- What writing promises of an accepted formula whose prefix is read as `read`: only 19 and 14 are left to refuse.
-abbrev pub StoresRead : Formula → List ℕ → List ℕ → List ℕ → Filled → Type 0
+abbrev pub StoresRead : Formula → List ℕ → List ℕ → List ℕ → Answer ℕ → Type 0
 StoresRead f read before = Filling (behind_store f read before) (FileWith false f read) before

@@ -12,28 +12,35 @@ ghost use Rattle.formula.specs.InnerLookup.{SoundClauses};
 ghost use Rattle.file_format.specs.Promises.{Stores};
 ghost use Rattle.file_write.specs.InnerParts.{StoresRead};
 
-use formula_rules::{as_read, read_formula};
+use formula_rules::take_formula;
 use grow::building::build_sound;
-use terms::{Filled, Level, Variable};
+use terms::{Level, Refusal, Variable};
 use whole::store_file;
 
 // Writes the file of a formula and its forest into a lent table, and gives the count of its bytes. The prefix is written as it is lent.
-pub fn store(rule: u32, n: u32, prefix: &[u32], clauses: &[i32], file: &mut [u8]) -> Filled
+pub fn store(
+    rule: u32,
+    n: u32,
+    prefix: &[u32],
+    clauses: &[i32],
+    file: &mut [u8],
+) -> Result<u32, Refusal>
     ensures stored { Stores rule (formula_in n prefix clauses) file.old file.new result }
 {
     let mut joined = [0u32; Level::JOINED];
-    match read_formula(rule, n, prefix, clauses, &mut joined) {
-        Filled::Refused(number, place) => Filled::Refused(number, place),
-        Filled::Count(count) => {
-            let read = as_read(rule, prefix, &joined, count);
-            store_read(n, prefix, read, clauses, file)
-        }
-    }
+    let read = take_formula(rule, n, prefix, clauses, &mut joined)?;
+    store_read(n, prefix, read, clauses, file)
 }
 
 // Writes the file of an accepted formula, from its prefix as lent and as read: its forest is built in tables of its own, which have room for the most
 // variables.
-fn store_read(n: u32, prefix: &[u32], read: &[u32], clauses: &[i32], file: &mut [u8]) -> Filled
+fn store_read(
+    n: u32,
+    prefix: &[u32],
+    read: &[u32],
+    clauses: &[i32],
+    file: &mut [u8],
+) -> Result<u32, Refusal>
     requires sound { SoundPrefix n read.now × SoundClauses clauses.now × (length prefix.now ≤ prefix_entries) }
     ensures stored { StoresRead (formula_in n prefix clauses) read.now file.old file.new result }
 {

@@ -8,7 +8,7 @@ ghost use Rattle.text_write.specs.InnerBytes.{Wrote};
 ghost use Rattle.file_write.specs.InnerParts.{formula_part, whole_of, size_of, Small, StoresWhole};
 
 use file_bytes::parts::{put_clauses, put_closing, put_prefix, put_rows};
-use terms::Filled;
+use terms::{Fault, Refusal};
 
 // Writes the file of a formula and these rows; nothing is written where it does not fit. Within the limits it is never too long.
 pub fn store_file(
@@ -19,16 +19,16 @@ pub fn store_file(
     parents: &[u32],
     counts: &[u32],
     file: &mut [u8],
-) -> Filled
+) -> Result<u32, Refusal>
     requires small { Small (formula_of n prefix.now clauses.now) (rows classes.now parents.now counts.now) }
     ensures stored { StoresWhole (whole_of (formula_in n prefix clauses) (rows_in classes parents counts)) file.old file.new result }
 {
     let size = size_of(prefix.len(), clauses.len(), classes.len());
     if file.len() < size {
-        return Filled::Refused(14, 0);
+        return Err(Refusal(Fault::TooLittleRoom, 0));
     }
     let written = put_file(file, n, prefix, clauses, classes, parents, counts);
-    Filled::Count(written as u32)
+    Ok(written as u32)
 }
 
 // How many bytes a file has, by its prefix entries, literals, and rows of each table.

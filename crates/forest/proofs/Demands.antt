@@ -1,5 +1,8 @@
 -- Demand 2, as theorems about what the calls ensure (rule 2.3, rule 3.6, rule 4.2, rule 5.2); that a block has one quantifier; and that what was lent
 -- settles every outcome (rule 18.1).
+use Rattle.std.specs.Prelude.{Ok, Err}
+use Rattle.terms.specs.Says.{Answer}
+use Rattle.terms.specs.declared.Point.{Point}
 use Prim.Native.Nat.{ℕ, ◌+◌, ◌≤◌}
 use mathlib.Core.Path.{◌≡◌, refl, sym, ap, ◌∙◌}
 use mathlib.Core.Bool.{Bool, true, false, cond, not}
@@ -12,8 +15,6 @@ use lib.Dec.{eqb}
 use lib.ListN.{length, get_or}
 use Rattle.terms.specs.Answers.{InFront}
 use Rattle.terms.specs.Refusals.{None, NoneOf}
-use Rattle.terms.specs.declared.Filled.{Filled}
-use Rattle.terms.specs.declared.Filled.TheVariants.{Count}
 use Rattle.terms.specs.declared.Variable.{Variable}
 use Rattle.terms.proofs.Common.{clash}
 use Rattle.terms.proofs.Answers.{listed-as, answered-settled, listing-settled, numbered-settled}
@@ -32,8 +33,6 @@ use Rattle.forest_theory.proofs.Growth.{forest_is}
 use Rattle.terms.proofs.Listed.{listed_one}
 use Rattle.forest_theory.proofs.Sets.{set_members, entry_class}
 use Rattle.forest_theory.proofs.Strict.{strict_members}
-use Rattle.terms.specs.declared.EntryAnswer.{EntryAnswer}
-use Rattle.terms.specs.declared.EntryAnswer.TheVariants.{At}
 use Rattle.terms.specs.declared.Scheme.{Scheme}
 use Rattle.formula_rules.specs.Rules.{read_by}
 use Rattle.forest_tables.specs.Formula.{variables, universal, Shares}
@@ -113,37 +112,36 @@ module _ (rule : ℕ) (f : Formula) (r : Rows) (x : ℕ) where
 
   module _ (forest : Forest (variables_of read) (Shares f.clauses) (forest_of read r)) where
     -- What the set call writes where it is not refused is the dependency set by the scheme asked for.
-    pub set_is_dependencies : (scheme : Scheme) (before after : List ℕ) (count : ℕ) → SetListed rule scheme f r x before after (Count count)
+    pub set_is_dependencies : (scheme : Scheme) (before after : List ℕ) (count : ℕ) → SetListed rule scheme f r x before after (Ok count)
         → InFront (Listed (DependsBy scheme read x)) before after count
     set_is_dependencies scheme before after count (none, written) =
         let u = universal_alone read.n read.prefix x (not_refused (MembersBy scheme read r x) before none) in
         (written.0, listed-as (members_depend read r x forest scheme u) written.1, written.2, written.3)
 
     -- And what the entry point call answers is the entry point by reach (rule 2.6; Lonsing and Biere, definition 4.24).
-    pub entry_is_class : (y : ℕ) (class : Variable) (rises : ℕ)
-        → EntryAnswered rule f r x y (At class rises) → EntryClass (variables_of read) (Shares f.clauses) x y class.0
-    entry_is_class y class rises (none, entry) =
+    pub entry_is_class : (y : ℕ) (point : Point) → EntryAnswered rule f r x y (Ok point) → EntryClass (variables_of read) (Shares f.clauses) x y point.class.0
+    entry_is_class y point (none, entry) =
         let ex = not_false_true (is_existential read.n read.prefix y) (λ q. none.1.1.1.1.1.0 13 0 (refl, refl, inr (inl q))) in
-        (entry_class ((forest_is (lawful read.n read.prefix)).0 forest) ex).1 (rises, entry.0)
+        (entry_class ((forest_is (lawful read.n read.prefix)).0 forest) ex).1 (point.rises, entry.0)
 
   -- What was lent settles the answer of each call, and every entry of the table that it fills.
-  pub entry_settled : (y : ℕ) (a b : EntryAnswer) → EntryAnswered rule f r x y a → EntryAnswered rule f r x y b → a ≡ b
+  pub entry_settled : (y : ℕ) (a b : Answer Point) → EntryAnswered rule f r x y a → EntryAnswered rule f r x y b → a ≡ b
   entry_settled y =
       answered-settled (entry_order rule f r x y) (Entry read r x y)
       (λ none c c' k k' p q. entry_one (none_formed none.1.1.1.1.0) p.0 q.0)
 
-  pub list_settled : (P : Formula → ℕ → Type 0) (before after after' : List ℕ) (a b : Filled)
+  pub list_settled : (P : Formula → ℕ → Type 0) (before after after' : List ℕ) (a b : Answer ℕ)
       → ListedFor rule f r x P before after a → ListedFor rule f r x P before after' b → (a ≡ b) × (after ≡ after')
   list_settled P before = listing-settled (list_order rule f r x (P read) before) (P read) before
 
-  pub size_settled : (scheme : Scheme) (a b : Filled) → Sized rule scheme f r x a → Sized rule scheme f r x b → a ≡ b
+  pub size_settled : (scheme : Scheme) (a b : Answer ℕ) → Sized rule scheme f r x a → Sized rule scheme f r x b → a ≡ b
   size_settled scheme =
       numbered-settled (ask_order rule f r x) (SizeBy scheme read r x)
       (λ k k' a b. a.2 ∙ ap (sum (row f.n r.counts)) (listed_one a.0 b.0 a.1 b.1) ∙ sym b.2)
 
   -- The size is the count of what the set call lists.
   pub size_is_count : (scheme : Scheme) (size count : ℕ) (before after : List ℕ)
-      → Sized rule scheme f r x (Count size) → SetListed rule scheme f r x before after (Count count) → size ≡ count
+      → Sized rule scheme f r x (Ok size) → SetListed rule scheme f r x before after (Ok count) → size ≡ count
   size_is_count scheme size count before after (none, a) (none', b) =
       let forest = none.1.1.1.1.1.0 in
       a.2 ∙ size_is_length (none_formed forest) (none_counted forest) (scheme_points read r x scheme) a.1 b.1 ∙ sym b.2

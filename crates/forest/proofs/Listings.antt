@@ -1,4 +1,6 @@
 -- From flags to what a call that lists promises, of a formula that is accepted.
+use Rattle.std.specs.Prelude.{Ok, Err}
+use Rattle.terms.specs.Says.{Answer, gives, refuses, accepted}
 use Prim.Native.Nat.{ℕ, ◌≤◌}
 use mathlib.Core.Path.{refl, sym, ap, ◌∙◌, subst₂}
 use mathlib.Core.Bool.{Bool, false}
@@ -9,12 +11,10 @@ use lib.ListN.{length, get_or}
 use Rattle.terms.specs.Answers.{TooLong, Listing}
 use Rattle.terms.specs.Listed.{Listed}
 use Rattle.terms.specs.Refusals.{Causes, At0, FirstOf, NoneOf}
-use Rattle.terms.specs.declared.Verdict.TheVariants.{Accepted, Refused}
-use Rattle.terms.specs.declared.Filled.{Filled}
 use Rattle.terms.specs.declared.Scheme.{Scheme}
 use Rattle.terms.proofs.Listed.{listed_one}
 use Rattle.terms.proofs.Overwritten.{stored_overwritten}
-use Rattle.terms.proofs.Verdicts.{at0_first, at0_none, accepted_then}
+use Rattle.terms.proofs.Verdicts.{at0_first, at0_none, judges_later}
 use Rattle.formula.specs.Lent.{Formula}
 use Rattle.forest_theory.specs.Tables.{row, lent, WellFormed}
 use Rattle.forest_theory.specs.Counts.{sum}
@@ -33,19 +33,19 @@ use Rattle.forest.proofs.Schemes.{scheme_points}
 
 -- What is picked is what is listed, and there is room for it or not.
 pub picks_listing : (order : List Causes) {P : ℕ → Type 0} (f : ℕ → Bool) (n : ℕ) (before after : List ℕ) → NoneOf order → Listed P (picked f n)
-    → (r : Filled) → Picks f n before after r → Listing (order ++ (At0 14 (TooLong P before) ∷ [])) P before after r
-picks_listing order {P} f n before after none listed (Filled.Count count) picks =
+    → (r : Answer ℕ) → Picks f n before after r → Listing (order ++ (At0 14 (TooLong P before) ∷ [])) P before after r
+picks_listing order {P} f n before after none listed (Ok count) picks =
     let fits : TooLong P before → ⊥ =
     λ long. let q = ap length (listed_one long.0 (picked f n) long.1 listed) in let l = long.2 in let room = picks.1 in omega arith in
-    let all = accepted_then order (At0 14 (TooLong P before) ∷ []) {v = Accepted} Accepted refl none (at0_none 14 fits, tt) in
+    let all = judges_later {A = Unit {0}} order (At0 14 (TooLong P before) ∷ []) (gives tt) none (at0_none 14 fits, tt) in
     (all, (picked f n, listed, picks.0, picks.2 ∙ stored_overwritten (picked f n) before picks.1))
-picks_listing order {P} f n before after none listed (Filled.Refused number place) picks =
+picks_listing order {P} f n before after none listed (Err refusal) picks =
     let last : FirstOf (At0 14 (TooLong P before) ∷ []) 14 0 = inl (at0_first 14 (picked f n, listed, picks.2)) in
-    let first = accepted_then order (At0 14 (TooLong P before) ∷ []) {v = Accepted} (Refused 14 0) refl none last in
+    let first = judges_later {A = Unit {0}} order (At0 14 (TooLong P before) ∷ []) (refuses 14 0) none last in
     (subst₂ (FirstOf (order ++ (At0 14 (TooLong P before) ∷ []))) (sym picks.0) (sym picks.1) first, picks.3)
 
 module _ (f : Formula) (r : Rows) (x : ℕ) (few : f.n ≤ 4096) (scheme : Scheme) {entered : List Bool} (tops : List ℕ)
-    (enters : Enters scheme f r x tops entered Accepted) where
+    (enters : Enters scheme f r x tops entered accepted) where
   -- The set by a scheme is what is picked by the rows, where the entry points by it are flagged.
   pub members_picked : WellFormed (variables_of f) (forest_of f r) → Listed (MembersBy scheme f r x) (picked (pick Set f.n entered tops) f.n)
   unfolding pick lent

@@ -1,10 +1,10 @@
 -- What a scheme takes of the two signs of x: of their flags, and so of the entry points.
+use Rattle.terms.specs.Says.{accepted}
 use Prim.Native.Nat.{ℕ}
 use mathlib.Core.Path.{◌≡◌}
 use mathlib.Core.Bool.{Bool, true, false}
 use mathlib.Core.List.{List}
 use mathlib.Core.Logic.{⊎_elim, ◌↔◌}
-use Rattle.terms.specs.declared.Verdict.TheVariants.{Accepted}
 use Rattle.formula.specs.Meaning.{level}
 use Rattle.forest_theory.specs.Tables.{WellFormed, EntryPointOf}
 use Rattle.forest_theory.proofs.Strict.{strict_entry_within}
@@ -52,7 +52,7 @@ module _ (f : Formula) (r : Rows) {x : ℕ} (tops : List ℕ) (formed : WellForm
 pub over_enters : (f : Formula) (r : Rows) (x floor : ℕ) (tops : List ℕ) {kept : List ℕ} {flags : List Bool} (scheme : Scheme)
     → WellFormed (variables_of f) (forest_of f r) → floor ≡ level f.prefix x → TopRows (variables_of f) (forest_of f r) floor tops
     → Entering f.n (λ e. Takes scheme (λ sign. Via f.n tops (SharesBy f.clauses sign x) e)) tops kept flags
-    → Enters scheme f r x kept flags Accepted
+    → Enters scheme f r x kept flags accepted
 over_enters f r x floor tops scheme formed low rows e =
     let entries = tops_entries formed floor tops low rows in
     let points = takes_entries f r tops formed entries scheme in

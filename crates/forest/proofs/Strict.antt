@@ -1,5 +1,6 @@
 -- Strict sets, of what the calls promise: they lie within the standard ones, and are empty where x has one sign only (rule 5.3); and their first
 -- steps with a clause put last.
+use Rattle.std.specs.Prelude.{Ok, Err}
 use Prim.Native.Nat.{ℕ}
 use mathlib.Core.Path.{◌≡◌, refl, sym, ap, ◌∙◌, subst}
 use mathlib.Core.Bool.{Bool, false}
@@ -8,7 +9,6 @@ use mathlib.Core.List.{List, [], ◌∷◌, ◌++◌, Memᴰ}
 use mathlib.Core.Logic.{⊎_elim, ◌↔◌}
 use lib.IntN.{ℤ}
 use lib.ListN.{length}
-use Rattle.terms.specs.declared.Filled.TheVariants.{Count}
 use Rattle.formula.specs.Meaning.{clauses, always_true, connected}
 use Rattle.forest_theory.specs.Tables.{row}
 use Rattle.forest_theory.specs.Counts.{sum}
@@ -37,13 +37,13 @@ module _ (rule : ℕ) (f : Formula) (r : Rows) (x : ℕ) (sign : Bool)
   no_entry : (e : ℕ) → EntriesBy Strict (read_by rule f) r x e → ⊥
   no_entry e s = one_sign_entry sign (λ z h. missing h.clause h.listed (connected_open h.clause z h.connects) h.literal) s
 
-  pub one_sign_entries : (before after : List ℕ) (count : ℕ) → EntriesListed rule Strict f r x before after (Count count) → count ≡ 0
+  pub one_sign_entries : (before after : List ℕ) (count : ℕ) → EntriesListed rule Strict f r x before after (Ok count) → count ≡ 0
   one_sign_entries before after count (none, written) = written.2 ∙ ap length (none_listed no_entry written.0 written.1)
 
-  pub one_sign_set : (before after : List ℕ) (count : ℕ) → SetListed rule Strict f r x before after (Count count) → count ≡ 0
+  pub one_sign_set : (before after : List ℕ) (count : ℕ) → SetListed rule Strict f r x before after (Ok count) → count ≡ 0
   one_sign_set before after count (none, written) = written.2 ∙ ap length (none_listed (λ y m. no_entry m.entry m.entered) written.0 written.1)
 
-  pub one_sign_size : (size : ℕ) → Sized rule Strict f r x (Count size) → size ≡ 0
+  pub one_sign_size : (size : ℕ) → Sized rule Strict f r x (Ok size) → size ≡ 0
   unfolding sum
   one_sign_size size (none, sized) = sized.2 ∙ ap (sum (row f.n r.counts)) (none_listed no_entry sized.0 sized.1)
 

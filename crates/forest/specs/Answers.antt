@@ -1,9 +1,9 @@
 -- What the calls that ask of a forest answer, and what they promise (demand 2; rule 2.7, rule 2.8, rule 3.4, rule 4.2, rule 5.1, rule 5.2).
+use Rattle.terms.specs.Says.{Answer}
+use Rattle.terms.specs.declared.Point.{Point}
 use Rattle.std.specs.Prelude.{ℕ, ◌≤◌, ◌≡◌, List, ℤ}
 use Rattle.terms.specs.Answers.{Answered, AnsweredNumber, Listing}
 use Rattle.terms.specs.Listed.{Listed}
-use Rattle.terms.specs.declared.Filled.{Filled}
-use Rattle.terms.specs.declared.EntryAnswer.{EntryAnswer}
 use Rattle.terms.specs.declared.Scheme.{Scheme}
 use Rattle.terms.specs.declared.Scheme.TheVariants.{Standard, Strict}
 use Rattle.formula.specs.Lent.{Formula}
@@ -44,18 +44,18 @@ DependsBy Strict f x = StrictlyDepends (variables_of f) (SharesBy f.clauses) (Sh
 
 -- What each of the calls promises under a rule: its refusals in their order, its answer by the formula as the rule reads it, and what it leaves in the
 -- lent output.
-abbrev pub EntryAnswered : ℕ → Formula → Rows → ℕ → ℕ → EntryAnswer → Type 0
+abbrev pub EntryAnswered : ℕ → Formula → Rows → ℕ → ℕ → Answer Point → Type 0
 EntryAnswered rule f r x y = Answered (entry_order rule f r x y) (Entry (read_by rule f) r x y)
 
 -- a call that lists, for x, the numbers of which P holds
-abbrev pub ListedFor : ℕ → Formula → Rows → ℕ → (Formula → ℕ → Type 0) → List ℕ → List ℕ → Filled → Type 0
+abbrev pub ListedFor : ℕ → Formula → Rows → ℕ → (Formula → ℕ → Type 0) → List ℕ → List ℕ → Answer ℕ → Type 0
 ListedFor rule f r x P before = Listing (list_order rule f r x (P (read_by rule f)) before) (P (read_by rule f)) before
 
-abbrev pub EntriesListed : ℕ → Scheme → Formula → Rows → ℕ → List ℕ → List ℕ → Filled → Type 0
+abbrev pub EntriesListed : ℕ → Scheme → Formula → Rows → ℕ → List ℕ → List ℕ → Answer ℕ → Type 0
 EntriesListed rule scheme f r x = ListedFor rule f r x (λ read. EntriesBy scheme read r x)
 
-abbrev pub SetListed : ℕ → Scheme → Formula → Rows → ℕ → List ℕ → List ℕ → Filled → Type 0
+abbrev pub SetListed : ℕ → Scheme → Formula → Rows → ℕ → List ℕ → List ℕ → Answer ℕ → Type 0
 SetListed rule scheme f r x = ListedFor rule f r x (λ read. MembersBy scheme read r x)
 
-abbrev pub Sized : ℕ → Scheme → Formula → Rows → ℕ → Filled → Type 0
+abbrev pub Sized : ℕ → Scheme → Formula → Rows → ℕ → Answer ℕ → Type 0
 Sized rule scheme f r x = AnsweredNumber (ask_order rule f r x) (SizeBy scheme (read_by rule f) r x)

@@ -3,8 +3,8 @@
 ghost use Rattle.std.specs.Prelude.{◌≤◌, ◌≡◌, [], length};
 ghost use Rattle.terms.specs.Limits.{most_variables};
 ghost use Rattle.terms.specs.InnerLimits.{variable_rows};
+ghost use Rattle.terms.specs.Says.{accepted};
 ghost use Rattle.terms.specs.Refusals.{Judged};
-ghost use Rattle.terms.specs.declared.Verdict.TheVariants.{Accepted};
 ghost use Rattle.formula.specs.Meaning.{level};
 ghost use Rattle.formula.specs.InnerLevels.{SoundPrefix};
 ghost use Rattle.formula.specs.InnerLookup.{SoundClauses};
@@ -19,7 +19,7 @@ use forest_entries::flag_entries;
 use forest_tables::checking::check_forest;
 use forest_tables::rows::{level_at, universal_at};
 use formula_levels::fill_levels;
-use terms::{Level, Scheme, Variable, Verdict};
+use terms::{Fault, Level, Refusal, Scheme, Variable};
 
 // Refusals 12 and 13 of an accepted formula; where there is none, the flags of all entry points of x by the scheme, and in `tops` for each variable
 // the number by whose flag it is a member. Before that the two tables hold the levels and the universals, so that no others are needed (rule 7.7).
@@ -34,27 +34,22 @@ pub fn enter(
     x: Variable,
     tops: &mut [u32],
     entered: &mut [bool],
-) -> Verdict
+) -> Result<(), Refusal>
     requires sound { SoundPrefix n prefix.now × SoundClauses clauses.now }
     requires sizes { (length tops.old ≡ variable_rows) × (length entered.old ≡ variable_rows) }
     ensures judged { Judged (behind_check n prefix.now (rows_in classes parents counts) x.0) result }
     ensures enters { Enters scheme (formula_in n prefix clauses) (rows_in classes parents counts) x.0 tops.new entered.new result }
 {
     fill_levels(prefix, tops, entered);
-    match check_forest(n, prefix, tops, entered, classes, parents, counts) {
-        Verdict::Refused(number, place) => Verdict::Refused(number, place),
-        Verdict::Accepted => {
-            if universal_at(n, entered, x) {
-                let floor = level_at(tops, x);
-                enter_over(
-                    scheme, n, prefix, clauses, classes, parents, x, floor, tops, entered,
-                );
-                Verdict::Accepted
-            } else {
-                Verdict::Refused(13, 0)
-            }
-        }
+    check_forest(n, prefix, tops, entered, classes, parents, counts)?;
+    if !universal_at(n, entered, x) {
+        return Err(Refusal(Fault::NotAskable, 0));
     }
+    let floor = level_at(tops, x);
+    enter_over(
+        scheme, n, prefix, clauses, classes, parents, x, floor, tops, entered,
+    );
+    Ok(())
 }
 
 // Puts the tops over the level of x in place of the levels, and then the flags of its entry points in place of the universals. Nothing is judged.
@@ -75,7 +70,7 @@ pub fn enter_over(
     requires sizes { (length tops.old ≡ variable_rows) × (length entered.old ≡ variable_rows) }
     requires place { (x.0 ≤ most_variables) × (floor.0 ≡ level prefix.now x.0) }
     ensures enters { Enters scheme (formula_in n prefix clauses) (rows classes.now parents.now []) x.0
-        tops.new entered.new Accepted }
+        tops.new entered.new accepted }
 {
     let place = place_behind(prefix, 0, floor.0);
     fill_tops(n, prefix, place, classes, parents, tops);

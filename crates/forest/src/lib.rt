@@ -20,13 +20,13 @@ ghost use Rattle.forest.specs.Answers.{Entry, MembersBy, SizeBy, EntryAnswered, 
 ghost use Rattle.forest.specs.InnerWanted.{Lists, Wanted};
 
 use entering::{enter, enter_over};
-use forest_climb::{Found, find_entry};
+use forest_climb::find_entry;
 use forest_members::{Asked, list_picked, sum_flagged, write_picked};
 use forest_tables::checking::check_forest;
 use forest_tables::rows::universal_at;
 use formula_levels::fill_levels;
-use formula_rules::{as_read, read_formula, read_prefix};
-use terms::{EntryAnswer, Filled, Level, Scheme, Variable, Verdict};
+use formula_rules::{take_formula, take_prefix};
+use terms::{Fault, Level, Point, Refusal, Scheme, Variable};
 
 // What is listed for x: its entry points or its set, by a scheme.
 #[derive(Clone, Copy)]
@@ -46,17 +46,12 @@ pub fn entry_point(
     counts: &[u32],
     x: Variable,
     y: Variable,
-) -> EntryAnswer
+) -> Result<Point, Refusal>
     ensures answer { EntryAnswered rule (prefix_in n prefix) (rows_in classes parents counts) x.0 y.0 result }
 {
     let mut joined = [0u32; Level::JOINED];
-    match read_prefix(rule, n, prefix, 0, &mut joined) {
-        Filled::Refused(number, place) => EntryAnswer::Refused(number, place),
-        Filled::Count(count) => {
-            let read = as_read(rule, prefix, &joined, count);
-            sound_entry(n, read, classes, parents, counts, x, y)
-        }
-    }
+    let read = take_prefix(rule, n, prefix, 0, &mut joined)?;
+    sound_entry(n, read, classes, parents, counts, x, y)
 }
 
 // The entry points of x by a scheme, written ascending into `out`, with their count.
@@ -71,7 +66,7 @@ pub fn entry_points(
     counts: &[u32],
     x: Variable,
     out: &mut [u32],
-) -> Filled
+) -> Result<u32, Refusal>
     ensures listed { EntriesListed rule scheme (formula_in n prefix clauses) (rows_in classes parents counts) x.0
         out.old out.new result }
 {
@@ -94,7 +89,7 @@ pub fn set_of(
     counts: &[u32],
     x: Variable,
     out: &mut [u32],
-) -> Filled
+) -> Result<u32, Refusal>
     ensures listed { SetListed rule scheme (formula_in n prefix clauses) (rows_in classes parents counts) x.0 out.old out.new result }
 {
     let asked = Asked::Set;
@@ -115,17 +110,12 @@ pub fn set_size(
     parents: &[u32],
     counts: &[u32],
     x: Variable,
-) -> Filled
+) -> Result<u32, Refusal>
     ensures sized { Sized rule scheme (formula_in n prefix clauses) (rows_in classes parents counts) x.0 result }
 {
     let mut joined = [0u32; Level::JOINED];
-    match read_formula(rule, n, prefix, clauses, &mut joined) {
-        Filled::Refused(number, place) => Filled::Refused(number, place),
-        Filled::Count(count) => {
-            let read = as_read(rule, prefix, &joined, count);
-            sound_size(scheme, n, read, clauses, classes, parents, counts, x)
-        }
-    }
+    let read = take_formula(rule, n, prefix, clauses, &mut joined)?;
+    sound_size(scheme, n, read, clauses, classes, parents, counts, x)
 }
 
 // Lists what a question asks for.
@@ -139,19 +129,14 @@ fn list_asked(
     counts: &[u32],
     question: Question,
     out: &mut [u32],
-) -> Filled
+) -> Result<u32, Refusal>
     ensures listed { ListedFor rule (formula_in n prefix clauses) (rows_in classes parents counts) question.x.0
         (λ read. Wanted question.scheme question.asked read (rows_in classes parents counts) question.x.0)
         out.old out.new result }
 {
     let mut joined = [0u32; Level::JOINED];
-    match read_formula(rule, n, prefix, clauses, &mut joined) {
-        Filled::Refused(number, place) => Filled::Refused(number, place),
-        Filled::Count(count) => {
-            let read = as_read(rule, prefix, &joined, count);
-            sound_list(n, read, clauses, classes, parents, counts, question, out)
-        }
-    }
+    let read = take_formula(rule, n, prefix, clauses, &mut joined)?;
+    sound_list(n, read, clauses, classes, parents, counts, question, out)
 }
 
 // Lists what a question asks for, of an accepted formula: the entry points of x are flagged, and what is asked for is picked by the flags.
@@ -164,7 +149,7 @@ fn sound_list(
     counts: &[u32],
     question: Question,
     out: &mut [u32],
-) -> Filled
+) -> Result<u32, Refusal>
     requires sound { SoundPrefix n prefix.now × SoundClauses clauses.now }
     ensures listed { Listing (behind_check n prefix.now (rows_in classes parents counts) question.x.0
         ++ (At0 14 (TooLong (Wanted question.scheme question.asked (formula_in n prefix clauses) (rows_in classes parents counts) question.x.0)
@@ -177,7 +162,7 @@ fn sound_list(
     let x = question.x;
     let scheme = question.scheme;
     let asked = question.asked;
-    match enter(
+    enter(
         scheme,
         n,
         prefix,
@@ -188,10 +173,8 @@ fn sound_list(
         x,
         &mut tops,
         &mut entered,
-    ) {
-        Verdict::Refused(number, place) => Filled::Refused(number, place),
-        Verdict::Accepted => list_picked(n, asked, &entered, &tops, out),
-    }
+    )?;
+    list_picked(n, asked, &entered, &tops, out)
 }
 
 // The set of x by a scheme, of an accepted formula with well-formed rows, for an x whose level is known: written ascending into a table that has room
@@ -241,14 +224,14 @@ fn sound_size(
     parents: &[u32],
     counts: &[u32],
     x: Variable,
-) -> Filled
+) -> Result<u32, Refusal>
     requires sound { SoundPrefix n prefix.now × SoundClauses clauses.now }
     ensures sized { AnsweredNumber (behind_check n prefix.now (rows_in classes parents counts) x.0)
         (SizeBy scheme (formula_in n prefix clauses) (rows_in classes parents counts) x.0) result }
 {
     let mut tops = [0u32; Variable::ROWS];
     let mut entered = [false; Variable::ROWS];
-    match enter(
+    enter(
         scheme,
         n,
         prefix,
@@ -259,10 +242,8 @@ fn sound_size(
         x,
         &mut tops,
         &mut entered,
-    ) {
-        Verdict::Refused(number, place) => Filled::Refused(number, place),
-        Verdict::Accepted => Filled::Count(sum_flagged(n, &entered, counts)),
-    }
+    )?;
+    Ok(sum_flagged(n, &entered, counts))
 }
 
 // The entry point of x for y, by an accepted prefix.
@@ -274,7 +255,7 @@ fn sound_entry(
     counts: &[u32],
     x: Variable,
     y: Variable,
-) -> EntryAnswer
+) -> Result<Point, Refusal>
     requires sound { SoundPrefix n prefix.now }
     ensures answer { Answered (behind_entry n prefix.now (rows_in classes parents counts) x.0 y.0)
         (Entry (prefix_in n prefix) (rows_in classes parents counts) x.0 y.0) result }
@@ -282,17 +263,9 @@ fn sound_entry(
     let mut levels = [0u32; Variable::ROWS];
     let mut universals = [false; Variable::ROWS];
     fill_levels(prefix, &mut levels, &mut universals);
-    match check_forest(n, prefix, &levels, &universals, classes, parents, counts) {
-        Verdict::Refused(number, place) => EntryAnswer::Refused(number, place),
-        Verdict::Accepted => {
-            if universal_at(n, &universals, x) {
-                match find_entry(n, &levels, &universals, classes, parents, x, y) {
-                    Found::At(class, rises) => EntryAnswer::At(class, rises),
-                    Found::Nowhere => EntryAnswer::Refused(13, 0),
-                }
-            } else {
-                EntryAnswer::Refused(13, 0)
-            }
-        }
+    check_forest(n, prefix, &levels, &universals, classes, parents, counts)?;
+    if !universal_at(n, &universals, x) {
+        return Err(Refusal(Fault::NotAskable, 0));
     }
+    find_entry(n, &levels, &universals, classes, parents, x, y).ok_or(Refusal(Fault::NotAskable, 0))
 }

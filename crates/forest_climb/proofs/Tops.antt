@@ -259,6 +259,15 @@ module _ (es : List ℕ) (i : ℕ) where
   marks_next : {b : Bool} → opens es i ≡ b → marks_before es (i + 1) ≡ cond b (suc (marks_before es i)) (marks_before es i)
   marks_next q = ap (marks_before es) (add-one i) ∙ ap (λ b. cond b (suc (marks_before es i)) (marks_before es i)) q
 
+-- A place that has no more marks before it than a level says stands within the prefix, or at its end.
+pub place_within : {n : ℕ} {es : List ℕ} → SoundPrefix n es → (place x : ℕ) → x ≤ 4096 → marks_before es place ≤ level es x → place ≤ length es
+place_within {es = es} sound place x small low =
+    by_cases (dec_le place (length es)) (λ l. l) (λ over.
+    let most = level_most sound x small in
+    let last = marks_next es (length es) (closed_end sound (length es) (omega arith)) in
+    let rise = marks_rise es (length es + 1) place (omega arith) in
+    absurd (omega arith))
+
 -- The loop along the prefix, from where the blocks deeper than the floor begin: whether a block opens at entry i, and the rows.
 pub record Passing (n : ℕ) (es classes parents : List ℕ) (floor : ℕ) (tops : List ℕ) (opening : Bool) (i : ℕ) : Type 0 where
   pub opening_is : opening ≡ opens es i
@@ -363,15 +372,7 @@ module _ {n : ℕ} {es : List ℕ} (sound : SoundPrefix n es) {floor left i : �
           let (sum, more) = s.inside shut in
           record { between = λ open''. absurd (clash open'' (opens_next es i ∙ ne_eqb (at es i) 0 some)); inside = λ _. (omega arith, omega arith) }
 
-  -- Where none is left the place is found, ...
-  pub seeking_found : left ≡ 0 → Behind es floor i
-  seeking_found none = go (opens es i) refl
-    where
-      go : (b : Bool) → opens es i ≡ b → Behind es floor i
-      go true open' = let sum = s.between open' in (open', omega arith)
-      go false shut = absurd (let some = (s.inside shut).1 in omega arith)
-
-  -- ... and at the end none is left, if there are as many blocks.
+  -- At the end none is left, if there are as many blocks.
   pub seeking_end : length es ≤ i → (x : ℕ) → x ≤ 4096 → floor ≡ level es x → Behind es floor i
   seeking_end done x small low = go (opens es i) refl
     where

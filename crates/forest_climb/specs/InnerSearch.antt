@@ -3,8 +3,8 @@ use Rattle.std.specs.Prelude.{ℕ, ◌+◌, ◌≤◌, ◌<◌, ◌≡◌, true,
 use Rattle.formula.specs.Tables.{opens, marks_before}
 use Rattle.forest_theory.specs.Reach.{Variables, Deeper}
 use Rattle.forest_theory.specs.Tables.{Table, row, lent, Above, EntryPoint}
-use Rattle.forest_climb.specs.declared.Found.{Found}
-use Rattle.forest_climb.specs.declared.Found.TheVariants.{At, Nowhere}
+use Rattle.std.specs.Prelude.{Option, None, Some}
+use Rattle.terms.specs.declared.Point.{Point}
 use Rattle.forest_tables.specs.Formula.{variables}
 use Rattle.forest_tables.specs.InnerTabled.{tabled}
 
@@ -72,9 +72,9 @@ Topped n es classes parents floor place from tops =
     TopsOver (variables n es) (lent (variables n es) classes parents) floor from tops × Known es floor place
 
 -- what the search from the class of y finds: the entry point of x for y, with its rises, if y is existential and deeper than x
-abbrev pub Finds : Variables → Table → ℕ → ℕ → Found → Type 0
-Finds X W x y (At class rises) = Deeper X x y × EntryPoint X W x y class.0 rises
-Finds X W x y Nowhere = Deeper X x y → ⊥
+abbrev pub Finds : Variables → Table → ℕ → ℕ → Option Point → Type 0
+Finds X W x y (Some point) = Deeper X x y × EntryPoint X W x y point.class.0 point.rises
+Finds X W x y None = Deeper X x y → ⊥
 
 -- the entry is the entry point of x for y, and 0 if y is not existential and deeper than x
 pub record EntryRow (X : Variables) (W : Table) (x y entry : ℕ) : Type 0 where

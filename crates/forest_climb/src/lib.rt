@@ -14,14 +14,7 @@ ghost use Rattle.forest_tables.specs.InnerRows.{rows_of};
 ghost use Rattle.forest_climb.specs.InnerSearch.{Falling, Climbs, Finds, top_by, ToppedFrom, Topless, Behind, Known, Topped};
 
 use forest_tables::rows::{existential_at, level_at, row_of};
-use terms::{Level, Variable};
-
-// Where a climb ends, and how many classes it passed, the first not counted.
-#[derive(Clone, Copy)]
-pub struct End {
-    pub class: Variable,
-    pub rises: u32,
-}
+use terms::{Level, Point, Variable};
 
 // What a table of tops is filled for: the level that the tops are over, the place in the prefix where the blocks deeper than it begin, and a number
 // `from` up to which no variable has a top.
@@ -32,26 +25,26 @@ pub struct Floor {
     pub from: u32,
 }
 
-// What the climb for y finds: the entry point and its rises; nowhere for a y that is not existential and deeper than x.
-#[derive(Clone, Copy)]
-pub enum Found {
-    At(Variable, u32),
-    Nowhere,
-}
-
 // The climb from a class, with some rises behind it: on to the parent, while that is deeper than the floor. The block number falls at each call.
-fn climb(n: u32, levels: &[u32], parents: &[u32], floor: Level, class: Variable, rises: u32) -> End
+fn climb(
+    n: u32,
+    levels: &[u32],
+    parents: &[u32],
+    floor: Level,
+    class: Variable,
+    rises: u32,
+) -> Point
     requires falling { Falling n levels.now parents.now × (floor.0 < get_or levels.now class.0 0)
         × (rises + get_or levels.now class.0 0 < 4294967296) }
     ensures climbed { Climbs n levels.now parents.now floor.0 class.0 rises result.class.0 result.rises }
 {
     let parent = row_of(n, parents, class);
     if parent.0 == 0 {
-        return End { class, rises };
+        return Point { class, rises };
     }
     let next = level_at(levels, parent);
     if next.0 <= floor.0 {
-        return End { class, rises };
+        return Point { class, rises };
     }
     climb(n, levels, parents, floor, parent, rises + 1)
 }
@@ -65,7 +58,7 @@ pub fn find_entry(
     parents: &[u32],
     x: Variable,
     y: Variable,
-) -> Found
+) -> Option<Point>
     requires formed { WellFormed (tabled n levels.now universals.now) (rows_of n classes.now parents.now) }
     ensures found { Finds (tabled n levels.now universals.now) (rows_of n classes.now parents.now)
         x.0 y.0 result }
@@ -73,16 +66,13 @@ pub fn find_entry(
     let floor = level_at(levels, x);
     let deep = level_at(levels, y);
     if !existential_at(n, universals, y) {
-        return Found::Nowhere;
+        return None;
     }
     if deep.0 <= floor.0 {
-        return Found::Nowhere;
+        return None;
     }
     let own = row_of(n, classes, y);
-    let end = climb(n, levels, parents, floor, own, 0);
-    let class = end.class;
-    let rises = end.rises;
-    Found::At(class, rises)
+    Some(climb(n, levels, parents, floor, own, 0))
 }
 
 // Fills the row of each variable with its top over a level: the class name where the climb from its class ends, 0 for a variable that is not
@@ -109,12 +99,7 @@ pub fn clear_rows(n: u32, rows: &mut [u32])
     requires enough { n ≤ length rows.old }
     ensures cleared { (v : ℕ) → v < n → get_or rows.new v 0 ≡ 0 }
 {
-    let count = n as usize;
-    let mut i = 0;
-    while i < count {
-        rows[i] = 0;
-        i += 1;
-    }
+    rows[..n as usize].fill(0);
 }
 
 // Fills the row of each variable that the blocks from `place` on name with its top, in the order of the prefix; the first n rows are 0 before.
@@ -131,19 +116,14 @@ fn top_blocks(
     ensures topped { ToppedFrom n prefix.now place classes.now parents.now tops.new }
 {
     let mut opens = true;
-    let mut i = place;
-    while i < prefix.len() {
-        let entry = prefix[i];
+    for &entry in &prefix[place..] {
         if opens {
             opens = false;
-            i += 1;
         } else if entry == 0 {
             opens = true;
-            i += 1;
         } else {
             let top = top_of(n, classes, parents, tops, Variable::new(entry));
             tops[(entry - 1) as usize] = top.0;
-            i += 1;
         }
     }
 }
@@ -182,19 +162,15 @@ pub fn place_behind(prefix: &[u32], place: usize, blocks: u32) -> usize
     ensures behind { Behind prefix.now (marks_before prefix.now place + blocks) result }
 {
     let mut left = blocks;
-    let mut i = place;
-    while i < prefix.len() {
+    for i in place..prefix.len() {
         if left == 0 {
             return i;
         }
         if prefix[i] == 0 {
             left -= 1;
-            i += 1;
-        } else {
-            i += 1;
         }
     }
-    i
+    prefix.len()
 }
 
 // Refills the rows, which are tops over one floor, with those over the level of x, if that is another; gives the floor that they are over now.
@@ -230,14 +206,10 @@ pub fn retop(
 fn topless(n: u32, tops: &[u32]) -> u32
     ensures none { (result ≤ n) × Topless n tops.now result }
 {
-    let mut passed: u32 = 0;
-    while passed < n {
-        let v = passed + 1;
-        let top = row_of(n, tops, Variable::new(v));
-        if top.0 != 0 {
-            return passed;
+    for v in 1..=n {
+        if row_of(n, tops, Variable::new(v)).0 != 0 {
+            return v - 1;
         }
-        passed = v;
     }
-    passed
+    n
 }

@@ -9,8 +9,8 @@ use native.Mathlib.Decide.{ℕ_discrete, dec_lt}
 use native.Mathlib.Omega.{arith}
 use borrow.Author.Count.{below_more}
 use lib.IntN.{ℤ, pos}
-use lib.ListN.{length, get_or, set, take, drop, replicate, length-set, length-drop, length-replicate, get_or-replicate, get_or-eq_default}
-use lib.Seq.{get_or-set_same, get_or-set_other, get_or-take, get_or-drop, length-take-le}
+use lib.ListN.{length, get_or, take, drop, replicate, length-drop, length-replicate, get_or-replicate, get_or-eq_default}
+use lib.Seq.{get_or-take, get_or-drop, length-take-le}
 use Rattle.terms.specs.Literals.{variable_of}
 use Rattle.terms.specs.InnerLimits.{variable_rows}
 use Rattle.terms.proofs.Common.{clash}
@@ -19,7 +19,6 @@ use Rattle.formula.specs.Meaning.{clauses, always_true, connected}
 use Rattle.formula.specs.InnerLookup.{NextZero}
 use Rattle.formula.proofs.Lookups.{clauses_closed}
 use Rattle.formula.proofs.Signs.{connected_none, connected_all}
-use Rattle.forest_theory.specs.Tables.{row}
 use Rattle.forest_entries.specs.declared.Signs.{Signs}
 use Rattle.forest_tables.specs.Formula.{signed, SharesBy}
 use Rattle.forest_entries.specs.InnerFlags.{Has, HasLiteral, By, Connects, Flagged, Via, Blank}
@@ -29,26 +28,11 @@ use Rattle.forest_entries.proofs.Sides.{signed_variable, mem_at, one_sign}
 pub flag_long : (flags : List Bool) (v : ℕ) → get_or flags v false ≡ true → v < length flags
 flag_long flags v t = by_cases (dec_lt v (length flags)) (λ l. l) (λ l. absurd (clash t (get_or-eq_default flags false {n = v} (omega arith))))
 
--- One flag.
-pub flag_set : (old : List Bool) (v : ℕ) → v < length old → Flagged (λ w. w ≡ v) old (set old v true)
-flag_set old v l =
-    record {
-      size = length-set old v true;
-      flags = λ w less. by_cases (ℕ_discrete w v) (λ q. (λ _. inr q, λ _. ap (λ u. get_or (set old v true) u false) q ∙ here))
-          (λ other. (λ t. inl (sym (kept w other) ∙ t), ⊎_elim (λ t. kept w other ∙ t) (λ q. absurd (other q))));
-    }
-  where
-    here : get_or (set old v true) v false ≡ true
-    here = get_or-set_same old v true false l
-
-    kept : (w : ℕ) → w ≢ v → get_or (set old v true) w false ≡ get_or old w false
-    kept w other = get_or-set_other old v w true false other
-
 -- Nothing flagged, where nothing in the table's range is to be.
 pub flag_nothing : {P : ℕ → Type 0} (old : List Bool) → ((v : ℕ) → v < length old → P v → ⊥) → Flagged P old old
 flag_nothing old none = record { size = refl; flags = λ v l. (λ t. inl t, ⊎_elim (λ t. t) (λ p. absurd (none v l p))) }
 
--- The same flags by an equivalent condition, and flags set one after another.
+-- The same flags by an equivalent condition.
 pub flag_as : {P Q : ℕ → Type 0} {old new : List Bool} → Flagged P old new → ((v : ℕ) → P v ↔ Q v) → Flagged Q old new
 flag_as f same =
     record {
@@ -56,18 +40,6 @@ flag_as f same =
       flags = λ v l.
           let m = f.flags v l in
           (λ t. ⊎_elim inl (λ p. inr ((same v).0 p)) (m.0 t), ⊎_elim (λ o. m.1 (inl o)) (λ q. m.1 (inr ((same v).1 q))));
-    }
-
-pub flag_then : {P Q : ℕ → Type 0} {old mid new : List Bool} → Flagged P old mid → Flagged Q mid new → Flagged (λ v. P v ⊎ Q v) old new
-flag_then f g =
-    record {
-      size = g.size ∙ f.size;
-      flags = λ v l.
-          let m = f.flags v l in
-          let n = g.flags v (let q = f.size in omega arith) in (
-            λ t. ⊎_elim (λ o. ⊎_elim inl (λ p. inr (inl p)) (m.0 o)) (λ q. inr (inr q)) (n.0 t),
-            ⊎_elim (λ o. n.1 (inl (m.1 (inl o)))) (⊎_elim (λ p. n.1 (inl (m.1 (inr p)))) (λ q. n.1 (inr q))),
-          );
     }
 
 -- Past the end and at the next 0 there is no literal.
@@ -246,22 +218,6 @@ module _ (n : ℕ) (tops : List ℕ) (ls : List ℤ) (start z : ℕ) (from : sta
   pub flag_unconnected : (old : List Bool) → always_true (take (z - start) (drop start ls)) ≡ true → Flagged (Via n tops (Connects ls start z)) old old
   flag_unconnected old q = flag_nothing old (λ e l t. connects_none ls start z from to q t.for t.holds)
 
--- One entry more of a clause, at either end: its top is flagged, if it has one.
-module _ {n : ℕ} {tops : List ℕ} {P Q : ℕ → Type 0} {v top : ℕ} (more : (w : ℕ) → (P w ⊎ (w ≡ v)) ↔ Q w) (above : top ≡ row n tops v) where
-  tops_before : (e : ℕ) → Via n tops P e → Via n tops Q e
-  tops_before e = via_as (λ w h. (more w).0 (inl h))
-
-  tops_more : (e : ℕ) → Via n tops Q e → Via n tops P e ⊎ (e ≡ top)
-  tops_more e t = ⊎_elim inl (λ o. inr (sym o.is ∙ ap (row n tops) o.holds ∙ sym above)) (via_or (via_as (λ w h. (more w).1 h) t))
-
-  pub tops_none : {old new : List Bool} → top ≡ 0 → Flagged (Via n tops P) old new → Flagged (Via n tops Q) old new
-  tops_none z f = flag_as f (λ e. (tops_before e, λ t. ⊎_elim (λ b. b) (λ q. absurd (t.some (q ∙ z))) (tops_more e t)))
-
-  pub tops_one : {old mid new : List Bool} → top ≢ 0 → Flagged (Via n tops P) old mid → Flagged (λ w. w ≡ top) mid new → Flagged (Via n tops Q) old new
-  tops_one some f g =
-      flag_as (flag_then f g)
-      (λ e. (⊎_elim (tops_before e) (λ q. record { for = v; holds = (more v).0 (inr refl); is = sym above ∙ sym q; some = λ z. some (sym q ∙ z) }), tops_more e))
-
 -- The clauses from `start` on that have x by some signs are the one up to the next 0, if it has, and those after it.
 signs_split : (ls : List ℤ) (signs : Signs) (x start z : ℕ) → NextZero ls start z → z < length ls → (v : ℕ)
     → By signs (λ sign. SharesBy (drop start ls) sign x v)
@@ -348,12 +304,13 @@ module _ {n : ℕ} {tops : List ℕ} {ls : List ℤ} {signs : Signs} {x : ℕ} {
             );
       }
 
+-- A table in which no flag is set, and past its end there is none.
+pub blank_of : {flags : List Bool} → length flags ≡ variable_rows → ((v : ℕ) → v < length flags → get_or flags v false ≡ false) → Blank flags
+blank_of {flags} size none =
+    record { size = size; blank = λ v. by_cases (dec_lt v (length flags)) (none v) (λ l. get_or-eq_default flags false {n = v} (omega arith)) }
+
 -- A new table of flags.
 pub fresh : Blank (replicate variable_rows false)
 fresh =
     let size = length-replicate variable_rows false in
-    record {
-      size = size;
-      blank = λ v. by_cases (dec_lt v variable_rows) (λ l. get_or-replicate variable_rows v false false l)
-          (λ l. get_or-eq_default (replicate variable_rows false) false {n = v} (omega arith));
-    }
+    blank_of size (λ v l. get_or-replicate variable_rows v false false (omega arith))

@@ -122,11 +122,8 @@ shares_signed {ls} {x} {y} j =
     either true s = inl s
     either false s = inr s
 
--- The side of the entries passed so far: at first neither, then that of the last entry with x, and any other entry changes nothing.
+-- The side of the entries passed so far is that of the last entry with x, and any other entry changes nothing.
 module _ (ls : List ℤ) (start x : ℕ) where
-  pub sided_none : (sign : Bool) → HasLiteral ls start start (signed sign x) → ⊥
-  sided_none sign h = let a = h.from in let b = h.before in omega arith
-
   module _ (i : ℕ) (low : start ≤ i) where
     pub sided_here : (side : Side) (z : ℤ) → z ≡ literal_at ls i → variable_of z ≡ x → Sided side (λ sign. z ≡ signed sign (variable_of z))
         → Sided side (λ sign. HasLiteral ls start (i + 1) (signed sign x))

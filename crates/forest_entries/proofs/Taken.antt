@@ -1,16 +1,17 @@
 -- What a scheme takes of the two signs of x: of the flags of each, and of the rows that are left where both are asked for.
-use Prim.Native.Nat.{ℕ, ◌+◌, ◌-◌, ◌≤◌, ◌<◌}
-use mathlib.Core.Path.{◌≡◌, refl, sym, ap, ◌∙◌, subst}
+use Prim.Native.Nat.{ℕ, ◌-◌, ◌≤◌, ◌<◌}
+use mathlib.Core.Path.{◌≡◌, refl, sym, ap, ◌∙◌}
 use mathlib.Core.Bool.{Bool, true, false, cond, not-eq-not}
-use mathlib.Core.List.{List}
+use mathlib.Core.List.{List, ◌++◌}
 use mathlib.Core.Logic.{◌≢◌, inl, inr, ⊎_elim, ◌↔◌, by_cases}
-use native.Mathlib.Decide.{dec_le}
+use native.Mathlib.Decide.{ℕ_discrete, dec_le}
 use native.Mathlib.Omega.{arith}
-use lib.ListN.{length, get_or, set, length-set, get_or-eq_default}
+use lib.ListN.{length, get_or, take, drop, get_or-append, get_or-eq_default}
+use lib.Seq.{get_or-take}
 use Rattle.terms.specs.declared.Scheme.{Scheme}
 use Rattle.terms.proofs.Common.{clash}
 use Rattle.forest_theory.specs.Tables.{row}
-use Rattle.forest_tables.proofs.Readings.{row_none, row_over, row_stored, row_kept}
+use Rattle.forest_tables.proofs.Readings.{row_none, row_over, row_at}
 use Rattle.forest_entries.specs.declared.Signs.{Signs}
 use Rattle.forest_entries.specs.InnerFlags.{By, Flagged, Takes, Via, Blank, if_flagged, Entering}
 use Rattle.forest_entries.proofs.Flags.{via_as, via_or}
@@ -76,67 +77,22 @@ module _ {n : ℕ} (tops kept : List ℕ) (P : Bool → ℕ → Type 0) {blank f
       go y true t = ap (λ d. get_or new d false) (k y ∙ ap (λ c. cond c (row n tops y) 0) t)
       go y false t = ap (λ d. get_or new d false) (k y ∙ ap (λ c. cond c (row n tops y) 0) t) ∙ none ∙ sym (out (row n tops y) t)
 
--- The rows on the way: up to a variable those with a top that is flagged are left, and from it on all.
-pub record Keeping (n : ℕ) (flags : List Bool) (old tops : List ℕ) (passed : ℕ) : Type 0 where
-  pub size : length tops ≡ length old
-  pub most : passed ≤ n
-  pub done : (v : ℕ) → v ≤ passed → row n tops v ≡ if_flagged flags (row n old v)
-  pub rest : (v : ℕ) → passed < v → row n tops v ≡ row n old v
-
-nothing : (b : Bool) → cond {A = ℕ} b 0 0 ≡ 0
-nothing true = refl
-nothing false = refl
-
-pub keeping_none : (n : ℕ) (flags : List Bool) (old : List ℕ) → Keeping n flags old old 0
+nothing : (flags : List Bool) → if_flagged flags 0 ≡ 0
 unfolding if_flagged
-keeping_none n flags old =
-    record {
-      size = refl;
-      most = omega arith;
-      done = λ v l.
-          let z : v ≡ 0 = omega arith in
-          row_none n old v z ∙ sym (ap (if_flagged flags) (row_none n old v z) ∙ nothing (get_or flags 0 false));
-      rest = λ v l. refl;
-    }
+nothing flags = go (get_or flags 0 false)
+  where
+    go : (b : Bool) → cond {A = ℕ} b 0 0 ≡ 0
+    go true = refl
+    go false = refl
 
-module _ {n : ℕ} {flags : List Bool} {old tops : List ℕ} {passed : ℕ} (k : Keeping n flags old tops passed) where
-  module _ (more : passed < n) {v top : ℕ} {b : Bool} (is : v ≡ passed + 1) (read : top ≡ row n tops v) (told : b ≡ get_or flags top false) where
-    -- a row stays as it was if its top is flagged
-    pub keeping_same : b ≡ true → Keeping n flags old tops (passed + 1)
-    unfolding if_flagged
-    keeping_same yes' =
-        record {
-          size = k.size;
-          most = omega arith;
-          done = λ w l. by_cases (dec_le w passed) (k.done w) (λ over. let q : w ≡ v = omega arith in
-              let same = k.rest w (omega arith) in
-              same ∙ sym (ap (λ c. cond c (row n old w) 0) (ap (λ d. get_or flags d false) (sym same ∙ ap (row n tops) q ∙ sym read) ∙ sym told ∙ yes')));
-          rest = λ w l. k.rest w (omega arith);
-        }
-
-  -- and is 0 if it is not
-  pub keeping_out : n ≤ length old → passed < n → {v top : ℕ} {b : Bool} → v ≡ passed + 1 → top ≡ row n tops v → b ≡ get_or flags top false
-      → b ≡ false → Keeping n flags old (set tops passed 0) (passed + 1)
-  unfolding if_flagged
-  keeping_out long more {v} is read told no' =
-      let at : v - 1 ≡ passed = omega arith in
-      let some : v ≢ 0 = λ z. omega arith in
-      let stored : row n (set tops passed 0) v
-      ≡ 0 = subst (λ i. row n (set tops i 0) v ≡ 0) at (row_stored n tops v 0 some (omega arith) (let q = k.size in omega arith)) in
-      let kept : (w : ℕ) → w ≢ v
-      → row n (set tops passed 0) w ≡ row n tops w = λ w other. subst (λ i. row n (set tops i 0) w ≡ row n tops w) at (row_kept n tops v 0 w some other) in
-      record {
-        size = length-set tops passed 0 ∙ k.size;
-        most = omega arith;
-        done = λ w l. by_cases (dec_le w passed) (λ low. kept w (λ q. omega arith) ∙ k.done w low) (λ over. let q : w ≡ v = omega arith in
-            let same = k.rest w (omega arith) in
-            ap (row n (set tops passed 0)) q ∙ stored
-            ∙ sym (ap (λ c. cond c (row n old w) 0) (ap (λ d. get_or flags d false) (sym same ∙ ap (row n tops) q ∙ sym read) ∙ sym told ∙ no')));
-        rest = λ w l. kept w (λ q. omega arith) ∙ k.rest w (omega arith);
-      }
-
-  pub keeping_all : n ≤ passed → (v : ℕ) → row n tops v ≡ if_flagged flags (row n old v)
-  unfolding if_flagged
-  keeping_all done v =
-      by_cases (dec_le v passed) (k.done v)
-      (λ l. let over : n < v = omega arith in row_over n tops v over ∙ sym (ap (if_flagged flags) (row_over n old v over) ∙ nothing (get_or flags 0 false)))
+-- Where the first n rows are 0 for a top that is not flagged, and stay else, so is the row of every variable.
+pub kept_rows : (n : ℕ) (flags : List Bool) (old items : List ℕ) → n ≤ length old → length items ≡ n
+    → ((k : ℕ) → k < n → get_or items k 0 ≡ if_flagged flags (get_or (take n old) k 0)) → (v : ℕ)
+    → row n (items ++ drop n old) v ≡ if_flagged flags (row n old v)
+kept_rows n flags old items long size done v =
+    by_cases (ℕ_discrete v 0) (λ z. rw (row_none n (items ++ drop n old) v z, row_none n old v z) (sym (nothing flags)))
+    (λ some. by_cases (dec_le v n)
+    (λ l.
+    row_at n (items ++ drop n old) v some l ∙ get_or-append items (drop n old) 0 (v - 1) (omega arith) ∙ done (v - 1) (omega arith)
+    ∙ ap (if_flagged flags) (get_or-take n old (v - 1) 0 (omega arith) ∙ sym (row_at n old v some l)))
+    (λ over. rw (row_over n (items ++ drop n old) v (omega arith), row_over n old v (omega arith)) (sym (nothing flags))))

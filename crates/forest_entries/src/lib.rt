@@ -52,21 +52,10 @@ pub fn flag_entries(
     requires sound { SoundClauses clauses.now × (length flags.old ≡ variable_rows) × (n ≤ length tops.old) }
     ensures entered { SharedBy scheme n clauses.now x.0 tops.old tops.new flags.new }
 {
-    clear_flags(flags);
+    flags.fill(false);
     match scheme {
         Scheme::Standard => flag_signs(Signs::Either, n, clauses, x, tops, flags),
         Scheme::Strict => flag_both(n, clauses, x, tops, flags),
-    }
-}
-
-// Clears every flag.
-fn clear_flags(flags: &mut [bool])
-    ensures cleared { (v : ℕ) → get_or flags.new v false ≡ false }
-{
-    let mut i = 0;
-    while i < flags.len() {
-        flags[i] = false;
-        i += 1;
     }
 }
 
@@ -78,7 +67,7 @@ fn flag_both(n: u32, clauses: &[i32], x: Variable, tops: &mut [u32], flags: &mut
 {
     flag_signs(Signs::Positive, n, clauses, x, tops, flags);
     keep_flagged(n, flags, tops);
-    clear_flags(flags);
+    flags.fill(false);
     flag_signs(Signs::Negative, n, clauses, x, tops, flags);
 }
 
@@ -87,15 +76,9 @@ fn keep_flagged(n: u32, flags: &[bool], tops: &mut [u32])
     requires enough { n ≤ length tops.old }
     ensures kept { (v : ℕ) → row n tops.new v ≡ if_flagged flags.now (row n tops.old v) }
 {
-    let mut passed: u32 = 0;
-    while passed < n {
-        let v = Variable::new(passed + 1);
-        let top = row_of(n, tops, v);
-        if flag_at(flags, top) {
-            passed += 1;
-        } else {
-            tops[passed as usize] = 0;
-            passed += 1;
+    for top in &mut tops[..n as usize] {
+        if !flag_at(flags, Variable::new(*top)) {
+            *top = 0;
         }
     }
 }
@@ -108,19 +91,17 @@ fn flag_signs(signs: Signs, n: u32, clauses: &[i32], x: Variable, tops: &[u32], 
 {
     let mut seen = [0u16; Literal::ROWS];
     let mut start = 0;
+    // From clause to clause: the next one begins behind the 0 that the scan finds.
     while start < clauses.len() {
         let scan = scan_clause(clauses, start, x);
         let end = scan.end;
         if clauses.len() <= end {
             return;
         }
-        let side = scan.side;
-        if has_sign(signs, side) {
+        if has_sign(signs, scan.side) {
             flag_clause(n, clauses, start, end, tops, flags, &mut seen);
-            start = end + 1;
-        } else {
-            start = end + 1;
         }
+        start = end + 1;
     }
 }
 
@@ -149,8 +130,7 @@ fn scan_clause(clauses: &[i32], start: usize, x: Variable) -> Scan
         × Sided result.side (λ sign. HasLiteral clauses.now start result.end (signed sign x.0)) }
 {
     let mut side = Side::Neither;
-    let mut i = start;
-    while i < clauses.len() {
+    for i in start..clauses.len() {
         let literal = literal_at(clauses, i);
         let variable = literal.variable();
         if variable.0 == 0 {
@@ -158,12 +138,12 @@ fn scan_clause(clauses: &[i32], start: usize, x: Variable) -> Scan
         }
         if variable.0 == x.0 {
             side = side_of(literal);
-            i += 1;
-        } else {
-            i += 1;
         }
     }
-    Scan { end: i, side }
+    Scan {
+        end: start.max(clauses.len()),
+        side,
+    }
 }
 
 // The sign of a literal.
@@ -203,18 +183,14 @@ pub fn flag_after(n: u32, clauses: &[i32], start: usize, tops: &[u32], flags: &m
     ensures flagged { (z : ℕ) × NextZero clauses.now start z
         × Flagged (Via n tops.now (Has clauses.now start z)) flags.old flags.new }
 {
-    let mut i = start;
-    while i < clauses.len() {
+    for i in start..clauses.len() {
         let variable = variable_at(clauses, i);
         if variable.0 == 0 {
             return;
         }
         let top = row_of(n, tops, variable);
-        if top.0 == 0 {
-            i += 1;
-        } else {
+        if top.0 != 0 {
             flag(flags, top);
-            i += 1;
         }
     }
 }

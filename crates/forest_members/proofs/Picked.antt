@@ -143,28 +143,41 @@ module _ {n : ℕ} {f : ℕ → Bool} {first count passed : ℕ} (c : Counted n 
 pub count_all : {n : ℕ} {f : ℕ → Bool} {first count passed : ℕ} → Counted n f first count passed → n ≤ passed → count ≡ first + length (picked f n)
 count_all {n} {f} {first} {passed = passed} c done = let q : passed ≡ n = let m = c.most in omega arith in c.counted ∙ ap (λ m. first + length (picked f m)) q
 
--- The sum over those picked so far, each at most 4,096.
-pub record Summed (n : ℕ) (f : ℕ → Bool) (g : ℕ → ℕ) (passed total : ℕ) : Type 0 where
-  pub within : passed ≤ n
-  pub sum_is : total ≡ sum g (picked f passed)
-  pub most : total ≤ passed * 4096
+-- The sum over those picked before v, each at most 4,096.
+pub record Summed (n : ℕ) (f : ℕ → Bool) (g : ℕ → ℕ) (v total : ℕ) : Type 0 where
+  pub within : v ≤ n + 1
+  pub summed : total ≡ sum g (picked f (v - 1))
+  pub most : total ≤ (v - 1) * 4096
 
-module _ (n : ℕ) (f : ℕ → Bool) (g : ℕ → ℕ) where
-  pub sum_none : Summed n f g 0 0
+module _ {n : ℕ} {f : ℕ → Bool} {g : ℕ → ℕ} where
+  pub sum_none : Summed n f g 1 0
   unfolding sum picked
-  sum_none = record { within = omega arith; sum_is = refl; most = omega arith }
+  sum_none = record { within = omega arith; summed = refl; most = omega arith }
 
-  pub sum_more_flagged : {passed total here : ℕ} → ((v : ℕ) → g v ≤ 4096) → Summed n f g passed total → passed < n → f (passed + 1) ≡ true
-      → here ≡ g (passed + 1) → Summed n f g (passed + 1) (total + here)
-  sum_more_flagged {passed} {total} {here} small s l flag is =
-      let most = s.most in
-      let one = small (passed + 1) in
-      record {
-        within = omega arith;
-        sum_is = ap₂ (λ (a b : ℕ). a + b) s.sum_is is ∙ sym (ap (sum g) (picked_more f passed flag) ∙ sum_more g (picked f passed) (passed + 1));
-        most = omega arith;
-      }
+  module _ {v total : ℕ} (some : 1 ≤ v) (low : v ≤ n) (s : Summed n f g v total) where
+    last : v - 1 + 1 ≡ v
+    last = omega arith
 
-  pub sum_same : {passed total : ℕ} → Summed n f g passed total → passed < n → f (passed + 1) ≡ false → Summed n f g (passed + 1) total
-  sum_same {passed} s l flag = let most = s.most in
-      record { within = omega arith; sum_is = s.sum_is ∙ sym (ap (sum g) (picked_same f passed flag)); most = omega arith }
+    pub sum_more_flagged : {here : ℕ} → ((v : ℕ) → g v ≤ 4096) → f v ≡ true → here ≡ g v → Summed n f g (v + 1) (total + here)
+    sum_more_flagged {here} small flag is =
+        let most = s.most in
+        let one = small v in
+        let q : v + 1 - 1 ≡ v - 1 + 1 = omega arith in
+        record {
+          within = omega arith;
+          summed = rw q (ap₂ (λ (a b : ℕ). a + b) s.summed (is ∙ ap g (sym last))
+              ∙ sym (ap (sum g) (picked_more f (v - 1) (ap f last ∙ flag)) ∙ sum_more g (picked f (v - 1)) (v - 1 + 1)));
+          most = omega arith;
+        }
+
+    pub sum_same : f v ≡ false → Summed n f g (v + 1) total
+    sum_same flag =
+        let most = s.most in
+        let q : v + 1 - 1 ≡ v - 1 + 1 = omega arith in
+        record { within = omega arith; summed = rw q (s.summed ∙ sym (ap (sum g) (picked_same f (v - 1) (ap f last ∙ flag)))); most = omega arith }
+
+  pub sum_all : {v total : ℕ} → Summed n f g v total → n < v → total ≡ sum g (picked f n)
+  sum_all {v} s done =
+      let within = s.within in
+      let all : v - 1 ≡ n = omega arith in
+      s.summed ∙ ap (λ m. sum g (picked f m)) all

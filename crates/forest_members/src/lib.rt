@@ -10,7 +10,7 @@ ghost use Rattle.forest_tables.specs.InnerRows.{Tells};
 ghost use Rattle.forest_members.specs.InnerPicked.{pick, picked, NoneUpto, Picks};
 
 use forest_tables::rows::{flag_at, row_of};
-use terms::{Filled, Variable};
+use terms::{Counts, Fault, Refusal, Variable};
 
 // What is listed: the flagged entry points themselves, or the set, which is the variables with a flagged top.
 #[derive(Clone, Copy)]
@@ -20,14 +20,20 @@ pub enum Asked {
 }
 
 // Writes the picked numbers from 1 to n into the front of `out`, ascending, if there is room for all of them.
-pub fn list_picked(n: u32, asked: Asked, flags: &[bool], tops: &[u32], out: &mut [u32]) -> Filled
+pub fn list_picked(
+    n: u32,
+    asked: Asked,
+    flags: &[bool],
+    tops: &[u32],
+    out: &mut [u32],
+) -> Result<u32, Refusal>
     ensures listed { Picks (pick asked n flags.now tops.now) n out.old out.new result }
 {
     if !has_room(n, asked, flags, tops, out.len()) {
-        return Filled::Refused(14, 0);
+        return Err(Refusal(Fault::TooLittleRoom, 0));
     }
     let end = write_picked(n, asked, flags, tops, 0, 0, out);
-    Filled::Count(end as u32)
+    Ok(end as u32)
 }
 
 // Whether so much room is enough for the picked numbers. They are counted only where there is room for less than n.
@@ -49,11 +55,9 @@ pub fn count_picked(n: u32, asked: Asked, flags: &[bool], tops: &[u32], from: u3
     requires skipped { (from ≤ n) × NoneUpto (pick asked n flags.now tops.now) from }
     ensures counted { result ≡ length (picked (pick asked n flags.now tops.now) n) }
 {
-    let mut count: u32 = 0;
-    let mut passed: u32 = from;
-    while passed < n {
-        passed += 1;
-        if picks(n, asked, flags, tops, Variable::new(passed)) {
+    let mut count = 0;
+    for passed in from..n {
+        if picks(n, asked, flags, tops, Variable::new(passed + 1)) {
             count += 1;
         }
     }
@@ -76,11 +80,9 @@ pub fn write_picked(
     ensures written { out.new ≡ sets out.old at (picked (pick asked n flags.now tops.now) n) }
 {
     let mut end = at;
-    let mut passed: u32 = from;
-    while passed < n {
-        passed += 1;
-        if picks(n, asked, flags, tops, Variable::new(passed)) {
-            out[end] = passed;
+    for passed in from..n {
+        if picks(n, asked, flags, tops, Variable::new(passed + 1)) {
+            out[end] = passed + 1;
             end += 1;
         }
     }
@@ -103,12 +105,9 @@ pub fn sum_flagged(n: u32, flags: &[bool], rows: &[u32]) -> u32
     ensures summed { result ≡ sum (row n rows.now) (picked (λ v. get_or flags.now v false) n) }
 {
     let mut total: u32 = 0;
-    let mut passed: u32 = 0;
-    while passed < n {
-        passed += 1;
-        let v = Variable::new(passed);
-        if flag_at(flags, v) {
-            total += row_of(n, rows, v).0;
+    for v in 1..=n {
+        if flag_at(flags, Variable::new(v)) {
+            total += row_of(n, rows, Variable::new(v)).0;
         }
     }
     total

@@ -1,16 +1,15 @@
 -- The laws of counting: each variable in its class, and then the count of each class passed up, as the prefix names it from its end.
-use Prim.Native.Nat.{ℕ, zero, suc, ◌+◌, ◌-◌, ◌≤◌, ◌<◌}
+use Prim.Native.Nat.{ℕ, ◌+◌, ◌-◌, ◌≤◌, ◌<◌}
 use mathlib.Core.Path.{◌≡◌, refl, sym, ap, subst, ◌∙◌}
-use mathlib.Core.Bool.{Bool, true, false, cond, true≢false}
+use mathlib.Core.Bool.{Bool, true, false, cond}
 use mathlib.Core.List.{List}
 use mathlib.Core.Logic.{inl, inr, ◌≢◌, by_cases}
 use native.Mathlib.Decide.{ℕ_discrete}
 use native.Mathlib.Omega.{arith}
 use borrow.Author.Tests.{eq-eqb, ne_eqb}
-use lib.Dec.{eqb}
 use lib.ListN.{length, get_or, set, length-set}
 use lib.Seq.{get_or-set_same, get_or-set_other}
-use Rattle.formula.specs.Tables.{at, opens, VariableAt}
+use Rattle.formula.specs.Tables.{at, VariableAt}
 use Rattle.formula.specs.Meaning.{level}
 use Rattle.formula.specs.InnerLevels.{SoundPrefix}
 use Rattle.formula.proofs.Blocked.{marks_rise}
@@ -23,14 +22,6 @@ use Rattle.forest_theory.proofs.Passing.{Finishes, placed_none, placed_over, pla
 use Rattle.forest_tables.specs.Formula.{variables}
 use Rattle.forest_tables.specs.InnerCounting.{Counting, FormedBy, passed_up, CountsOf}
 use Rattle.forest_tables.proofs.Agreeing.{lawful}
-
--- An entry of a prefix names a variable if it is no 0 and follows an entry that is none.
-pub names_first : (es : List ℕ) (i : ℕ) → i ≡ 0 → VariableAt es i → ⊥
-names_first es i q there = true≢false (subst (λ (k : ℕ). opens es k ≡ false) q there.1)
-
-pub names_behind : (es : List ℕ) (i : ℕ) → i ≢ 0 → opens es i ≡ eqb (at es (i - 1)) 0
-names_behind es zero some = absurd (some refl)
-names_behind es (suc e) some = let q : e ≡ suc e - 1 = omega arith in ap (λ (k : ℕ). eqb (at es k) 0) q
 
 -- A count passed up where there is no parent, and where there is one.
 pub passed_none : {p : ℕ} (table : List ℕ) (w : ℕ) → p ≡ 0 → passed_up p w table ≡ table
@@ -77,23 +68,28 @@ module _ (n : ℕ) (es classes parents : List ℕ) (formed : FormedBy n es class
   pub members_none : {table : List ℕ} → length table ≡ 4097 → ((v : ℕ) → get_or table v 0 ≡ 0) → Counting (Placed X W 0) table
   members_none size zeros = record { size = size; rows = placed_none (lawful n es) zeros }
 
-  pub members_over : {m : ℕ} {table : List ℕ} → row n classes (m + 1) ≡ 0 → Counting (Placed X W m) table → Counting (Placed X W (m + 1)) table
-  members_over {m} z k = record { size = k.size; rows = placed_over (no_class (m + 1) z) k.rows }
+  pub members_over : {v : ℕ} {table : List ℕ} → 1 ≤ v → row n classes v ≡ 0 → Counting (Placed X W (v - 1)) table → Counting (Placed X W v) table
+  members_over {v} {table} some z k =
+      let q : v - 1 + 1 ≡ v = omega arith in
+      subst (λ m. Counting (Placed X W m) table) q (record { size = k.size; rows = placed_over (no_class (v - 1 + 1) (rw q z)) k.rows })
 
-  pub members_more : {m c : ℕ} {table : List ℕ} → n ≤ 4096 → c ≡ row n classes (m + 1) → c ≢ 0 → Counting (Placed X W m) table
-      → Counting (Placed X W (m + 1)) (set table c (get_or table c 0 + 1))
+  pub members_more : {v c : ℕ} {table : List ℕ} → n ≤ 4096 → 1 ≤ v → c ≡ row n classes v → c ≢ 0 → Counting (Placed X W (v - 1)) table
+      → Counting (Placed X W v) (set table c (get_or table c 0 + 1))
   unfolding lent
-  members_more {m} {c} {table} few is some k =
-      let small = class_small (m + 1) few in
+  members_more {v} {c} {table} few some is class k =
+      let small = class_small v few in
       let long = k.size in
-      record {
+      let q : v ≡ v - 1 + 1 = omega arith in
+      let is' = is ∙ ap (row n classes) q in
+      subst (λ m. Counting (Placed X W m) (set table c (get_or table c 0 + 1))) (sym q)
+      (record {
         size = length-set table c (get_or table c 0 + 1) ∙ k.size;
-        rows = placed_more (has_class (m + 1) (λ z. some (is ∙ z)))
-            (subst (λ (d : ℕ). get_or (set table c (get_or table c 0 + 1)) d 0 ≡ get_or table d 0 + 1) is
+        rows = placed_more (has_class (v - 1 + 1) (λ z. class (is' ∙ z)))
+            (subst (λ (d : ℕ). get_or (set table c (get_or table c 0 + 1)) d 0 ≡ get_or table d 0 + 1) is'
             (get_or-set_same table c (get_or table c 0 + 1) 0 (omega arith)))
-            (λ d other. get_or-set_other table c d (get_or table c 0 + 1) 0 (λ q. other (q ∙ is)))
+            (λ d other. get_or-set_other table c d (get_or table c 0 + 1) 0 (λ q. other (q ∙ is')))
             k.rows;
-      }
+      })
 
   pub members_most : {m : ℕ} {table : List ℕ} → Counting (Placed X W m) table → (c : ℕ) → get_or table c 0 ≤ n
   members_most k c = numbered_most (λ v p. (lawful n es).within v p.existential) (k.rows.row c)

@@ -1,10 +1,9 @@
 -- Whether the rows of one variable are right, as the code finds it by the level table, and what the first bad row says of all.
-use Prim.Native.Nat.{ℕ, ◌+◌, ◌≤◌, ◌<◌}
+use Prim.Native.Nat.{ℕ, ◌≤◌, ◌<◌}
 use mathlib.Core.Path.{◌≡◌, refl, sym, ap, ◌∙◌, subst}
 use mathlib.Core.Bool.{Bool, true, false}
 use mathlib.Core.List.{List}
-use mathlib.Core.Logic.{◌≢◌, ◌⊎◌, inl, inr, ◌↔◌, by_cases}
-use native.Mathlib.Decide.{ℕ_discrete}
+use mathlib.Core.Logic.{◌≢◌, ◌⊎◌, inl, inr, ◌↔◌}
 use native.Mathlib.Omega.{arith}
 use lib.ListN.{length, get_or}
 use Rattle.terms.specs.Refusals.{First, None}
@@ -120,23 +119,6 @@ module _ (n : ℕ) (levels : List ℕ) (universals : List Bool) (classes parents
       → ParentRow (X n levels universals classes parents) (W n levels universals classes parents) v
   unfolding lent
   row_parent some r = r.parent (λ z. some (parent_is ∙ z))
-
--- The first bad row, as the loop passes one row after the other.
-module _ (P : ℕ → Type 0) (n : ℕ) where
-  abbrev pub Right : ℕ → Type 0
-  Right passed = (passed ≤ n) × ((v : ℕ) → 1 ≤ v → v ≤ passed → P v)
-
-  pub right_none : Right 0
-  right_none = (omega arith, λ v a b. absurd (omega arith))
-
-  pub right_more : {passed : ℕ} → Right passed → passed < n → P (passed + 1) → Right (passed + 1)
-  right_more {passed} r l here = (omega arith, λ v a b. by_cases (ℕ_discrete v (passed + 1)) (λ q. subst P (sym q) here) (λ other. r.1 v a (omega arith)))
-
-  pub bad_here : {passed : ℕ} → Right passed → passed < n → (P (passed + 1) → ⊥) → FirstBad P n (passed + 1)
-  bad_here r l wrong = record { right = λ v a b first. r.1 v a (let less = first (λ z. omega arith) in omega arith); wrong = λ _. (omega arith, wrong) }
-
-  pub bad_none : {passed : ℕ} → Right passed → n ≤ passed → FirstBad P n 0
-  bad_none r l = record { right = λ v a b _. r.1 v a (omega arith); wrong = λ some. absurd (some refl) }
 
 -- Where P and Q hold of the same variables, the first bad row is the same by both.
 pub bad_same : {P Q : ℕ → Type 0} {n bad : ℕ} → ((v : ℕ) → P v ↔ Q v) → FirstBad P n bad → FirstBad Q n bad

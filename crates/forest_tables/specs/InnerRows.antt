@@ -1,4 +1,6 @@
 -- Inner: what functions tell of lent rows by the level table. Nobody needs to believe this: a proof ties it to Causes.
+use Rattle.std.specs.Prelude.{Option, None, Some}
+use Rattle.terms.specs.declared.Variable.{Variable}
 use Rattle.std.specs.Prelude.{ℕ, ◌≤◌, ◌<◌, ◌≡◌, Bool, true, false, List, [], ◌≢◌}
 use Rattle.forest_theory.specs.Tables.{Table, row, lent, ClassRow, ParentRow, Row}
 use Rattle.forest_tables.specs.InnerTabled.{existential_in, tabled}
@@ -30,3 +32,8 @@ RightRow n levels universals classes parents = Row (tabled n levels universals) 
 pub record FirstBad (P : ℕ → Type 0) (n bad : ℕ) : Type 0 where
   pub right : (v : ℕ) → 1 ≤ v → v ≤ n → (bad ≢ 0 → v < bad) → P v
   pub wrong : bad ≢ 0 → (bad ≤ n) × (P bad → ⊥)
+
+-- so of the variable that is found, if there is one
+abbrev pub BadFound : (ℕ → Type 0) → ℕ → Option Variable → Type 0
+BadFound P n None = FirstBad P n 0
+BadFound P n (Some v) = (v.0 ≢ 0) × FirstBad P n v.0

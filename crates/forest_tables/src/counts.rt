@@ -12,7 +12,7 @@ ghost use Rattle.forest_tables.specs.InnerRows.{Tells};
 ghost use Rattle.forest_tables.specs.InnerCounting.{FormedBy, ForClasses, MembersTo, passed_up, CountsOf, PassesUp};
 
 use crate::rows::row_of;
-use terms::Variable;
+use terms::{Counts, Variable};
 
 // Fills a table, which is 0 throughout, with the counts of well-formed rows.
 pub fn fill_counts(n: u32, prefix: &[u32], classes: &[u32], parents: &[u32], counts: &mut [u16])
@@ -32,16 +32,10 @@ fn count_members(n: u32, classes: &[u32], counts: &mut [u16])
     requires formed { (es : List ℕ) × (parents : List ℕ) × FormedBy n es classes.now parents }
     ensures members { ForClasses n classes.now (λ es parents. MembersTo n es classes.now parents n counts.new) }
 {
-    let mut passed: u32 = 0;
-    while passed < n {
-        let v = passed + 1;
+    for v in 1..=n {
         let class = row_of(n, classes, Variable::new(v));
-        if class.0 == 0 {
-            passed = v;
-        } else {
-            let at = class.0 as usize;
-            counts[at] = counts[at] + 1;
-            passed = v;
+        if class.0 != 0 {
+            counts[class.0 as usize] += 1;
         }
     }
 }
@@ -53,9 +47,7 @@ fn pass_all_up(n: u32, prefix: &[u32], parents: &[u32], counts: &mut [u16])
         × MembersTo n prefix.now classes parents.now n counts.old }
     ensures counted { PassesUp n prefix.now parents.now counts.old counts.new }
 {
-    let mut i = prefix.len();
-    while 0 < i {
-        i -= 1;
+    for i in (0..prefix.len()).rev() {
         if names_at(prefix, i) {
             pass_up(n, Variable::new(prefix[i]), parents, counts);
         }

@@ -4,29 +4,27 @@ ghost use Rattle.std.specs.Prelude.{◌≡◌, false, get_or};
 ghost use Rattle.forest_theory.specs.Reach.{Deeper};
 ghost use Rattle.forest_theory.specs.Tables.{row};
 ghost use Rattle.forest_tables.specs.InnerTabled.{tabled, existential_in, universal_in};
-ghost use Rattle.forest_tables.specs.InnerRows.{Tells, NamesClass, RightClass, RightParent, RightRow, FirstBad};
+ghost use Rattle.forest_tables.specs.InnerRows.{Tells, NamesClass, RightClass, RightParent, RightRow, BadFound};
 
 use terms::{Level, Variable};
 
-// The first variable whose rows are not right, 0 where all are.
+// The first variable whose rows are not right.
 pub fn first_bad(
     n: u32,
     levels: &[u32],
     universals: &[bool],
     classes: &[u32],
     parents: &[u32],
-) -> u32
-    ensures first { FirstBad (RightRow n levels.now universals.now classes.now parents.now) n result }
+) -> Option<Variable>
+    ensures first { BadFound (RightRow n levels.now universals.now classes.now parents.now) n result }
 {
-    let mut passed = 0;
-    while passed < n {
-        let v = passed + 1;
-        if !row_is_right(n, levels, universals, classes, parents, Variable::new(v)) {
-            return v;
+    for number in 1..=n {
+        let v = Variable::new(number);
+        if !row_is_right(n, levels, universals, classes, parents, v) {
+            return Some(v);
         }
-        passed = v;
     }
-    0
+    None
 }
 
 // Whether the rows of v are right: 0 and 0 for a universal; for an existential that names its class a parent that is 0 or right; for any other a

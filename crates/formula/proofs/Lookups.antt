@@ -15,7 +15,7 @@ use Rattle.formula.specs.Tables.{literal_at, cut}
 use Rattle.formula.specs.Meaning.{clauses, is_zero}
 use Rattle.formula.specs.InnerLookup.{NextZero, Stands, InRows}
 use Rattle.formula.specs.Clause.{begin_of}
-use Rattle.formula.specs.declared.clauses.Span.TheVariants.{At, Nowhere}
+use Rattle.std.specs.Prelude.{None, Some}
 use Rattle.formula.proofs.Cuts.{cut_closed, cut_unclosed}
 
 is_nought : ℤ → Bool
@@ -64,9 +64,6 @@ pub record Passed (ls : List ℤ) (asked start left : ℕ) : Type 0 where
   pub same : get_or (clauses ls) asked [] ≡ get_or (clauses (drop start ls)) left []
   pub begins : begin_of (clauses ls) asked ≡ start + begin_of (clauses (drop start ls)) left
 
-pub pass_none : (ls : List ℤ) (asked : ℕ) → Passed ls asked 0 asked
-pass_none ls asked = record { within = omega arith; count = omega arith; same = refl; begins = omega arith }
-
 module _ {ls : List ℤ} {asked start left : ℕ} (p : Passed ls asked start left) where
   -- one clause more is passed
   pub pass_clause : (z : ℕ) → NextZero ls start z → z < length ls → left ≢ 0 → Passed ls asked (z + 1) (left - 1)
@@ -82,7 +79,7 @@ module _ {ls : List ℤ} {asked start left : ℕ} (p : Passed ls asked start lef
       let rest = ap (λ cs. get_or cs left []) q ∙ after_first _ (clauses (drop (z + 1) ls)) left [] some in
       record { within = omega arith; count = omega arith; same = p.same ∙ rest; begins = omega arith }
 
-  pub stands_here : (z : ℕ) → NextZero ls start z → z < length ls → left ≡ 0 → Stands ls asked (At start z)
+  pub stands_here : (z : ℕ) → NextZero ls start z → z < length ls → left ≡ 0 → Stands ls asked (Some (record { start = start; end = z }))
   unfolding Stands begin_of
   stands_here z next l none =
       let q = clauses_closed ls start z next l in
@@ -93,7 +90,7 @@ module _ {ls : List ℤ} {asked start left : ℕ} (p : Passed ls asked start lef
       let same = p.same ∙ ap (λ k. get_or (clauses (drop start ls)) k []) none ∙ ap (λ cs. get_or cs 0 []) q in
       (next.from, omega arith, omega arith, sym same, sym (begun ∙ add-zero start))
 
-  pub stands_nowhere : clauses (drop start ls) ≡ [] → Stands ls asked Nowhere
+  pub stands_nowhere : clauses (drop start ls) ≡ [] → Stands ls asked None
   unfolding Stands
   stands_nowhere none = let counted = p.count in let left_none : length (clauses (drop start ls)) ≡ 0 = ap length none in omega arith
 

@@ -1,10 +1,10 @@
 -- The promises of the clause calls (rule 7.3) leave nothing open: two outcomes that they allow for one input are equal.
+use Rattle.terms.specs.Says.{Verdict}
 use Prim.Native.Nat.{ℕ}
 use mathlib.Core.Path.{◌≡◌, sym, ◌∙◌}
 use mathlib.Core.List.{List}
 use lib.IntN.{ℤ}
 use denote.Ref.{Bor}
-use Rattle.terms.specs.declared.Verdict.{Verdict}
 use Rattle.terms.specs.Refusals.{Judged}
 use Rattle.terms.proofs.Verdicts.{judged_unique, first_or_none}
 use Rattle.formula.specs.Causes.{clause_order}

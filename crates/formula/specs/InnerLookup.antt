@@ -1,11 +1,10 @@
 -- Inner: how a clause is found in its table, and what functions ask of a clause table that check accepts. Nobody needs to believe this: what the
 -- clause call promises is in Clause.
-use Rattle.std.specs.Prelude.{ℕ, ◌<◌, ◌≤◌, ◌-◌, ◌≡◌, List, [], ◌≢◌, length, get_or, take, drop, ℤ}
+use Rattle.std.specs.Prelude.{ℕ, ◌<◌, ◌≤◌, ◌-◌, ◌≡◌, List, [], ◌≢◌, length, get_or, take, drop, ℤ, Option, None, Some}
 use Rattle.terms.specs.Limits.{most_variables, clause_entries}
 use Rattle.terms.specs.InnerLimits.{literal_rows}
 use Rattle.terms.specs.Literals.{variable_of}
 use Rattle.formula.specs.declared.clauses.Span.{Span}
-use Rattle.formula.specs.declared.clauses.Span.TheVariants.{At, Nowhere}
 use Rattle.formula.specs.Clause.{begin_of}
 use Rattle.formula.specs.Meaning.{clauses}
 use Rattle.formula.specs.Tables.{literal_at}
@@ -18,11 +17,11 @@ pub record NextZero (ls : List ℤ) (start z : ℕ) : Type 0 where
   pub closes : z < length ls → variable_of (literal_at ls z) ≡ 0
 
 -- Where the clause asked for stands.
-unfoldable pub Stands : List ℤ → ℕ → Span → Type 0
-Stands ls asked (At start end) =
-    (start ≤ end) × (end ≤ length ls) × (asked < length (clauses ls)) × (take (end - start) (drop start ls) ≡ get_or (clauses ls) asked [])
-    × (start ≡ begin_of (clauses ls) asked)
-Stands ls asked Nowhere = length (clauses ls) ≤ asked
+unfoldable pub Stands : List ℤ → ℕ → Option Span → Type 0
+Stands ls asked (Some span) =
+    (span.start ≤ span.end) × (span.end ≤ length ls) × (asked < length (clauses ls)) × (take (span.end - span.start) (drop span.start ls) ≡ get_or (clauses ls) asked [])
+    × (span.start ≡ begin_of (clauses ls) asked)
+Stands ls asked None = length (clauses ls) ≤ asked
 
 -- Every variable is within the limit, so that a table with a row for each has one for it.
 abbrev pub InRows : List ℤ → Type 0

@@ -1,6 +1,8 @@
 -- Inner: how the scan of a prefix judges one mark, and one variable, and what that of a clause table finds. Nobody needs to believe this: the
 -- causes stand in Causes, and a proof ties the two.
 use Rattle.std.specs.Prelude.{ℕ, ◌+◌, ◌≤◌, ◌<◌, ◌≡◌, Bool, true, false, List, ◌⊎◌, ◌≢◌, ℤ, length, get_or, set}
+use Rattle.std.specs.Prelude.{Ok, Err}
+use Rattle.terms.specs.Says.{Answer}
 use Rattle.terms.specs.Limits.{most_blocks}
 use Rattle.terms.specs.Literals.{variable_of}
 use Rattle.formula.specs.Tables.{at, literal_at}
@@ -35,6 +37,11 @@ pub data NamesEnd (n : ℕ) (es : List ℕ) (start : ℕ) (named named' : List B
   faulty : (seen : List Bool) → fault ≢ 0 → NamedTo n es start named end seen → end < length es → at es end ≢ 0
       → NameFault n (at es end) seen named' fault → NamesEnd n es start named named' end fault
   unclosed : fault ≡ 0 → NamedTo n es start named end named' → end ≡ length es → NamesEnd n es start named named' end fault
+
+-- the entry where a scan ended: at which it stopped, or at which something is wrong
+abbrev pub ended : Answer ℕ → ℕ
+ended (Ok end) = end
+ended (Err refusal) = refusal.1
 
 -- no entry before i has a variable over n
 abbrev pub AllUpto : ℕ → List ℤ → ℕ → Type 0

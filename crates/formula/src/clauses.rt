@@ -8,7 +8,7 @@ ghost use Rattle.formula.specs.Causes.{ClauseCause};
 ghost use Rattle.formula.specs.InnerScan.{AllUpto, FirstOver};
 ghost use Rattle.formula.specs.InnerLookup.{NextZero, Stands};
 
-use terms::{Literal, Variable, Verdict};
+use terms::{Fault, Literal, Refusal, Variable};
 
 // The literal at entry i; 0 past the end.
 pub fn literal_at(clauses: &[i32], i: usize) -> Literal
@@ -29,22 +29,22 @@ pub fn variable_at(clauses: &[i32], i: usize) -> Variable
 }
 
 // The first cause of a refusal in the clause table of a formula with n variables.
-pub fn check_clauses(n: u32, clauses: &[i32]) -> Verdict
+pub fn check_clauses(n: u32, clauses: &[i32]) -> Result<(), Refusal>
     ensures judged { Judged (ClauseCause n clauses.now ∷ []) result }
 {
     let end = clauses.len();
     let at = first_over(n, clauses);
     if at < end {
-        return Verdict::Refused(10, at);
+        return Err(Refusal(Fault::ForeignLiteral, at));
     }
     if end == 0 {
-        return Verdict::Accepted;
+        return Ok(());
     }
     let last = variable_at(clauses, end - 1);
     if last.0 == 0 {
-        Verdict::Accepted
+        Ok(())
     } else {
-        Verdict::Refused(11, end)
+        Err(Refusal(Fault::UnclosedClause, end))
     }
 }
 
@@ -55,15 +55,10 @@ fn first_over(n: u32, clauses: &[i32]) -> usize
     if !any_over(n, clauses) {
         return clauses.len();
     }
-    let mut i = 0;
-    while i < clauses.len() {
-        let variable = variable_at(clauses, i);
-        if n < variable.0 {
-            return i;
-        }
-        i += 1;
-    }
-    i
+    clauses
+        .iter()
+        .position(|&entry| n < Literal::new(entry).variable().0)
+        .unwrap_or(clauses.len())
 }
 
 // Whether some entry has a variable over n. The loop has no early exit, so that the processor can take several entries at once.
@@ -71,15 +66,8 @@ fn any_over(n: u32, clauses: &[i32]) -> bool
     ensures none { result ≡ false → AllUpto n clauses.now (length clauses.now) }
 {
     let mut over = false;
-    let mut i = 0;
-    while i < clauses.len() {
-        let variable = variable_at(clauses, i);
-        if n < variable.0 {
-            over = true;
-            i += 1;
-        } else {
-            i += 1;
-        }
+    for &entry in clauses {
+        over |= n < Literal::new(entry).variable().0;
     }
     over
 }
@@ -88,40 +76,39 @@ fn any_over(n: u32, clauses: &[i32]) -> bool
 pub fn next_zero(clauses: &[i32], start: usize) -> usize
     ensures next { NextZero clauses.now start result }
 {
-    let mut i = start;
-    while i < clauses.len() {
-        let variable = variable_at(clauses, i);
-        if variable.0 == 0 {
+    for i in start..clauses.len() {
+        if variable_at(clauses, i).0 == 0 {
             return i;
         }
-        i += 1;
     }
-    i
+    // A start past the end is itself the answer.
+    start.max(clauses.len())
 }
 
 // Where a clause stands: its first entry, and the entry of the 0 that closes it.
 #[derive(Clone, Copy)]
-pub enum Span {
-    At { start: usize, end: usize },
-    Nowhere,
+pub struct Span {
+    pub start: usize,
+    pub end: usize,
 }
 
 // Where the clause with the number `asked` stands, counted from 0.
-pub fn find(clauses: &[i32], asked: u32) -> Span
+pub fn find(clauses: &[i32], asked: u32) -> Option<Span>
     ensures stands { Stands clauses.now asked result }
 {
     let mut start = 0;
     let mut left = asked;
+    // From clause to clause: where the next one begins is known once the 0 that closes this one is found.
     while start < clauses.len() {
         let end = next_zero(clauses, start);
         if clauses.len() <= end {
-            return Span::Nowhere;
+            return None;
         }
         if left == 0 {
-            return Span::At { start, end };
+            return Some(Span { start, end });
         }
         left -= 1;
         start = end + 1;
     }
-    Span::Nowhere
+    None
 }

@@ -8,25 +8,23 @@ ghost use Rattle.terms.specs.Refusals.{Judged};
 ghost use Rattle.formula.specs.Causes.{clause_order};
 ghost use Rattle.formula.specs.Clause.{ClausePart};
 
-use formula::clauses::{Span, check_clauses, find};
-use terms::{Literal, Variable, Verdict};
+use formula::clauses::{check_clauses, find};
+use terms::{Fault, Literal, Refusal, Variable};
 
 // What the clause call says of its input: refused with the first cause of 1, 2, 10, 11 and 13, accepted where there is none.
-pub fn clause_verdict(n: u32, clauses: &[i32], asked: u32) -> Verdict
+pub fn clause_verdict(n: u32, clauses: &[i32], asked: u32) -> Result<(), Refusal>
     ensures judged { Judged (clause_order n clauses.now asked) result }
 {
     if Variable::MOST < n {
-        return Verdict::Refused(1, 0);
+        return Err(Refusal(Fault::TooManyVariables, 0));
     }
     if Literal::ENTRIES < clauses.len() {
-        return Verdict::Refused(2, 0);
+        return Err(Refusal(Fault::TooManyEntries, 0));
     }
-    match check_clauses(n, clauses) {
-        Verdict::Refused(number, place) => Verdict::Refused(number, place),
-        Verdict::Accepted => match find(clauses, asked) {
-            Span::At { start: _, end: _ } => Verdict::Accepted,
-            Span::Nowhere => Verdict::Refused(13, 0),
-        },
+    check_clauses(n, clauses)?;
+    match find(clauses, asked) {
+        Some(_) => Ok(()),
+        None => Err(Refusal(Fault::NotAskable, 0)),
     }
 }
 
@@ -35,10 +33,10 @@ pub fn clause(n: u32, clauses: &[i32], asked: u32) -> &[i32]
     ensures part { ClausePart n clauses.entry asked result }
 {
     match clause_verdict(n, clauses, asked) {
-        Verdict::Accepted => match find(clauses, asked) {
-            Span::At { start, end } => &clauses[start..end],
-            Span::Nowhere => &clauses[0..0],
+        Ok(()) => match find(clauses, asked) {
+            Some(span) => &clauses[span.start..span.end],
+            None => &clauses[0..0],
         },
-        Verdict::Refused(_, _) => &clauses[0..0],
+        Err(_) => &clauses[0..0],
     }
 }

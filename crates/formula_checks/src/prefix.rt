@@ -3,33 +3,34 @@
 ghost use Rattle.std.specs.Prelude.{◌≤◌, ◌≡◌, [], ◌∷◌, length};
 ghost use Rattle.terms.specs.Limits.{most_variables};
 ghost use Rattle.terms.specs.InnerLimits.{variable_rows};
+ghost use Rattle.terms.specs.Says.{number_of, number_told, said};
 ghost use Rattle.terms.specs.Refusals.{Judged};
 ghost use Rattle.formula.specs.Causes.{PrefixCause};
 ghost use Rattle.formula.specs.InnerOrders.{prefix_order};
-ghost use Rattle.formula.specs.InnerScan.{MarkFault, NameFault, NamesEnd};
+ghost use Rattle.formula.specs.InnerScan.{MarkFault, NameFault, NamesEnd, ended};
 
-use terms::{Level, Literal, Variable, Verdict};
+use terms::{Fault, Level, Literal, Refusal, Variable};
 
 // Refusals 1, 2 and those of the prefix, which every call that takes a prefix looks at first. Beside the prefix so many clause entries are
 // lent, 0 where a call takes none.
-pub fn prefix_verdict(n: u32, prefix: &[u32], entries: usize) -> Verdict
+pub fn prefix_verdict(n: u32, prefix: &[u32], entries: usize) -> Result<(), Refusal>
     ensures judged { Judged (prefix_order n prefix.now entries) result }
 {
     if Variable::MOST < n {
-        return Verdict::Refused(1, 0);
+        return Err(Refusal(Fault::TooManyVariables, 0));
     }
     if Level::ENTRIES < prefix.len() {
-        return Verdict::Refused(2, 0);
+        return Err(Refusal(Fault::TooManyEntries, 0));
     }
     if Literal::ENTRIES < entries {
-        return Verdict::Refused(2, 0);
+        return Err(Refusal(Fault::TooManyEntries, 0));
     }
     check_prefix(n, prefix)
 }
 
 // The first cause of a refusal in the prefix of a formula with n variables, one block after another. `named` has a flag for each variable that was
 // named so far, so that the prefix is not searched again.
-fn check_prefix(n: u32, prefix: &[u32]) -> Verdict
+fn check_prefix(n: u32, prefix: &[u32]) -> Result<(), Refusal>
     requires few { n ≤ most_variables }
     ensures judged { Judged (PrefixCause n prefix.now ∷ []) result }
 {
@@ -37,90 +38,82 @@ fn check_prefix(n: u32, prefix: &[u32]) -> Verdict
     let mut mark: u32 = 0;
     let mut blocks: u32 = 0;
     let mut i = 0;
+    // From mark to mark: where the next one stands is known once the variables of this block are named.
     while i < prefix.len() {
         let entry = prefix[i];
-        let number = mark_fault(entry, mark, blocks);
-        if number != 0 {
-            return Verdict::Refused(number, i);
+        if let Some(fault) = mark_fault(entry, mark, blocks) {
+            return Err(Refusal(fault, i));
         }
         mark = entry;
         blocks += 1;
         let start = i + 1;
-        let naming = name_variables(n, prefix, start, &mut named);
-        if naming.fault != 0 {
-            return Verdict::Refused(naming.fault, naming.end);
+        let end = name_variables(n, prefix, start, &mut named)?;
+        if prefix.len() <= end {
+            return Err(Refusal(Fault::UnclosedBlock, end));
         }
-        if prefix.len() <= naming.end {
-            return Verdict::Refused(3, naming.end);
+        if end == start {
+            return Err(Refusal(Fault::EmptyBlock, end));
         }
-        if naming.end == start {
-            return Verdict::Refused(9, naming.end);
-        }
-        i = naming.end + 1;
+        i = end + 1;
     }
-    Verdict::Accepted
+    Ok(())
 }
 
-// What is wrong with an entry as the mark of the next block, after `blocks` of them, the last with the mark `before`; 0 where nothing is.
-fn mark_fault(entry: u32, before: u32, blocks: u32) -> u32
-    ensures fault { MarkFault entry before blocks result }
+// What is wrong with an entry as the mark of the next block, after `blocks` of them, the last with the mark `before`.
+fn mark_fault(entry: u32, before: u32, blocks: u32) -> Option<Fault>
+    ensures fault { MarkFault entry before blocks (number_told result) }
 {
     match entry {
         1 | 2 => {
             if entry == before {
-                return 5;
+                return Some(Fault::SameMark);
             }
             if blocks == Level::MOST {
-                return 6;
+                return Some(Fault::TooManyBlocks);
             }
-            0
+            None
         }
-        _ => 4,
+        _ => Some(Fault::NoMark),
     }
 }
 
-// How the naming of variables ended: at which entry, and the number of what is wrong there, 0 where a 0 or the end of the prefix ended it.
-#[derive(Clone, Copy)]
-pub struct Naming {
-    pub end: usize,
-    pub fault: u32,
-}
-
-// Names the variables from `start` on, up to the 0 that closes their block, as far as nothing is wrong with them.
-pub fn name_variables(n: u32, prefix: &[u32], start: usize, named: &mut [bool]) -> Naming
+// Names the variables from `start` on, as far as nothing is wrong with them, and gives the entry where a 0 closes their block or the prefix ends.
+pub fn name_variables(
+    n: u32,
+    prefix: &[u32],
+    start: usize,
+    named: &mut [bool],
+) -> Result<usize, Refusal>
     requires few { n ≤ most_variables }
     requires rows { length named.old ≡ variable_rows }
     requires within { start ≤ length prefix.now }
-    ensures ends { NamesEnd n prefix.now start named.old named.new result.end result.fault }
+    ensures ends { NamesEnd n prefix.now start named.old named.new (ended result) (number_of (said result)) }
 {
-    let mut i = start;
-    while i < prefix.len() {
+    for i in start..prefix.len() {
         let entry = prefix[i];
         if entry == 0 {
-            return Naming { end: i, fault: 0 };
+            return Ok(i);
         }
-        let fault = name_fault(n, entry, named);
-        if fault != 0 {
-            return Naming { end: i, fault };
+        if let Some(fault) = name_fault(n, entry, named) {
+            return Err(Refusal(fault, i));
         }
-        i += 1;
     }
-    Naming { end: i, fault: 0 }
+    Ok(prefix.len())
 }
 
-// What is wrong with an entry as the next variable of a block, by those that are named so far; 0 where nothing is, and then it is named too.
-fn name_fault(n: u32, entry: u32, named: &mut [bool]) -> u32
+// What is wrong with an entry as the next variable of a block, by those that are named so far; where nothing is, it is named too.
+fn name_fault(n: u32, entry: u32, named: &mut [bool]) -> Option<Fault>
     requires few { n ≤ most_variables }
     requires rows { length named.old ≡ variable_rows }
-    ensures fault { NameFault n entry named.old named.new result }
+    ensures fault { NameFault n entry named.old named.new (number_told result) }
 {
     if n < entry {
-        return 7;
+        return Some(Fault::ForeignVariable);
     }
     let v = entry as usize;
     if named[v] {
-        return 8;
+        return Some(Fault::NamedBefore);
     }
     named[v] = true;
-    0
+    None
 }

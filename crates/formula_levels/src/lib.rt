@@ -6,16 +6,14 @@ ghost use Rattle.std.specs.Prelude.{ℕ, ◌≡◌};
 ghost use Rattle.formula.specs.InnerLevels.{SoundPrefix, LevelRows, AllFree, Levelled};
 ghost use Rattle.formula.specs.InnerLevels.{free_level};
 
-use terms::Variable;
-
 // Fills row v with the level of variable v, and with whether v is universal, for every v up to the limit.
 pub fn fill_levels(prefix: &[u32], levels: &mut [u32], universals: &mut [bool])
     requires sound { (n : ℕ) × SoundPrefix n prefix.now }
     requires rows { LevelRows levels.old universals.old }
     ensures levelled { Levelled prefix.now levels.new universals.new }
 {
-    let free = free_level(prefix);
-    all_free(free, levels, universals);
+    levels.fill(free_level(prefix));
+    universals.fill(false);
     name_levels(prefix, levels, universals);
 }
 
@@ -30,19 +28,6 @@ fn free_level(prefix: &[u32]) -> u32
     if prefix[0] == 1 { 1 } else { 0 }
 }
 
-// Every row as that of a free variable.
-fn all_free(free: u32, levels: &mut [u32], universals: &mut [bool])
-    requires rows { LevelRows levels.old universals.old }
-    ensures all { AllFree free levels.new universals.new }
-{
-    let mut v = 0;
-    while v < Variable::ROWS {
-        levels[v] = free;
-        universals[v] = false;
-        v += 1;
-    }
-}
-
 // Enters the level and the quantifier of every variable that a block names.
 fn name_levels(prefix: &[u32], levels: &mut [u32], universals: &mut [bool])
     requires sound { (n : ℕ) × SoundPrefix n prefix.now }
@@ -53,22 +38,17 @@ fn name_levels(prefix: &[u32], levels: &mut [u32], universals: &mut [bool])
     let mut opens = true;
     let mut mark: u32 = 0;
     let mut block: u32 = 0;
-    let mut i = 0;
-    while i < prefix.len() {
-        let entry = prefix[i];
+    for &entry in prefix {
         if opens {
             mark = entry;
             block += 1;
             opens = false;
-            i += 1;
         } else if entry == 0 {
             opens = true;
-            i += 1;
         } else {
             let v = entry as usize;
             levels[v] = block;
             universals[v] = mark == 2;
-            i += 1;
         }
     }
 }

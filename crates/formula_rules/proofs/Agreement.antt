@@ -1,4 +1,5 @@
 -- Where rule 1 accepts a prefix, so does rule 2, and reads it as it stands: everything then agrees (rule 6.3).
+use Rattle.terms.specs.Says.{Verdict}
 use Prim.Native.Nat.{ℕ, zero, suc, ◌≤◌, ◌<◌, ◌+◌}
 use mathlib.Core.Path.{◌≡◌, refl, sym, ap, ◌∙◌, subst}
 use mathlib.Core.Bool.{Bool, true, false, cond, not, ◌&&◌}
@@ -12,7 +13,6 @@ use lib.Dec.{eqb, ltb}
 use lib.ListN.{length, get_or, drop, drop_of_length-le, set, replicate}
 use lib.Seq.{drop-cons}
 use Rattle.terms.specs.Refusals.{Causes, None, NoneOf, Judged}
-use Rattle.terms.specs.declared.Verdict.{Verdict}
 use Rattle.terms.proofs.Common.{clash, by_test}
 use Rattle.terms.proofs.Verdicts.{at0_none, judged_unique}
 use Rattle.formula.specs.Causes.{PrefixCause, ClauseCause}

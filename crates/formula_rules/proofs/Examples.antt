@@ -1,12 +1,12 @@
 -- Worked examples of rule 6.2: neighbours with one quantifier, and empty blocks; and a rule number that is neither 1 nor 2 (rule 8.2).
+use Rattle.terms.specs.Says.{Verdict, refused}
+use Rattle.terms.specs.declared.Fault.TheVariants.{NoSuchRule}
 use Prim.Native.Nat.{ℕ}
 use mathlib.Core.Path.{◌≡◌, refl}
 use mathlib.Core.List.{List, [], ◌∷◌}
 use mathlib.Core.Logic.{inl}
 use native.Mathlib.Omega.{arith}
 use Rattle.terms.specs.Refusals.{Judged}
-use Rattle.terms.specs.declared.Verdict.{Verdict}
-use Rattle.terms.specs.declared.Verdict.TheVariants.{Refused}
 use Rattle.terms.proofs.Verdicts.{at0_first, judged_unique}
 use Rattle.formula.specs.Meaning.{blocks, level}
 use Rattle.formula.specs.InnerLevels.{free_level}
@@ -34,5 +34,5 @@ unfolding joined_prefix table_of joined_blocks in_front blocks cut level free_le
 free_after = refl
 
 -- 23 comes before 1.
-pub no_such_rule : (v : Verdict) → Judged (ruled_prefix 3 4097 [] 0) v → v ≡ Refused 23 0
-no_such_rule v judged = judged_unique (ruled_prefix 3 4097 [] 0) v (Refused 23 0) judged (inl (at0_first 23 (λ q. omega arith, λ q. omega arith)))
+pub no_such_rule : (v : Verdict) → Judged (ruled_prefix 3 4097 [] 0) v → v ≡ refused NoSuchRule 0
+no_such_rule v judged = judged_unique (ruled_prefix 3 4097 [] 0) v (refused NoSuchRule 0) judged (inl (at0_first 23 (λ q. omega arith, λ q. omega arith)))

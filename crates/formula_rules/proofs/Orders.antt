@@ -1,4 +1,6 @@
 -- Orders under a rule: what 23 says, and what stands behind it where the rule number is 1 or 2.
+use Rattle.std.specs.Prelude.{Ok, Err}
+use Rattle.terms.specs.Says.{Verdict, accepted}
 use Prim.Native.Nat.{ℕ, ◌≤◌, ◌<◌}
 use mathlib.Core.Path.{◌≡◌, refl, sym, ap, ◌∙◌, subst}
 use mathlib.Core.List.{List, [], ◌∷◌}
@@ -8,9 +10,6 @@ use native.Mathlib.Omega.{arith}
 use lib.ListN.{length, take}
 use lib.Seq.{length-take-le}
 use Rattle.terms.specs.Refusals.{At0, None, FirstOf, NoneOf, Judged}
-use Rattle.terms.specs.declared.Filled.TheVariants.{Count}
-use Rattle.terms.specs.declared.Verdict.{Verdict}
-use Rattle.terms.specs.declared.Verdict.TheVariants.{Accepted}
 use Rattle.terms.proofs.Verdicts.{at0_first, at0_none, accepted_then}
 use Rattle.terms.specs.InnerLimits.{joined_entries}
 use Rattle.terms.specs.Literals.{variable_of}
@@ -40,13 +39,13 @@ module _ (rule n : ℕ) (es : List ℕ) (entries : ℕ) where
   pub rule_one : rule ≡ 1 → (v : Verdict) → Judged (prefix_order n es entries) v → Judged (ruled_prefix rule n es entries) v
   rule_one is v judged =
       subst (λ (r : ℕ). Judged (ruled_prefix r n es entries) v) (sym is)
-      (accepted_then (At0 23 (NoRule 1) ∷ []) (prefix_order n es entries) {v = Accepted} v refl (at0_none 23 (λ w. w.0 refl), tt) judged)
+      (accepted_then (At0 23 (NoRule 1) ∷ []) (prefix_order n es entries) {v = accepted} v refl (at0_none 23 (λ w. w.0 refl), tt) judged)
 
   -- under rule 2 the order with the causes of a joined prefix
   pub rule_two : rule ≡ 2 → (v : Verdict) → Judged (VariableCount n ∷ At0 2 (PrefixLong es ⊎ ClausesLong entries) ∷ JoinedCause n es ∷ []) v → Judged (ruled_prefix rule n es entries) v
   rule_two is v judged =
       subst (λ (r : ℕ). Judged (ruled_prefix r n es entries) v) (sym is)
-      (accepted_then (At0 23 (NoRule 2) ∷ []) (VariableCount n ∷ At0 2 (PrefixLong es ⊎ ClausesLong entries) ∷ JoinedCause n es ∷ []) {v = Accepted} v refl (at0_none 23 (λ w. w.1 refl), tt) judged)
+      (accepted_then (At0 23 (NoRule 2) ∷ []) (VariableCount n ∷ At0 2 (PrefixLong es ⊎ ClausesLong entries) ∷ JoinedCause n es ∷ []) {v = accepted} v refl (at0_none 23 (λ w. w.1 refl), tt) judged)
 
   -- A rule other than 1 that accepts the prefix is rule 2, and the limits are kept.
   pub accepted_two : rule ≢ 1 → NoneOf (ruled_prefix rule n es entries) → (rule ≡ 2) × (n ≤ 4096) × (length es ≤ 8192) × (entries ≤ 16384) × None (JoinedCause n es)
@@ -59,7 +58,7 @@ module _ (rule n : ℕ) (es : List ℕ) (entries : ℕ) where
 
   -- Then the joined prefix, which stands at the front of a table, is sound.
   pub joined_read : (table : List ℕ) (count : ℕ) → rule ≢ 1 → NoneOf (ruled_prefix rule n es entries) → length table ≡ joined_entries
-      → count ≤ length table → take count table ≡ joined_prefix es → ReadsPrefix rule n es entries table (Count count)
+      → count ≤ length table → take count table ≡ joined_prefix es → ReadsPrefix rule n es entries table (Ok count)
   unfolding read_as
   joined_read table count other none size room written =
       let (is, few, short, small, faultless) = accepted_two other none in
@@ -69,7 +68,7 @@ module _ (rule n : ℕ) (es : List ℕ) (entries : ℕ) where
       (none, subst (SoundPrefix n) read sound, inr (room, written ∙ read), tt)
 
   -- Under rule 1 the lent prefix is sound.
-  pub lent_read : (table : List ℕ) → rule ≡ 1 → NoneOf (ruled_prefix rule n es entries) → ReadsPrefix rule n es entries table (Count 0)
+  pub lent_read : (table : List ℕ) → rule ≡ 1 → NoneOf (ruled_prefix rule n es entries) → ReadsPrefix rule n es entries table (Ok 0)
   lent_read table is none =
       let over : ¬ (4096 < n) = λ l. none.1.0 1 0 (refl, refl, l) in
       let long : ¬ (8192 < length es) = λ l. none.1.1.0 2 0 (refl, refl, inl l) in

@@ -1,4 +1,8 @@
 -- What a call has once its prefix, or its formula, is accepted by the rule, and how its promise follows from what it does behind that.
+use Rattle.std.specs.Prelude.{Ok, Err}
+use denote.Ref.{Bor}
+use Rattle.terms.specs.declared.Refusal.{Refusal}
+use Rattle.terms.specs.Says.{Answer, Verdict, said, fault_number}
 use Prim.Native.Nat.{ℕ, ◌-◌, ◌≤◌}
 use mathlib.Core.Path.{◌≡◌, refl, sym, ap, ◌∙◌, subst}
 use mathlib.Core.List.{List, [], ◌∷◌, ◌++◌}
@@ -6,16 +10,13 @@ use mathlib.Core.Logic.{inl, inr}
 use native.Mathlib.Omega.{arith}
 use lib.ListN.{length, take, drop}
 use Rattle.terms.specs.Refusals.{Causes, FirstOf, NoneOf, Judged}
-use Rattle.terms.specs.declared.Filled.{Filled}
-use Rattle.terms.specs.declared.Filled.TheVariants.{Count, Refused}
-use Rattle.terms.specs.declared.Verdict.{Verdict}
-use Rattle.terms.proofs.Verdicts.{refused_first, accepted_then}
+use Rattle.terms.proofs.Verdicts.{first_of_more, judges_later}
 use Rattle.terms.proofs.Orders.{Carries, behind_none}
 use Rattle.formula.specs.Causes.{ClauseCause}
 use Rattle.formula.specs.Lent.{Formula}
 use Rattle.formula.specs.InnerLevels.{SoundPrefix}
 use Rattle.formula_rules.specs.Rules.{read_as, ruled_prefix, check_order}
-use Rattle.formula_rules.specs.InnerReading.{AtHand, Reads, ReadsPrefix, ReadsFormula}
+use Rattle.formula_rules.specs.InnerReading.{AtHand, Reads, Takes, ReadsPrefix, ReadsFormula}
 use Rattle.formula_rules.proofs.Orders.{clauses_sound}
 
 -- Under any rule but 1 what is at hand is the front of the table.
@@ -27,61 +28,49 @@ front_read rule es table count other (inr (room, is)) =
     (room, ap (λ (k : ℕ). take k table) all ∙ is)
 
 -- What a call has whose prefix or formula is refused, or accepted.
-module _ (order : List Causes) (more : Type 0) (rule n : ℕ) (es table : List ℕ) where
+module _ (order : List Causes) (more : Type 0) (rule n : ℕ) (es : List ℕ) where
   -- a refusal is that of the call, whatever it looks at later
-  pub refused_read : (later : List Causes) {number place : ℕ} {v : Filled} → v ≡ Refused number place → Reads order more rule n es table v
-      → FirstOf (order ++ later) number place
-  refused_read later {number} {place} is reads =
-      refused_first order later {v = Verdict.Refused number place} refl (subst (Reads order more rule n es table) is reads)
+  pub refused_read : (later : List Causes) {r : Refusal} {v : Answer (Bor (List ℕ))} → v ≡ Err r → Takes order more rule n es v
+      → FirstOf (order ++ later) (fault_number r.0) r.1
+  refused_read later is reads = first_of_more order later _ _ (subst (Takes order more rule n es) is reads)
 
-  module _ {count : ℕ} {v : Filled} (is : v ≡ Count count) (reads : Reads order more rule n es table v) where
-    accepted : Reads order more rule n es table (Count count)
-    accepted = subst (Reads order more rule n es table) is reads
-
-    pub hand_read : AtHand rule es table count
-    hand_read = accepted.2
+  module _ {read : Bor (List ℕ)} {v : Answer (Bor (List ℕ))} (is : v ≡ Ok read) (reads : Takes order more rule n es v) where
+    given : Takes order more rule n es (Ok read)
+    given = subst (Takes order more rule n es) is reads
 
     pub none_read : NoneOf order
-    none_read = accepted.0
+    none_read = given.0
+
+    -- what is read is sound
+    pub sound_read : SoundPrefix n read.now
+    sound_read = given.1
+
+    -- and is the prefix as the rule reads it
+    pub same_read : read.now ≡ read_as rule es
+    same_read = given.2
 
     pub more_read : more
-    more_read = accepted.3
+    more_read = given.3
 
-    -- what is at hand is sound
-    pub sound_read : {read : List ℕ} → read ≡ read_as rule es → SoundPrefix n read
-    sound_read same = subst (SoundPrefix n) (sym same) accepted.1
-
-    -- What the call promises by its later causes, of the prefix at hand, it promises by its whole order, of the prefix as the rule reads it.
+    -- What the call promises by its later causes, of the prefix that it was given, it promises by its whole order, of the prefix as the rule reads it.
     pub behind_read : (S : List Causes → List ℕ → Type 0)
         → ((order order' : List Causes) (read : List ℕ) → Carries order order' → S order read → S order' read)
-        → (later : List ℕ → List Causes) {read : List ℕ} → read ≡ read_as rule es → S (later read) read → S (order ++ later (read_as rule es)) (read_as rule es)
-    behind_read S carry later same said =
+        → (later : List ℕ → List Causes) → S (later read.now) read.now → S (order ++ later (read_as rule es)) (read_as rule es)
+    behind_read S carry later said =
         carry (later (read_as rule es)) (order ++ later (read_as rule es)) (read_as rule es) (behind_none order (later (read_as rule es)) none_read)
-        (subst (λ (r : List ℕ). S (later r) r) same said)
+        (subst (λ (r : List ℕ). S (later r) r) same_read said)
 
 -- A prefix and its clauses make a formula.
 module _ (rule : ℕ) (f : Formula) (table : List ℕ) where
   abbrev front : List Causes
   front = ruled_prefix rule f.n f.prefix (length f.clauses)
 
-  pub prefix_refused : {number place : ℕ} {v : Filled} → v ≡ Refused number place
-      → ReadsPrefix rule f.n f.prefix (length f.clauses) table v → ReadsFormula rule f table (Refused number place)
-  prefix_refused {number} {place} is reads =
-      let first = subst (ReadsPrefix rule f.n f.prefix (length f.clauses) table) is reads in
-      refused_first front (ClauseCause f.n f.clauses ∷ []) {v = Verdict.Refused number place} refl first
+  pub prefix_refused : (r : Refusal) → ReadsPrefix rule f.n f.prefix (length f.clauses) table (Err r) → ReadsFormula rule f table (Err r)
+  prefix_refused r first = first_of_more front (ClauseCause f.n f.clauses ∷ []) _ _ first
 
-  module _ {count : ℕ} {v : Filled} (is : v ≡ Count count) (reads : ReadsPrefix rule f.n f.prefix (length f.clauses) table v) where
-    front_accepted : ReadsPrefix rule f.n f.prefix (length f.clauses) table (Count count)
-    front_accepted = subst (ReadsPrefix rule f.n f.prefix (length f.clauses) table) is reads
+  module _ {count : ℕ} (reads : ReadsPrefix rule f.n f.prefix (length f.clauses) table (Ok count)) where
+    pub judged_behind : (w : Verdict) → Judged (ClauseCause f.n f.clauses ∷ []) w → Judged (check_order rule f) w
+    judged_behind w clauses = judges_later front (ClauseCause f.n f.clauses ∷ []) (said w) reads.0 clauses
 
-    judged : (w : Verdict) → Judged (ClauseCause f.n f.clauses ∷ []) w → Judged (check_order rule f) w
-    judged w clauses = accepted_then front (ClauseCause f.n f.clauses ∷ []) {v = Verdict.Accepted} w refl front_accepted.0 clauses
-
-    pub clauses_refused : {number place : ℕ} (w : Verdict) → w ≡ Verdict.Refused number place → Judged (ClauseCause f.n f.clauses ∷ []) w
-        → ReadsFormula rule f table (Refused number place)
-    clauses_refused w is clauses = subst (Judged (check_order rule f)) is (judged w clauses)
-
-    pub formula_read : (w : Verdict) → w ≡ Verdict.Accepted → Judged (ClauseCause f.n f.clauses ∷ []) w → ReadsFormula rule f table (Count count)
-    formula_read w is clauses =
-        let none = subst (Judged (check_order rule f)) is (judged w clauses) in
-        (none, front_accepted.1, front_accepted.2, clauses_sound rule f none)
+    pub formula_read : NoneOf (ClauseCause f.n f.clauses ∷ []) → ReadsFormula rule f table (Ok count)
+    formula_read clauses = let none = judged_behind (Ok tt) clauses in (none, reads.1, reads.2, clauses_sound rule f none)

@@ -18,9 +18,7 @@ pub fn lay_out(prefix: &[u32], out: &mut [u32]) -> usize
     let mut opens = true;
     let mut last: u32 = 0;
     let mut count = 0;
-    let mut i = 0;
-    while i < prefix.len() {
-        let entry = prefix[i];
+    for (i, &entry) in prefix.iter().enumerate() {
         if opens {
             opens = false;
             if begins_after(prefix, i, last) {
@@ -28,17 +26,12 @@ pub fn lay_out(prefix: &[u32], out: &mut [u32]) -> usize
                 out[closed] = entry;
                 count = closed + 1;
                 last = entry;
-                i += 1;
-            } else {
-                i += 1;
             }
         } else if entry == 0 {
             opens = true;
-            i += 1;
         } else {
             out[count] = entry;
             count += 1;
-            i += 1;
         }
     }
     close(last, out, count)

@@ -1,4 +1,5 @@
 -- What acceptance gives the inner functions, and how what is left to refuse of build and add is judged.
+use Rattle.terms.specs.Says.{accepted}
 use Prim.Native.Nat.{ℕ, ◌≤◌}
 use mathlib.Core.Path.{refl}
 use mathlib.Core.List.{List, [], ◌∷◌}
@@ -8,8 +9,7 @@ use native.Mathlib.Omega.{arith}
 use lib.IntN.{ℤ}
 use lib.ListN.{length}
 use Rattle.terms.specs.Literals.{variable_of}
-use Rattle.terms.specs.Refusals.{None, Judged, At0}
-use Rattle.terms.specs.declared.Verdict.TheVariants.{Accepted, Refused}
+use Rattle.terms.specs.Refusals.{None, FirstOf, Judged, At0}
 use Rattle.terms.proofs.Verdicts.{at0_first, at0_none}
 use Rattle.formula.specs.Tables.{literal_at}
 use Rattle.formula.specs.InnerLookup.{InRows}
@@ -24,14 +24,14 @@ module _ (n : ℕ) (s : Standing) where
   abbrev Enough : Type 0
   Enough = Room n s.rows.classes s.rows.parents s.rows.counts
 
-  pub build_short : (Enough → ⊥) → Judged (At0 14 (TooShort n s) ∷ []) (Refused 14 0)
+  pub build_short : (Enough → ⊥) → FirstOf (At0 14 (TooShort n s) ∷ []) 14 0
   build_short full =
       inl (at0_first 14
       (by_cases (dec_lt (length s.rows.classes) n) (λ l. inl l)
       (λ cs. by_cases (dec_lt (length s.rows.parents) n) (λ l. inr (inl l))
       (λ ps. by_cases (dec_lt (length s.rows.counts) n) (λ l. inr (inr l)) (λ ks. absurd (full (omega arith, omega arith, omega arith)))))))
 
-  pub build_accepted : Enough → Judged (At0 14 (TooShort n s) ∷ []) Accepted
+  pub build_accepted : Enough → Judged (At0 14 (TooShort n s) ∷ []) accepted
   build_accepted (cs, ps, ks) =
       (at0_none 14 (λ short. ⊎_elim (λ l. omega arith) (λ rest. ⊎_elim (λ l. omega arith) (λ l. omega arith) rest) short), tt)
 

@@ -1,4 +1,6 @@
 -- Demand 3, of what build and add promise, with the counts and the tally (rule 4.3, rule 4.4).
+use Rattle.std.specs.Prelude.{Ok}
+use Rattle.terms.specs.Says.{Answer, gives, said}
 use Prim.Native.Nat.{ℕ, ◌+◌, ◌≤◌, ◌<◌}
 use mathlib.Core.Path.{◌≡◌, refl, sym, ◌∙◌, ap, subst}
 use mathlib.Core.Bool.{true}
@@ -9,13 +11,10 @@ use mathlib.Core.Logic.{◌⊎◌, inl, inr, ⊎_elim, ◌↔◌}
 use native.Mathlib.Omega.{arith}
 use lib.IntN.{ℤ}
 use lib.ListN.{length}
-use Rattle.terms.specs.Answers.{verdict_of}
 use Rattle.terms.specs.Limits.{clause_entries}
+use Rattle.terms.specs.Answers.{verdict_by}
 use Rattle.terms.specs.Refusals.{At0, None, NoneOf}
-use Rattle.terms.specs.declared.Filled.{Filled}
-use Rattle.terms.specs.declared.Filled.TheVariants.{Count}
-use Rattle.terms.specs.declared.Verdict.TheVariants.{Accepted}
-use Rattle.terms.proofs.Verdicts.{judged_unique, at0_none}
+use Rattle.terms.proofs.Verdicts.{verdict_unique, at0_none}
 use Rattle.formula.specs.Causes.{PrefixLong, ClausesLong, ClauseCause}
 use Rattle.formula.specs.Lent.{Formula, formula_of}
 use Rattle.formula_rules.specs.Rules.{read_as, read_by}
@@ -74,7 +73,7 @@ module _ (rule n : ℕ) (es : List ℕ) where
   with ls = formula_of n es ls
 
   -- Merges and classes left sum to the existentials: of no clause there are no merges and as many classes as existentials ...
-  pub none_tally : {s s' : Standing} {k : ℕ} → Builds rule (with []) s s' (Count k) → (s'.tally.clauses ≡ 0) × (s'.tally.merges ≡ 0) × (s'.tally.classes ≡ existentials X)
+  pub none_tally : {s s' : Standing} {k : ℕ} → Builds rule (with []) s s' (Ok k) → (s'.tally.clauses ≡ 0) × (s'.tally.merges ≡ 0) × (s'.tally.classes ≡ existentials X)
   unfolding joined clauses cut
   none_tally {s' = s'} built =
       let (_, grown, tally) = built.leaves in
@@ -82,7 +81,7 @@ module _ (rule n : ℕ) (es : List ℕ) where
       let all : _ ≡ existentials X = t.classes ∙ none_names grown.forest n in
       (t.clauses, omega (arith, t.merges), all)
 
-  module _ {s s' : Standing} {clause : List ℤ} {m : ℕ} (added : Adds rule n es s clause s' (Count m)) where
+  module _ {s s' : Standing} {clause : List ℤ} {m : ℕ} (added : Adds rule n es s clause s' (Ok m)) where
     -- ... and an add keeps the sum, whichever tables it is given: it takes only a tally that has it, and a class is left or merged.
     agrees : WrongTally s.tally (class_names X s) (existentials X) → ⊥
     agrees wrong = added.judged.1.1.1.1.1.1.0 18 0 (refl, refl, wrong)
@@ -103,7 +102,7 @@ module _ (rule n : ℕ) (es : List ℕ) where
 
     -- A clause that is always true changes no row and no count, of any tables that are taken, and of the tally only the clauses (rule 1.7, rule 3.6).
     pub adding_true : always_true clause ≡ true → s' ≡ one_more s
-    adding_true always = (add_tight es {b = one_more s} (Count m) (Count n) added
+    adding_true always = (add_tight es {b = one_more s} (Ok m) (Ok n) added
         (record {
           judged = added.judged;
           leaves = (
@@ -138,7 +137,7 @@ module _ (rule n : ℕ) (es : List ℕ) where
   pub extends : {cs : List (List ℕ)} (clause : List ℕ) {W W' : Table} → Forest X (Joined cs) W → Forest X (Joined (joins X W ++ (clause ∷ []))) W' → Forest X (Joined (cs ++ (clause ∷ []))) W'
   extends clause f g = let well = ((forest_is law).0 f).formed in forest_grows law f (forest_fused law (represents_forest (represents_itself law well)) g)
 
-  module _ {ls clause : List ℤ} {s s' s'' : Standing} {k m : ℕ} (built : Builds rule (with ls) s s' (Count k)) (added : Adds rule n es s' clause s'' (Count m)) where
+  module _ {ls clause : List ℤ} {s s' s'' : Standing} {k m : ℕ} (built : Builds rule (with ls) s s' (Ok k)) (added : Adds rule n es s' clause s'' (Ok m)) where
     pub accepted : None (ClauseCause n ls)
     accepted = built.judged.1.1.1.1.0
 
@@ -165,7 +164,7 @@ module _ (rule n : ℕ) (es : List ℕ) where
         sum_tallies law (with_last ls clause) s'' added_forest (record { clauses = clauses; classes = took.classes; merges = adding_sum added })
 
     -- Demand 3, first sentence: what add leaves build may leave of the list with the clause put last, if that is within the limits ...
-    pub added_builds : length (with_last ls clause) ≤ clause_entries → Builds rule (with (with_last ls clause)) s s'' (Count n)
+    pub added_builds : length (with_last ls clause) ≤ clause_entries → Builds rule (with (with_last ls clause)) s s'' (Ok n)
     added_builds small =
         let none = built.judged in
         let lengths : None (At0 2 (PrefixLong es ⊎ ClausesLong (length (with_last ls clause)))) =
@@ -176,8 +175,8 @@ module _ (rule n : ℕ) (es : List ℕ) where
         }
 
     -- ... so that adding a clause to the built forest gives row by row, and in the tally, what build gives with the clause put last.
-    pub adding_builds : {s''' : Standing} (answer : Filled) → length (with_last ls clause) ≤ clause_entries → Builds rule (with (with_last ls clause)) s s''' answer → (answer ≡ Count n) × (s''' ≡ s'')
-    adding_builds answer small again = build_tight (with (with_last ls clause)) answer (Count n) again (added_builds small)
+    pub adding_builds : {s''' : Standing} (answer : Answer ℕ) → length (with_last ls clause) ≤ clause_entries → Builds rule (with (with_last ls clause)) s s''' answer → (answer ≡ Ok n) × (s''' ≡ s'')
+    adding_builds answer small again = build_tight (with (with_last ls clause)) answer (Ok n) again (added_builds small)
 
     -- Demand 3, second sentence: where the clause has neither x nor any variable of its set, what x depends on stays ...
     pub adding_depends : {x y : ℕ} → LeavesAlone X (Shares ls) (connected clause) x → Depends X (Shares ls) x y ↔ Depends X (Shares (with_last ls clause)) x y
@@ -199,10 +198,10 @@ module _ (rule n : ℕ) (es : List ℕ) where
 
   -- The built forest and its tally are taken by add: neither 12 nor 18 refuses a clause with no cause of its own, where the longer list is within the
   -- limits.
-  pub built_accepted : {ls clause : List ℤ} {s s' s'' : Standing} {k : ℕ} (answer : Filled) → Builds rule (with ls) s s' (Count k)
-      → length clause ≤ clause_entries → None (AddedCause n clause) → Adds rule n es s' clause s'' answer → verdict_of answer ≡ Accepted
+  pub built_accepted : {ls clause : List ℤ} {s s' s'' : Standing} {k : ℕ} (answer : Answer ℕ) → Builds rule (with ls) s s' (Ok k)
+      → length clause ≤ clause_entries → None (AddedCause n clause) → Adds rule n es s' clause s'' answer → verdict_by (said answer) ≡ gives tt
   built_accepted {ls} {clause} {s} {s'} answer built short first added =
-      judged_unique (add_order rule n es s' clause) (verdict_of answer) Accepted added.judged
+      verdict_unique (add_order rule n es s' clause) (said answer) (gives tt) added.judged
       (none.0, (none.1.0, (lengths, (none.1.1.1.0, (first, (no_forest_cause, (at0_none 18 right, tt)))))))
     where
       none : NoneOf (build_order rule (with ls) s)

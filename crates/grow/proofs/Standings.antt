@@ -1,13 +1,12 @@
 -- From rows, counts and numbers to what build and add leave: the forest with its counts, and the tally.
+use Rattle.std.specs.Prelude.{Ok, Err}
+use Rattle.terms.specs.Says.{Answer, fault_number}
 use Prim.Native.Nat.{ℕ, ◌+◌, ◌-◌}
 use mathlib.Core.Path.{◌≡◌, refl, sym, ◌∙◌, ap, subst}
 use mathlib.Core.List.{List}
 use native.Mathlib.Omega.{arith}
-use Rattle.terms.specs.Answers.{verdict_of}
-use Rattle.terms.specs.Refusals.{Causes, NoneOf, Judged}
-use Rattle.terms.specs.declared.Filled.{Filled}
-use Rattle.terms.specs.declared.Filled.TheVariants.{Count, Refused}
-use Rattle.terms.specs.declared.Verdict.{Verdict}
+use Rattle.terms.specs.declared.Refusal.{Refusal}
+use Rattle.terms.specs.Refusals.{Causes, FirstOf, NoneOf}
 use Rattle.forest_theory.specs.Reach.{Variables, Joined}
 use Rattle.forest_theory.proofs.Growth.{forest_is}
 use Rattle.forest_tables.specs.InnerCounting.{FormedBy}
@@ -41,19 +40,19 @@ module _ (n : ℕ) (es : List ℕ) {cs : List (List ℕ)} {classes parents class
       record { clauses = is; classes = k; merges = (let sum : (exs - named) + named ≡ exs = omega arith in sum ∙ e) }
 
 -- An answer by what it equals, with the tally: a refusal leaves all as it was, and a count leaves what it is to leave.
-module _ (order : List Causes) (X : Variables) (J : ℕ → ℕ → Type 0) (T : Standing → Type 0) (r : Rows) {t t' : Tally} {answer : Filled} where
-  pub refusal : (k p : ℕ) → Judged order (Verdict.Refused k p) → (answer ≡ Refused k p) × (t' ≡ t)
+module _ (order : List Causes) (X : Variables) (J : ℕ → ℕ → Type 0) (T : Standing → Type 0) (r : Rows) {t t' : Tally} {answer : Answer ℕ} where
+  pub refusal : (refused : Refusal) → FirstOf order (fault_number refused.0) refused.1 → (answer ≡ Err refused) × (t' ≡ t)
       → Rewrites order X J T (standing r t) (standing r t') answer
-  refusal k p judged (is, same) =
+  refusal refused judged (is, same) =
       subst (Rewrites order X J T (standing r t) (standing r t')) (sym is) (record { judged = judged; leaves = ap (standing r) same })
 
-  pub acceptance : {r' : Rows} (now : Tally) → NoneOf order → (answer ≡ Count X.count) × (t' ≡ now)
+  pub acceptance : {r' : Rows} (now : Tally) → NoneOf order → (answer ≡ Ok X.count) × (t' ≡ now)
       → Grown X J (standing r t) (standing r' now) → T (standing r' now) → Rewrites order X J T (standing r t) (standing r' t') answer
   acceptance {r'} now none (is, same) grown tally =
       let kept = subst (λ (u : Tally). Grown X J (standing r t) (standing r' u) × T (standing r' u)) (sym same) (grown, tally) in
       subst (Rewrites order X J T (standing r t) (standing r' t')) (sym is) (record { judged = none; leaves = (refl, kept.0, kept.1) })
 
 -- What is promised by one order is promised by another that says the same.
-pub carry_rewrites : {X : Variables} {J : ℕ → ℕ → Type 0} {T : Standing → Type 0} {s s' : Standing} (answer : Filled) (order order' : List Causes)
+pub carry_rewrites : {X : Variables} {J : ℕ → ℕ → Type 0} {T : Standing → Type 0} {s s' : Standing} (answer : Answer ℕ) (order order' : List Causes)
     → Carries order order' → Rewrites order X J T s s' answer → Rewrites order' X J T s s' answer
-carry_rewrites answer order order' c w = record { judged = carry_judged order order' c (verdict_of answer) w.judged; leaves = w.leaves }
+carry_rewrites answer order order' c w = record { judged = carry_judged order order' c answer w.judged; leaves = w.leaves }

@@ -1,4 +1,5 @@
 -- Demand 3, second sentence, for strict sets and strict entry points; its premise speaks of the old standard set.
+use Rattle.std.specs.Prelude.{Ok}
 use Prim.Native.Nat.{ℕ}
 use mathlib.Core.Path.{◌≡◌, sym, subst}
 use mathlib.Core.Bool.{Bool, true}
@@ -6,7 +7,6 @@ use mathlib.Core.List.{List}
 use mathlib.Core.Logic.Iff
 use mathlib.Core.Logic.{◌↔◌}
 use lib.IntN.{ℤ}
-use Rattle.terms.specs.declared.Filled.TheVariants.{Count}
 use Rattle.formula.specs.Lent.{Formula, formula_of}
 use Rattle.formula.specs.Meaning.{connected}
 use Rattle.formula_rules.specs.Rules.{read_as, read_by}
@@ -40,7 +40,7 @@ module _ (rule n : ℕ) (es : List ℕ) where
   as_read ls = read_by rule (with ls)
 
   module _ {ls clause : List ℤ} {s s' s'' : Standing} {k m : ℕ}
-      (built : Builds rule (with ls) s s' (Count k)) (added : Adds rule n es s' clause s'' (Count m)) {x : ℕ} (alone : LeavesAlone X (Shares ls) (connected clause) x) where
+      (built : Builds rule (with ls) s s' (Ok k)) (added : Adds rule n es s' clause s'' (Ok m)) {x : ℕ} (alone : LeavesAlone X (Shares ls) (connected clause) x) where
     starts : (sign : Bool) (z : ℕ) → SharesBy ls sign x z → Shares ls x z
     starts sign z = shares_some sign
 

@@ -5,8 +5,7 @@ use mathlib.Core.List.{[], ◌∷◌}
 use mathlib.Core.Logic.{inl, inr, ⊎_elim, by_cases}
 use native.Mathlib.Decide.{ℕ_discrete, dec_lt}
 use native.Mathlib.Omega.{arith}
-use Rattle.terms.specs.Refusals.{Judged}
-use Rattle.terms.specs.declared.Verdict.TheVariants.{Accepted, Refused}
+use Rattle.terms.specs.Refusals.{FirstOf, NoneOf}
 use Rattle.terms.proofs.Verdicts.{at0_first, at0_none}
 use Rattle.forest_theory.specs.Reach.{Variables}
 use Rattle.terms.specs.declared.Tally.{Tally}
@@ -33,10 +32,10 @@ module _ (X : Variables) (s : Standing) {named exs : ℕ} (is : (exs ≡ existen
   back_wrong : WrongTally s.tally (class_names X s) (existentials X) → WrongTally s.tally named exs
   back_wrong wrong = ⊎_elim (λ l. inl l) (λ rest. inr (⊎_elim (λ d. inl (λ e. d (e ∙ is.1))) (λ d. inr (λ e. d (e ∙ is.0))) rest)) wrong
 
-  pub tally_refused : WrongTally s.tally named exs → Judged (TallyCause X s ∷ []) (Refused 18 0)
+  pub tally_refused : WrongTally s.tally named exs → FirstOf (TallyCause X s ∷ []) 18 0
   tally_refused wrong = inl (at0_first 18 (same_wrong wrong))
 
-  pub tally_accepted : (WrongTally s.tally named exs → ⊥) → Judged (TallyCause X s ∷ []) Accepted
+  pub tally_accepted : (WrongTally s.tally named exs → ⊥) → NoneOf (TallyCause X s ∷ [])
   tally_accepted agrees = (at0_none 18 (λ wrong. agrees (back_wrong wrong)), tt)
 
 -- The tally with a clause taken that left so many class names.

@@ -1,14 +1,13 @@
 -- What build and add promise leaves nothing open (rule 18.1): for one input the answer, every row and the tally are settled.
+use Rattle.std.specs.Prelude.{Ok, Err}
+use Rattle.terms.specs.Says.{Answer}
 use Prim.Native.Nat.{ℕ}
-use mathlib.Core.Path.{◌≡◌, sym, ◌∙◌, ap, ap₂, subst}
+use mathlib.Core.Path.{◌≡◌, sym, ◌∙◌, ap, subst}
 use mathlib.Core.List.{List, [], ◌∷◌, ◌++◌}
 use native.Mathlib.Omega.{arith}
 use lib.IntN.{ℤ}
-use Rattle.terms.specs.Answers.{verdict_of}
 use Rattle.terms.specs.Refusals.{Causes, Judged}
-use Rattle.terms.specs.declared.Filled.{Filled}
-use Rattle.terms.specs.declared.Filled.TheVariants.{Count, Refused}
-use Rattle.terms.proofs.Verdicts.{first_of_same, first_or_none}
+use Rattle.terms.proofs.Verdicts.{refusal_unique, first_or_none}
 use Rattle.formula.specs.Lent.{Formula}
 use Rattle.formula_rules.specs.Rules.{read_as, read_by}
 use Rattle.forest_tables.specs.Lent.{rows, variables_of}
@@ -59,30 +58,29 @@ module _ (n : ℕ) (es : List ℕ) where
 
   -- Two outcomes that an order, a forest and what the tally is to be settle are equal.
   pub tight : (order : List Causes) (cs : List (List ℕ)) (T : Standing → Type 0)
-      → ((a b : Standing) → forest_in X a ≡ forest_in X b → T a → T b → a.tally ≡ b.tally) → {s a b : Standing} (x y : Filled)
+      → ((a b : Standing) → forest_in X a ≡ forest_in X b → T a → T b → a.tally ≡ b.tally) → {s a b : Standing} (x y : Answer ℕ)
       → Rewrites order X (Joined cs) T s a x → Rewrites order X (Joined cs) T s b y → (x ≡ y) × (a ≡ b)
   tight order cs T one {s} {a} {b} x y f g = go x y f.judged g.judged f.leaves g.leaves
     where
-      go : (x y : Filled) → Judged order (verdict_of x) → Judged order (verdict_of y) → Leaves X (Joined cs) T s a x → Leaves X (Joined cs) T s b y
+      go : (x y : Answer ℕ) → Judged order x → Judged order y → Leaves X (Joined cs) T s a x → Leaves X (Joined cs) T s b y
           → (x ≡ y) × (a ≡ b)
-      go (Count k) (Count m) f g (is, left, t) (is', left', t') =
+      go (Ok k) (Ok m) f g (is, left, t) (is', left', t') =
           let (c, p, q) = rows_left s a b left left' in
           let tally = one a b (λ i. forest_in X (standing (rows (c i) (p i) (q i)) a.tally)) t t' in
-          (ap Count (is ∙ sym is'), λ i. standing (rows (c i) (p i) (q i)) (tally i))
-      go (Count k) (Refused m p) none first l r = absurd (first_or_none order m p first none)
-      go (Refused k q) (Count m) first none l r = absurd (first_or_none order k q first none)
-      go (Refused k q) (Refused m p) first other l r =
-          let (number, place) = first_of_same order k q m p first other in
-          (ap₂ Refused number place, l ∙ sym r)
+          (ap Ok (is ∙ sym is'), λ i. standing (rows (c i) (p i) (q i)) (tally i))
+      go (Ok k) (Err refusal) none first l r = absurd (first_or_none order _ _ first none)
+      go (Err refusal) (Ok m) first none l r = absurd (first_or_none order _ _ first none)
+      go (Err refusal) (Err refusal') first other l r =
+          (ap Err (refusal_unique order refusal refusal' first other), l ∙ sym r)
 
 -- Build and add, under a rule.
-pub build_tight : {rule : ℕ} (f : Formula) {s a b : Standing} (x y : Filled) → Builds rule f s a x → Builds rule f s b y → (x ≡ y) × (a ≡ b)
+pub build_tight : {rule : ℕ} (f : Formula) {s a b : Standing} (x y : Answer ℕ) → Builds rule f s a x → Builds rule f s b y → (x ≡ y) × (a ≡ b)
 build_tight {rule} f {s} x y =
     let X = variables_of (read_by rule f) in
     tight f.n (read_as rule f.prefix) (build_order rule f s) (joined f.clauses) (Tallies X f.clauses)
     (λ a b _. tally_of_one (lawful f.n (read_as rule f.prefix))) x y
 
-pub add_tight : {rule n : ℕ} (es : List ℕ) {ls : List ℤ} {s a b : Standing} (x y : Filled)
+pub add_tight : {rule n : ℕ} (es : List ℕ) {ls : List ℤ} {s a b : Standing} (x y : Answer ℕ)
     → Adds rule n es s ls a x → Adds rule n es s ls b y → (x ≡ y) × (a ≡ b)
 add_tight {rule} {n} es {ls} {s} x y =
     let X = variables n (read_as rule es) in

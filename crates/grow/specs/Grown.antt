@@ -3,10 +3,9 @@
 use Rattle.std.specs.Prelude.{ℕ, ◌<◌, ◌≡◌, List, [], ◌∷◌, ◌++◌, ◌⊎◌, ℤ, pos, length}
 use Rattle.std.specs.Borrow.{MutBor}
 use denote.Triple.Both.{Both}
-use Rattle.terms.specs.Says.{filled_said}
-use Rattle.terms.specs.Answers.{Then, verdict_of}
+use Rattle.terms.specs.Says.{said, Answer}
+use Rattle.terms.specs.Answers.{Then}
 use Rattle.terms.specs.Refusals.{Causes, At0, Judged}
-use Rattle.terms.specs.declared.Filled.{Filled}
 use Rattle.formula.specs.Causes.{VariableCount, LengthCause, ClauseCause}
 use Rattle.formula.specs.Lent.{Formula}
 use Rattle.formula_rules.specs.Rules.{read_as, read_by, RuleCause, PrefixCauseBy}
@@ -91,26 +90,26 @@ abbrev pub Took : Variables → Standing → Standing → Type 0
 Took X s s' = Taken (ClassName X (forest_in X s)) (ClassName X (forest_in X s')) s.tally s'.tally
 
 -- What a call leaves: with the count n, the forest, and a tally as T says; where it refuses, all as it was.
-abbrev pub Leaves : Variables → (ℕ → ℕ → Type 0) → (Standing → Type 0) → Standing → Standing → Filled → Type 0
-Leaves X J T s s' answer = Then (λ (written : ℕ). (written ≡ X.count) × Grown X J s s' × T s') (s' ≡ s) (filled_said answer)
+abbrev pub Leaves : Variables → (ℕ → ℕ → Type 0) → (Standing → Type 0) → Standing → Standing → Answer ℕ → Type 0
+Leaves X J T s s' answer = Then (λ (written : ℕ). (written ≡ X.count) × Grown X J s s' × T s') (s' ≡ s) (said answer)
 
 -- What a call promises that rewrites what stands: its refusals in their order, and what it leaves.
-pub record Rewrites (order : List Causes) (X : Variables) (J : ℕ → ℕ → Type 0) (T : Standing → Type 0) (s s' : Standing) (answer : Filled) : Type 0 where
-  pub judged : Judged order (verdict_of answer)
+pub record Rewrites (order : List Causes) (X : Variables) (J : ℕ → ℕ → Type 0) (T : Standing → Type 0) (s s' : Standing) (answer : Answer ℕ) : Type 0 where
+  pub judged : Judged order answer
   pub leaves : Leaves X J T s s' answer
 
 -- What build promises: the forest of the clauses, by the prefix as the rule reads it, and the tally of their list.
-abbrev pub Builds : ℕ → Formula → Standing → Standing → Filled → Type 0
+abbrev pub Builds : ℕ → Formula → Standing → Standing → Answer ℕ → Type 0
 Builds rule f s =
     Rewrites (build_order rule f s) (variables_of (read_by rule f)) (Shares f.clauses) (Tallies (variables_of (read_by rule f)) f.clauses) s
 
 -- What add leaves by a prefix that is read: the forest of the joins which the lent tables stand for, with the clause added, and the tally with the
 -- clause taken.
-abbrev pub AddsBehind : List Causes → Variables → Standing → List ℤ → Standing → Filled → Type 0
+abbrev pub AddsBehind : List Causes → Variables → Standing → List ℤ → Standing → Answer ℕ → Type 0
 AddsBehind order X s ls = Rewrites order X (Extended X (forest_in X s) ls) (Took X s) s
 
 -- What add promises.
-abbrev pub Adds : ℕ → ℕ → List ℕ → Standing → List ℤ → Standing → Filled → Type 0
+abbrev pub Adds : ℕ → ℕ → List ℕ → Standing → List ℤ → Standing → Answer ℕ → Type 0
 Adds rule n es s ls = AddsBehind (add_order rule n es s ls) (variables n (read_as rule es)) s ls
 
 -- A clause table with a clause put last.

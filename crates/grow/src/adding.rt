@@ -2,7 +2,6 @@
 // counts and the tally follow.
 
 ghost use Rattle.std.specs.Prelude.{◌≡◌, [], ◌∷◌};
-ghost use Rattle.terms.specs.Refusals.{Judged};
 ghost use Rattle.formula.specs.InnerLevels.{SoundPrefix};
 ghost use Rattle.formula.specs.InnerLookup.{InRows};
 ghost use Rattle.forest_theory.specs.Tables.{lent};
@@ -10,20 +9,19 @@ ghost use Rattle.forest_theory.specs.Counts.{how_many, names_itself};
 ghost use Rattle.forest_tables.specs.Causes.{ForestCause};
 ghost use Rattle.forest_tables.specs.InnerCounting.{FormedBy};
 ghost use Rattle.forest_tables.specs.Formula.{variables};
-ghost use Rattle.forest_tables.specs.Lent.{rows_in, rows_lent};
+ghost use Rattle.forest_tables.specs.Lent.{rows_lent};
 ghost use Rattle.grow.specs.Grown.{standing_in, standing_out, TallyCause, Extended, AddsBehind};
 ghost use Rattle.grow.specs.InnerOrders.{behind_add};
 ghost use Rattle.grow_rows.specs.InnerRows.{Rowed, Recounted};
 ghost use Rattle.grow.specs.InnerRows.{Room};
 
+use crate::checking::tables_verdict;
 use crate::{counted, refused};
-use forest_tables::checking::check_forest;
-use formula_levels::fill_levels;
 use grow_refusals::clause::check_added;
 use grow_refusals::tallying::{disagrees, take};
 use grow_rows::counts::{recount, take_census};
 use grow_rows::put_in;
-use terms::{Tallied, Tally, Variable, Verdict};
+use terms::{Fault, Refusal, Tallied, Tally};
 
 // Adds a clause by an accepted prefix: the clause is judged first.
 pub fn add_read(
@@ -41,8 +39,8 @@ pub fn add_read(
         (standing_out classes parents counts result.tally) result.answer }
 {
     match check_added(n, clause) {
-        Verdict::Refused(number, place) => refused(number, place, tally),
-        Verdict::Accepted => add_sound(n, prefix, classes, parents, counts, tally, clause),
+        Err(refusal) => refused(refusal, tally),
+        Ok(()) => add_sound(n, prefix, classes, parents, counts, tally, clause),
     }
 }
 
@@ -63,26 +61,9 @@ fn add_sound(
         (standing_out classes parents counts result.tally) result.answer }
 {
     match tables_verdict(n, prefix, classes, parents, counts) {
-        Verdict::Refused(number, place) => refused(number, place, tally),
-        Verdict::Accepted => add_formed(n, prefix, classes, parents, counts, tally, clause),
+        Err(refusal) => refused(refusal, tally),
+        Ok(()) => add_formed(n, prefix, classes, parents, counts, tally, clause),
     }
-}
-
-// Whether the lent tables are well formed, by an accepted prefix.
-fn tables_verdict(
-    n: u32,
-    prefix: &[u32],
-    classes: &[u32],
-    parents: &[u32],
-    counts: &[u32],
-) -> Verdict
-    requires sound { SoundPrefix n prefix.now }
-    ensures judged { Judged (ForestCause n prefix.now (rows_in classes parents counts) ∷ []) result }
-{
-    let mut levels = [0u32; Variable::ROWS];
-    let mut universals = [false; Variable::ROWS];
-    fill_levels(prefix, &mut levels, &mut universals);
-    check_forest(n, prefix, &levels, &universals, classes, parents, counts)
 }
 
 // Adds a clause to well-formed tables: all that is left to refuse is the tally.
@@ -103,7 +84,7 @@ fn add_formed(
 {
     let seen = take_census(n, classes);
     if disagrees(tally, seen.names, seen.existentials) {
-        return refused(18, 0, tally);
+        return refused(Refusal(Fault::WrongTally, 0), tally);
     }
     let left = extend(n, prefix, classes, parents, counts, clause);
     let taken = take(tally, left);

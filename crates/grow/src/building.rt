@@ -16,7 +16,7 @@ ghost use Rattle.grow.specs.InnerRows.{Room};
 use crate::{counted, refused};
 use grow_rows::counts::{recount, take_census};
 use grow_rows::grow;
-use terms::{Tallied, Tally};
+use terms::{Fault, Refusal, Tallied, Tally};
 
 // Builds the forest of an accepted formula: all that is left to refuse is a table that is too short.
 pub fn build_read(
@@ -34,7 +34,7 @@ pub fn build_read(
         (standing_in classes parents counts tally) (standing_out classes parents counts result.tally) result.answer }
 {
     if !has_room(n, classes, parents, counts) {
-        return refused(14, 0, tally);
+        return refused(Refusal(Fault::TooLittleRoom, 0), tally);
     }
     let built = build_sound(n, prefix, clauses, classes, parents, counts);
     counted(n, built)

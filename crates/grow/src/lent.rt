@@ -2,7 +2,7 @@
 
 ghost use Rattle.grow.specs.Grown.{standing_in, standing_out, Adds};
 
-use terms::{Filled, Tally};
+use terms::{Refusal, Tally};
 
 // Rewrites the lent rows of 1 to n to the forest of the tables' joins with a clause added and to its counts, takes the clause in the lent tally, and gives
 // n as the count. The clause has no closing 0.
@@ -15,7 +15,7 @@ pub fn add(
     counts: &mut [u32],
     tally: &mut Tally,
     clause: &[i32],
-) -> Filled
+) -> Result<u32, Refusal>
     ensures added { Adds rule n prefix.now (standing_in classes parents counts tally.old) clause.now
         (standing_out classes parents counts tally.new) result }
 {

@@ -5,17 +5,17 @@
 
 mod adding;
 pub mod building;
+pub mod checking;
 pub mod lent;
 
-ghost use Rattle.std.specs.Prelude.{◌≡◌};
-ghost use Rattle.terms.specs.declared.Filled.TheVariants.{Refused};
+ghost use Rattle.std.specs.Prelude.{◌≡◌, Ok, Err};
 ghost use Rattle.formula.specs.Lent.{formula_in};
 ghost use Rattle.grow.specs.Grown.{standing_in, standing_out, Builds, Adds};
 
 use adding::add_read;
 use building::build_read;
-use formula_rules::{as_read, read_formula, read_prefix};
-use terms::{Filled, Level, Tallied, Tally};
+use formula_rules::{take_formula, take_prefix};
+use terms::{Level, Refusal, Tallied, Tally};
 
 // Fills the lent rows of 1 to n with the forest of a formula and its counts, and gives n as the count and the tally of its list. The tally before is
 // passed in, since a refusal gives it back.
@@ -33,12 +33,9 @@ pub fn build(
         (standing_out classes parents counts result.tally) result.answer }
 {
     let mut joined = [0u32; Level::JOINED];
-    match read_formula(rule, n, prefix, clauses, &mut joined) {
-        Filled::Refused(number, place) => refused(number, place, tally),
-        Filled::Count(count) => {
-            let read = as_read(rule, prefix, &joined, count);
-            build_read(n, read, clauses, classes, parents, counts, tally)
-        }
+    match take_formula(rule, n, prefix, clauses, &mut joined) {
+        Err(refusal) => refused(refusal, tally),
+        Ok(read) => build_read(n, read, clauses, classes, parents, counts, tally),
     }
 }
 
@@ -58,27 +55,24 @@ pub fn add(
         (standing_out classes parents counts result.tally) result.answer }
 {
     let mut joined = [0u32; Level::JOINED];
-    match read_prefix(rule, n, prefix, clause.len(), &mut joined) {
-        Filled::Refused(number, place) => refused(number, place, tally),
-        Filled::Count(count) => {
-            let read = as_read(rule, prefix, &joined, count);
-            add_read(n, read, classes, parents, counts, tally, clause)
-        }
+    match take_prefix(rule, n, prefix, clause.len(), &mut joined) {
+        Err(refusal) => refused(refusal, tally),
+        Ok(read) => add_read(n, read, classes, parents, counts, tally, clause),
     }
 }
 
 // A refusal, which leaves the tally.
-fn refused(number: u32, place: usize, tally: Tally) -> Tallied
-    ensures refused { (result.answer ≡ Refused number place) × (result.tally ≡ tally) }
+fn refused(refusal: Refusal, tally: Tally) -> Tallied
+    ensures refused { (result.answer ≡ Err refusal) × (result.tally ≡ tally) }
 {
-    let answer = Filled::Refused(number, place);
+    let answer = Err(refusal);
     Tallied { answer, tally }
 }
 
 // A count, with the tally that is given.
 fn counted(n: u32, tally: Tally) -> Tallied
-    ensures counted { (result.answer ≡ Filled.Count n) × (result.tally ≡ tally) }
+    ensures counted { (result.answer ≡ Ok n) × (result.tally ≡ tally) }
 {
-    let answer = Filled::Count(n);
+    let answer = Ok(n);
     Tallied { answer, tally }
 }

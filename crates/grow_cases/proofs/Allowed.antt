@@ -10,10 +10,11 @@ use lib.Dec.{leb}
 use lib.IntN.{ℤ}
 use lib.ListN.{length, get_or, drop, length-append, length-drop, get_or-append}
 use lib.Seq.{get_or-append-add, get_or-drop}
+use Rattle.std.specs.Prelude.{Ok}
 use Rattle.terms.specs.Literals.{variable_of}
 use Rattle.terms.specs.Refusals.{At0, None, NoneOf}
-use Rattle.terms.specs.declared.Filled.{Filled}
-use Rattle.terms.specs.declared.Filled.TheVariants.{Count}
+use Rattle.terms.specs.Says.{Answer}
+use Rattle.terms.specs.declared.Point.{Point}
 use Rattle.terms.specs.Overwritten.{overwritten}
 use Rattle.terms.proofs.Common.{clash}
 use Rattle.terms.proofs.Verdicts.{at0_none}
@@ -42,8 +43,6 @@ use Rattle.terms.proofs.Listed.{listed_one}
 use Rattle.forest_theory.proofs.Rows.{row_same}
 use Rattle.forest_theory.proofs.Search.{set_of_depends}
 use Rattle.forest_theory.proofs.Sets.{set_members}
-use Rattle.terms.specs.declared.EntryAnswer.{EntryAnswer}
-use Rattle.terms.specs.declared.EntryAnswer.TheVariants.{At}
 use Rattle.forest_tables.specs.Formula.{variables, universal, joined, Shares}
 use Rattle.forest_tables.specs.Causes.{ForestCause}
 use Rattle.terms.specs.declared.Scheme.TheVariants.{Standard}
@@ -179,15 +178,15 @@ module _ (rule n : ℕ) (es : List ℕ) where
 
     -- Build leaves the computed rows and the tally.
     pub build_only : {built : Standing} → ForestRows Y ls built → (s : Standing) → n ≤ length s.rows.classes → n ≤ length s.rows.parents
-        → n ≤ length s.rows.counts → (answer : Filled) (s' : Standing)
-        → Builds rule f s s' answer ↔ ((answer ≡ Count n) × (s' ≡ left n read built s))
+        → n ≤ length s.rows.counts → (answer : Answer ℕ) (s' : Standing)
+        → Builds rule f s s' answer ↔ ((answer ≡ Ok n) × (s' ≡ left n read built s))
     build_only {built} g s long long' long'' answer s' =
-        (λ b. build_tight f answer (Count n) b stated, λ q. subst₂ (λ r t. Builds rule f s t r) (sym q.0) (sym q.1) stated)
+        (λ b. build_tight f answer (Ok n) b stated, λ q. subst₂ (λ r t. Builds rule f s t r) (sym q.0) (sym q.1) stated)
       where
         stands : Stands n read ls (left n read built s)
         stands = rows_stand n read g (drop n s.rows.classes) (drop n s.rows.parents) (drop n s.rows.counts)
 
-        stated : Builds rule f s (left n read built s) (Count n)
+        stated : Builds rule f s (left n read built s) (Ok n)
         stated = record {
           judged = (
             accepted.0,
@@ -222,10 +221,10 @@ module _ (rule n : ℕ) (es : List ℕ) where
           (λ rest. ⊎_elim (λ d. d t.classes) (λ d. d t.merges) rest) wrong
 
       -- Add of a clause leaves the computed rows and the tally of the list with the clause put last.
-      pub add_only : (clause : List ℤ) → in_range n clause ≡ true → length clause ≤ 16384 → {built : Standing} → ForestRows Y (with_last ls clause) built → (answer : Filled) (s' : Standing)
-          → Adds rule n es s clause s' answer ↔ ((answer ≡ Count n) × (s' ≡ left n read built s))
+      pub add_only : (clause : List ℤ) → in_range n clause ≡ true → length clause ≤ 16384 → {built : Standing} → ForestRows Y (with_last ls clause) built → (answer : Answer ℕ) (s' : Standing)
+          → Adds rule n es s clause s' answer ↔ ((answer ≡ Ok n) × (s' ≡ left n read built s))
       add_only clause range small {built} g answer s' =
-          (λ a. add_tight es answer (Count n) a stated, λ q. subst₂ (λ r t. Adds rule n es s clause t r) (sym q.0) (sym q.1) stated)
+          (λ a. add_tight es answer (Ok n) a stated, λ q. subst₂ (λ r t. Adds rule n es s clause t r) (sym q.0) (sym q.1) stated)
         where
           first : None (AddedCause n clause)
           first = none_added n clause range
@@ -248,7 +247,7 @@ module _ (rule n : ℕ) (es : List ℕ) where
                 classes = u.classes;
               })
 
-          stated : Adds rule n es s clause (left n read built s) (Count n)
+          stated : Adds rule n es s clause (left n read built s) (Ok n)
           stated = record {
             judged = (accepted.0, (accepted.1.0, (lengths (length clause) small, (accepted.1.1.1.0, (first, (fine, (at0_none 18 right, tt)))))));
             leaves = (refl, grown n read g s stands.long.0 stands.long.1 stands.long.2 forest, took);
@@ -256,10 +255,10 @@ module _ (rule n : ℕ) (es : List ℕ) where
 
       module _ (x : ℕ) (u : universal n read x ≡ true) where
         -- The set call lists the computed set.
-        pub set_only : {list : List ℕ} → set_of Y (joined ls) x ≡ list → (before : List ℕ) → length list ≤ length before → (answer : Filled) (after : List ℕ)
-            → SetListed rule Standard f s.rows x before after answer ↔ ((answer ≡ Count (length list)) × (after ≡ overwritten list before))
+        pub set_only : {list : List ℕ} → set_of Y (joined ls) x ≡ list → (before : List ℕ) → length list ≤ length before → (answer : Answer ℕ) (after : List ℕ)
+            → SetListed rule Standard f s.rows x before after answer ↔ ((answer ≡ Ok (length list)) × (after ≡ overwritten list before))
         set_only {list} is before room answer after = (
-          λ a. list_settled rule f s.rows x (λ g. MembersBy Standard g s.rows x) before after (overwritten list before) answer (Count (length list)) a stated,
+          λ a. list_settled rule f s.rows x (λ g. MembersBy Standard g s.rows x) before after (overwritten list before) answer (Ok (length list)) a stated,
           λ q. subst₂ (λ r t. SetListed rule Standard f s.rows x before t r) (sym q.0) (sym q.1) stated,
         )
           where
@@ -273,7 +272,7 @@ module _ (rule n : ℕ) (es : List ℕ) where
               all = λ y m. (set_of_depends law).1 ((same y).1 m);
             })
 
-            stated : SetListed rule Standard f s.rows x before (overwritten list before) (Count (length list))
+            stated : SetListed rule Standard f s.rows x before (overwritten list before) (Ok (length list))
             stated = (
               (
                 accepted.0,
@@ -303,9 +302,11 @@ module _ (rule n : ℕ) (es : List ℕ) where
         -- The entry point call answers where the climb ends.
         pub entry_only : (y : ℕ) {e k : ℕ} → is_existential n read y ≡ true → level read x < level read y
             → climb Y (forest_in Y s) (suc (level read x)) ((forest_in Y s).cls y) 0 ≡ record { top = e; rises = k }
-            → (answer : EntryAnswer) → EntryAnswered rule (formula_of n es []) s.rows x y answer ↔ (answer ≡ At (record { 0 = e }) k)
-        entry_only y {e} {k} ex deeper is answer =
-            (λ a. entry_settled rule (formula_of n es []) s.rows x y answer (At (record { 0 = e }) k) a stated, λ q. subst (EntryAnswered rule (formula_of n es []) s.rows x y) (sym q) stated)
+            → (answer : Answer Point) → EntryAnswered rule (formula_of n es []) s.rows x y answer ↔ (answer ≡ Ok (record { class = record { 0 = e }; rises = k }))
+        entry_only y {e} {k} ex deeper is answer = (
+          λ a. entry_settled rule (formula_of n es []) s.rows x y answer (Ok (record { class = record { 0 = e }; rises = k })) a stated,
+          λ q. subst (EntryAnswered rule (formula_of n es []) s.rows x y) (sym q) stated,
+        )
           where
             formed : WellFormed Y (forest_in Y s)
             formed = ((forest_is law).0 stands.forest).formed
@@ -313,7 +314,7 @@ module _ (rule n : ℕ) (es : List ℕ) where
             entry : EntryPoint Y (forest_in Y s) x y e k
             entry = subst (λ (c : Climbed). EntryPoint Y (forest_in Y s) x y c.top c.rises) is (climb_entry formed y ex deeper)
 
-            stated : EntryAnswered rule (formula_of n es []) s.rows x y (At (record { 0 = e }) k)
+            stated : EntryAnswered rule (formula_of n es []) s.rows x y (Ok (record { class = record { 0 = e }; rises = k }))
             stated = (
               (
                 accepted.0,

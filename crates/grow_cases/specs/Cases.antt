@@ -1,10 +1,8 @@
 -- P1 to P10 of rule 17.1 as one table, with the counts and the tally (rule 4.1, rule 4.3): what the promise of each call allows, under reading
 -- rule 1, on formula A as lent. Sets are standard ones (rule 5.4).
-use Rattle.std.specs.Prelude.{ℕ, ◌≤◌, ◌≡◌, List, [], ◌∷◌, ◌++◌, ◌↔◌, ℤ, length, drop}
-use Rattle.terms.specs.declared.Filled.{Filled}
-use Rattle.terms.specs.declared.Filled.TheVariants.{Count}
-use Rattle.terms.specs.declared.EntryAnswer.{EntryAnswer}
-use Rattle.terms.specs.declared.EntryAnswer.TheVariants.{At}
+use Rattle.std.specs.Prelude.{ℕ, ◌≤◌, ◌≡◌, List, [], ◌∷◌, ◌++◌, ◌↔◌, ℤ, length, drop, Ok}
+use Rattle.terms.specs.Says.{Answer}
+use Rattle.terms.specs.declared.Point.{Point}
 use Rattle.terms.specs.declared.Scheme.TheVariants.{Standard}
 use Rattle.forest_tables.specs.Lent.{rows}
 use Rattle.forest.specs.Answers.{EntryAnswered, SetListed}
@@ -24,22 +22,22 @@ written built s = lengthened built (drop 9 s.rows.classes) (drop 9 s.rows.parent
 
 -- Build on A counts 9 rows and leaves what is lent as `left`.
 abbrev pub BuildLeaves : Standing → Standing → Type 0
-BuildLeaves s left = (answer : Filled) (s' : Standing) → Builds 1 (with_clauses clauses_a) s s' answer ↔ ((answer ≡ Count 9) × (s' ≡ left))
+BuildLeaves s left = (answer : Answer ℕ) (s' : Standing) → Builds 1 (with_clauses clauses_a) s s' answer ↔ ((answer ≡ Ok 9) × (s' ≡ left))
 
 -- Add of a clause counts 9 rows and leaves what is lent as `left`.
 abbrev pub AddLeaves : Standing → List ℤ → Standing → Type 0
-AddLeaves s clause left = (answer : Filled) (s' : Standing) → Adds 1 9 prefix_a s clause s' answer ↔ ((answer ≡ Count 9) × (s' ≡ left))
+AddLeaves s clause left = (answer : Answer ℕ) (s' : Standing) → Adds 1 9 prefix_a s clause s' answer ↔ ((answer ≡ Ok 9) × (s' ≡ left))
 
 -- The standard set of x is the list: with room for it, it is counted and stands in front of what the output table had past it.
 abbrev pub SetIs : List ℤ → Standing → ℕ → List ℕ → Type 0
 SetIs ls s x list =
-    (before : List ℕ) → length list ≤ length before → (answer : Filled) (after : List ℕ)
-    → SetListed 1 Standard (with_clauses ls) s.rows x before after answer ↔ ((answer ≡ Count (length list)) × (after ≡ list ++ drop (length list) before))
+    (before : List ℕ) → length list ≤ length before → (answer : Answer ℕ) (after : List ℕ)
+    → SetListed 1 Standard (with_clauses ls) s.rows x before after answer ↔ ((answer ≡ Ok (length list)) × (after ≡ list ++ drop (length list) before))
 
 -- The entry point of x for y is e, with its number of rises.
 abbrev pub EntryIs : Standing → ℕ → ℕ → ℕ → ℕ → Type 0
 EntryIs s x y e rises =
-    (answer : EntryAnswer) → EntryAnswered 1 (with_clauses []) s.rows x y answer ↔ (answer ≡ At (record { 0 = e }) rises)
+    (answer : Answer Point) → EntryAnswered 1 (with_clauses []) s.rows x y answer ↔ (answer ≡ Ok (record { class = record { 0 = e }; rises = rises }))
 
 -- The table. Lent tables may be longer than n: from P3 on, `more`, `more'` and `more''` are what stands in them past row 9.
 pub record Cases (more more' more'' : List ℕ) : Type 0 where
@@ -56,8 +54,8 @@ pub record Cases (more more' more'' : List ℕ) : Type 0 where
   pub p6 : SetIs (with_last clauses_a clause79) (lengthened stand79 more more' more'') 3 (4 ∷ 5 ∷ 7 ∷ 8 ∷ 9 ∷ [])
       × SetIs (with_last clauses_a clause79) (lengthened stand79 more more' more'') 6 (7 ∷ 9 ∷ [])
   -- add {5 8}: by the rows that it leaves, the sets of 6 and 3
-  pub p7 : (answer : Filled) (s : Standing) → Adds 1 9 prefix_a (lengthened stand_a more more' more'') clause58 s answer
-      → (answer ≡ Count 9) × (SetIs (with_last clauses_a clause58) s 6 (9 ∷ []) × SetIs (with_last clauses_a clause58) s 3 (4 ∷ 5 ∷ 7 ∷ 8 ∷ 9 ∷ []))
+  pub p7 : (answer : Answer ℕ) (s : Standing) → Adds 1 9 prefix_a (lengthened stand_a more more' more'') clause58 s answer
+      → (answer ≡ Ok 9) × (SetIs (with_last clauses_a clause58) s 6 (9 ∷ []) × SetIs (with_last clauses_a clause58) s 3 (4 ∷ 5 ∷ 7 ∷ 8 ∷ 9 ∷ []))
   -- add {1 -2}
   pub p8 : AddLeaves (lengthened stand_a more more' more'') clause12 (lengthened stand12 more more' more'')
   -- add the empty clause

@@ -3,8 +3,8 @@
 use Rattle.std.specs.Prelude.{ℕ, ◌≡◌, true, List, [], ◌∷◌, ◌⊎◌, ℤ, length}
 use Rattle.terms.specs.Answers.{Listing}
 use Rattle.terms.specs.Refusals.{Causes}
-use Rattle.terms.specs.declared.Filled.{Filled}
 use Rattle.terms.specs.declared.Scheme.{Scheme}
+use Rattle.terms.specs.Says.{Answer}
 use Rattle.formula.specs.Causes.{VariableCount, LengthCause, ClauseCause}
 use Rattle.formula.specs.Lent.{Formula, formula_of}
 use Rattle.formula_rules.specs.Rules.{read_as, read_by, RuleCause, PrefixCauseBy}
@@ -47,5 +47,5 @@ changed_order rule scheme f r clause before =
     ∷ OutputCause (Changes scheme (read_by rule f) r clause) before ∷ []
 
 -- What the call promises: the universals whose set is another, ascending, and nothing else in the lent table changed.
-abbrev pub ChangedListed : ℕ → Scheme → Formula → Rows → List ℤ → List ℕ → List ℕ → Filled → Type 0
+abbrev pub ChangedListed : ℕ → Scheme → Formula → Rows → List ℤ → List ℕ → List ℕ → Answer ℕ → Type 0
 ChangedListed rule scheme f r clause before = Listing (changed_order rule scheme f r clause before) (Changes scheme (read_by rule f) r clause) before

@@ -20,10 +20,9 @@ ghost use Rattle.grow_changed.specs.Changed.{Changes};
 ghost use Rattle.grow_changed.specs.InnerChanged.{Fit, Grows, SizesWith, FlagsOther};
 
 use forest_members::{Asked, list_picked};
-use forest_tables::rows::row_of;
 use grow_rows::put_in;
 use sets_sizes::fill_sizes;
-use terms::{Filled, Literal, Scheme, Variable};
+use terms::{Literal, Refusal, Scheme, Variable};
 
 // Lists the universals whose sets the clause changes, of an accepted formula with well-formed rows: all that is left to refuse is a table that is too
 // short.
@@ -36,7 +35,7 @@ pub fn list_changed(
     parents: &[u32],
     clause: &[i32],
     out: &mut [u32],
-) -> Filled
+) -> Result<u32, Refusal>
     requires sound { SoundPrefix n prefix.now × Fit n clauses.now clause.now }
     requires formed { FormedBy n prefix.now classes.now parents.now }
     ensures listed { Listing (OutputCause (Changes scheme (formula_in n prefix clauses) (rows classes.now parents.now [])
@@ -82,9 +81,7 @@ fn flag_other(n: u32, before: &[u16], after: &[u16], flags: &mut [bool])
         × (length flags.old ≡ variable_rows) }
     ensures flagged { FlagsOther before.now after.now flags.new n }
 {
-    let mut v: usize = 0;
-    while v < n as usize {
-        v += 1;
+    for v in 1..=n as usize {
         flags[v] = before[v] != after[v];
     }
 }
@@ -126,23 +123,11 @@ fn put_last(clauses: &[i32], clause: &[i32], longer: &mut [i32]) -> usize
     ensures put { (result ≡ length (with_last clauses.now clause.now))
         × (longer.new ≡ sets longer.old 0 (with_last clauses.now clause.now)) }
 {
-    copy_literals(clauses, 0, longer);
-    copy_literals(clause, clauses.len(), longer);
     let last = clauses.len() + clause.len();
+    longer[..clauses.len()].copy_from_slice(clauses);
+    longer[clauses.len()..last].copy_from_slice(clause);
     longer[last] = 0;
     last + 1
-}
-
-// Copies literals into a table, from the entry `at` on.
-fn copy_literals(from: &[i32], at: usize, to: &mut [i32])
-    requires room { (at + length from.now ≤ length to.old) × (length to.old ≡ clause_entries) }
-    ensures copied { to.new ≡ sets to.old at from.now }
-{
-    let mut i: usize = 0;
-    while i < from.len() {
-        to[at + i] = from[i];
-        i += 1;
-    }
 }
 
 // The sizes of all sets by the clauses and by the rows with the clause put in, which are copied first.
@@ -178,15 +163,12 @@ fn sizes_with(
     );
 }
 
-// Copies the rows of 1 to n.
+// Copies the rows of 1 to n; where fewer are lent, the others are 0.
 fn copy_rows(n: u32, from: &[u32], to: &mut [u32])
     requires room { (n ≤ most_variables) × (length to.old ≡ most_variables) }
     ensures copied { (v : ℕ) → row n to.new v ≡ row n from.now v }
 {
-    let mut passed: u32 = 0;
-    while passed < n {
-        let row = row_of(n, from, Variable::new(passed + 1));
-        to[passed as usize] = row.0;
-        passed += 1;
-    }
+    let lent = from.len().min(n as usize);
+    to[..lent].copy_from_slice(&from[..lent]);
+    to[lent..].fill(0);
 }

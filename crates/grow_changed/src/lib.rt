@@ -8,22 +8,19 @@ mod growing;
 ghost use Rattle.std.specs.Prelude.{◌≤◌, [], ◌∷◌, length};
 ghost use Rattle.terms.specs.Answers.{Listing};
 ghost use Rattle.terms.specs.Limits.{clause_entries};
-ghost use Rattle.terms.specs.Refusals.{Judged};
 ghost use Rattle.formula.specs.Lent.{formula_in};
 ghost use Rattle.formula.specs.InnerLevels.{SoundPrefix};
-ghost use Rattle.forest_tables.specs.Causes.{ForestCause};
 ghost use Rattle.forest_tables.specs.Lent.{rows_in};
 ghost use Rattle.grow.specs.Grown.{with_last};
 ghost use Rattle.grow_changed.specs.Changed.{Changes, ChangedListed};
 ghost use Rattle.grow_changed.specs.InnerChanged.{OverAlike, Fit, behind_changed, behind_added};
 
-use forest_tables::checking::check_forest;
 use formula::clauses::check_clauses;
-use formula_levels::fill_levels;
-use formula_rules::{as_read, read_prefix};
+use formula_rules::take_prefix;
+use grow::checking::tables_verdict;
 use grow_refusals::clause::check_added;
 use growing::list_changed;
-use terms::{Filled, Level, Literal, Scheme, Variable, Verdict};
+use terms::{Level, Literal, Refusal, Scheme};
 
 // The universals, ascending, whose set by a scheme is another once the clause is added, with their count. The clause has no closing 0.
 pub fn changed(
@@ -37,20 +34,15 @@ pub fn changed(
     counts: &[u32],
     clause: &[i32],
     out: &mut [u32],
-) -> Filled
+) -> Result<u32, Refusal>
     ensures listed { ChangedListed rule scheme (formula_in n prefix clauses) (rows_in classes parents counts) clause.now
         out.old out.new result }
 {
     let mut joined = [0u32; Level::JOINED];
-    match read_prefix(rule, n, prefix, entries(clauses, clause), &mut joined) {
-        Filled::Refused(number, place) => Filled::Refused(number, place),
-        Filled::Count(count) => {
-            let read = as_read(rule, prefix, &joined, count);
-            changed_read(
-                scheme, n, read, clauses, classes, parents, counts, clause, out,
-            )
-        }
-    }
+    let read = take_prefix(rule, n, prefix, entries(clauses, clause), &mut joined)?;
+    changed_read(
+        scheme, n, read, clauses, classes, parents, counts, clause, out,
+    )
 }
 
 // How many entries the clause table has with the clause and its 0 behind it, or a number over the limit where they are more than it.
@@ -77,21 +69,17 @@ fn changed_read(
     counts: &[u32],
     clause: &[i32],
     out: &mut [u32],
-) -> Filled
+) -> Result<u32, Refusal>
     requires sound { SoundPrefix n prefix.now × (length (with_last clauses.now clause.now) ≤ clause_entries) }
     ensures listed { Listing (behind_changed scheme (formula_in n prefix clauses) (rows_in classes parents counts) clause.now
         out.old)
         (Changes scheme (formula_in n prefix clauses) (rows_in classes parents counts) clause.now) out.old out.new result }
 {
-    match check_clauses(n, clauses) {
-        Verdict::Refused(number, place) => Filled::Refused(number, place),
-        Verdict::Accepted => match check_added(n, clause) {
-            Verdict::Refused(number, place) => Filled::Refused(number, place),
-            Verdict::Accepted => changed_sound(
-                scheme, n, prefix, clauses, classes, parents, counts, clause, out,
-            ),
-        },
-    }
+    check_clauses(n, clauses)?;
+    check_added(n, clause)?;
+    changed_sound(
+        scheme, n, prefix, clauses, classes, parents, counts, clause, out,
+    )
 }
 
 // Lists them for clauses that may be put together: the rows are judged next.
@@ -105,33 +93,12 @@ fn changed_sound(
     counts: &[u32],
     clause: &[i32],
     out: &mut [u32],
-) -> Filled
+) -> Result<u32, Refusal>
     requires sound { SoundPrefix n prefix.now × Fit n clauses.now clause.now }
     ensures listed { Listing (behind_added scheme (formula_in n prefix clauses) (rows_in classes parents counts) clause.now
         out.old)
         (Changes scheme (formula_in n prefix clauses) (rows_in classes parents counts) clause.now) out.old out.new result }
 {
-    match tables_verdict(n, prefix, classes, parents, counts) {
-        Verdict::Refused(number, place) => Filled::Refused(number, place),
-        Verdict::Accepted => list_changed(
-            scheme, n, prefix, clauses, classes, parents, clause, out,
-        ),
-    }
-}
-
-// Whether the lent tables are well formed, by an accepted prefix.
-fn tables_verdict(
-    n: u32,
-    prefix: &[u32],
-    classes: &[u32],
-    parents: &[u32],
-    counts: &[u32],
-) -> Verdict
-    requires sound { SoundPrefix n prefix.now }
-    ensures judged { Judged (ForestCause n prefix.now (rows_in classes parents counts) ∷ []) result }
-{
-    let mut levels = [0u32; Variable::ROWS];
-    let mut universals = [false; Variable::ROWS];
-    fill_levels(prefix, &mut levels, &mut universals);
-    check_forest(n, prefix, &levels, &universals, classes, parents, counts)
+    tables_verdict(n, prefix, classes, parents, counts)?;
+    list_changed(scheme, n, prefix, clauses, classes, parents, clause, out)
 }

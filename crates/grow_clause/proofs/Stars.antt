@@ -5,7 +5,7 @@ use mathlib.Core.Path.{◌≡◌, refl, sym, ap, subst}
 use mathlib.Core.Bool.{true}
 use mathlib.Core.List.Memᴰ
 use mathlib.Core.List.{List, [], ◌∷◌, map, Memᴰ}
-use mathlib.Core.Logic.{⊎_elim, ◌≢◌}
+use mathlib.Core.Logic.{◌⊎◌, ⊎_elim, ◌≢◌}
 use native.Mathlib.Nat.{not-suc-le-zero, le_of_suc-le-suc}
 use native.Mathlib.Numerals.{add-one}
 use native.Mathlib.Omega.{arith}
@@ -35,40 +35,9 @@ member_at (x ∷ ls) v m = ⊎_elim (λ q. (zero, omega arith, sym q)) (λ t. le
 
 -- The first i entries are looked at, and `found`, of the depth `depth`, is the deepest of them.
 pub record Sought (depths : List ℕ) (ls : List ℤ) (found depth i : ℕ) : Type 0 where
-  pub within : i ≤ length ls
   pub depth_is : depth ≡ get_or depths found 0
   pub most : (e : ℕ) → e < i → get_or depths (variable_in ls e) 0 ≤ get_or depths found 0
   pub listed : get_or depths found 0 ≢ 0 → (e : ℕ) × (e < length ls) × (variable_in ls e ≡ found)
-
-pub seek_none : (depths : List ℕ) (ls : List ℤ) → get_or depths 0 0 ≡ 0 → Sought depths ls 0 0 0
-seek_none depths ls none = record { within = omega arith; depth_is = sym none; most = λ e l. absurd (omega arith); listed = λ n. absurd (n none) }
-
-module _ {depths : List ℕ} {ls : List ℤ} {found depth i : ℕ} (s : Sought depths ls found depth i) where
-  -- An entry that is deeper is the one found ...
-  pub seek_deeper : (v : ℕ) → i < length ls → v ≡ variable_in ls i → depth < get_or depths v 0 → Sought depths ls v (get_or depths v 0) (i + 1)
-  seek_deeper v more is over =
-      rw (add-one i)
-      record {
-        within = more;
-        depth_is = refl;
-        most = below_suc (λ e. get_or depths (variable_in ls e) 0 ≤ get_or depths v 0) i
-            (λ e l. omega (arith, s.most e l, s.depth_is)) (rw (← is) (omega arith));
-        listed = λ _. (i, more, sym is);
-      }
-
-  -- ... and one that is not leaves that one.
-  pub seek_other : (v : ℕ) → i < length ls → v ≡ variable_in ls i → get_or depths v 0 ≤ depth → Sought depths ls found depth (i + 1)
-  seek_other v more is under =
-      rw (add-one i)
-      record {
-        within = more;
-        depth_is = s.depth_is;
-        most = below_suc (λ e. get_or depths (variable_in ls e) 0 ≤ get_or depths found 0) i s.most (rw (← is) (omega (arith, s.depth_is)));
-        listed = s.listed;
-      }
-
-  pub sought : length ls ≤ i → Deepest depths ls found
-  sought done = record { most = λ e l. s.most e (omega (arith, s.within)); listed = s.listed }
 
 -- A clause that connects nothing changes nothing.
 pub grew_none : {depths C P : List ℕ} → Growing depths C P → Grew depths C P [] C P
@@ -83,14 +52,13 @@ TiedTo depths C P d v = (ranked depths).ex v ≡ true → Reach (links depths C 
 
 -- The first i existentials of the clause are joined to the deepest, d.
 pub record Joining (depths C₀ P₀ : List ℕ) (ls : List ℤ) (d : ℕ) (C P : List ℕ) (i : ℕ) : Type 0 where
-  pub within : i ≤ length ls
   pub growing : Growing depths C P
   pub sound : Inside (ranked depths) (links depths C P) (Added (links depths C₀ P₀) (map variable_of ls))
   pub complete : Inside (ranked depths) (links depths C₀ P₀) (links depths C P)
   pub star : (e : ℕ) → e < i → TiedTo depths C P d (variable_in ls e)
 
 pub join_none : {depths C P : List ℕ} (ls : List ℤ) (d : ℕ) → Growing depths C P → Joining depths C P ls d C P 0
-join_none ls d g = record { within = omega arith; growing = g; sound = inside_before; complete = inside_refl; star = λ e l. absurd (omega arith) }
+join_none ls d g = record { growing = g; sound = inside_before; complete = inside_refl; star = λ e l. absurd (omega arith) }
 
 -- Where an entry is an existential, so is the deepest.
 deep_ex : {depths : List ℕ} {ls : List ℤ} {d : ℕ} → Deepest depths ls d → (e : ℕ) → e < length ls → (ranked depths).ex (variable_in ls e) ≡ true
@@ -98,24 +66,20 @@ deep_ex : {depths : List ℕ} {ls : List ℤ} {d : ℕ} → Deepest depths ls d 
 deep_ex {depths} {ls} {d} deepest e l ex =
     some_deep depths d (let z = deepest.most e l in let n = deep_some depths (variable_in ls e) ex in omega arith)
 
--- Entry i, whose variable is v, comes next.
-pub record AtEntry (depths C₀ P₀ : List ℕ) (ls : List ℤ) (d : ℕ) (C P : List ℕ) (i v : ℕ) : Type 0 where
-  pub deepest : Deepest depths ls d
-  pub joining : Joining depths C₀ P₀ ls d C P i
-  pub more : i < length ls
-  pub is : v ≡ variable_in ls i
-
-module _ {depths C₀ P₀ : List ℕ} {ls : List ℤ} {d : ℕ} {C P : List ℕ} {i v : ℕ} (a : AtEntry depths C₀ P₀ ls d C P i v) where
+-- Entry i comes next.
+module _ {depths C₀ P₀ : List ℕ} {ls : List ℤ} {d : ℕ} {C P : List ℕ} {i : ℕ} (deepest : Deepest depths ls d) (j : Joining depths C₀ P₀ ls d C P i)
+    (more : i < length ls) where
   abbrev X : Variables
   X = ranked depths
 
-  abbrev j : Joining depths C₀ P₀ ls d C P i
-  j = a.joining
+  -- its variable
+  abbrev v : ℕ
+  v = variable_in ls i
 
   -- An existential can be joined to d.
   pub join_pending : get_or depths v 0 ≢ 0 → Pending depths d v
   join_pending n =
-      let most : get_or depths v 0 ≤ get_or depths d 0 = rw a.is (a.deepest.most i a.more) in
+      let most : get_or depths v 0 ≤ get_or depths d 0 = deepest.most i more in
       record { deep = some_deep depths d (omega arith); other = λ _. some_deep depths v n; order = most }
 
   -- What is tied to d already is passed over ...
@@ -123,38 +87,34 @@ module _ {depths C₀ P₀ : List ℕ} {ls : List ℤ} {d : ℕ} {C P : List ℕ
   join_over tied =
       rw (add-one i)
       record {
-        within = a.more;
         growing = j.growing;
         sound = j.sound;
         complete = j.complete;
-        star = below_suc (λ e. TiedTo depths C P d (variable_in ls e)) i j.star (subst (TiedTo depths C P d) a.is tied);
+        star = below_suc (λ e. TiedTo depths C P d (variable_in ls e)) i j.star tied;
       }
 
   -- ... that is, what is no existential, and the deepest itself.
-  pub join_skip : get_or depths v 0 ≡ 0 → Joining depths C₀ P₀ ls d C P (i + 1)
-  join_skip z = join_over (λ ex. absurd (omega (arith, deep_some depths v ex)))
-
-  pub join_own : v ≡ d → Joining depths C₀ P₀ ls d C P (i + 1)
-  join_own own = join_over (λ ex. subst (λ (w : ℕ). Reach (links depths C P) (From X (get_or depths w 0)) d w) (sym own) here)
+  pub join_past : (get_or depths v 0 ≡ 0) ⊎ ((get_or depths v 0 ≢ 0) × (v ≡ d)) → Joining depths C₀ P₀ ls d C P (i + 1)
+  join_past past = join_over (⊎_elim (λ z ex. absurd (omega (arith, deep_some depths v ex)))
+      (λ (_, own) ex. subst (λ (w : ℕ). Reach (links depths C P) (From X (get_or depths w 0)) d w) (sym own) here) past)
 
   -- Any other is joined to d, and ties before it stay.
   pub join_one : {C' P' : List ℕ} → get_or depths v 0 ≢ 0 → Grew depths C P (d ∷ v ∷ []) C' P' → Joining depths C₀ P₀ ls d C' P' (i + 1)
   join_one {C'} {P'} n g =
       rw (add-one i)
       record {
-        within = a.more;
         growing = g.growing;
-        sound = inside_trans g.equal.back (inside_pair both_sym j.sound (λ k fd fv. reach_one (added listed member) fv));
+        sound = inside_trans g.equal.back (inside_pair both_sym j.sound (λ k fd fv. reach_one (added listed (at_member ls i more)) fv));
         complete = inside_trans j.complete onward;
         star = below_suc (λ e. TiedTo depths C' P' d (variable_in ls e)) i
-            (λ e l ex. inside_reach onward (deep_from e (omega (arith, a.more)) ex) (j.star e l ex)) (subst (TiedTo depths C' P' d) a.is (λ _. fresh));
+            (λ e l ex. inside_reach onward (deep_from e (omega (arith, more)) ex) (j.star e l ex)) (λ _. fresh);
       }
     where
       onward : Inside X (links depths C P) (links depths C' P')
       onward = inside_trans inside_before g.equal.there
 
       deep_from : (e : ℕ) → e < length ls → X.ex (variable_in ls e) ≡ true → From X (get_or depths (variable_in ls e) 0) d
-      deep_from e l ex = record { existential = deep_ex a.deepest e l ex; deep = a.deepest.most e l }
+      deep_from e l ex = record { existential = deep_ex deepest e l ex; deep = deepest.most e l }
 
       pending : Pending depths d v
       pending = join_pending n
@@ -164,12 +124,9 @@ module _ {depths C₀ P₀ : List ℕ} {ls : List ℤ} {d : ℕ} {C P : List ℕ
           let f : From X (get_or depths v 0) v = record { existential = some_deep depths v n; deep = omega arith } in
           inside_reach g.equal.there (record { existential = pending.deep; deep = pending.order }) (pair_step f)
 
-      member : Memᴰ v (map variable_of ls)
-      member = subst (λ (w : ℕ). Memᴰ w (map variable_of ls)) (sym a.is) (at_member ls i a.more)
-
       listed : Memᴰ d (map variable_of ls)
       listed =
-          let (e, l, q) = a.deepest.listed (omega (arith, pending.order)) in
+          let (e, l, q) = deepest.listed (omega (arith, pending.order)) in
           subst (λ (w : ℕ). Memᴰ w (map variable_of ls)) q (at_member ls e l)
 
 module _ {depths C₀ P₀ : List ℕ} {ls : List ℤ} {d : ℕ} {C P : List ℕ} {i : ℕ} (deepest : Deepest depths ls d) (j : Joining depths C₀ P₀ ls d C P i) where

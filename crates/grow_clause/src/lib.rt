@@ -11,7 +11,6 @@ ghost use Rattle.formula.specs.Meaning.{connected};
 ghost use Rattle.grow_union_find.specs.InnerLoose.{Growing, Grew};
 ghost use Rattle.grow_clause.specs.InnerDeepest.{Deepest};
 
-use formula::clauses::variable_at;
 use formula::truth::always_true;
 use grow_union_find::merge;
 use terms::{Literal, Variable};
@@ -23,22 +22,17 @@ fn deepest(depths: &[u32], clause: &[i32]) -> Variable
     requires literals { InRows clause.now }
     ensures deepest { Deepest depths.now clause.now result.0 }
 {
-    let mut found: u32 = 0;
-    let mut depth: u32 = 0;
-    let mut i = 0;
-    while i < clause.len() {
-        let variable = variable_at(clause, i);
-        let v = variable.0;
-        let here = depths[v as usize];
+    let mut found = Variable(0);
+    let mut depth = 0;
+    for &entry in clause {
+        let variable = Literal::new(entry).variable();
+        let here = depths[variable.0 as usize];
         if depth < here {
-            found = v;
+            found = variable;
             depth = here;
-            i += 1;
-        } else {
-            i += 1;
         }
     }
-    Variable(found)
+    found
 }
 
 // Joins the chain of each existential of the clause to that of the deepest, which is passed over: it is there already.
@@ -55,18 +49,12 @@ fn join_all(
     ensures joined { Grew depths.now classes.old parents.old (map variable_of clause.now)
         classes.new parents.new }
 {
-    let mut i = 0;
-    while i < clause.len() {
-        let variable = variable_at(clause, i);
-        let here = depths[variable.0 as usize];
-        if here == 0 {
-            i += 1;
-        } else if variable.0 == deep.0 {
-            i += 1;
-        } else {
-            merge(depths, classes, parents, deep, variable);
-            i += 1;
+    for &entry in clause {
+        let variable = Literal::new(entry).variable();
+        if depths[variable.0 as usize] == 0 || variable.0 == deep.0 {
+            continue;
         }
+        merge(depths, classes, parents, deep, variable);
     }
 }
 

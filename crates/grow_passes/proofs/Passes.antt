@@ -8,7 +8,7 @@ use mathlib.Core.Logic.{◌≢◌, by_cases}
 use native.Mathlib.Decide.{ℕ_discrete, dec_lt}
 use native.Mathlib.Numerals.{add-one}
 use native.Mathlib.Omega.{arith}
-use borrow.Author.Tests.{le-ltb, lt-ltb, lt-leb, le-leb}
+use borrow.Author.Tests.{le-ltb, lt-leb, le-leb}
 use lib.Dec.{ltb, leb}
 use lib.IntN.{ℤ}
 use lib.ListN.{length, get_or, take, drop, set, replicate, length-replicate, length-set, length-append, drop_of_length-le, get_or-eq_default}
@@ -23,15 +23,14 @@ use Rattle.formula.specs.Tables.{cut, push}
 use Rattle.formula.proofs.Lookups.{clauses_closed, clauses_unclosed}
 use Rattle.formula.proofs.Ordered.{marks_within, level_most}
 use Rattle.forest_tables.specs.Formula.{joined}
-use Rattle.forest_tables.proofs.Readings.{new_zero, flag_over}
+use Rattle.forest_tables.proofs.Readings.{new_zero}
 use Rattle.forest_theory.specs.Reach.{Variables, From, Joined, Reach, here}
 use Rattle.forest_theory.specs.Tables.{row}
 use Rattle.forest_theory.proofs.Reach.{joined_sym}
 use Rattle.forest_theory.proofs.Rows.{row_out}
 use Rattle.forest_theory.proofs.Represent.{Link, to_class, to_parent}
 use Rattle.grow_union_find.specs.InnerLoose.{Loose, Kept, table, ranked, Growing, Grew}
-use Rattle.grow_passes.specs.Past.{Past}
-use Rattle.grow_passes.specs.InnerRows.{EndsAt, depth_of, Depths, Holds, Settled, Written}
+use Rattle.grow_passes.specs.InnerRows.{EndsAt, depth_of, Depths, Holds, Settled}
 use Rattle.grow_union_find.proofs.Inside.{inside_links, equal_trans, equal_snoc, equal_added}
 use Rattle.grow_union_find.proofs.Ways.{kept_none, kept_trans, halved_row}
 
@@ -70,30 +69,10 @@ ends_classes {n} {depths} {C} e g = record { few = e.few; size = g.sizes.1; past
     past : (v : ℕ) → n < v → get_or C v 0 ≡ 0
     past v h = (g.loose.universal v (le-ltb 0 (get_or depths v 0) (omega (arith, e.past v h)))).0
 
--- The rows before v have what f says.
+-- The rows before v have what f says, and so do those past n.
 pub record FilledTo (n : ℕ) (f : ℕ → ℕ) (T : List ℕ) (v : ℕ) : Type 0 where
-  pub ends : EndsAt n T
   pub rows : (u : ℕ) → u < v → get_or T u 0 ≡ f u
-
-pub fill_none : {n : ℕ} {f : ℕ → ℕ} {T : List ℕ} → EndsAt n T → FilledTo n f T 0
-fill_none e = record { ends = e; rows = λ u l. absurd (omega arith) }
-
-pub fill_one : {n : ℕ} {f : ℕ → ℕ} {T : List ℕ} {v : ℕ} (x : ℕ) → FilledTo n f T v → v ≤ n → x ≡ f v → FilledTo n f (set T v x) (v + 1)
-fill_one {n} {f} {T} {v} x s more is =
-    rw (add-one v)
-    record {
-      ends = ends_set s.ends v x more;
-      rows = below_suc (λ u. get_or (set T v x) u 0 ≡ f u) v (λ u l. get_or-set_other T v u x 0 (λ e. omega arith) ∙ s.rows u l)
-          (get_or-set_same T v x 0 (omega arith) ∙ is);
-    }
-
--- All rows have what f says, where that is 0 past n.
-pub fill_all : {n : ℕ} {f : ℕ → ℕ} {T : List ℕ} {v : ℕ} → ((u : ℕ) → n < u → f u ≡ 0) → FilledTo n f T v → n < v → (u : ℕ) → get_or T u 0 ≡ f u
-fill_all {n} zero s all u = by_cases (dec_lt n u) (λ h. s.ends.past u h ∙ sym (zero u h)) (λ h. s.rows u (omega arith))
-
--- A depth past n is 0.
-pub depth_past : (n : ℕ) (levels : List ℕ) (universals : List Bool) (v : ℕ) → n < v → depth_of n v (get_or levels v 0) (get_or universals v false) ≡ 0
-depth_past n levels universals v h = ap (λ (b : Bool). cond b (get_or levels v 0 + 1) 0) (flag_over n v (not (get_or universals v false)) h)
+  pub past : (u : ℕ) → n < u → get_or T u 0 ≡ f u
 
 -- Depths from levels and quantifiers.
 pub levels_most : {n : ℕ} {es levels : List ℕ} {universals : List Bool} → SoundPrefix n es → Levelled es levels universals → (v : ℕ)
@@ -115,56 +94,34 @@ depths_are {n} {es} {levels} {depths} {universals} sound l size is = record { si
     large v h = get_or-eq_default depths 0 {n = v} (omega arith)
         ∙ sym (rw (le-leb 1 v (omega arith), lt-leb v n (omega (arith, sound.few))))
 
--- The rows before v are those of no clause.
-pub record SinglesTo (n : ℕ) (depths C P : List ℕ) (v : ℕ) : Type 0 where
-  pub class : FilledTo n (λ u. cond (ltb 0 (get_or depths u 0)) u 0) C v
-  pub parent : FilledTo n (λ u. 0) P v
-
-module _ {n : ℕ} {depths C P : List ℕ} {v : ℕ} (s : SinglesTo n depths C P v) (more : v ≤ n) where
-  pub single_universal : get_or depths v 0 ≡ 0 → SinglesTo n depths (set C v 0) (set P v 0) (v + 1)
-  single_universal e = record { class = fill_one 0 s.class more (rw (le-ltb 0 (get_or depths v 0) (omega arith))); parent = fill_one 0 s.parent more refl }
-
-  pub single_existential : get_or depths v 0 ≢ 0 → SinglesTo n depths (set C v v) (set P v 0) (v + 1)
-  single_existential n =
-      record { class = fill_one v s.class more (rw (lt-ltb 0 (get_or depths v 0) (omega arith))); parent = fill_one 0 s.parent more refl }
-
-pub single_none : {n : ℕ} {depths C P : List ℕ} → EndsAt n C → EndsAt n P → SinglesTo n depths C P 0
-single_none c p = record { class = fill_none c; parent = fill_none p }
-
-module _ {n : ℕ} {depths C P : List ℕ} {v : ℕ} (ends : EndsAt n depths) (none : get_or depths 0 0 ≡ 0) (s : SinglesTo n depths C P v) (all : n < v) where
-  abbrev X : Variables
-  X = ranked depths
-
-  row_class : (u : ℕ) → get_or C u 0 ≡ cond (ltb 0 (get_or depths u 0)) u 0
-  row_class = fill_all (λ u h. rw (le-ltb 0 (get_or depths u 0) (omega (arith, ends.past u h)))) s.class all
-
-  row_parent : (u : ℕ) → get_or P u 0 ≡ 0
-  row_parent = fill_all (λ u h. refl) s.parent all
-
-  own : (u : ℕ) → X.ex u ≡ true → get_or C u 0 ≡ u
-  own u ex = row_class u ∙ ap (λ (b : Bool). cond b u 0) ex
-
-  -- They stand for no clause.
-  pub single_holds : Holds depths C P []
-  single_holds = record {
-    growing = record {
-      sizes = (ends.size, s.class.ends.size, s.parent.ends.size);
-      none = none;
-      loose = record {
-        universal = λ u e. (row_class u ∙ ap (λ (b : Bool). cond b u 0) e, row_parent u);
-        class = λ u ex. record { most = omega (arith, own u ex); existential = ap X.ex (own u ex) ∙ ex; block = ap X.lev (own u ex) };
-        parent = λ u n. absurd (n (row_parent u));
-      };
+-- Rows with each existential in a class of its own, with no parent, stand for no clause.
+pub single_holds : {n : ℕ} {depths C P : List ℕ} → EndsAt n depths → get_or depths 0 0 ≡ 0 → length C ≡ variable_rows → length P ≡ variable_rows
+    → ((u : ℕ) → get_or C u 0 ≡ cond (ltb 0 (get_or depths u 0)) u 0) → ((u : ℕ) → get_or P u 0 ≡ 0) → Holds depths C P []
+single_holds {depths = depths} {C = C} {P = P} ends none size_c size_p class parent = record {
+  growing = record {
+    sizes = (ends.size, size_c, size_p);
+    none = none;
+    loose = record {
+      universal = λ u e. (class u ∙ ap (λ (b : Bool). cond b u 0) e, parent u);
+      class = λ u ex. record { most = omega (arith, own u ex); existential = ap X.ex (own u ex) ∙ ex; block = ap X.lev (own u ex) };
+      parent = λ u n. absurd (n (parent u));
     };
-    equal = record {
-      there = record { does = λ i a b fa fb j. absurd (Memᴰ.not-nil j.listed) };
-      back = inside_links joined_sym ties;
-    };
-  }
-    where
-      ties : (i u z : ℕ) → From X i u → From X i z → Link X (table C P) u z → Reach (Joined []) (From X i) u z
-      ties i u z fu fz (to_class ex e) = subst (λ (w : ℕ). Reach (Joined []) (From X i) u w) (sym (own u ex) ∙ e) here
-      ties i u z fu fz (to_parent n e) = absurd (n (row_parent u))
+  };
+  equal = record {
+    there = record { does = λ i a b fa fb j. absurd (Memᴰ.not-nil j.listed) };
+    back = inside_links joined_sym ties;
+  };
+}
+  where
+    X : Variables
+    X = ranked depths
+
+    own : (u : ℕ) → X.ex u ≡ true → get_or C u 0 ≡ u
+    own u ex = class u ∙ ap (λ (b : Bool). cond b u 0) ex
+
+    ties : (i u z : ℕ) → From X i u → From X i z → Link X (table C P) u z → Reach (Joined []) (From X i) u z
+    ties i u z fu fz (to_class ex e) = subst (λ (w : ℕ). Reach (Joined []) (From X i) u w) (sym (own u ex) ∙ e) here
+    ties i u z fu fz (to_parent n e) = absurd (n (parent u))
 
 -- The clauses before entry `start` are put in.
 pub record PutSome (depths : List ℕ) (ls : List ℤ) (C P : List ℕ) (start taken : ℕ) : Type 0 where
@@ -283,51 +240,3 @@ module _ {n : ℕ} {C₀ C : List ℕ} {v : ℕ} (s : SettledTo n C₀ C v) wher
           let e = s.ends.past u l in
           let z : get_or C 0 0 ≡ 0 = omega (arith, s.falls 0) in
           ap (λ (w : ℕ). get_or C w 0) e ∙ z ∙ sym e
-
--- Lent rows, written from the first on: those before v have what f says, and those from v on stay.
-pub record StoredTo (f : ℕ → ℕ) (rows : List ℕ) (v : ℕ) (rows' : List ℕ) : Type 0 where
-  pub past : Past v rows rows'
-  pub stored : (u : ℕ) → u < v → get_or rows' u 0 ≡ f u
-
-pub store_none : {f : ℕ → ℕ} {rows : List ℕ} → StoredTo f rows 0 rows
-store_none = record { past = record { size = refl; stays = λ u l. refl }; stored = λ u l. absurd (omega arith) }
-
-pub store_one : {f : ℕ → ℕ} {rows rows' : List ℕ} {v : ℕ} (x : ℕ) → StoredTo f rows v rows' → v < length rows → x ≡ f v
-    → StoredTo f rows (v + 1) (set rows' v x)
-store_one {f} {rows} {rows'} {v} x s more is =
-    rw (add-one v)
-    record {
-      past = record {
-        size = length-set rows' v x ∙ s.past.size;
-        stays = λ u l. get_or-set_other rows' v u x 0 (λ e. omega arith) ∙ s.past.stays u (omega arith);
-      };
-      stored = below_suc (λ u. get_or (set rows' v x) u 0 ≡ f u) v (λ u l. get_or-set_other rows' v u x 0 (λ e. omega arith) ∙ s.stored u l)
-          (get_or-set_same rows' v x 0 (omega (arith, s.past.size)) ∙ is);
-    }
-
--- The rows before v are written out: the class row of each variable, and the class of its parent.
-pub record WrittenTo (n : ℕ) (C P D₀ D U₀ U : List ℕ) (v : ℕ) : Type 0 where
-  pub few : v ≤ n
-  pub classes : StoredTo (λ u. get_or C (u + 1) 0) D₀ v D
-  pub parents : StoredTo (λ u. get_or C (get_or P (u + 1) 0) 0) U₀ v U
-
-pub write_none : (n : ℕ) (C P D U : List ℕ) → WrittenTo n C P D D U U 0
-write_none n C P D U = record { few = omega arith; classes = store_none; parents = store_none }
-
-module _ {n : ℕ} {C P D₀ D U₀ U : List ℕ} {v : ℕ} (w : WrittenTo n C P D₀ D U₀ U v) where
-  pub write_one : (x y : ℕ) → v < n → n ≤ length D₀ → n ≤ length U₀ → x ≡ get_or C (v + 1) 0 → y ≡ get_or C (get_or P (v + 1) 0) 0
-      → WrittenTo n C P D₀ (set D v x) U₀ (set U v y) (v + 1)
-  write_one x y more in-d in-u is_x is_y = record {
-    few = omega arith;
-    classes = store_one x w.classes (omega arith) is_x;
-    parents = store_one y w.parents (omega arith) is_y;
-  }
-
-  pub written : n ≤ v → Written n C P D₀ D U₀ U
-  written done =
-      let e : v ≡ n = omega (arith, w.few) in
-      record {
-        past = (subst (λ (k : ℕ). Past k D₀ D) e w.classes.past, subst (λ (k : ℕ). Past k U₀ U) e w.parents.past);
-        class = λ u l. w.classes.stored u (omega arith);
-        parent = λ u l. w.parents.stored u (omega arith);
-      }

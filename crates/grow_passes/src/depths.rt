@@ -28,13 +28,9 @@ fn rank(n: u32, levels: &[u32], universals: &[bool], depths: &mut [u32])
     ensures depths { (v : ℕ) → v < variable_rows → get_or depths.new v 0
         ≡ depth_of n v (get_or levels.now v 0) (get_or universals.now v false) }
 {
-    let mut v: u32 = 0;
-    while v <= n {
+    for v in 0..=n {
         let at = v as usize;
-        let level = levels[at];
-        let universal = universals[at];
-        depths[at] = depth(n, v, level, universal);
-        v += 1;
+        depths[at] = depth(n, v, levels[at], universals[at]);
     }
 }
 

@@ -19,18 +19,10 @@ pub fn singles(n: u32, depths: &[u32], classes: &mut [u32], parents: &mut [u32])
     requires tables { EndsAt n depths.now × EndsAt n classes.old × EndsAt n parents.old × (get_or depths.now 0 0 ≡ 0) }
     ensures single { Holds depths.now classes.new parents.new [] }
 {
-    let mut v: u32 = 0;
-    while v <= n {
+    parents[..=n as usize].fill(0);
+    for v in 0..=n {
         let at = v as usize;
-        parents[at] = 0;
-        let here = depths[at];
-        if here == 0 {
-            classes[at] = 0;
-            v += 1;
-        } else {
-            classes[at] = v;
-            v += 1;
-        }
+        classes[at] = if depths[at] == 0 { 0 } else { v };
     }
 }
 
@@ -39,12 +31,9 @@ pub fn load(n: u32, rows: &[u32], table: &mut [u32])
     requires table { EndsAt n table.old }
     ensures read { (v : ℕ) → get_or table.new v 0 ≡ row n rows.now v }
 {
-    let mut v: u32 = 0;
-    while v <= n {
-        let at = v as usize;
+    for v in 0..=n {
         let read = row_of(n, rows, Variable::new(v));
-        table[at] = read.0;
-        v += 1;
+        table[v as usize] = read.0;
     }
 }
 
@@ -58,6 +47,7 @@ pub fn put_all(depths: &[u32], classes: &mut [u32], parents: &mut [u32], clauses
     let mut seen = [0u16; Literal::ROWS];
     let mut taken: u32 = 0;
     let mut start = 0;
+    // A walk from clause to clause: the next begins behind the 0 that was found.
     while start < clauses.len() {
         let end = next_zero(clauses, start);
         if clauses.len() <= end {
@@ -84,11 +74,9 @@ pub fn settle(n: u32, classes: &mut [u32])
     requires falling { (u : ℕ) → get_or classes.old u 0 ≤ u }
     ensures settled { Settled classes.old classes.new }
 {
-    let mut v = 0;
-    while v <= n as usize {
+    for v in 0..=n as usize {
         let up = classes[v];
         classes[v] = classes[up as usize];
-        v += 1;
     }
 }
 
@@ -100,12 +88,9 @@ pub fn write_out(n: u32, classes: &[u32], parents: &[u32], rows: &mut [u32], ups
     ensures written { Written n classes.now parents.now rows.old rows.new
         ups.old ups.new }
 {
-    let mut v: u32 = 0;
-    while v < n {
-        let at = v as usize;
-        rows[at] = classes[at + 1];
-        let up = parents[at + 1];
-        ups[at] = classes[up as usize];
-        v += 1;
+    let n = n as usize;
+    rows[..n].copy_from_slice(&classes[1..=n]);
+    for (v, up) in ups[..n].iter_mut().enumerate() {
+        *up = classes[parents[v + 1] as usize];
     }
 }

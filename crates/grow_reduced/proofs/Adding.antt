@@ -7,12 +7,12 @@ use mathlib.Core.Logic.{◌⊎◌, inl, ⊎_elim}
 use native.Mathlib.Omega.{arith}
 use lib.IntN.{ℤ}
 use lib.ListN.{length}
-use Rattle.terms.specs.Answers.{verdict_of}
+use Rattle.std.specs.Prelude.{Ok, Err}
 use Rattle.terms.specs.Limits.{clause_entries}
 use Rattle.terms.specs.Refusals.{At0, None}
+use Rattle.terms.specs.Says.{Answer}
 use Rattle.terms.proofs.Orders as order
 use Rattle.terms.proofs.Orders.{carry_judged, one_more, same_order}
-use Rattle.terms.specs.declared.Filled.{Filled}
 use Rattle.formula.specs.Meaning.{connected}
 use Rattle.forest_theory.specs.Reach.{Variables, Joined}
 use Rattle.forest_theory.specs.Tables.{joins}
@@ -51,9 +51,9 @@ module _ (rule n : ℕ) (es : List ℕ) (clause : List ℤ) (few : length clause
   abbrev reduced : List ℤ
   reduced = reduced_clause X clause
 
-  adds_over : {s s' : Standing} (a : Filled) → Adds rule n es s clause s' a → Adds rule n es s reduced s' a
+  adds_over : {s s' : Standing} (a : Answer ℕ) → Adds rule n es s clause s' a → Adds rule n es s reduced s' a
   adds_over {s} {s'} a added' =
-      record { judged = carry_judged (add_order rule n es s clause) (add_order rule n es s reduced) over (verdict_of a) added'.judged; leaves = go a added'.leaves }
+      record { judged = carry_judged (add_order rule n es s clause) (add_order rule n es s reduced) over a added'.judged; leaves = go a added'.leaves }
     where
       -- the lengths, and the literals, of neither clause are refused
       over : order.Carries (add_order rule n es s clause) (add_order rule n es s reduced)
@@ -67,13 +67,13 @@ module _ (rule n : ℕ) (es : List ℕ) (clause : List ℤ) (few : length clause
           (one_more (AddedCause n clause) (AddedCause n reduced) (λ k p c. absurd (first k p c)) (λ k p c. absurd (reduced_first n read clause first k p c))
           (same_order (ForestCause n read s.rows ∷ TallyCause X s ∷ []))))))
 
-      go : (a : Filled) → Leaves X (Extended X (forest_in X s) clause) (Took X s) s s' a → Leaves X (Extended X (forest_in X s) reduced) (Took X s) s s' a
-      go (Filled.Count k) (is, grown, took) =
+      go : (a : Answer ℕ) → Leaves X (Extended X (forest_in X s) clause) (Took X s) s s' a → Leaves X (Extended X (forest_in X s) reduced) (Took X s) s s' a
+      go (Ok k) (is, grown, took) =
           let js = joins X (forest_in X s) in
           let forest = forest_carried (lawful n read) (added_carried js (gives_reduced clause)) (added_carried js (reduced_gives clause)) grown.forest in
           (is, record { past = grown.past; forest = forest; counted = grown.counted }, took)
-      go (Filled.Refused k p) stays = stays
+      go (Err refusal) stays = stays
 
   -- A clause that may be added, and the same clause reduced.
-  pub same_add : {s s' s'' : Standing} (a b : Filled) → Adds rule n es s clause s' a → Adds rule n es s reduced s'' b → (a ≡ b) × (s' ≡ s'')
+  pub same_add : {s s' s'' : Standing} (a b : Answer ℕ) → Adds rule n es s clause s' a → Adds rule n es s reduced s'' b → (a ≡ b) × (s' ≡ s'')
   same_add a b told told' = add_tight es a b (adds_over a told) told'

@@ -4,24 +4,17 @@ ghost use Rattle.std.specs.Prelude.{[], ◌∷◌};
 ghost use Rattle.terms.specs.Refusals.{Judged};
 ghost use Rattle.grow_refusals.specs.Admitted.{AddedCause};
 
-use formula::clauses::variable_at;
-use terms::Verdict;
+use terms::{Fault, Literal, Refusal};
 
 // The first literal of an added clause whose variable is outside 1 to n.
-pub fn check_added(n: u32, clause: &[i32]) -> Verdict
+pub fn check_added(n: u32, clause: &[i32]) -> Result<(), Refusal>
     ensures judged { Judged (AddedCause n clause.now ∷ []) result }
 {
-    let mut i = 0;
-    while i < clause.len() {
-        let variable = variable_at(clause, i);
-        let number = variable.0;
-        if number == 0 {
-            return Verdict::Refused(10, i);
+    for (i, &entry) in clause.iter().enumerate() {
+        let number = Literal::new(entry).variable().0;
+        if number == 0 || n < number {
+            return Err(Refusal(Fault::ForeignLiteral, i));
         }
-        if n < number {
-            return Verdict::Refused(10, i);
-        }
-        i += 1;
     }
-    Verdict::Accepted
+    Ok(())
 }

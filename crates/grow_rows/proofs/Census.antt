@@ -94,6 +94,3 @@ module _ {n : ℕ} {classes : List ℕ} {v exs named : ℕ} (c : CensusOf n clas
   census_name some own =
       adds 1 1 (omega arith) (omega arith) (λ es parents formed.
       let row = next_row es parents in adds_name (lawful n es) formed (v + 1) (λ z. some (sym row ∙ z)) (row ∙ own))
-
-pub census_all : {n : ℕ} {classes : List ℕ} {v exs named : ℕ} → CensusOf n classes v exs named → n ≤ v → CensusOf n classes n exs named
-census_all {n} {classes} {v} {exs} {named} c done = let e : v ≡ n = omega (arith, c.few.2) in subst (λ (u : ℕ). CensusOf n classes u exs named) e c

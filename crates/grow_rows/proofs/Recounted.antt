@@ -5,29 +5,14 @@ use mathlib.Core.List.{List}
 use mathlib.Core.Logic.{by_cases}
 use native.Mathlib.Decide.{dec_le}
 use native.Mathlib.Omega.{arith}
-use lib.ListN.{length, get_or, set}
+use lib.ListN.{get_or}
 use Rattle.forest_theory.specs.Reach.{Variables}
 use Rattle.forest_theory.specs.Tables.{Table, row}
 use Rattle.forest_theory.specs.Counts.{Numbered, Within, Counted}
 use Rattle.forest_theory.proofs.Rows.{row_at, row_out}
 use Rattle.forest_tables.specs.InnerCounting.{CountsOf}
 use Rattle.forest_tables.proofs.Agreeing.{lawful}
-use Rattle.grow_passes.proofs.Passes.{StoredTo, store_none, store_one}
 use Rattle.grow_rows.specs.InnerRows.{Copied, Recounted}
-
--- Rows that are stored up to `at` from a table are copied.
-copied_to : {n : ℕ} {table rows rows' : List ℕ} {at : ℕ} → at ≤ n → StoredTo (λ u. get_or table (u + 1) 0) rows at rows' → Copied n table rows at rows'
-copied_to few s = record { few = few; past = s.past; copy = s.stored }
-
-pub copy_none : (n : ℕ) (table rows : List ℕ) → Copied n table rows 0 rows
-copy_none n table rows = copied_to (omega arith) store_none
-
-pub copy_one : {n : ℕ} {table rows rows' : List ℕ} {at : ℕ} (x : ℕ) → Copied n table rows at rows' → at < n → n ≤ length rows
-    → x ≡ get_or table (at + 1) 0 → Copied n table rows (at + 1) (set rows' at x)
-copy_one x c more room is = copied_to (omega arith) (store_one x (record { past = c.past; stored = c.copy }) (omega arith) is)
-
-pub copied : {n : ℕ} {table rows rows' : List ℕ} {at : ℕ} → Copied n table rows at rows' → n ≤ at → Copied n table rows n rows'
-copied {n} {table} {rows} {rows'} {at} c done = let e : at ≡ n = omega (arith, c.few) in subst (λ (i : ℕ). Copied n table rows i rows') e c
 
 -- Rows that say the same count the same.
 same_counted : {X : Variables} {W : Table} {f g : ℕ → ℕ} → ((v : ℕ) → f v ≡ g v) → Counted X W f → Counted X W g

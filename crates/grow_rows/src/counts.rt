@@ -26,10 +26,8 @@ fn copy_out(n: u32, table: &[u16], rows: &mut [u32])
     requires room { (n ≤ most_variables) × (length table.now ≡ variable_rows) × (n ≤ length rows.old) }
     ensures copied { Copied n table.now rows.old n rows.new }
 {
-    let mut at = 0;
-    while at < n as usize {
-        rows[at] = table[at + 1] as u32;
-        at += 1;
+    for (at, row) in rows[..n as usize].iter_mut().enumerate() {
+        *row = u32::from(table[at + 1]);
     }
 }
 
@@ -45,22 +43,15 @@ pub fn take_census(n: u32, classes: &[u32]) -> Census
     requires room { n ≤ length classes.now }
     ensures census { CensusOf n classes.now n result.existentials result.names }
 {
-    let mut existentials: u32 = 0;
-    let mut names: u32 = 0;
-    let mut passed: u32 = 0;
-    while passed < n {
-        let class = classes[passed as usize];
-        let v = passed + 1;
+    let mut existentials = 0;
+    let mut names = 0;
+    for (passed, &class) in classes[..n as usize].iter().enumerate() {
         if class == 0 {
-            passed = v;
-        } else {
-            existentials += 1;
-            if class == v {
-                names += 1;
-                passed = v;
-            } else {
-                passed = v;
-            }
+            continue;
+        }
+        existentials += 1;
+        if class as usize == passed + 1 {
+            names += 1;
         }
     }
     Census {

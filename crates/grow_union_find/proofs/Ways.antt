@@ -13,7 +13,7 @@ use Rattle.forest_theory.specs.Reach.{Variables, From, Reach, here}
 use Rattle.forest_theory.specs.Tables.{Table}
 use Rattle.forest_theory.proofs.Reach.{reach_one, reach_trans}
 use Rattle.forest_theory.proofs.Represent.{to_class, Linked, up}
-use Rattle.grow_union_find.specs.InnerLoose.{Loose, Kept, Falling, FindsRoot, table}
+use Rattle.grow_union_find.specs.InnerLoose.{Loose, Kept, Falling, table}
 use Rattle.grow_union_find.proofs.Inside.{inside_reach, equal_refl, equal_trans}
 use Rattle.grow_union_find.proofs.Relinked.{halved}
 
@@ -48,7 +48,7 @@ halve_none f = record { falling = f; points = refl; way = λ X P loose ex. recor
 
 module _ {C₀ : List ℕ} {v : ℕ} {C : List ℕ} {at next : ℕ} (f : Halving C₀ v C at next) where
   -- The row `at`, the one that it points to, and the one after that have rows, each not higher than the one before it.
-  pub way_rows : (at < length C) × (next ≤ at) × (get_or C next 0 ≤ next) × (length C ≡ variable_rows)
+  way_rows : (at < length C) × (next ≤ at) × (get_or C next 0 ≤ next) × (length C ≡ variable_rows)
   way_rows = (omega (arith, f.falling.within, f.falling.size), omega (arith, f.points, f.falling.falls at), f.falling.falls next, f.falling.size)
 
   -- One further: the row `at` is pointed past `next`.
@@ -93,9 +93,3 @@ module _ {C₀ : List ℕ} {v : ℕ} {C : List ℕ} {at next : ℕ} (f : Halving
             reached = reach_trans (inside_reach k.equal.there (record { existential = ex; deep = omega arith }) g.reached)
                 (reach_one (up (to_class g.existential (get_or-set_same C at x 0 inside))) (record { existential = ex'; deep = omega (arith, block) }));
           }
-
-  -- What points to itself is the root.
-  pub halve_last : next ≡ at → FindsRoot C₀ C v at
-  halve_last e X P loose ex =
-      let g = f.way X P loose ex in
-      record { kept = g.kept; root = record { itself = sym f.points ∙ e; existential = g.existential; block = g.block; reached = g.reached } }

@@ -29,6 +29,7 @@ pub fn merge(
         classes.new parents.new }
 {
     let mut left = Rest(deep, other);
+    // A walk up two chains at once: each step says which two are next, and the walk ends where nothing is left, not after a known number of steps.
     while left.1.0 != 0 {
         left = advance(depths, classes, parents, left);
     }
@@ -57,6 +58,7 @@ fn root(classes: &mut [u32], v: Variable) -> Variable
 {
     let mut at = v.0;
     let mut next = classes[at as usize];
+    // A walk along the chain: the next row is the one that a row names, and the root names itself.
     while next != at {
         let over = classes[next as usize];
         classes[at as usize] = over;

@@ -10,7 +10,7 @@ use Rattle.forest_tables.specs.Formula.{universal}
 use Rattle.forest_tables.proofs.Agreeing.{universal_within}
 use Rattle.forest_members.specs.InnerPicked.{picked}
 use Rattle.forest_members.proofs.Picked.{Counted, count_none, count_more, count_same, count_all, picked_more, picked_same, picked_most, picked_listed}
-use Rattle.std.proofs.Common.{Option}
+use Rattle.std.proofs.Common.{Option, Some}
 use Rattle.std.specs.List.{concat}
 use Rattle.std.specs.Io.KnownBytes.{Appends}
 use Rattle.std.proofs.KnownBytes.{Appends-nil, Appends-trans}
@@ -90,8 +90,8 @@ passed_few {f} {passed} p =
 
 -- ... and behind the last variable it is that of all lines of the formula.
 pub passed_all : {f : Formula} {passed count : ℕ} {before now : Option (List ℕ)} → Passed f passed count before now → f.n ≤ passed
-    → RestPrinted f before now count
-passed_all {f} {passed} {count} {before} {now} p done start (head, is, wrote) some =
+    → RestPrinted f before now (Some count)
+passed_all {f} {passed} {count} {before} {now} p done start (head, is, wrote) =
     let end : passed ≡ f.n = let most = p.counted.most in omega arith in
     let all = picked_listed {P = λ x. universal f.n f.prefix x ≡ true} (test f) f.n
     (λ v u. let (a, b, _) = universal_within f.n f.prefix v u in (a, b)) (λ v a b. (λ u. u, λ u. u)) in

@@ -2,7 +2,7 @@
 -- a line does in its buffer; and a sole entry point is listed as its flag would list it.
 use Prim.Native.Nat.{ℕ, zero, suc, ◌+◌, ◌≤◌, ◌<◌}
 use mathlib.Core.Path.{◌≡◌, refl, sym, ap, ap₂, ◌∙◌, subst}
-use mathlib.Core.Bool.{Bool, true, false}
+use mathlib.Core.Bool.{Bool, true, false, not-eq-not}
 use mathlib.Core.List.Memᴰ
 use mathlib.Core.List.{List, [], ◌∷◌, Memᴰ}
 use mathlib.Core.Logic.{◌≢◌}
@@ -19,13 +19,12 @@ use Rattle.terms.proofs.Listed.{listed_one}
 use Rattle.terms.proofs.Overwritten.{overwritten_room, overwritten_front}
 use Rattle.forest_members.specs.declared.Asked.TheVariants.{Points}
 use Rattle.forest_members.specs.InnerPicked.{pick, picked, NoneUpto}
-use Rattle.forest_members.proofs.Picked.{picked_most, picked_flag, picked_listed}
+use Rattle.forest_members.proofs.Picked.{picked_most, picked_flag, picked_listed, picked_none}
 use Rattle.sets_occurrences.specs.InnerSoleTops.{Is}
 use Rattle.sets_subtrees.specs.InnerRuns.{Run, only}
 use Rattle.sets_subtrees.proofs.Linked.{run_one, only_set, only_own}
 use Rattle.listing_lines.specs.Lines.{LineIn}
 use Rattle.listing_lines.specs.Inner.{Small}
-use Rattle.listing.specs.Inner.{sole_list}
 
 -- what stands at an index is in the list
 member_at : (l : List ℕ) (i : ℕ) → i < length l → Memᴰ (get_or l i 0) l
@@ -108,44 +107,35 @@ module _ (links : List ℕ) (head size : ℕ) (own : (list : List ℕ) × Run li
   pub run_small : Small (take size table)
   run_small = let (list, run, _, small) = own in subst Small (sym (run_front list run)) small
 
--- The first numbers of the list of one, none where that is 0, are the list of a sole entry point ...
-pub sole_none : (top : ℕ) → top ≡ 0 → [] ≡ sole_list top
-unfolding sole_list
-sole_none zero z = refl
-sole_none (suc top) z = absurd (omega arith)
-
-pub sole_one : (top : ℕ) → top ≢ 0 → top ∷ [] ≡ sole_list top
-unfolding sole_list
-sole_one zero some = absurd (some refl)
-sole_one (suc top) some = refl
-
--- ... which can be printed.
-pub sole_small : (top : ℕ) → top ≤ 4096 → Small (sole_list top)
-unfolding sole_list
-sole_small zero low = record { few = omega arith; short = λ i more. absurd (not-suc-le-zero more) }
-sole_small (suc top) low = record { few = omega arith; short = λ i more. at i more }
+-- The list of a sole entry point can be printed ...
+pub sole_small : (top : ℕ) → top ≤ 4096 → Small (top ∷ [])
+sole_small top low = record { few = omega arith; short = λ i more. at i more }
   where
-    at : (i : ℕ) → i < 1 → get_or (suc top ∷ []) i 0 < 100000
+    at : (i : ℕ) → i < 1 → get_or (top ∷ []) i 0 < 100000
     at zero more = omega arith
     at (suc i) more = absurd (omega arith)
 
--- The list has the sole entry point alone ...
-sole_listed : (top : ℕ) → Listed (Is top) (sole_list top)
-unfolding sole_list
-sole_listed zero = record { ascending = tt; each = λ v m. absurd (Memᴰ.not-nil m); all = λ v p. absurd (p.1 p.0) }
-sole_listed (suc top) =
+-- ... and has it alone ...
+sole_listed : (top : ℕ) → top ≢ 0 → Listed (Is top) (top ∷ [])
+sole_listed top some =
     record {
       ascending = (λ b m. absurd (Memᴰ.not-nil m), tt);
-      each = λ v m. let q = Memᴰ.eq_of_singleton m in (q, λ z. omega arith);
+      each = λ v m. let q = Memᴰ.eq_of_singleton m in (q, λ z. some (sym q ∙ z));
       all = λ v p. Memᴰ.head p.0;
     }
 
 -- ... and so has what is picked where only its flag is set.
-pub sole_picked : (n : ℕ) (tops : List ℕ) (top : ℕ) → n ≤ 4096 → top ≤ n → sole_list top ≡ picked (pick Points n (only top) tops) n
+pub sole_picked : (n : ℕ) (tops : List ℕ) (top : ℕ) → top ≢ 0 → n ≤ 4096 → top ≤ n → top ∷ [] ≡ picked (pick Points n (only top) tops) n
 unfolding pick
-sole_picked n tops top few low =
+sole_picked n tops top some few low =
     let flagged : (e : ℕ) → Is top e → get_or (only top) e false ≡ true =
     λ e p. ap (λ t. get_or (only t) e false) (sym p.0) ∙ only_own e p.1 (let q = p.0 in omega arith) in
-    listed_one {P = Is top} (sole_list top) (picked (pick Points n (only top) tops) n) (sole_listed top)
+    listed_one {P = Is top} (top ∷ []) (picked (pick Points n (only top) tops) n) (sole_listed top some)
     (picked_listed (pick Points n (only top) tops) n (λ e p. let q = p.0 in let some = p.1 in (omega arith, omega arith))
     (λ e a b. (λ t. let (q, some, _) = only_set top e t in (q, some), flagged e)))
+
+-- Where no flag is set, none is picked.
+pub none_picked : (n : ℕ) (tops : List ℕ) → picked (pick Points n (only 0) tops) n ≡ []
+unfolding pick
+none_picked n tops =
+    picked_none (pick Points n (only 0) tops) n (λ v low high. (not-eq-not {b = false}).0 (λ t. let (q, some, _) = only_set 0 v t in some q))

@@ -104,13 +104,12 @@ read_front most input rest text got size within is ended = by_cases (dec_le most
         ap (take most) whole ∙ take_all most (take got text) (omega arith)
 
 -- So the lines of what was read are those of the input, where that is known.
-pub printed_whole : (input after : Option (List ℕ)) (text : List ℕ) (got : ℕ) (held holds : Option (List ℕ)) (count : ℕ)
+pub printed_whole : (input after : Option (List ℕ)) (text : List ℕ) (got : ℕ) (held holds : Option (List ℕ)) (told : Option ℕ)
     → length text ≡ 65537 → got ≤ length text → Consumes input after (take got text) → (got < length text → IsAtEnd after)
-    → AllPrinted (Prints (take got text)) held holds count → IfSome input (λ (bytes : List ℕ). AllPrinted (Prints bytes) held holds count)
-printed_whole None after text got held holds count size within read ended p = tt
-printed_whole (Some bytes) None text got held holds count size within read ended p = absurd read
-printed_whole (Some bytes) (Some rest) text got held holds count size within read ended p =
-    λ some.
-    let (lines, prints, counted, wrote) = p some in
+    → AllPrinted (Prints (take got text)) held holds told → IfSome input (λ (bytes : List ℕ). AllPrinted (Prints bytes) held holds told)
+printed_whole None after text got held holds told size within read ended p = tt
+printed_whole (Some bytes) None text got held holds told size within read ended p = absurd read
+printed_whole (Some bytes) (Some rest) text got held holds None size within read ended p = p
+printed_whole (Some bytes) (Some rest) text got held holds (Some count) size within read ended (lines, prints, counted, wrote) =
     let cut = read_front 65537 bytes rest text got size within read ended in
     (lines, prints_cut 65537 bytes (omega arith) (subst (λ (front : List ℕ). Prints front lines) (sym cut) prints), counted, wrote)

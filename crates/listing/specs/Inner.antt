@@ -1,5 +1,5 @@
 -- Inner: what the functions of the program stand on and find, on the way to the line of a universal. What a reader must believe is in Listing.
-use Rattle.std.specs.Prelude.{ℕ, zero, suc, ◌≡◌, Bool, true, List, [], ◌∷◌, Option}
+use Rattle.std.specs.Prelude.{ℕ, ◌≡◌, Bool, true, List, Option}
 use Rattle.std.specs.Io.KnownBytes.{Appends}
 use Rattle.formula.specs.Lent.{Formula}
 use Rattle.formula.specs.Meaning.{level}
@@ -18,8 +18,8 @@ abbrev pub HeadPrinted : Formula → Option (List ℕ) → Option (List ℕ) →
 HeadPrinted f before after = (head : List ℕ) × HeadOf f head × Appends before after head
 
 -- How many lines of a formula were printed, where its first line was printed before.
-abbrev pub RestPrinted : Formula → Option (List ℕ) → Option (List ℕ) → ℕ → Type 0
-RestPrinted f before after count = (start : Option (List ℕ)) → HeadPrinted f start before → AllPrinted (Lists f) start after count
+abbrev pub RestPrinted : Formula → Option (List ℕ) → Option (List ℕ) → Option ℕ → Type 0
+RestPrinted f before after told = (start : Option (List ℕ)) → HeadPrinted f start before → AllPrinted (Lists f) start after told
 
 -- the rows are the formula's own forest
 abbrev pub OwnForest : Formula → List ℕ → List ℕ → Type 0
@@ -37,8 +37,3 @@ pub record OwnTops (f : Formula) (x floor : ℕ) (tops : List ℕ) : Type 0 wher
 -- the line of x by flags: the flagged numbers, and the variables that have a flagged top
 abbrev pub flagged_line : ℕ → List ℕ → List Bool → ℕ → ℕ → List ℕ
 flagged_line n tops flags x floor = universal_line x floor (picked (pick Points n flags tops) n) (picked (pick Set n flags tops) n)
-
--- the list of a sole entry point, 0 for none
-unfoldable pub sole_list : ℕ → List ℕ
-sole_list zero = []
-sole_list (suc top) = suc top ∷ []

@@ -1,5 +1,5 @@
 -- What the listing program prints for a text (rule 16.1, rule 16.2, rule 5.4). How a line is spelt is in the definitions of `listing_lines`.
-use Rattle.std.specs.Prelude.{ℕ, ◌≡◌, Bool, true, List, [], ◌∷◌, ◌≢◌, Option, pos, length, replicate}
+use Rattle.std.specs.Prelude.{ℕ, ◌≡◌, Bool, true, List, [], ◌∷◌, Option, IfSome, pos, length, replicate}
 use Rattle.std.specs.List.{concat}
 use Rattle.std.specs.Io.KnownBytes.{Appends}
 use Rattle.terms.specs.declared.Scheme.TheVariants.{Strict}
@@ -72,6 +72,6 @@ pub data Prints (text : List ℕ) : List (List ℕ) → Type 0 where
   listing : {lines : List (List ℕ)} (f : Formula) → IsRead text f → NoneOf (check_order 1 f) → Lists f lines → Prints text lines
 
 -- How many lines were printed: all lines, of which P says what they are, and what a writer holds, where that is known, has grown by these lines one after
--- the other; or 0, where one could not be written, behind which none follows.
-abbrev pub AllPrinted : (List (List ℕ) → Type 0) → Option (List ℕ) → Option (List ℕ) → ℕ → Type 0
-AllPrinted P before after count = count ≢ 0 → (lines : List (List ℕ)) × P lines × (count ≡ length lines) × Appends before after (concat lines)
+-- the other; or none, where one could not be written, behind which none follows.
+abbrev pub AllPrinted : (List (List ℕ) → Type 0) → Option (List ℕ) → Option (List ℕ) → Option ℕ → Type 0
+AllPrinted P before after told = IfSome told (λ count. (lines : List (List ℕ)) × P lines × (count ≡ length lines) × Appends before after (concat lines))

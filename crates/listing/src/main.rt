@@ -6,6 +6,7 @@ ghost use Rattle.std.specs.Prelude.{ℕ, ◌≤◌, ◌<◌, ◌≡◌, Bool, Li
 ghost use Rattle.std.specs.Io.KnownBytes.{Appends, Consumes, IsAtEnd};
 ghost use Rattle.terms.specs.declared.Scheme.TheVariants.{Strict};
 ghost use Rattle.terms.specs.Answers.{InFront};
+ghost use Rattle.terms.specs.Says.{fault_number};
 ghost use Rattle.formula.specs.Lent.{formula_of};
 ghost use Rattle.formula.specs.InnerLevels.{SoundPrefix, Levelled};
 ghost use Rattle.formula.specs.InnerLookup.{SoundClauses};
@@ -16,21 +17,20 @@ ghost use Rattle.sets.specs.InnerPassed.{Ready};
 ghost use Rattle.listing_lines.specs.Lines.{universal_line, LineIn};
 ghost use Rattle.listing_lines.specs.Inner.{line_bytes, Small};
 ghost use Rattle.listing.specs.Listing.{IsRead, Refuses, HeadOf, LineOf, Lists, Prints, AllPrinted};
-ghost use Rattle.listing.specs.Inner.{OwnForest, OwnTops, HeadPrinted, RestPrinted, flagged_line, sole_list};
+ghost use Rattle.listing.specs.Inner.{OwnForest, OwnTops, HeadPrinted, RestPrinted, flagged_line};
 
 use forest_climb::Floor;
 use forest_members::{Asked, write_picked};
 use forest_tables::rows::universal_at;
-use formula::clauses::variable_at;
 use formula_levels::fill_levels;
 use listing_lines::{head_line, refused_line, universal_line};
-use sets_occurrences::soles::{Sole, sole_point};
+use sets_occurrences::soles::{Several, sole_point};
 use sets_occurrences::{flag_points, thread};
 use sets_subtrees::{refloor, row_at, write_run};
 use std::io;
 use std::io::{Read, Write};
 use terms::pairs::{Pair, unpack};
-use terms::{Filled, Level, Literal, Reading, Scheme, Tally, Variable};
+use terms::{Level, Literal, Refusal, Scheme, Tally, Variable};
 
 // The bytes that are read: one more than a text may have, so that a longer text is refused.
 const TEXT: usize = 65537;
@@ -44,11 +44,11 @@ fn main(rt: HostRuntime) -> io::Result<()> {
     Ok(())
 }
 
-// Lists the formula of an input, and gives how many lines it printed, or 0 if one could not be written. Nothing is written where the input cannot be read.
-fn list<R: Read, W: Write>(input: &mut R, out: &mut W) -> io::Result<usize>
+// Lists the formula of an input, and gives how many lines it printed, or none if one could not be written. Nothing is written where the input cannot be read.
+fn list<R: Read, W: Write>(input: &mut R, out: &mut W) -> io::Result<Option<usize>>
     ensures unread { OnErr result (out.new ≡ out.old) }
-    ensures printed { IfOk result (λ count. IfSome (R.remaining input.old)
-        (λ text. AllPrinted (Prints text) (W.contents out.old) (W.contents out.new) count)) }
+    ensures printed { IfOk result (λ told. IfSome (R.remaining input.old)
+        (λ text. AllPrinted (Prints text) (W.contents out.old) (W.contents out.new) told)) }
 {
     let mut text = [0u8; TEXT];
     let got = read_full(input, &mut text)?;
@@ -62,6 +62,7 @@ fn read_full<R: Read>(input: &mut R, text: &mut [u8]) -> io::Result<usize>
     ensures ended { IfOk result (λ count. count < length text.new → IsAtEnd (R.remaining input.new)) }
 {
     let mut count = 0;
+    // How far each read comes is for the input to say.
     while count < text.len() {
         let got = input.read(&mut text[count..])?;
         if got == 0 {
@@ -72,50 +73,49 @@ fn read_full<R: Read>(input: &mut R, text: &mut [u8]) -> io::Result<usize>
     Ok(count)
 }
 
-// Lists the formula of a text, and gives how many lines it printed, or 0 if one could not be written: every text has a line. A table longer than the
+// Lists the formula of a text, and gives how many lines it printed, or none if one could not be written. A table longer than the
 // buffers is refused by read.
-fn list_text<W: Write>(text: &[u8], out: &mut W) -> usize
+fn list_text<W: Write>(text: &[u8], out: &mut W) -> Option<usize>
     ensures printed { AllPrinted (Prints text.now) (W.contents out.old) (W.contents out.new) result }
 {
     let mut prefix = [0u32; Level::ENTRIES];
     let mut clauses = [0i32; Literal::ENTRIES];
     match text_qdimacs::read(text, &mut prefix, &mut clauses) {
-        Reading::Refused(number, place) => print_refusal(text, number, place, out),
-        Reading::Read {
-            n,
-            prefix: entries,
-            clauses: literals,
-        } => list_formula(text, n, &prefix[..entries], &clauses[..literals], out),
+        Err(refusal) => print_refusal(text, refusal, out),
+        Ok(counts) => {
+            let prefix = &prefix[..counts.prefix];
+            let clauses = &clauses[..counts.clauses];
+            list_formula(text, counts.n, prefix, clauses, out)
+        }
     }
 }
 
 // Prints the refusal of a text.
-fn print_refusal<W: Write>(text: &[u8], number: u32, place: usize, out: &mut W) -> usize
-    requires refused { Refuses text.now number place }
+fn print_refusal<W: Write>(text: &[u8], refusal: Refusal, out: &mut W) -> Option<usize>
+    requires refused { Refuses text.now (fault_number refusal.0) refusal.1 }
     ensures printed { AllPrinted (Prints text.now) (W.contents out.old) (W.contents out.new) result }
 {
     let mut line = [0u8; LINE];
-    let end = refusal_of(text, number, place, &mut line);
-    if !print(&line[..end], out) {
-        return 0;
-    }
-    1
+    let end = refusal_of(text, refusal, &mut line);
+    print(&line[..end], out)?;
+    Some(1)
 }
 
-// Writes a line, and tells whether it could be written.
-fn print<W: Write>(line: &[u8], out: &mut W) -> bool
-    ensures written { result ≡ true → Appends (W.contents out.old) (W.contents out.new) line.now }
+// Writes a line, if it can be written.
+fn print<W: Write>(line: &[u8], out: &mut W) -> Option<()>
+    ensures written { IfSome result (λ _. Appends (W.contents out.old) (W.contents out.new) line.now) }
 {
-    out.write_all(line).is_ok()
+    out.write_all(line).ok()
 }
 
 // Stores the line of a refusal from the start of `line` on, and gives its length. The text stands here for the contract. Numbers and places have at most
 // five digits.
-fn refusal_of(text: &[u8], number: u32, place: usize, line: &mut [u8]) -> usize
-    requires refused { Refuses text.now number place × (line_bytes ≤ length line.old) }
+fn refusal_of(text: &[u8], refusal: Refusal, line: &mut [u8]) -> usize
+    requires refused { Refuses text.now (fault_number refusal.0) refusal.1 × (line_bytes ≤ length line.old) }
     ensures stored { InFront (λ (bytes : List ℕ). Prints text.now (bytes ∷ [])) line.old line.new result }
 {
-    refused_line(line, number, place as u32)
+    let place = refusal.1 as u32;
+    refused_line(line, refusal.0.number(), place)
 }
 
 // Lists the formula of a text under the first reading rule, or prints the refusal that `build` gives. The counts and the tally are not used.
@@ -125,7 +125,7 @@ fn list_formula<W: Write>(
     prefix: &[u32],
     clauses: &[i32],
     out: &mut W,
-) -> usize
+) -> Option<usize>
     requires read { IsRead text.now (formula_of n prefix.now clauses.now) }
     ensures printed { AllPrinted (Prints text.now) (W.contents out.old) (W.contents out.new) result }
 {
@@ -147,10 +147,9 @@ fn list_formula<W: Write>(
         &mut counts,
         none,
     );
-    let answer = built.answer;
-    match answer {
-        Filled::Refused(number, place) => print_refusal(text, number, place, out),
-        Filled::Count(_) => list_forest(n, prefix, clauses, &classes, &parents, out),
+    match built.answer {
+        Err(refusal) => print_refusal(text, refusal, out),
+        Ok(_) => list_forest(n, prefix, clauses, &classes, &parents, out),
     }
 }
 
@@ -162,7 +161,7 @@ fn list_forest<W: Write>(
     classes: &[u32],
     parents: &[u32],
     out: &mut W,
-) -> usize
+) -> Option<usize>
     requires accepted { SoundPrefix n prefix.now × SoundClauses clauses.now × Closed clauses.now
         × OwnForest (formula_of n prefix.now clauses.now) classes.now parents.now }
     ensures printed { AllPrinted (Lists (formula_of n prefix.now clauses.now)) (W.contents out.old) (W.contents out.new) result }
@@ -170,9 +169,7 @@ fn list_forest<W: Write>(
     let mut levels = [0u32; Variable::ROWS];
     let mut universals = [false; Variable::ROWS];
     fill_levels(prefix, &mut levels, &mut universals);
-    if !print_head(n, prefix, clauses, out) {
-        return 0;
-    }
+    print_head(n, prefix, clauses, out)?;
     list_universals(
         n,
         prefix,
@@ -185,10 +182,10 @@ fn list_forest<W: Write>(
     )
 }
 
-// Prints the first line, and tells whether it could be written.
-fn print_head<W: Write>(n: u32, prefix: &[u32], clauses: &[i32], out: &mut W) -> bool
+// Prints the first line, if it can be written.
+fn print_head<W: Write>(n: u32, prefix: &[u32], clauses: &[i32], out: &mut W) -> Option<()>
     requires small { (n ≤ 4096) × (length prefix.now < 100000) × (length clauses.now < 100000) }
-    ensures printed { result ≡ true → HeadPrinted (formula_of n prefix.now clauses.now) (W.contents out.old) (W.contents out.new) }
+    ensures printed { IfSome result (λ _. HeadPrinted (formula_of n prefix.now clauses.now) (W.contents out.old) (W.contents out.new)) }
 {
     let mut line = [0u8; LINE];
     let end = head_of(n, prefix, clauses, &mut line);
@@ -209,34 +206,14 @@ fn head_of(n: u32, prefix: &[u32], clauses: &[i32], line: &mut [u8]) -> usize
 fn count_blocks(prefix: &[u32]) -> usize
     ensures counted { (result ≡ length (blocks prefix.now)) × (result ≤ length prefix.now) }
 {
-    let mut count = 0;
-    let mut i = 0;
-    while i < prefix.len() {
-        if prefix[i] == 0 {
-            count += 1;
-            i += 1;
-        } else {
-            i += 1;
-        }
-    }
-    count
+    prefix.iter().filter(|&&entry| entry == 0).count()
 }
 
 // How many clauses a clause table has: one for each 0.
 fn count_clauses(clauses: &[i32]) -> usize
     ensures counted { (result ≡ length (Meaning·clauses clauses.now)) × (result ≤ length clauses.now) }
 {
-    let mut count = 0;
-    let mut i = 0;
-    while i < clauses.len() {
-        if variable_at(clauses, i).0 == 0 {
-            count += 1;
-            i += 1;
-        } else {
-            i += 1;
-        }
-    }
-    count
+    clauses.iter().filter(|&&literal| literal == 0).count()
 }
 
 // Prints a line for each universal, in ascending order, behind the first line. The occurrence list of each universal is made first.
@@ -249,7 +226,7 @@ fn list_universals<W: Write>(
     classes: &[u32],
     parents: &[u32],
     out: &mut W,
-) -> usize
+) -> Option<usize>
     requires accepted { SoundPrefix n prefix.now × Levelled prefix.now levels.now universals.now
         × SoundClauses clauses.now × Closed clauses.now × OwnForest (formula_of n prefix.now clauses.now) classes.now parents.now }
     ensures printed { RestPrinted (formula_of n prefix.now clauses.now) (W.contents out.old) (W.contents out.new) result }
@@ -276,7 +253,7 @@ fn list_tied<W: Write>(
     first: &[u32],
     next: &[u32],
     out: &mut W,
-) -> usize
+) -> Option<usize>
     requires ready { Ready n prefix.now levels.now universals.now clauses.now classes.now parents.now first.now next.now }
     requires own { OwnForest (formula_of n prefix.now clauses.now) classes.now parents.now }
     ensures printed { RestPrinted (formula_of n prefix.now clauses.now) (W.contents out.old) (W.contents out.new) result }
@@ -291,38 +268,35 @@ fn list_tied<W: Write>(
         from: 0,
     };
     let mut lines = 1;
-    let mut passed = 0;
-    while passed < n {
-        passed += 1;
-        let x = Variable::new(passed);
-        if universal_at(n, universals, x) {
-            floor = refloor(
-                n, prefix, levels, classes, parents, floor, x, &mut tops, &mut lead, &mut after,
-            );
-            let end = line_of(
-                n,
-                prefix,
-                clauses,
-                first,
-                next,
-                x,
-                floor.level,
-                &tops,
-                &lead,
-                &after,
-                &mut line,
-            );
-            if !print(&line[..end], out) {
-                return 0;
-            }
-            lines += 1;
+    for passed in 0..n {
+        let x = Variable::new(passed + 1);
+        if !universal_at(n, universals, x) {
+            continue;
         }
+        floor = refloor(
+            n, prefix, levels, classes, parents, floor, x, &mut tops, &mut lead, &mut after,
+        );
+        let end = line_of(
+            n,
+            prefix,
+            clauses,
+            first,
+            next,
+            x,
+            floor.level,
+            &tops,
+            &lead,
+            &after,
+            &mut line,
+        );
+        print(&line[..end], out)?;
+        lines += 1;
     }
-    lines
+    Some(lines)
 }
 
-// Stores the line of one universal from the start of `line` on, and gives its length. The prefix stands here for the contract. Where x has at most one
-// strict entry point, its set is the run of that.
+// Stores the line of one universal from the start of `line` on, and gives its length. The prefix stands here for the contract. Where x has no strict
+// entry point, its set is empty; where it has one, its set is the run of that.
 fn line_of(
     n: u32,
     prefix: &[u32],
@@ -342,12 +316,13 @@ fn line_of(
     ensures stored { InFront (LineOf (formula_of n prefix.now clauses.now) x.0) line.old line.new result }
 {
     match sole_point(Scheme::Strict, n, clauses, first, next, x, tops) {
-        Sole::Several => flagged_line(n, clauses, first, next, x, level, tops, line),
-        Sole::Top(top) => run_line(unpack(row_at(lead, top)), after, top, x, level, line),
+        Ok(None) => universal_line(line, x.0, level.0, &[], &[]),
+        Ok(Some(top)) => run_line(unpack(row_at(lead, top)), after, top, x, level, line),
+        Err(Several) => flagged_line(n, clauses, first, next, x, level, tops, line),
     }
 }
 
-// Stores the line of a universal with at most one entry point, 0 for none. Its set is the run that begins at `run.low` and has `run.high` numbers.
+// Stores the line of a universal with one entry point. Its set is the run that begins at `run.low` and has `run.high` numbers.
 fn run_line(
     run: Pair,
     after: &[u32],
@@ -359,24 +334,12 @@ fn run_line(
     requires small { ((list : List ℕ) × Run after.now run.low list × (run.high ≡ length list) × Small list)
         × (top.0 ≤ 4096) × (x.0 ≤ 4096) × (level.0 < 100000) × (line_bytes ≤ length line.old) }
     ensures stored { (list : List ℕ) → Run after.now run.low list
-        → LineIn (universal_line x.0 level.0 (sole_list top.0) list) line.old line.new result }
+        → LineIn (universal_line x.0 level.0 (top.0 ∷ []) list) line.old line.new result }
 {
     let mut set = [0u32; Variable::MOST as usize];
     write_run(after, run.low, 0, &mut set);
     let size = run.high as usize;
-    let points = [top.0];
-    let count = sole_count(top);
-    universal_line(line, x.0, level.0, &points[..count], &set[..size])
-}
-
-// How many entry points there are: one, unless it is 0.
-fn sole_count(top: Variable) -> usize
-    ensures counted { (result ≤ 1) × (take result (top.0 ∷ []) ≡ sole_list top.0) }
-{
-    if top.0 == 0 {
-        return 0;
-    }
-    1
+    universal_line(line, x.0, level.0, &[top.0], &set[..size])
 }
 
 // Stores the line of a universal with any number of entry points: they are flagged along its occurrence list, and they and the set are listed by

@@ -66,11 +66,9 @@ fn put_word(out: &mut [u8], at: usize, word: &[u8]) -> usize
     requires small { (at < 4294900000) × (length word.now < 100) }
     ensures wrote { Wrote word.now out.old out.new at result }
 {
-    let mut i = 0;
     let mut next = at;
-    while i < word.len() {
-        next = put_byte(out, next, word[i]);
-        i += 1;
+    for &byte in word {
+        next = put_byte(out, next, byte);
     }
     next
 }
@@ -80,12 +78,10 @@ fn put_numbers(out: &mut [u8], at: usize, list: &[u32]) -> usize
     requires small { (at < 1000000) × Small list.now }
     ensures wrote { Wrote (numbers list.now) out.old out.new at result }
 {
-    let mut i = 0;
     let mut next = at;
-    while i < list.len() {
+    for &number in list {
         let start = put_byte(out, next, b' ');
-        next = put_number(out, start, list[i]);
-        i += 1;
+        next = put_number(out, start, number);
     }
     next
 }

@@ -8,7 +8,7 @@ use native.Mathlib.Decide.{dec_lt}
 use native.Mathlib.Omega.{arith}
 use lib.IntN.{ℤ}
 use Rattle.terms.specs.Refusals.{At0, Judged}
-use Rattle.terms.specs.declared.Verdict.{Verdict}
+use Rattle.terms.specs.Says.{Verdict}
 use Rattle.terms.proofs.Common.{clash}
 use Rattle.formula.specs.Meaning.{level, is_existential}
 use Rattle.forest_theory.specs.Reach.{Variables, Deeper}

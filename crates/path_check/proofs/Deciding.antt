@@ -11,11 +11,11 @@ use borrow.Author.Tests.{ltb-true, lt-ltb, eqb-true, eqb-false}
 use lib.Dec.{ltb, eqb}
 use lib.IntN.{ℤ}
 use lib.ListN.{length}
+use Rattle.terms.specs.Says.{Verdict, accepted, refused}
+use Rattle.terms.specs.declared.Fault.TheVariants.{WrongPath}
 use Rattle.terms.proofs.Common.{clash}
 use Rattle.terms.specs.Literals.{variable_of}
 use Rattle.terms.specs.Refusals.{Judged}
-use Rattle.terms.specs.declared.Verdict.{Verdict}
-use Rattle.terms.specs.declared.Verdict.TheVariants.{Accepted, Refused}
 use Rattle.formula.specs.Meaning.{always_true}
 use Rattle.formula.specs.Tables.{at}
 use Rattle.forest_theory.specs.Reach.{Variables, Deeper}
@@ -134,11 +134,11 @@ module _ (X : Variables) (ls : List ℤ) (x y : ℕ) (path : List ℕ) where
 
   -- The verdict on so many entries from i on, and on the whole path.
   unfoldable pub scan : ℕ → ℕ → Verdict
-  scan zero i = Accepted
-  scan (suc m) i = cond (fails i) (Refused 24 i) (scan m (suc i))
+  scan zero i = accepted
+  scan (suc m) i = cond (fails i) (refused WrongPath i) (scan m (suc i))
 
   unfoldable pub judge : Verdict
-  judge = cond (eqb (length path) 0) (Refused 24 0) (scan (length path) 0)
+  judge = cond (eqb (length path) 0) (refused WrongPath 0) (scan (length path) 0)
 
   scan_judged : (m i : ℕ) → i + m ≡ length path → length path ≢ 0 → Clean (PathCause X ls x y path) i → Judged (PathCause X ls x y path ∷ []) (scan m i)
   unfolding scan
@@ -147,7 +147,7 @@ module _ (X : Variables) (ls : List ℤ) (x y : ℕ) (path : List ℕ) where
     where
       go : (b : Bool) → Tells b (PathCause X ls x y path 24 i)
           → (Clean (PathCause X ls x y path) (suc i) → Judged (PathCause X ls x y path ∷ []) (scan m (suc i))) → Judged (PathCause X ls x y path ∷ [])
-          (cond b (Refused 24 i) (scan m (suc i)))
+          (cond b (refused WrongPath i) (scan m (suc i)))
       go true cause on = inl (fails_first clean cause)
       go false none on = on (rw (← add-one i) (clean_more clean none))
 
@@ -155,6 +155,6 @@ module _ (X : Variables) (ls : List ℤ) (x y : ℕ) (path : List ℕ) where
   unfolding judge
   judge_judged = go (eqb (length path) 0) refl
     where
-      go : (b : Bool) → eqb (length path) 0 ≡ b → Judged (PathCause X ls x y path ∷ []) (cond b (Refused 24 0) (scan (length path) 0))
+      go : (b : Bool) → eqb (length path) 0 ≡ b → Judged (PathCause X ls x y path ∷ []) (cond b (refused WrongPath 0) (scan (length path) 0))
       go true q = inl (fails_first (λ e l. absurd (omega arith)) (empty refl refl (eqb-true (length path) 0 q)))
       go false q = scan_judged (length path) 0 (omega arith) (eqb-false (length path) 0 q) (λ e l. absurd (omega arith))

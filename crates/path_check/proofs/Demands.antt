@@ -11,11 +11,10 @@ use native.Mathlib.Omega.{arith}
 use lib.ListN.{length}
 use Rattle.terms.specs.Refusals.{Causes, NoneOf, Judged}
 use Rattle.terms.specs.declared.Scheme.TheVariants.{Standard}
-use Rattle.terms.specs.declared.Verdict.{Verdict}
-use Rattle.terms.specs.declared.Verdict.TheVariants.{Accepted}
+use Rattle.terms.specs.Says.{Verdict, accepted, said}
 use Rattle.terms.proofs.Common.{clash}
 use Rattle.terms.proofs.Orders.{Carries, carry_judged}
-use Rattle.terms.proofs.Verdicts.{at0_none, accepted_then, judged_unique}
+use Rattle.terms.proofs.Verdicts.{at0_none, judges_later, judged_unique}
 use Rattle.formula.specs.Causes.{ClauseCause}
 use Rattle.formula.specs.Lent.{Formula, formula_of}
 use Rattle.formula.specs.Meaning.{is_existential, level}
@@ -92,7 +91,7 @@ module _ (rule : ℕ) (f : Formula) (x y : ℕ) where
 
         back : Acceptable (variables_of read) f.clauses x y path → NoneOf (path_order rule f x y path)
         back a =
-            accepted_then (check_order rule f) (pair_order read x y path) {v = Accepted} Accepted refl sound
+            judges_later (check_order rule f) (pair_order read x y path) (said accepted) sound
             (at0_none 13 (right a), (acceptable_exactly.1 a, tt))
 
     -- An accepted pair is in the standard set.
@@ -121,10 +120,10 @@ path_agrees f x y path v none =
     (one_to_two S carry later f.n f.prefix (length f.clauses) none, two_to_one S carry later f.n f.prefix (length f.clauses) none)
   where
     S : List Causes → List ℕ → Type 0
-    S order read = Judged order v
+    S order _ = Judged order v
 
     carry : (order order' : List Causes) (read : List ℕ) → Carries order order' → Judged order v → Judged order' v
-    carry order order' read c = carry_judged order order' c v
+    carry order order' _ c = carry_judged order order' c v
 
     later : List ℕ → List Causes
     later read = ClauseCause f.n f.clauses ∷ pair_order (formula_of f.n read f.clauses) x y path

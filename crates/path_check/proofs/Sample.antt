@@ -10,11 +10,11 @@ use borrow.Author.Tests.{ltb-true}
 use lib.Dec.{ltb, lit≤}
 use lib.IntN.{ℤ, pos, negsuc}
 use lib.ListN.{length}
+use Rattle.terms.specs.Says.{Verdict, accepted, refused, said}
+use Rattle.terms.specs.declared.Fault.TheVariants.{NotAskable, WrongPath}
 use Rattle.terms.proofs.Common.{clash}
-use Rattle.terms.proofs.Verdicts.{at0_first, at0_none, accepted_then}
+use Rattle.terms.proofs.Verdicts.{at0_first, at0_none, judges_later}
 use Rattle.terms.specs.Refusals.{At0, NoneOf, Judged}
-use Rattle.terms.specs.declared.Verdict.{Verdict}
-use Rattle.terms.specs.declared.Verdict.TheVariants.{Accepted, Refused}
 use Rattle.formula.specs.Lent.{Formula, formula_of}
 use Rattle.formula.specs.Meaning.{blocks, clauses, opposite, denied, always_true, level, is_universal, is_existential}
 use Rattle.formula.specs.InnerLevels.{free_level}
@@ -38,9 +38,9 @@ ls =
 abbrev formula_A : Formula
 formula_A = formula_of 9 es ls
 
-accepted : NoneOf (check_order 1 formula_A)
+passes : NoneOf (check_order 1 formula_A)
 unfolding good_mark prefix_passes clauses_pass
-accepted = (at0_none 23 (λ w. w.0 refl), accepts 9 es ls (lit≤ tt) (lit≤ tt) (lit≤ tt) refl refl)
+passes = (at0_none 23 (λ w. w.0 refl), accepts 9 es ls (lit≤ tt) (lit≤ tt) (lit≤ tt) refl refl)
 
 -- all numbers of a path are below a count
 unfoldable below : ℕ → List ℕ → Bool
@@ -56,7 +56,7 @@ none_over count (k ∷ path) t (suc i, l, high) = none_over count path (both (lt
 -- What is judged behind check is the verdict of the call, since A is accepted.
 behind_check : (x y : ℕ) (path : List ℕ) (verdict : Verdict) → Judged (pair_order formula_A x y path) verdict → PathJudged 1 formula_A x y path verdict
 unfolding read_as
-behind_check x y path verdict = accepted_then (check_order 1 formula_A) (pair_order formula_A x y path) {v = Accepted} verdict refl accepted
+behind_check x y path verdict = judges_later (check_order 1 formula_A) (pair_order formula_A x y path) (said verdict) passes
 
 -- What antt computes of a pair and a path: nothing is refused as 13, and the verdict on the path.
 record Computed (x y : ℕ) (path : List ℕ) (verdict : Verdict) : Type 0 where
@@ -70,7 +70,7 @@ record Computed (x y : ℕ) (path : List ℕ) (verdict : Verdict) : Type 0 where
 by_computing : {x y : ℕ} (path : List ℕ) (verdict : Verdict) → Computed x y path verdict → PathJudged 1 formula_A x y path verdict
 by_computing {x} {y} path verdict c =
     behind_check x y path verdict
-    (accepted_then (At0 13 (Misnamed formula_A x y path) ∷ []) (PathCause (variables 9 es) ls x y path ∷ []) {v = Accepted} verdict refl
+    (judges_later (At0 13 (Misnamed formula_A x y path) ∷ []) (PathCause (variables 9 es) ls x y path ∷ []) (said verdict)
     (at0_none 13 right, tt) (subst (Judged (PathCause (variables 9 es) ls x y path ∷ [])) c.judged (judge_judged (variables 9 es) ls x y path)))
   where
     right : Misnamed formula_A x y path → ⊥
@@ -80,40 +80,40 @@ by_computing {x} {y} path verdict c =
         (none_over (length (clauses ls)) path c.known))
 
 -- What is refused as 13.
-refused_13 : (x y : ℕ) (path : List ℕ) → Misnamed formula_A x y path → PathJudged 1 formula_A x y path (Refused 13 0)
-refused_13 x y path wrong = behind_check x y path (Refused 13 0) (inl (at0_first 13 wrong))
+refused_13 : (x y : ℕ) (path : List ℕ) → Misnamed formula_A x y path → PathJudged 1 formula_A x y path (refused NotAskable 0)
+refused_13 x y path wrong = behind_check x y path (refused NotAskable 0) (inl (at0_first 13 wrong))
 
 pub record Sampled : Type 0 where
   -- {3 4 7} {-4 8} share 4
-  pub path_3_8 : PathJudged 1 formula_A 3 8 (0 ∷ 1 ∷ []) Accepted
+  pub path_3_8 : PathJudged 1 formula_A 3 8 (0 ∷ 1 ∷ []) accepted
   -- the first clause lacks 3; the last lacks 8; the path is empty
-  pub without_3 : PathJudged 1 formula_A 3 8 (1 ∷ []) (Refused 24 0)
-  pub without_8 : PathJudged 1 formula_A 3 8 (0 ∷ []) (Refused 24 0)
-  pub no_clause : PathJudged 1 formula_A 3 8 [] (Refused 24 0)
+  pub without_3 : PathJudged 1 formula_A 3 8 (1 ∷ []) (refused WrongPath 0)
+  pub without_8 : PathJudged 1 formula_A 3 8 (0 ∷ []) (refused WrongPath 0)
+  pub no_clause : PathJudged 1 formula_A 3 8 [] (refused WrongPath 0)
   -- {3 4 7} {5 9} share nothing, and fail at the second
-  pub apart_3_8 : PathJudged 1 formula_A 3 8 (0 ∷ 3 ∷ 1 ∷ []) (Refused 24 1)
+  pub apart_3_8 : PathJudged 1 formula_A 3 8 (0 ∷ 3 ∷ 1 ∷ []) (refused WrongPath 1)
   -- {3 8 -8} has both, and is always true
-  pub always_true_3_8 : PathJudged 1 formula_A 3 8 (5 ∷ []) (Refused 24 0)
+  pub always_true_3_8 : PathJudged 1 formula_A 3 8 (5 ∷ []) (refused WrongPath 0)
   -- {5 9} {1 5} share 5, which is not deeper than 6
-  pub path_6_9 : PathJudged 1 formula_A 6 9 (2 ∷ 3 ∷ []) Accepted
-  pub shallow_6_9 : PathJudged 1 formula_A 6 9 (2 ∷ 3 ∷ 4 ∷ 3 ∷ []) (Refused 24 2)
+  pub path_6_9 : PathJudged 1 formula_A 6 9 (2 ∷ 3 ∷ []) accepted
+  pub shallow_6_9 : PathJudged 1 formula_A 6 9 (2 ∷ 3 ∷ 4 ∷ 3 ∷ []) (refused WrongPath 2)
   -- 13 comes before 24: a clause number that is too large, an x that is not universal, a y that is not deeper
-  pub number_over : PathJudged 1 formula_A 3 8 (1 ∷ 6 ∷ []) (Refused 13 0)
-  pub no_universal : PathJudged 1 formula_A 4 8 (1 ∷ []) (Refused 13 0)
-  pub not_deeper : PathJudged 1 formula_A 6 5 (2 ∷ 3 ∷ []) (Refused 13 0)
+  pub number_over : PathJudged 1 formula_A 3 8 (1 ∷ 6 ∷ []) (refused NotAskable 0)
+  pub no_universal : PathJudged 1 formula_A 4 8 (1 ∷ []) (refused NotAskable 0)
+  pub not_deeper : PathJudged 1 formula_A 6 5 (2 ∷ 3 ∷ []) (refused NotAskable 0)
 
 pub sampled : Sampled
 unfolding blocks clauses opposite denied always_true free_level level is_universal is_existential cut has universal below has_variable is_deeper common shares joins fails scan judge
 sampled =
     record {
-      path_3_8 = by_computing (0 ∷ 1 ∷ []) Accepted (record { of_universal = refl; of_existential = refl; deeper = refl; known = refl; judged = refl });
-      without_3 = by_computing (1 ∷ []) (Refused 24 0) (record { of_universal = refl; of_existential = refl; deeper = refl; known = refl; judged = refl });
-      without_8 = by_computing (0 ∷ []) (Refused 24 0) (record { of_universal = refl; of_existential = refl; deeper = refl; known = refl; judged = refl });
-      no_clause = by_computing [] (Refused 24 0) (record { of_universal = refl; of_existential = refl; deeper = refl; known = refl; judged = refl });
-      apart_3_8 = by_computing (0 ∷ 3 ∷ 1 ∷ []) (Refused 24 1) (record { of_universal = refl; of_existential = refl; deeper = refl; known = refl; judged = refl });
-      always_true_3_8 = by_computing (5 ∷ []) (Refused 24 0) (record { of_universal = refl; of_existential = refl; deeper = refl; known = refl; judged = refl });
-      path_6_9 = by_computing (2 ∷ 3 ∷ []) Accepted (record { of_universal = refl; of_existential = refl; deeper = refl; known = refl; judged = refl });
-      shallow_6_9 = by_computing (2 ∷ 3 ∷ 4 ∷ 3 ∷ []) (Refused 24 2) (record { of_universal = refl; of_existential = refl; deeper = refl; known = refl; judged = refl });
+      path_3_8 = by_computing (0 ∷ 1 ∷ []) accepted (record { of_universal = refl; of_existential = refl; deeper = refl; known = refl; judged = refl });
+      without_3 = by_computing (1 ∷ []) (refused WrongPath 0) (record { of_universal = refl; of_existential = refl; deeper = refl; known = refl; judged = refl });
+      without_8 = by_computing (0 ∷ []) (refused WrongPath 0) (record { of_universal = refl; of_existential = refl; deeper = refl; known = refl; judged = refl });
+      no_clause = by_computing [] (refused WrongPath 0) (record { of_universal = refl; of_existential = refl; deeper = refl; known = refl; judged = refl });
+      apart_3_8 = by_computing (0 ∷ 3 ∷ 1 ∷ []) (refused WrongPath 1) (record { of_universal = refl; of_existential = refl; deeper = refl; known = refl; judged = refl });
+      always_true_3_8 = by_computing (5 ∷ []) (refused WrongPath 0) (record { of_universal = refl; of_existential = refl; deeper = refl; known = refl; judged = refl });
+      path_6_9 = by_computing (2 ∷ 3 ∷ []) accepted (record { of_universal = refl; of_existential = refl; deeper = refl; known = refl; judged = refl });
+      shallow_6_9 = by_computing (2 ∷ 3 ∷ 4 ∷ 3 ∷ []) (refused WrongPath 2) (record { of_universal = refl; of_existential = refl; deeper = refl; known = refl; judged = refl });
       number_over = refused_13 3 8 (1 ∷ 6 ∷ []) (inr (inr (1, lit≤ tt, lit≤ tt)));
       no_universal = refused_13 4 8 (1 ∷ []) (inl refl);
       not_deeper = refused_13 6 5 (2 ∷ 3 ∷ []) (inr (inl (inr (lit≤ tt))));

@@ -1,7 +1,7 @@
 -- The causes of refusals 13 and 24 for a path (rule 8.1, rule 11.2), the order of the call (rule 8.2), and what it promises.
 use Rattle.std.specs.Prelude.{ℕ, suc, ◌<◌, ◌≤◌, ◌≡◌, true, List, [], ◌∷◌, ◌⊎◌, ℤ, length}
 use Rattle.terms.specs.Refusals.{Causes, At0, Judged}
-use Rattle.terms.specs.declared.Verdict.{Verdict}
+use Rattle.terms.specs.Says.{Verdict}
 use Rattle.formula.specs.Causes.{VariableCount, LengthCause, ClauseCause}
 use Rattle.formula.specs.Lent.{Formula}
 use Rattle.formula.specs.Meaning.{clauses, always_true}

@@ -20,6 +20,7 @@ pub fn fill_begins(clauses: &[i32], begins: &mut [u16]) -> usize
     let mut seen = [0u16; Literal::ROWS];
     let mut count = 0;
     let mut start = 0;
+    // The next clause begins behind the 0 that closes this one.
     while start < clauses.len() {
         let end = next_zero(clauses, start);
         if clauses.len() <= end {
@@ -48,12 +49,5 @@ fn row_of(clauses: &[i32], start: usize, end: usize, seen: &mut [u16]) -> u16
 pub fn some_over(path: &[u32], count: usize) -> bool
     ensures told { Tells result (NumberOver count path.now) }
 {
-    let mut i = 0;
-    while i < path.len() {
-        if count <= path[i] as usize {
-            return true;
-        }
-        i += 1;
-    }
-    false
+    path.iter().any(|&number| count <= number as usize)
 }

@@ -18,8 +18,8 @@ ghost use Rattle.path_check.specs.InnerOrders.{pair_order};
 use begins::{fill_begins, some_over};
 use forest_tables::rows::{is_deeper, universal_at};
 use formula_levels::fill_levels;
-use formula_rules::{as_read, read_formula};
-use terms::{Filled, Level, Literal, Variable, Verdict};
+use formula_rules::take_formula;
+use terms::{Fault, Level, Literal, Refusal, Variable};
 use walk::follow;
 
 // Whether the path is acceptable for the pair (x, y), with the prefix read by a rule: its first clause has x, its last has y, neighbours share an
@@ -32,17 +32,12 @@ pub fn path_verdict(
     x: Variable,
     y: Variable,
     path: &[u32],
-) -> Verdict
+) -> Result<(), Refusal>
     ensures judged { PathJudged rule (formula_in n prefix clauses) x.0 y.0 path.now result }
 {
     let mut joined = [0u32; Level::JOINED];
-    match read_formula(rule, n, prefix, clauses, &mut joined) {
-        Filled::Refused(number, place) => Verdict::Refused(number, place),
-        Filled::Count(count) => {
-            let read = as_read(rule, prefix, &joined, count);
-            sound_path(n, read, clauses, x, y, path)
-        }
-    }
+    let read = take_formula(rule, n, prefix, clauses, &mut joined)?;
+    sound_path(n, read, clauses, x, y, path)
 }
 
 // What a path of an accepted formula is refused for, 13 or 24. Makes the level table of the prefix.
@@ -53,7 +48,7 @@ fn sound_path(
     x: Variable,
     y: Variable,
     path: &[u32],
-) -> Verdict
+) -> Result<(), Refusal>
     requires sound { SoundPrefix n prefix.now × SoundClauses clauses.now }
     ensures judged { Judged (pair_order (formula_in n prefix clauses) x.0 y.0 path.now) result }
 {
@@ -72,16 +67,16 @@ fn path_by_levels(
     x: Variable,
     y: Variable,
     path: &[u32],
-) -> Verdict
+) -> Result<(), Refusal>
     requires sound { SoundClauses clauses.now }
     ensures judged { (es : List ℕ) → SoundPrefix n es → Levelled es levels.now universals.now
         → Judged (pair_order (formula_of n es clauses.now) x.0 y.0 path.now) result }
 {
     if !universal_at(n, universals, x) {
-        return Verdict::Refused(13, 0);
+        return Err(Refusal(Fault::NotAskable, 0));
     }
     if !is_deeper(n, levels, universals, x, y) {
-        return Verdict::Refused(13, 0);
+        return Err(Refusal(Fault::NotAskable, 0));
     }
     known_pair(n, levels, universals, clauses, x, y, path)
 }
@@ -95,7 +90,7 @@ fn known_pair(
     x: Variable,
     y: Variable,
     path: &[u32],
-) -> Verdict
+) -> Result<(), Refusal>
     requires sound { SoundClauses clauses.now }
     ensures judged { Judged (At0 13 (NumberOver (length (Meaning·clauses clauses.now)) path.now)
         ∷ PathCause (tabled n levels.now universals.now) clauses.now x.0 y.0 path.now ∷ []) result }
@@ -103,7 +98,7 @@ fn known_pair(
     let mut begins = [0u16; Literal::ENTRIES];
     let count = fill_begins(clauses, &mut begins);
     if some_over(path, count) {
-        return Verdict::Refused(13, 0);
+        return Err(Refusal(Fault::NotAskable, 0));
     }
     follow(n, levels, universals, clauses, &begins, x, y, path)
 }

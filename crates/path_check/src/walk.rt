@@ -16,7 +16,7 @@ ghost use Rattle.path_check.specs.InnerWalk.{Joins, Known, Meets, Small, Stamped
 
 use forest_tables::rows::is_deeper;
 use formula::clauses::variable_at;
-use terms::{Variable, Verdict};
+use terms::{Fault, Refusal, Variable};
 
 // The first entry at which a path fails, every entry of which names a clause.
 pub fn follow(
@@ -28,26 +28,24 @@ pub fn follow(
     x: Variable,
     y: Variable,
     path: &[u32],
-) -> Verdict
+) -> Result<(), Refusal>
     requires known { SoundClauses clauses.now × Known clauses.now begins.now path.now }
     ensures judged { Judged (PathCause (tabled n levels.now universals.now)
         clauses.now x.0 y.0 path.now ∷ []) result }
 {
-    if path.len() == 0 {
-        return Verdict::Refused(24, 0);
+    if path.is_empty() {
+        return Err(Refusal(Fault::WrongPath, 0));
     }
     let mut stamps = [0u16; Variable::ROWS];
-    let mut i = 0;
-    while i < path.len() {
+    for i in 0..path.len() {
         if fails_at(
             n, levels, universals, clauses, begins, x, y, path, &stamps, i,
         ) {
-            return Verdict::Refused(24, i);
+            return Err(Refusal(Fault::WrongPath, i));
         }
         stamp_clause(clauses, begins, path, i, &mut stamps);
-        i += 1;
     }
-    Verdict::Accepted
+    Ok(())
 }
 
 // Whether a path fails at entry i, by the stamps of the clause before.
@@ -109,16 +107,14 @@ fn goes_on(
 fn has_variable(clauses: &[i32], start: usize, v: Variable) -> bool
     ensures told { (end : ℕ) → NextZero clauses.now start end → Tells result (Has clauses.now start end v.0) }
 {
-    let mut i = start;
-    while i < clauses.len() {
+    for i in start..clauses.len() {
         let variable = variable_at(clauses, i);
         if variable.0 == 0 {
             return false;
         }
-        if variable.0 == v.0 {
+        if variable == v {
             return true;
         }
-        i += 1;
     }
     false
 }
@@ -137,8 +133,7 @@ fn meets(
     ensures told { (end : ℕ) → NextZero clauses.now start end → Tells result (Meets (tabled n levels.now universals.now)
         clauses.now start end x.0 stamps.now stamp) }
 {
-    let mut i = start;
-    while i < clauses.len() {
+    for i in start..clauses.len() {
         let variable = variable_at(clauses, i);
         if variable.0 == 0 {
             return false;
@@ -146,7 +141,6 @@ fn meets(
         if is_met(n, levels, universals, x, stamps, stamp, variable) {
             return true;
         }
-        i += 1;
     }
     false
 }
@@ -174,8 +168,7 @@ fn is_met(
 fn stamp_at(stamps: &[u16], v: Variable) -> u16
     ensures own { result ≡ get_or stamps.now v.0 0 }
 {
-    let at = v.0 as usize;
-    if at < stamps.len() { stamps[at] } else { 0 }
+    stamps.get(v.0 as usize).copied().unwrap_or(0)
 }
 
 // Stamps the variables of the clause that entry i of a path names with its number, plus one.
@@ -196,13 +189,11 @@ fn stamp_entries(clauses: &[i32], start: usize, stamp: u16, stamps: &mut [u16])
     ensures stamped { (end : ℕ) → NextZero clauses.now start end
         → Stamped (Has clauses.now start end) stamp stamps.old stamps.new }
 {
-    let mut i = start;
-    while i < clauses.len() {
+    for i in start..clauses.len() {
         let variable = variable_at(clauses, i);
         if variable.0 == 0 {
             return;
         }
         stamps[variable.0 as usize] = stamp;
-        i += 1;
     }
 }

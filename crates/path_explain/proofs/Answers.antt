@@ -7,9 +7,11 @@ use native.Mathlib.Omega.{arith}
 use lib.IntN.{ℤ}
 use lib.ListN.{length}
 use lib.Seq.{ext_get_or}
+use Rattle.std.specs.Prelude.{Ok}
 use Rattle.terms.specs.Overwritten.{overwritten}
 use Rattle.terms.specs.Refusals.{NoneOf}
-use Rattle.terms.specs.declared.Filled.{Filled}
+use Rattle.terms.specs.Says.{refused}
+use Rattle.terms.specs.declared.Fault.TheVariants.{TooLittleRoom}
 use Rattle.terms.proofs.Common.{below_suc}
 use Rattle.terms.proofs.Verdicts.{at0_first, at0_none}
 use Rattle.formula.specs.Causes.{ClauseCause}
@@ -50,14 +52,14 @@ module _ {X : Variables} {ls : List ℤ} {signs : Signs} {x y : ℕ} where
   explains-one (none p _) (none q _) = p ∙ sym q
 
   -- What the call answers: nothing where there is no way, a refusal where the table is too short, and else the way.
-  pub listed-none : (before : List ℕ) → ((other : List ℕ) → Way X ls signs x y other → ⊥) → WayListed X ls signs x y before before (Filled.Count 0)
+  pub listed-none : (before : List ℕ) → ((other : List ℕ) → Way X ls signs x y other → ⊥) → WayListed X ls signs x y before before (Ok 0)
   listed-none before no_way = ((at0_none 14 (λ long. no_way long.0 long.1.way), tt), ([], none refl no_way, refl, refl))
 
-  pub listed-long : (before path : List ℕ) → Shortest X ls signs x y path → length before < length path → WayListed X ls signs x y before before (Filled.Refused 14 0)
+  pub listed-long : (before path : List ℕ) → Shortest X ls signs x y path → length before < length path → WayListed X ls signs x y before before (refused TooLittleRoom 0)
   listed-long before path s long = (inl (at0_first 14 (path, s, long)), refl)
 
   pub listed-way : (before after path : List ℕ) (count : ℕ) → FirstShortest X ls signs x y path → count ≡ length path → length path ≤ length before
-      → after ≡ overwritten path before → WayListed X ls signs x y before after (Filled.Count count)
+      → after ≡ overwritten path before → WayListed X ls signs x y before after (Ok count)
   listed-way before after path count f is room written =
       ((at0_none 14 (λ long. let same = shortest-long long.1 f.shortest in let over = long.2 in omega arith), tt), (path, by f, is, written))
 

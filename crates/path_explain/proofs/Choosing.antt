@@ -1,6 +1,6 @@
 -- Choices made entry by entry: the best clause to begin with, the nearest clause of each variable, and the lowest of those of a clause's variables.
 use Prim.Native.Nat.{ℕ, suc, ◌+◌, ◌<◌}
-use mathlib.Core.Path.{◌≡◌, refl, sym, ap, subst, ◌∙◌}
+use mathlib.Core.Path.{◌≡◌, sym, ap, subst, ◌∙◌}
 use mathlib.Core.List.{List}
 use mathlib.Core.Logic.{◌≢◌, ◌⊎◌, inl, inr, ⊎_elim, by_cases}
 use native.Mathlib.Decide.{ℕ_discrete, dec_lt}
@@ -25,21 +25,6 @@ module _ {R : ℤ → Type 0} {ls : List ℤ} {next : List ℕ} (i k : ℕ) wher
       by_cases (ℕ_discrete b.place i) (λ e. inr (subst (λ p. R (literal_at ls p)) e b.is, ap (owner_at next) (sym e) ∙ b.owner))
       (λ other. inl (record { place = b.place; before = let l = b.before in omega arith; owner = b.owner; is = b.is }))
 
-pub before_none : {R : ℤ → Type 0} {ls : List ℤ} {next : List ℕ} {k : ℕ} → Before R ls next 0 k → ⊥
-before_none b = let l = b.before in omega arith
-
--- An owner is no later than its own clause.
-leads_own : (dists : List ℕ) {r b : ℕ} → r ≡ suc b → Leads dists r b
-leads_own dists {b = b} q = (b, q, inr (refl, omega arith))
-
--- Of two owners the old one is kept, or the new one is taken.
-pub nearer_keep : (dists : List ℕ) (best owner : ℕ) → ((k : ℕ) → owner ≡ suc k → at dists k ≢ 0 → Leads dists best k) → Nearer dists best owner best
-nearer_keep dists best owner h = record { is = inl refl; one = λ b q. leads_own dists q; other = h }
-
-pub nearer_take : (dists : List ℕ) (best owner k : ℕ) → owner ≡ suc k → at dists k ≢ 0 → ((b : ℕ) → best ≡ suc b → Leads dists owner b)
-    → Nearer dists best owner owner
-nearer_take dists best owner k q some h = record { is = inr (refl, (k, q, some)); one = h; other = λ k' q' _. leads_own dists q' }
-
 -- What leads a clause leads all that come after it.
 leads_on : (dists : List ℕ) (r b k : ℕ) → Leads dists r b → NoLater dists b k → Leads dists r k
 leads_on dists r b k (a, q, first) then = (
@@ -48,9 +33,6 @@ leads_on dists r b k (a, q, first) then = (
   ⊎_elim (λ l. inl (⊎_elim (λ m. omega arith) (λ e. let d = e.0 in omega arith) then))
       (λ s. ⊎_elim (λ m. inl (let d = s.0 in omega arith)) (λ e. inr (s.0 ∙ e.0, let d = s.1 in let f = e.1 in omega arith)) then) first,
 )
-
-pub best_none : {Q : ℕ → Type 0} (dists : List ℕ) → ((k : ℕ) → Q k → ⊥) → Best Q dists 0
-best_none dists not' = record { found = inl refl; low = λ k q. absurd (not' k q) }
 
 module _ {Q Q' : ℕ → Type 0} {dists : List ℕ} {best : ℕ} (b : Best Q dists best) where
   pub best_same : ((k : ℕ) → Q k → Q' k) → ((k : ℕ) → Q' k → Q k) → Best Q' dists best
@@ -70,11 +52,7 @@ module _ {Q Q' : ℕ → Type 0} {dists : List ℕ} {best : ℕ} (b : Best Q dis
         low = λ k h some. ⊎_elim (λ old. let (a, q, later) = b.low k old some in leads_on dists r a k (n.one a q) later) (λ own. n.other k own some) (back k h);
       }
 
--- The nearest clause of a variable: none at first, then that of this entry, or what was known.
-pub nearest_none : {Q : ℕ → ℕ → Type 0} (dists rows : List ℕ) {nearest : List ℕ} → length nearest ≡ 4097 → ((v : ℕ) → at nearest v ≡ 0) → ((v k : ℕ) → Q v k → ⊥)
-    → Nearest Q dists rows nearest
-nearest_none dists rows size zeros not' = record { size = size; sound = λ v k q. absurd (let z = zeros v in omega arith); low = λ v k h. absurd (not' v k h) }
-
+-- The nearest clause of a variable: that of this entry, or what was known.
 module _ {Q Q' : ℕ → ℕ → Type 0} {dists rows nearest : List ℕ} (near : Nearest Q dists rows nearest) (v owner : ℕ)
     (there : (w k : ℕ) → Q w k → Q' w k) (new : (k : ℕ) → owner ≡ suc k → Q' v k) (back : (w k : ℕ) → Q' w k → Q w k ⊎ ((w ≡ v) × (owner ≡ suc k))) where
   pub nearest_more : v < length nearest → IsNearer dists owner (at rows v) (at nearest v) → Nearest Q' dists rows (set nearest v owner)
@@ -128,10 +106,7 @@ nearest_same there back near =
       low = λ v k h. near.low v k (back v k h);
     }
 
--- The lowest owner: at first none, and one variable more.
-pub lowest_none : {Q : ℕ → Type 0} (nearest : List ℕ) → ((v : ℕ) → Q v → ⊥) → Lowest Q nearest 0
-lowest_none nearest not' = record { found = inl refl; low = λ v q. absurd (not' v q) }
-
+-- The lowest owner: one variable more.
 module _ {Q Q' : ℕ → Type 0} {nearest : List ℕ} {best : ℕ} (l : Lowest Q nearest best) (there : (w : ℕ) → Q w → Q' w) where
   pub lowest_same : ((w : ℕ) → Q' w → Q w) → Lowest Q' nearest best
   lowest_same back = record { found = ⊎_elim inl (λ f. inr (f.0, there f.0 f.1, f.2)) l.found; low = λ w q. l.low w (back w q) }

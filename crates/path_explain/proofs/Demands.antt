@@ -10,8 +10,8 @@ use native.Mathlib.Omega.{arith}
 use lib.ListN.{length}
 use Rattle.terms.specs.Answers.{Filling}
 use Rattle.terms.specs.Refusals.{Causes, NoneOf}
-use Rattle.terms.specs.declared.Filled.{Filled}
 use Rattle.terms.specs.declared.Scheme.TheVariants.{Standard, Strict}
+use Rattle.terms.specs.Says.{Answer}
 use Rattle.terms.proofs.Answers.{filling-settled, carry-filling}
 use Rattle.terms.proofs.Orders.{Carries}
 use Rattle.formula.specs.Causes.{ClauseCause}
@@ -34,12 +34,12 @@ use Rattle.path_explain.proofs.Answers.{explains-one}
 use Rattle.path_explain.proofs.Reasons.{signs_by, way_depends, depends_way, way_follows, follows_way}
 
 -- What was lent settles the answer, and every entry of the table.
-pub explain_settled : (rule : ℕ) (f : Formula) (signs : Signs) (x y : ℕ) (before after after' : List ℕ) (r r' : Filled) → Explained rule f signs x y before after r
+pub explain_settled : (rule : ℕ) (f : Formula) (signs : Signs) (x y : ℕ) (before after after' : List ℕ) (r r' : Answer ℕ) → Explained rule f signs x y before after r
     → Explained rule f signs x y before after' r' → (r ≡ r') × (after ≡ after')
 explain_settled rule f signs x y before = filling-settled (explain_order rule f signs x y before) (ExplainsBy (read_by rule f) signs x y) (λ path other. explains-one) before
 
 -- Where rule 1 accepts the prefix, what is promised under one rule is promised under the other.
-pub explain_agrees : (f : Formula) (signs : Signs) (x y : ℕ) (before after : List ℕ) (r : Filled) → NoneOf (ruled_prefix 1 f.n f.prefix (length f.clauses))
+pub explain_agrees : (f : Formula) (signs : Signs) (x y : ℕ) (before after : List ℕ) (r : Answer ℕ) → NoneOf (ruled_prefix 1 f.n f.prefix (length f.clauses))
     → Explained 1 f signs x y before after r ↔ Explained 2 f signs x y before after r
 explain_agrees f signs x y before after r sound =
     (one_to_two S carry later f.n f.prefix (length f.clauses) sound, two_to_one S carry later f.n f.prefix (length f.clauses) sound)

@@ -181,7 +181,7 @@ module _ {X : Variables} (ls : List ℤ) (signs : Signs) {x y : ℕ} {flags : Li
   pub no_way : owner ≡ 0 → (other : List ℕ) → Way X ls signs x y other → ⊥
   no_way z other w = let (b, q, _) = begins_far w in omega arith
 
-  module _ {path : List ℕ} (some : owner ≢ 0) (s : Steps (Holds ls) (Flag flags) dists owner path) (long : 0 < length path) where
+  module _ {path : List ℕ} {first : ℕ} (is : owner ≡ suc first) (s : Steps (Holds ls) (Flag flags) dists first path) (long : 0 < length path) where
     first_far : at dists (at path 0) ≡ length path
     first_far = let q = s.far 0 long in omega arith
 
@@ -195,7 +195,7 @@ module _ {X : Variables} (ls : List ℤ) (signs : Signs) {x y : ℕ} {flags : Li
     begins_best k q = let b = s.begins long in omega arith
 
     opening : Opens signs ls x (at path 0)
-    opening = ⊎_elim (λ z. absurd (some z)) (λ f. let (k, q, o, _) = f in subst (Opens signs ls x) (begins_best k q) o.1) best.found
+    opening = ⊎_elim (λ z. absurd (omega arith)) (λ f. let (k, q, o, _) = f in subst (Opens signs ls x) (begins_best k q) o.1) best.found
 
     path_way : Way X ls signs x y path
     path_way =

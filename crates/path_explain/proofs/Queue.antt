@@ -37,17 +37,6 @@ module _ {rows queue : List ℕ} {tail : ℕ} (room : Room rows queue tail) {v :
       let one = zeros_set rows v row (omega arith) free some in
       record { row_size = length-set rows v row ∙ size; queue_size = length-set queue tail v ∙ room.queue_size; full = omega arith }
 
-pub pushed_none : {P : ℕ → Type 0} (row : ℕ) (rows queue : List ℕ) (tail : ℕ) → ((v : ℕ) → P v → ⊥) → Pushed P row rows queue tail rows queue tail
-pushed_none row rows queue tail not' =
-    record {
-      more = omega arith;
-      kept = λ i l. refl;
-      either = λ v. inl refl;
-      all = λ v p. absurd (not' v p);
-      new = λ i low high. absurd (omega arith);
-      queued = λ v z some. absurd (some z);
-    }
-
 module _ {P P' : ℕ → Type 0} {row : ℕ} {rows queue : List ℕ} {tail : ℕ} {mid line : List ℕ} {end : ℕ} (p : Pushed P row rows queue tail mid line end)
     (v : ℕ) (there : (w : ℕ) → P w → P' w) (back : (w : ℕ) → P' w → P w ⊎ (w ≡ v)) where
   -- A variable that is not new: it has a row, if P holds of it.

@@ -8,7 +8,7 @@ use native.Mathlib.Omega.{arith}
 use lib.ListN.{length, set, length-set, get_or-eq_default}
 use lib.Seq.{get_or-set_same, get_or-set_other}
 use Rattle.formula.specs.Tables.{at}
-use Rattle.path_explain.specs.InnerSearch.{Measured, Pushed, Searching, Kept}
+use Rattle.path_explain.specs.InnerSearch.{Pushed, Searching, Kept}
 
 pub kept_none : (dists rows queue : List ℕ) (tail : ℕ) → Kept dists rows queue tail dists rows queue tail
 kept_none dists rows queue tail = record { clause = λ k _. refl; row = λ v _. refl; queue_kept = λ i _. refl; tail_kept = omega arith; size = refl }
@@ -183,21 +183,6 @@ module _ {H : ℕ → ℕ → Type 0} {P : ℕ → Type 0} {y head d : ℕ} {dis
         },
         s.next head (omega arith) l,
       ))
-
-  -- None is left.
-  pub search_done : tail ≤ head → Measured H P y dists rows
-  search_done none =
-      record {
-        begun = s.begun;
-        clause_near = s.clause_near;
-        clause_far = λ k v h some.
-            let (i, l, q) = s.queued v some in
-            let (there, low) = s.done i k (omega arith) (subst (H k) (sym q) h) in
-            let e = ap (at rows) q in
-            (there, omega arith);
-        row_near = s.row_near;
-        row_far = s.row_far;
-      }
 
 -- At first y waits alone.
 pub search_start : {H : ℕ → ℕ → Type 0} {P : ℕ → Type 0} {y : ℕ} (dists rows queue : List ℕ) → P y → ((k : ℕ) → at dists k ≡ 0) → ((v : ℕ) → at rows v ≡ 0)

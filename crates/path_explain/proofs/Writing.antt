@@ -20,21 +20,22 @@ use Rattle.path_explain.specs.InnerTies.{Holds, Laid}
 use Rattle.path_explain.specs.InnerSearch.{Flag, Measured}
 use Rattle.path_explain.specs.InnerWays.{Nearest, Lowest, Onward, Steps}
 
--- The lowest of the nearest owners, by the variables that are as far as the clause, stands for the next clause.
+-- The lowest of the nearest owners, by the variables that are as far as the clause, stands for the next clause; there is one but at the end.
 module _ {ls : List ℤ} (flags : List Bool) {y : ℕ} {dists rows nearest : List ℕ} (m : Measured (Holds ls) (Flag flags) y dists rows)
-    (near : Nearest (λ v k. Holds ls k v) dists rows nearest) {k start end r : ℕ} (f : StandsFrom ls k start end) where
-  pub onward_next : (far : ℕ) → at dists k ≡ far → 1 < far → Lowest (λ v. Has ls start end v × (at rows v ≡ far)) nearest r
-      → (l : ℕ) × (r ≡ suc l) × Onward (Holds ls) (Flag flags) dists k l
-  onward_next far is high low = go low.found
-    where
-      -- a variable of the clause that is as far leads on
-      some : r ≢ 0
-      some =
-          let (v, may, h, q) = m.clause_near k (omega arith) in
-          ⊎_elim (λ own. let one = own.1 in absurd (omega arith))
-          (λ back. let (l, hl, there, row) = back in (low.low v ((from_has f v).0 h.1, q ∙ is) (near.low v l hl there row).0).0) (m.row_near v (omega arith)).1
+    (near : Nearest (λ v k. Holds ls k v) dists rows nearest) {k start end far : ℕ} (f : StandsFrom ls k start end) (is : at dists k ≡ far) where
+  abbrev Found : ℕ → Type 0
+  Found = Lowest (λ v. Has ls start end v × (at rows v ≡ far)) nearest
 
-      first : (l v : ℕ) → Flag flags v → Holds ls k v → Holds ls l v → at dists l ≢ 0 → at dists k ≡ suc (at dists l) → r - 1 ≤ l
+  pub onward_some : 1 < far → Found 0 → ⊥
+  onward_some high low =
+      let (v, may, h, q) = m.clause_near k (omega arith) in
+      ⊎_elim (λ own. let one = own.1 in absurd (omega arith))
+      (λ back. let (l, hl, there, row) = back in absurd ((low.low v ((from_has f v).0 h.1, q ∙ is) (near.low v l hl there row).0).0 refl)) (m.row_near v (omega arith)).1
+
+  pub onward_next : {next : ℕ} → Found (suc next) → Onward (Holds ls) (Flag flags) dists k next
+  onward_next {next} low = go low.found
+    where
+      first : (l v : ℕ) → Flag flags v → Holds ls k v → Holds ls l v → at dists l ≢ 0 → at dists k ≡ suc (at dists l) → next ≤ l
       first l v may hk hl there q =
           let (row, upper) = m.row_far l v may hl there in
           let (_, lower) = m.clause_far k v hk row in
@@ -42,24 +43,19 @@ module _ {ls : List ℤ} (flags : List Bool) {y : ℕ} {dists rows nearest : Lis
           let (_, less) = low.low v ((from_has f v).0 hk.1, omega arith) set' in
           omega arith
 
-      go : (r ≡ 0) ⊎ ((v : ℕ) × (Has ls start end v × (at rows v ≡ far)) × (at nearest v ≡ r)) → (l : ℕ) × (r ≡ suc l) × Onward (Holds ls) (Flag flags) dists k l
-      go (inl z) = absurd (some z)
+      go : (suc next ≡ 0) ⊎ ((v : ℕ) × (Has ls start end v × (at rows v ≡ far)) × (at nearest v ≡ suc next)) → Onward (Holds ls) (Flag flags) dists k next
+      go (inl z) = absurd (omega arith)
       go (inr (v, (h, row), q)) =
-          let s = some in
-          let e : r ≡ suc (r - 1) = omega arith in
-          let (hl, there, one) = near.sound v (r - 1) (q ∙ e) in (
-            r - 1,
-            e,
-            record {
-              via = v;
-              may = (m.row_near v (omega arith)).0;
-              left = (f.not-true, (from_has f v).1 h);
-              right = hl;
-              nearer = omega arith;
-              some = there;
-              first = first;
-            },
-          )
+          let (hl, there, one) = near.sound v next q in
+          record {
+            via = v;
+            may = (m.row_near v (omega arith)).0;
+            left = (f.not-true, (from_has f v).1 h);
+            right = hl;
+            nearer = omega arith;
+            some = there;
+            first = first;
+          }
 
 -- A clause with a distance is one of the table, and has a row.
 pub clause_begins : {ls : List ℤ} {begins : List ℕ} (flags : List Bool) {y : ℕ} {dists rows : List ℕ} → Laid ls begins → Measured (Holds ls) (Flag flags) y dists rows
@@ -69,59 +65,48 @@ clause_begins {ls} flags laid m k some =
     let less = in_count ls k v h.1 in
     (less, begin_plain (laid.rows.rows k less) h.0)
 
--- What is written before i, and the owner of the clause that comes there.
-pub record Writing (H : ℕ → ℕ → Type 0) (P : ℕ → Type 0) (dists : List ℕ) (first count : ℕ) (out : List ℕ) (owner left i : ℕ) : Type 0 where
-  pub begins : 0 < i → suc (at out 0) ≡ first
+-- What is written before i, and the clause that comes there.
+pub record Writing (H : ℕ → ℕ → Type 0) (P : ℕ → Type 0) (dists : List ℕ) (first count : ℕ) (out : List ℕ) (clause i : ℕ) : Type 0 where
+  pub begins : 0 < i → at out 0 ≡ first
   pub far : (j : ℕ) → j < i → at dists (at out j) + j ≡ count
   pub steps : (j : ℕ) → suc j < i → Onward H P dists (at out j) (at out (suc j))
-  pub comes : 0 < left → (k : ℕ) × (owner ≡ suc k) × (at dists k ≡ left) × (i ≡ 0 → owner ≡ first) × ((j : ℕ) → suc j ≡ i → Onward H P dists (at out j) k)
+  pub comes : i < count → (at dists clause + i ≡ count) × (i ≡ 0 → clause ≡ first) × ((j : ℕ) → suc j ≡ i → Onward H P dists (at out j) clause)
 
 module _ {H : ℕ → ℕ → Type 0} {P : ℕ → Type 0} {dists : List ℕ} {first count : ℕ} {out : List ℕ} where
-  pub writing_none : (k : ℕ) → first ≡ suc k → at dists k ≡ count → Writing H P dists first count out first count 0
-  writing_none k q far =
+  pub writing_more : {clause i : ℕ} → Writing H P dists first count out clause i → i < count → i < length out → (next : ℕ)
+      → (at dists clause ≡ count - i → 1 < count - i → Onward H P dists clause next) → Writing H P dists first count (set out i clause) next (i + 1)
+  writing_more {clause} {i} w some room next onward =
+      let (far, begins, last) = w.comes some in
       record {
-        begins = λ l. absurd (omega arith);
-        far = λ j l. absurd (omega arith);
-        steps = λ j l. absurd (omega arith);
-        comes = λ _. (k, q, far, (λ _. refl), λ j e. absurd (omega arith));
-      }
-
-  pub writing_more : {owner left i : ℕ} → Writing H P dists first count out owner left i → 0 < left → i + left ≡ count → i < length out → (owner' : ℕ)
-      → ((k : ℕ) → owner ≡ suc k → at dists k ≡ left → 1 < left → (l : ℕ) × (owner' ≡ suc l) × Onward H P dists k l)
-      → Writing H P dists first count (set out i (owner - 1)) owner' (left - 1) (i + 1)
-  writing_more {owner} {left} {i} w some sum room owner' next =
-      let (k, q, far, begins, last) = w.comes some in
-      let is : owner - 1 ≡ k = omega arith in
-      record {
-        begins = λ l. by_cases (ℕ_discrete i 0) (λ z. ap suc (ap (at out') (sym z) ∙ own ∙ is) ∙ sym q ∙ begins z) (λ s. ap suc (other 0 (λ e. s (sym e))) ∙ w.begins (omega arith));
+        begins = λ l. by_cases (ℕ_discrete i 0) (λ z. ap (at out') (sym z) ∙ own ∙ begins z) (λ s. other 0 (λ e. s (sym e)) ∙ w.begins (omega arith));
         far = λ j l.
-            by_cases (ℕ_discrete j i) (λ e. let a = ap (at dists) (ap (at out') e ∙ own ∙ is) in omega arith)
+            by_cases (ℕ_discrete j i) (λ e. let a = ap (at dists) (ap (at out') e ∙ own) in omega arith)
             (λ o. let a = ap (at dists) (other j o) in let b = w.far j (omega arith) in omega arith);
         steps = λ j l.
             by_cases (ℕ_discrete (suc j) i)
-            (λ e. subst₂ (Onward H P dists) (sym (other j (λ same. omega arith))) (sym (ap (at out') e ∙ own ∙ is)) (last j e))
+            (λ e. subst₂ (Onward H P dists) (sym (other j (λ same. omega arith))) (sym (ap (at out') e ∙ own)) (last j e))
             (λ o. subst₂ (Onward H P dists) (sym (other j (λ same. omega arith))) (sym (other (suc j) o)) (w.steps j (omega arith)));
         comes = λ more.
-            let (l, p, o) = next k q far (omega arith) in
+            let o = onward (omega arith) (omega arith) in
             let nearer = o.nearer in
-            (l, p, omega arith, (λ z. absurd (omega arith)), λ j e. let same : j ≡ i = omega arith in subst (λ a. Onward H P dists a l) (sym (ap (at out') same ∙ own ∙ is)) o);
+            (omega arith, (λ z. absurd (omega arith)), λ j e. let same : j ≡ i = omega arith in subst (λ a. Onward H P dists a next) (sym (ap (at out') same ∙ own)) o);
       }
     where
       out' : List ℕ
-      out' = set out i (owner - 1)
+      out' = set out i clause
 
-      own : at (set out i (owner - 1)) i ≡ owner - 1
-      own = get_or-set_same out i (owner - 1) 0 room
+      own : at (set out i clause) i ≡ clause
+      own = get_or-set_same out i clause 0 room
 
-      other : (j : ℕ) → j ≢ i → at (set out i (owner - 1)) j ≡ at out j
-      other j o = get_or-set_other out i j (owner - 1) 0 o
+      other : (j : ℕ) → j ≢ i → at (set out i clause) j ≡ at out j
+      other j o = get_or-set_other out i j clause 0 o
 
   -- At the end the path stands in front.
-  pub written : {owner left i : ℕ} → Writing H P dists first count out owner left i → i ≡ count → count ≤ length out → Steps H P dists first (take count out)
+  written : {clause i : ℕ} → Writing H P dists first count out clause i → i ≡ count → count ≤ length out → Steps H P dists first (take count out)
   written {i = i} w all room =
       let size = length-take-le count out room in
       record {
-        begins = λ l. ap suc (front 0 (omega arith)) ∙ w.begins (omega arith);
+        begins = λ l. front 0 (omega arith) ∙ w.begins (omega arith);
         far = λ j l. let a = ap (at dists) (front j (omega arith)) in let b = w.far j (omega arith) in omega arith;
         steps = λ j l. subst₂ (Onward H P dists) (sym (front j (omega arith))) (sym (front (suc j) (omega arith))) (w.steps j (omega arith));
       }
@@ -130,7 +115,7 @@ module _ {H : ℕ → ℕ → Type 0} {P : ℕ → Type 0} {dists : List ℕ} {f
       front j l = get_or-take count out j 0 l
 
 -- What stands behind the path is what stood there.
-pub behind_kept : (count : ℕ) (before out : List ℕ) → length out ≡ length before → count ≤ length out → ((e : ℕ) → count ≤ e → at out e ≡ at before e)
+behind_kept : (count : ℕ) (before out : List ℕ) → length out ≡ length before → count ≤ length out → ((e : ℕ) → count ≤ e → at out e ≡ at before e)
     → out ≡ overwritten (take count out) before
 behind_kept count before out size room same =
     sym (take-append-drop count out) ∙ ap (λ rest. take count out ++ rest) (rest ∙ ap (λ k. drop k before) (sym (length-take-le count out room)))
@@ -139,3 +124,11 @@ behind_kept count before out size room same =
     rest =
         ext_get_or 0 (drop count out) (drop count before) (length-drop count out ∙ ap (λ k. k - count) size ∙ sym (length-drop count before))
         (λ i l. get_or-drop count out i 0 ∙ same (count + i) (omega arith) ∙ sym (get_or-drop count before i 0))
+
+-- So all of it is written, with nothing past it changed.
+pub way_there : {H : ℕ → ℕ → Type 0} {P : ℕ → Type 0} {dists : List ℕ} {first count : ℕ} {out : List ℕ} {clause i : ℕ} → Writing H P dists first count out clause i
+    → i ≡ count → (before : List ℕ) → length out ≡ length before → count ≤ length before → ((e : ℕ) → i ≤ e → at out e ≡ at before e)
+    → (path : List ℕ) × (length path ≡ count) × Steps H P dists first path × (out ≡ overwritten path before)
+way_there {count = count} {out = out} w all before size room same =
+    let enough : count ≤ length out = omega arith in
+    (take count out, length-take-le count out enough, written w all enough, behind_kept count before out size enough (λ e l. same e (omega arith)))

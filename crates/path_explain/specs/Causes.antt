@@ -2,7 +2,7 @@
 use Rattle.std.specs.Prelude.{ℕ, ◌<◌, List, [], ◌∷◌, length}
 use Rattle.terms.specs.Answers.{Filling}
 use Rattle.terms.specs.Refusals.{Causes, At0}
-use Rattle.terms.specs.declared.Filled.{Filled}
+use Rattle.terms.specs.Says.{Answer}
 use Rattle.formula.specs.Causes.{VariableCount, LengthCause, ClauseCause}
 use Rattle.formula.specs.Lent.{Formula}
 use Rattle.formula_rules.specs.Rules.{read_as, read_by, RuleCause, PrefixCauseBy}
@@ -27,5 +27,5 @@ explain_order rule f signs x y before =
 
 -- What explain promises: its refusals in their order, the way in front of the lent output, by the formula as the rule reads it, and the count of its
 -- clauses, which is 0 where there is none.
-abbrev pub Explained : ℕ → Formula → Signs → ℕ → ℕ → List ℕ → List ℕ → Filled → Type 0
+abbrev pub Explained : ℕ → Formula → Signs → ℕ → ℕ → List ℕ → List ℕ → Answer ℕ → Type 0
 Explained rule f signs x y before = Filling (explain_order rule f signs x y before) (ExplainsBy (read_by rule f) signs x y) before

@@ -1,5 +1,5 @@
 -- Inner: which clause a way begins with, and which one comes next. What a reader must believe is in Ways and Causes.
-use Rattle.std.specs.Prelude.{ℕ, suc, ◌+◌, ◌≤◌, ◌<◌, ◌≡◌, Bool, List, ◌≢◌, ◌⊎◌, ℤ, length}
+use Rattle.std.specs.Prelude.{ℕ, suc, ◌+◌, ◌≤◌, ◌<◌, ◌≡◌, Bool, Option, None, Some, List, ◌≢◌, ◌⊎◌, ℤ, length}
 use Rattle.terms.specs.Literals.{variable_of}
 use Rattle.terms.specs.Limits.{clause_entries}
 use Rattle.terms.specs.InnerLimits.{variable_rows}
@@ -9,6 +9,11 @@ use Rattle.forest_entries.specs.declared.Signs.{Signs}
 use Rattle.forest_tables.specs.Formula.{signed}
 use Rattle.path_explain.specs.InnerTies.{owner_at, Holds, Laid}
 use Rattle.path_explain.specs.InnerSearch.{Flag, Measured}
+
+-- the owner of a clause that may be there: one more than its number, and 0 where there is none
+abbrev pub owner_told : Option ℕ → ℕ
+owner_told None = 0
+owner_told (Some clause) = suc clause
 
 -- a literal is one of x by the signs
 abbrev pub OpensBy : Signs → ℕ → ℤ → Type 0
@@ -82,9 +87,9 @@ pub record Onward (H : ℕ → ℕ → Type 0) (P : ℕ → Type 0) (dists : Lis
   pub some : at dists m ≢ 0
   pub first : (l v : ℕ) → P v → H k v → H l v → at dists l ≢ 0 → at dists k ≡ suc (at dists l) → m ≤ l
 
--- a path of so many clauses that begins with the clause of an owner, and goes on to the next
-pub record Steps (H : ℕ → ℕ → Type 0) (P : ℕ → Type 0) (dists : List ℕ) (owner : ℕ) (path : List ℕ) : Type 0 where
-  pub begins : 0 < length path → suc (at path 0) ≡ owner
+-- a path that begins with a clause, from each goes on to the next, and has as many clauses as the first is far
+pub record Steps (H : ℕ → ℕ → Type 0) (P : ℕ → Type 0) (dists : List ℕ) (first : ℕ) (path : List ℕ) : Type 0 where
+  pub begins : 0 < length path → at path 0 ≡ first
   pub far : (i : ℕ) → i < length path → at dists (at path i) + i ≡ length path
   pub steps : (i : ℕ) → suc i < length path → Onward H P dists (at path i) (at path (suc i))
 
@@ -93,9 +98,9 @@ abbrev pub Owners : List ℕ → ℕ → Type 0
 Owners next size = (size ≤ length next) × ((e : ℕ) → owner_at next e ≤ clause_entries)
 
 -- all that is known when a way is written: the clauses, the distances, the nearest clause of each variable, and the clause that it begins with
-pub record Ready (ls : List ℤ) (begins : List ℕ) (flags : List Bool) (y : ℕ) (dists rows nearest : List ℕ) (owner count : ℕ) : Type 0 where
+pub record Ready (ls : List ℤ) (begins : List ℕ) (flags : List Bool) (y : ℕ) (dists rows nearest : List ℕ) (first count : ℕ) : Type 0 where
   pub laid : Laid ls begins
   pub measured : Measured (Holds ls) (Flag flags) y dists rows
   pub size : length rows ≡ variable_rows
   pub near : Nearest (λ v k. Holds ls k v) dists rows nearest
-  pub first : (k : ℕ) × (owner ≡ suc k) × (at dists k ≡ count)
+  pub far : at dists first ≡ count

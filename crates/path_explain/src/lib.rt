@@ -22,10 +22,10 @@ ghost use Rattle.path_explain.specs.InnerOrders.{SoundExplained, WayListed};
 use forest_entries::Signs;
 use forest_tables::rows::{is_deeper, universal_at};
 use formula_levels::fill_levels;
-use formula_rules::{as_read, read_formula};
+use formula_rules::take_formula;
 use path_check::begins::fill_begins;
 use search::search;
-use terms::{Filled, Level, Literal, Variable};
+use terms::{Fault, Level, Literal, Refusal, Variable};
 use ties::{flag_deeper, tie};
 use ways::{fill_nearest, first_clause, write_way};
 
@@ -40,17 +40,12 @@ pub fn explain(
     y: Variable,
     signs: Signs,
     out: &mut [u32],
-) -> Filled
+) -> Result<u32, Refusal>
     ensures explained { Explained rule (formula_in n prefix clauses) signs x.0 y.0 out.old out.new result }
 {
     let mut joined = [0u32; Level::JOINED];
-    match read_formula(rule, n, prefix, clauses, &mut joined) {
-        Filled::Refused(number, place) => Filled::Refused(number, place),
-        Filled::Count(count) => {
-            let read = as_read(rule, prefix, &joined, count);
-            sound_explain(n, read, clauses, x, y, signs, out)
-        }
-    }
+    let read = take_formula(rule, n, prefix, clauses, &mut joined)?;
+    sound_explain(n, read, clauses, x, y, signs, out)
 }
 
 // The path of an accepted formula, by the level table of its prefix.
@@ -62,7 +57,7 @@ fn sound_explain(
     y: Variable,
     signs: Signs,
     out: &mut [u32],
-) -> Filled
+) -> Result<u32, Refusal>
     requires sound { SoundPrefix n prefix.now × SoundClauses clauses.now × Closed clauses.now }
     ensures explained { SoundExplained (formula_in n prefix clauses) signs x.0 y.0 out.old out.new result }
 {
@@ -82,16 +77,16 @@ fn explain_by_levels(
     y: Variable,
     signs: Signs,
     out: &mut [u32],
-) -> Filled
+) -> Result<u32, Refusal>
     requires sound { SoundClauses clauses.now × Closed clauses.now × (n ≤ most_variables) }
     ensures explained { (es : List ℕ) → SoundPrefix n es → Levelled es levels.now universals.now
         → SoundExplained (formula_of n es clauses.now) signs x.0 y.0 out.old out.new result }
 {
     if !universal_at(n, universals, x) {
-        return Filled::Refused(13, 0);
+        return Err(Refusal(Fault::NotAskable, 0));
     }
     if !is_deeper(n, levels, universals, x, y) {
-        return Filled::Refused(13, 0);
+        return Err(Refusal(Fault::NotAskable, 0));
     }
     let mut flags = [false; Variable::ROWS];
     flag_deeper(n, levels, universals, x, &mut flags);
@@ -106,7 +101,7 @@ fn explain_flagged(
     y: Variable,
     signs: Signs,
     out: &mut [u32],
-) -> Filled
+) -> Result<u32, Refusal>
     requires sound { SoundClauses clauses.now × Closed clauses.now }
     requires flagged { (length flags.now ≡ variable_rows) × Flag flags.now y.0 × (x.0 ≢ 0) }
     ensures explained { (X : Variables) → FlagsDeeper X x.0 flags.now
@@ -131,7 +126,7 @@ fn explain_tied(
     y: Variable,
     signs: Signs,
     out: &mut [u32],
-) -> Filled
+) -> Result<u32, Refusal>
     requires tied { Laid clauses.now begins.now × Tied clauses.now first.now next.now }
     requires flagged { (length flags.now ≡ variable_rows) × Flag flags.now y.0 × (x.0 ≢ 0) }
     ensures explained { (X : Variables) → FlagsDeeper X x.0 flags.now
@@ -142,16 +137,15 @@ fn explain_tied(
     search(
         clauses, begins, first, next, flags, y, &mut dists, &mut rows,
     );
-    let owner = first_clause(clauses, next, &dists, x, signs);
-    if owner == 0 {
-        return Filled::Count(0);
-    }
-    let count = dists[(owner - 1) as usize];
+    let Some(begin) = first_clause(clauses, next, &dists, x, signs) else {
+        return Ok(0);
+    };
+    let count = dists[begin as usize];
     if out.len() < count as usize {
-        return Filled::Refused(14, 0);
+        return Err(Refusal(Fault::TooLittleRoom, 0));
     }
     let mut nearest = [0u32; Variable::ROWS];
     fill_nearest(clauses, next, &dists, &rows, &mut nearest);
-    write_way(clauses, begins, &rows, &nearest, owner, count, out);
-    Filled::Count(count as u32)
+    write_way(clauses, begins, &rows, &nearest, begin, count, out);
+    Ok(u32::from(count))
 }

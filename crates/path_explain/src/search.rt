@@ -39,6 +39,7 @@ pub fn search(
     queue[0] = y.0 as u16;
     let mut tail: usize = 1;
     let mut head: usize = 0;
+    // A queue: what is found is put behind it, so that its end moves.
     while head < tail {
         let variable = queue[head] as usize;
         tail = follow(
@@ -83,6 +84,7 @@ fn follow(
 {
     let mut end = tail;
     let mut at = head;
+    // A walk along the chain: the next entry is the one that the row names.
     while at != 0 {
         let pair = unpack(next[(at - 1) as usize]);
         end = enter(
@@ -143,8 +145,7 @@ fn push(
         rows.old queue.old tail rows.new queue.new result }
 {
     let mut end = tail;
-    let mut i = start;
-    while i < clauses.len() {
+    for i in start..clauses.len() {
         let variable = variable_at(clauses, i);
         if variable.0 == 0 {
             return end;
@@ -154,9 +155,6 @@ fn push(
             rows[at] = row;
             queue[end] = at as u16;
             end += 1;
-            i += 1;
-        } else {
-            i += 1;
         }
     }
     end
@@ -166,11 +164,5 @@ fn push(
 fn is_new(flag: bool, row: u16) -> bool
     ensures told { Tells result ((flag ≡ true) × (row ≡ 0)) }
 {
-    if !flag {
-        return false;
-    }
-    if row != 0 {
-        return false;
-    }
-    true
+    flag && row == 0
 }

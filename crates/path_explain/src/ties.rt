@@ -18,9 +18,7 @@ pub fn flag_deeper(n: u32, levels: &[u32], universals: &[bool], x: Variable, fla
     requires room { (n ≤ most_variables) × (length flags.old ≡ variable_rows) × ((v : ℕ) → get_or flags.old v false ≡ false) }
     ensures flagged { FlagsDeeper (tabled n levels.now universals.now) x.0 flags.new }
 {
-    let mut v: u32 = 0;
-    while v < n {
-        v += 1;
+    for v in 1..=n {
         flags[v as usize] = is_deeper(n, levels, universals, x, Variable::new(v));
     }
 }
@@ -31,19 +29,14 @@ pub fn tie(clauses: &[i32], begins: &[u16], first: &mut [u32], next: &mut [u32])
     ensures tied { Tied clauses.now first.new next.new }
 {
     let mut number: usize = 0;
-    let mut i: usize = 0;
-    while i < clauses.len() {
+    for i in 0..clauses.len() {
         let variable = variable_at(clauses, i);
         if variable.0 == 0 {
             number += 1;
-            i += 1;
-        } else if begins[number] == 0 {
-            i += 1;
-        } else {
+        } else if begins[number] != 0 {
             let at = variable.0 as usize;
             next[i] = pack(first[at], (number + 1) as u32);
-            i += 1;
-            first[at] = i as u32;
+            first[at] = (i + 1) as u32;
         }
     }
 }

@@ -7,7 +7,7 @@ use lib.ListN.{length}
 use Rattle.terms.specs.Answers.{Listing}
 use Rattle.terms.specs.Listed.{Listed}
 use Rattle.terms.specs.Refusals.{Causes, NoneOf}
-use Rattle.terms.specs.declared.Filled.{Filled}
+use Rattle.terms.specs.Says.{Answer}
 use Rattle.terms.proofs.Answers.{listing-settled, carry-filling}
 use Rattle.terms.proofs.Orders.{Carries}
 use Rattle.formula.specs.Causes.{ClauseCause}
@@ -19,7 +19,7 @@ use Rattle.path_resolution.specs.Paths.{DependsByPaths, resolution_order, Resolu
 use Rattle.path_resolution.specs.InnerEnds.{behind_resolution}
 
 -- Where rule 1 accepts the prefix, what is promised under one rule is promised under the other.
-pub resolution_agrees : (f : Formula) (x : ℕ) (before after : List ℕ) (r : Filled) → NoneOf (ruled_prefix 1 f.n f.prefix (length f.clauses))
+pub resolution_agrees : (f : Formula) (x : ℕ) (before after : List ℕ) (r : Answer ℕ) → NoneOf (ruled_prefix 1 f.n f.prefix (length f.clauses))
     → ResolutionListed 1 f x before after r ↔ ResolutionListed 2 f x before after r
 resolution_agrees f x before after r none =
     (one_to_two S carry later f.n f.prefix (length f.clauses) none, two_to_one S carry later f.n f.prefix (length f.clauses) none)
@@ -37,7 +37,7 @@ resolution_agrees f x before after r none =
     later read = ClauseCause f.n f.clauses ∷ behind_resolution (with_prefix read) x before
 
 -- Any two answers that the promise allows are equal, and so are the tables that they leave.
-pub resolution_settled : (rule : ℕ) (f : Formula) (x : ℕ) (before after after' : List ℕ) (r r' : Filled)
+pub resolution_settled : (rule : ℕ) (f : Formula) (x : ℕ) (before after after' : List ℕ) (r r' : Answer ℕ)
     → ResolutionListed rule f x before after r → ResolutionListed rule f x before after' r' → (r ≡ r') × (after ≡ after')
 resolution_settled rule f x before =
     listing-settled (resolution_order rule f x before) (DependsByPaths (variables_of (read_by rule f)) f.clauses x) before

@@ -59,31 +59,32 @@ threads_chained {ls = ls} few read size room t =
           ∙ get_or-replicate 513 (variable_of (literal_at ls p)) true false (let most = read.upto p in omega arith)) (inside_less inside) inside connecting refl;
     }
 
--- What is barred up to v, one variable after the other.
-abbrev pub BarredTo : Variables → ℕ → List Bool → ℕ → Type 0
-BarredTo X x marks v = (l : ℤ) → 1 ≤ variable_of l → variable_of l ≤ v → (marked marks l ≡ false) ↔ Deeper X x (variable_of l)
+-- What is barred before v, one variable after the other.
+abbrev pub BarredBefore : Variables → ℕ → List Bool → ℕ → Type 0
+BarredBefore X x marks v = (l : ℤ) → 1 ≤ variable_of l → variable_of l < v → (marked marks l ≡ false) ↔ Deeper X x (variable_of l)
 
 -- a flag that is the negation of what tells whether P holds is not set exactly if P holds
 not_told : {P : Type 0} (r : Bool) → Tells r P → (not r ≡ false) ↔ P
 not_told true p = (λ _. p, λ _. refl)
 not_told false none = (λ q. absurd (clash refl q), λ p. absurd (none p))
 
-module _ (X : Variables) (x v row : ℕ) (r : Bool) (marks : List Bool) (is : row ≡ (v + 1) + (v + 1)) (room : row + 1 < length marks) (told : Tells r (Deeper X x (v + 1))) where
+-- The two rows of v.
+module _ (X : Variables) (x v row : ℕ) (r : Bool) (marks : List Bool) (is : row ≡ v + v) (room : row + 1 < length marks) (told : Tells r (Deeper X x v)) where
   abbrev once : List Bool
   once = set marks row (not r)
 
   abbrev twice : List Bool
   twice = set once (row + 1) (not r)
 
-  pub bar_more : BarredTo X x marks v → BarredTo X x twice (v + 1)
-  bar_more old l low high = by_cases (ℕ_discrete (variable_of l) (v + 1)) new (λ other. subst (λ b. (b ≡ false) ↔ Deeper X x (variable_of l)) (sym (same other)) (old l low (omega arith)))
+  pub bar_more : BarredBefore X x marks v → BarredBefore X x twice (v + 1)
+  bar_more old l low high = by_cases (ℕ_discrete (variable_of l) v) new (λ other. subst (λ b. (b ≡ false) ↔ Deeper X x (variable_of l)) (sym (same other)) (old l low (omega arith)))
     where
-      same : variable_of l ≢ v + 1 → marked twice l ≡ marked marks l
+      same : variable_of l ≢ v → marked twice l ≡ marked marks l
       same other =
           get_or-set_other once (row + 1) (row_of l) (not r) false (λ q. ⊎_elim (λ e. omega arith) (λ e. omega arith) (row_either l))
           ∙ get_or-set_other marks row (row_of l) (not r) false (λ q. ⊎_elim (λ e. omega arith) (λ e. omega arith) (row_either l))
 
-      here : variable_of l ≡ v + 1 → marked twice l ≡ not r
+      here : variable_of l ≡ v → marked twice l ≡ not r
       here q =
           let size = length-set marks row (not r) in
           ⊎_elim
@@ -93,23 +94,8 @@ module _ (X : Variables) (x v row : ℕ) (r : Bool) (marks : List Bool) (is : ro
           ap (λ k. get_or twice k false) at ∙ get_or-set_same once (row + 1) (not r) false (omega arith))
           (row_either l)
 
-      new : variable_of l ≡ v + 1 → (marked twice l ≡ false) ↔ Deeper X x (variable_of l)
+      new : variable_of l ≡ v → (marked twice l ≡ false) ↔ Deeper X x (variable_of l)
       new q = subst (λ b. (b ≡ false) ↔ Deeper X x (variable_of l)) (sym (here q)) (subst (λ w. (not r ≡ false) ↔ Deeper X x w) (sym q) (not_told r told))
-
-  pub bar_size : length twice ≡ length marks
-  bar_size = length-set once (row + 1) (not r) ∙ length-set marks row (not r)
-
--- Flags of the variables up to v, one after the other.
-told_is : {P : Type 0} (r : Bool) → Tells r P → (r ≡ true) ↔ P
-told_is true p = (λ _. p, λ _. refl)
-told_is false none = (λ q. absurd (clash q refl), λ p. absurd (none p))
-
-pub flag_more : (P : ℕ → Type 0) (flags : List Bool) (v : ℕ) (r : Bool) → v + 1 < length flags → Tells r (P (v + 1))
-    → ((w : ℕ) → 1 ≤ w → w ≤ v → (get_or flags w false ≡ true) ↔ P w) → (w : ℕ) → 1 ≤ w → w ≤ v + 1 → (get_or (set flags (v + 1) r) w false ≡ true) ↔ P w
-flag_more P flags v r room told old w low high =
-    by_cases (ℕ_discrete w (v + 1))
-    (λ q. subst (λ b. (b ≡ true) ↔ P w) (sym (ap (λ k. get_or (set flags (v + 1) r) k false) q ∙ get_or-set_same flags (v + 1) r false room)) (subst (λ k. (r ≡ true) ↔ P k) (sym q) (told_is r told)))
-    (λ other. subst (λ b. (b ≡ true) ↔ P w) (sym (get_or-set_other flags (v + 1) w r false other)) (old w low (omega arith)))
 
 -- Opposite literals of y in two tables.
 crossed : (a b c d : Bool) → ((a && b || c && d) ≡ true) ↔ (((a ≡ true) × (b ≡ true)) ⊎ ((c ≡ true) × (d ≡ true)))

@@ -97,9 +97,6 @@ pub record Stepping (ls : List ℤ) (heads next : List ℕ) (l : ℤ) (before af
   pub behind : (p : ℕ) → On next p (get_or heads (variable_of l) 0)
       → On next p k ⊎ (literal_at ls p ≡ neg_ℤ l → (m : ℤ) → Leaves ls p m → marked after m ≡ true)
 
-pub step_none : (ls : List ℤ) (heads next : List ℕ) (l : ℤ) (marks : List Bool) → Stepping ls heads next l marks marks (get_or heads (variable_of l) 0)
-step_none ls heads next l marks = record { grown = grown_none marks; ahead = λ p o. o; behind = λ p o. inl o }
-
 module _ {ls : List ℤ} {heads next : List ℕ} (chained : Chained ls heads next) {l : ℤ} {before after : List Bool} {k : ℕ}
     (s : Stepping ls heads next l before after k) where
   module _ (some : k ≢ 0) where

@@ -3,7 +3,7 @@ use Rattle.std.specs.Prelude.{ℕ, ◌≤◌, ◌≡◌, Bool, true, false, not,
 use Rattle.terms.specs.Answers.{Listing}
 use Rattle.terms.specs.Literals.{variable_of}
 use Rattle.terms.specs.Refusals.{Causes}
-use Rattle.terms.specs.declared.Filled.{Filled}
+use Rattle.terms.specs.Says.{Answer}
 use Rattle.formula.specs.Lent.{Formula}
 use Rattle.formula.specs.Tables.{literal_at}
 use Rattle.formula.specs.InnerLookup.{SoundClauses}
@@ -40,7 +40,7 @@ behind_resolution f x before =
     AskedCause f.n f.prefix x ∷ ResolutionCause f.n ∷ OutputCause (DependsByPaths (variables_of f) f.clauses x) before ∷ []
 
 -- what the call promises of an accepted formula, as it is read
-abbrev pub SoundListed : Formula → ℕ → List ℕ → List ℕ → Filled → Type 0
+abbrev pub SoundListed : Formula → ℕ → List ℕ → List ℕ → Answer ℕ → Type 0
 SoundListed f x before = Listing (behind_resolution f x before) (DependsByPaths (variables_of f) f.clauses x) before
 
 -- the variables from 1 to n are flagged of which P holds, and no other of them

@@ -1,12 +1,12 @@
 -- Resolution paths (rule 14.1), what depends on a universal by them (rule 14.2), and what the call for the resolution-path set promises: its refusals
 -- (rule 14.4, rule 8.2) and its list. Where this differs from the paper of Wimmer and others, the rules decide.
-use Rattle.std.specs.Prelude.{ℕ, ◌<◌, ◌≡◌, Bool, true, false, not, ◌≢◌, ℤ, neg_ℤ, length}
 use mathlib.Core.List.{List, [], ◌∷◌, Memᴰ}
+use Rattle.std.specs.Prelude.{ℕ, ◌<◌, ◌≡◌, Bool, true, false, not, ◌≢◌, ℤ, neg_ℤ, length}
 use Rattle.terms.specs.Answers.{Listing}
 use Rattle.terms.specs.Limits.{most_resolution_variables}
 use Rattle.terms.specs.Literals.{variable_of}
 use Rattle.terms.specs.Refusals.{Causes, At0}
-use Rattle.terms.specs.declared.Filled.{Filled}
+use Rattle.terms.specs.Says.{Answer}
 use Rattle.formula.specs.Causes.{VariableCount, LengthCause, ClauseCause}
 use Rattle.formula.specs.Lent.{Formula}
 use Rattle.formula.specs.Meaning.{clauses, always_true}
@@ -51,5 +51,5 @@ resolution_order rule f x before =
 
 -- What the call promises: its refusals in their order, the ascending list of all that depends on x by the formula as it is read, and what it leaves in
 -- the lent output.
-abbrev pub ResolutionListed : ℕ → Formula → ℕ → List ℕ → List ℕ → Filled → Type 0
+abbrev pub ResolutionListed : ℕ → Formula → ℕ → List ℕ → List ℕ → Answer ℕ → Type 0
 ResolutionListed rule f x before = Listing (resolution_order rule f x before) (DependsByPaths (variables_of (read_by rule f)) f.clauses x) before

@@ -106,9 +106,7 @@ fn bar(n: u32, levels: &[u32], universals: &[bool], x: Variable, marks: &mut [bo
     requires few { (n ≤ most_resolution_variables) × (length marks.old ≡ resolution_literal_rows) }
     ensures barred { Barred (tabled n levels.now universals.now) x.0 marks.new }
 {
-    let mut v: u32 = 0;
-    while v < n {
-        v += 1;
+    for v in 1..=n {
         let barred = !is_deeper(n, levels, universals, x, Variable::new(v));
         let row = (v + v) as usize;
         marks[row] = barred;
@@ -131,9 +129,7 @@ fn pair_ends(
     ensures flagged { Flags n (λ v. Deeper (tabled n levels.now universals.now) x.0 v
         × Pairs ends.now others.now v) flags.new }
 {
-    let mut v: u32 = 0;
-    while v < n {
-        v += 1;
+    for v in 1..=n {
         flags[v as usize] = depends(n, levels, universals, x, ends, others, Variable::new(v));
     }
 }
@@ -164,11 +160,5 @@ fn depends(
 fn crossed(a: bool, b: bool, c: bool, d: bool) -> bool
     ensures crossed { result ≡ (a && d || b && c) }
 {
-    if a {
-        if d {
-            return true;
-        }
-        return b && c;
-    }
-    b && c
+    a && d || b && c
 }

@@ -15,8 +15,8 @@ use ends::flag_dependent;
 use forest_members::{Asked, list_picked};
 use forest_tables::rows::universal_at;
 use formula_levels::fill_levels;
-use formula_rules::{as_read, read_formula};
-use terms::{Filled, Level, Variable};
+use formula_rules::take_formula;
+use terms::{Fault, Level, Refusal, Variable};
 
 // The resolution-path set of x under a reading rule, written ascending into `out`, with the count of its members.
 pub fn resolution_set(
@@ -26,21 +26,22 @@ pub fn resolution_set(
     clauses: &[i32],
     x: Variable,
     out: &mut [u32],
-) -> Filled
+) -> Result<u32, Refusal>
     ensures listed { ResolutionListed rule (formula_in n prefix clauses) x.0 out.old out.new result }
 {
     let mut joined = [0u32; Level::JOINED];
-    match read_formula(rule, n, prefix, clauses, &mut joined) {
-        Filled::Refused(number, place) => Filled::Refused(number, place),
-        Filled::Count(count) => {
-            let read = as_read(rule, prefix, &joined, count);
-            sound_set(n, read, clauses, x, out)
-        }
-    }
+    let read = take_formula(rule, n, prefix, clauses, &mut joined)?;
+    sound_set(n, read, clauses, x, out)
 }
 
 // The set of an accepted formula, by the level table of its prefix.
-fn sound_set(n: u32, prefix: &[u32], clauses: &[i32], x: Variable, out: &mut [u32]) -> Filled
+fn sound_set(
+    n: u32,
+    prefix: &[u32],
+    clauses: &[i32],
+    x: Variable,
+    out: &mut [u32],
+) -> Result<u32, Refusal>
     requires sound { SoundPrefix n prefix.now × ReadClauses n clauses.now }
     ensures listed { SoundListed (formula_in n prefix clauses) x.0 out.old out.new result }
 {
@@ -58,16 +59,16 @@ fn set_by_levels(
     universals: &[bool],
     x: Variable,
     out: &mut [u32],
-) -> Filled
+) -> Result<u32, Refusal>
     requires sound { ReadClauses n clauses.now }
     ensures listed { (es : List ℕ) → SoundPrefix n es → Levelled es levels.now universals.now
         → SoundListed (formula_of n es clauses.now) x.0 out.old out.new result }
 {
     if !universal_at(n, universals, x) {
-        return Filled::Refused(13, 0);
+        return Err(Refusal(Fault::NotAskable, 0));
     }
     if Variable::RESOLUTION_MOST < n {
-        return Filled::Refused(27, 0);
+        return Err(Refusal(Fault::TooManyForPaths, 0));
     }
     let mut flags = [false; Variable::RESOLUTION_ROWS];
     flag_dependent(n, clauses, levels, universals, x, &mut flags);

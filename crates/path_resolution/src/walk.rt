@@ -20,14 +20,13 @@ pub fn literal_step(clauses: &[i32], first: &[u32], next: &[u32], from: Literal,
 {
     let complement = from.other_row();
     let mut at = first[from.variable().0 as usize];
+    // A walk along the chain: the next entry is the one that the row names.
     while at != 0 {
         let entry = (at - 1) as usize;
         if literal_at(clauses, entry).row() == complement {
             clause_step(clauses, first, next, entry, marks);
-            at = link_at(next, entry);
-        } else {
-            at = link_at(next, entry);
         }
+        at = link_at(next, entry);
     }
 }
 
@@ -38,23 +37,19 @@ fn clause_step(clauses: &[i32], first: &[u32], next: &[u32], entry: usize, marks
     ensures walked { Walked clauses.now (Leaves clauses.now entry) marks.old marks.new }
 {
     let own = variable_at(clauses, entry);
-    let mut i = clause_start(clauses, entry);
-    while i < clauses.len() {
+    let start = clause_start(clauses, entry);
+    for i in start..clauses.len() {
         let literal = literal_at(clauses, i);
         let variable = literal.variable();
         if variable.0 == 0 {
             return;
         }
         let row = literal.row();
-        if variable.0 == own.0 {
-            i += 1;
-        } else if marks[row] {
-            i += 1;
-        } else {
-            marks[row] = true;
-            literal_step(clauses, first, next, literal, marks);
-            i += 1;
+        if variable == own || marks[row] {
+            continue;
         }
+        marks[row] = true;
+        literal_step(clauses, first, next, literal, marks);
     }
 }
 
@@ -71,13 +66,10 @@ fn link_at(next: &[u32], entry: usize) -> u32
 fn clause_start(clauses: &[i32], entry: usize) -> usize
     ensures begun { LastZero clauses.now entry result }
 {
-    let mut i = entry;
-    while 0 < i {
-        let variable = variable_at(clauses, i - 1);
-        if variable.0 == 0 {
-            return i;
+    for i in (0..entry).rev() {
+        if variable_at(clauses, i).0 == 0 {
+            return i + 1;
         }
-        i -= 1;
     }
-    i
+    0
 }

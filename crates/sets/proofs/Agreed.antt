@@ -5,8 +5,8 @@ use mathlib.Core.Logic.{◌↔◌}
 use lib.ListN.{length}
 use Rattle.terms.specs.Answers.{Filling}
 use Rattle.terms.specs.Refusals.{NoneOf}
-use Rattle.terms.specs.declared.Filled.{Filled}
 use Rattle.terms.specs.declared.Scheme.{Scheme}
+use Rattle.terms.specs.Says.{Answer}
 use Rattle.terms.proofs.Answers.{carry-filling}
 use Rattle.formula.specs.Causes.{ClauseCause}
 use Rattle.formula.specs.Lent.{Formula, formula_of}
@@ -21,7 +21,7 @@ module _ (scheme : Scheme) (f : Formula) (r : Rows) where
   abbrev with : List ℕ → Formula
   with read = formula_of f.n read f.clauses
 
-  pub sets_agree : NoneOf (ruled_prefix 1 f.n f.prefix (length f.clauses)) → (before after : List ℕ) (a : Filled)
+  pub sets_agree : NoneOf (ruled_prefix 1 f.n f.prefix (length f.clauses)) → (before after : List ℕ) (a : Answer ℕ)
       → SetsListed 1 scheme f r before after a ↔ SetsListed 2 scheme f r before after a
   sets_agree none before after a =
       rules_agree (λ order read. Filling order (AllSetsBy scheme (with read) r) before after a)

@@ -1,4 +1,6 @@
 -- The pass over all universals: what is written or counted for one joins what was before, and there is room for it.
+use Rattle.std.specs.Prelude.{Ok, Err}
+use Rattle.terms.specs.Says.{Answer}
 use Prim.Native.Nat.{ℕ, ◌+◌, ◌*◌, ◌≤◌, ◌<◌}
 use mathlib.Core.Path.{◌≡◌, refl, sym, ap, ◌∙◌, subst₂}
 use mathlib.Core.Bool.{Bool, true, false, cond}
@@ -6,12 +8,13 @@ use mathlib.Core.List.{List, [], ◌∷◌, ◌++◌}
 use mathlib.Core.Logic.{inl, inr, ⊎_elim}
 use native.Mathlib.Nat.{mul-le-mul_right}
 use native.Mathlib.Omega.{arith}
+use borrow.Author.Tests.{leb-true, leb-false}
+use lib.Dec.{leb}
 use lib.IntN.{ℤ}
 use lib.ListN.{length, length-append}
 use lib.Seq.{sets, length-sets}
 use Rattle.terms.specs.Answers.{Filling}
 use Rattle.terms.specs.Refusals.{FirstOf, None, NoneOf}
-use Rattle.terms.specs.declared.Filled.{Filled}
 use Rattle.terms.proofs.Overwritten.{stored_overwritten}
 use Rattle.terms.proofs.Verdicts.{at0_first, at0_none}
 use Rattle.formula.specs.Causes.{ends_inside}
@@ -34,7 +37,7 @@ use Rattle.sets.specs.Sets.{AllSetsBy, SetsTooLong}
 use Rattle.sets.specs.InnerOrders.{behind_sets}
 use Rattle.sets_occurrences.specs.InnerThreads.{Closed, Together, EnteredBy}
 use Rattle.sets_record.specs.InnerPut.{PutSet, RoomFor}
-use Rattle.sets.specs.InnerPassed.{SetsUpto, RoomUpto, PutAll, Fills}
+use Rattle.sets.specs.InnerPassed.{SetsUpto, RoomUpto, TellsRoom, PutAll, Fills}
 use Rattle.forest_entries.proofs.Flags.{via_as}
 use Rattle.forest_members.proofs.Picked.{picked_listed}
 use Rattle.forest.proofs.Entered.{of_within}
@@ -139,17 +142,26 @@ module _ (scheme : Scheme) (n : ℕ) (es : List ℕ) (ls : List ℤ) (classes pa
   put_none true before = ([], refl, refl, refl)
   put_none false before = ([], refl, refl, refl)
 
+-- Whether there is room for all sets, by a count of their entries.
+pub room_told : (R : ℕ → List ℕ → Type 0) (n needed room : ℕ) → (needed ≤ room → RoomUpto R n room)
+    → (room < needed → (list : List ℕ) × R n list × (room < length list)) → TellsRoom (leb needed room) R n room
+room_told R n needed room fits long = told (leb needed room) (leb-true needed room) (leb-false needed room)
+  where
+    told : (b : Bool) → (b ≡ true → needed ≤ room) → (b ≡ false → room < needed) → TellsRoom b R n room
+    told true low high = fits (low refl)
+    told false low high = long (high refl)
+
 -- What is written, or what there is no room for, as the call promises it.
 pub fills_filling : (scheme : Scheme) (f : Formula) (r : Rows) (before after : List ℕ) → None (ForestCause f.n f.prefix r)
-    → (a : Filled) → Fills (AllSetsBy scheme f r) before after a → Filling (behind_sets scheme f r before) (AllSetsBy scheme f r) before after a
-fills_filling scheme f r before after none (Filled.Count count) (list, is, size, room, stored) =
+    → (a : Answer ℕ) → Fills (AllSetsBy scheme f r) before after a → Filling (behind_sets scheme f r before) (AllSetsBy scheme f r) before after a
+fills_filling scheme f r before after none (Ok count) (list, is, size, room, stored) =
     let fits : SetsTooLong scheme f r before → ⊥ =
     λ long.
     let q = ap length (records_one (universal f.n f.prefix) (MembersBy scheme f r) f.n long.0 list long.1 is) in
     let l = long.2 in
     omega arith in
     ((none, (at0_none 14 fits, tt)), (list, is, size, stored ∙ stored_overwritten list before room))
-fills_filling scheme f r before after none (Filled.Refused number place) (k, p, long, same) =
+fills_filling scheme f r before after none (Err refusal) (k, p, long, same) =
     let first : FirstOf (behind_sets scheme f r before) 14 0 = inr (none, inl (at0_first 14 (long.0, long.1, long.2))) in
     (subst₂ (FirstOf (behind_sets scheme f r before)) (sym k) (sym p) first, same)
 

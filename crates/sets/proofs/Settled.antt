@@ -1,12 +1,12 @@
 -- What was lent settles what the call for all sets answers and writes (rule 18.1); its list holds what the set call by the same scheme gives for each
 -- universal; and demand 2 for it.
+use Rattle.std.specs.Prelude.{Ok}
+use Rattle.terms.specs.Says.{Answer}
 use Prim.Native.Nat.{ℕ}
 use mathlib.Core.Path.{◌≡◌, sym, ap, ◌∙◌}
 use mathlib.Core.List.{List, ◌∷◌, ◌++◌}
 use lib.ListN.{length}
 use Rattle.terms.specs.Overwritten.{overwritten}
-use Rattle.terms.specs.declared.Filled.{Filled}
-use Rattle.terms.specs.declared.Filled.TheVariants.{Count}
 use Rattle.terms.specs.declared.Scheme.{Scheme}
 use Rattle.terms.proofs.Answers.{filling-settled}
 use Rattle.terms.proofs.Listed.{listed_one}
@@ -29,13 +29,13 @@ module _ (rule : ℕ) (scheme : Scheme) (f : Formula) (r : Rows) where
   one_list : (list other : List ℕ) → AllSetsBy scheme read r list → AllSetsBy scheme read r other → list ≡ other
   one_list = records_one (universal read.n read.prefix) (MembersBy scheme read r) read.n
 
-  pub sets_settled : (before after after' : List ℕ) (a b : Filled)
+  pub sets_settled : (before after after' : List ℕ) (a b : Answer ℕ)
       → SetsListed rule scheme f r before after a → SetsListed rule scheme f r before after' b → (a ≡ b) × (after ≡ after')
   sets_settled before after after' a b = filling-settled (sets_order rule scheme f r before) (AllSetsBy scheme read r) one_list before after after' a b
 
   -- The list of all sets by a scheme holds, for each universal x, its number and what the set call by it gives and writes for x.
   pub set_in_sets : (list : List ℕ) → AllSetsBy scheme read r list → (x : ℕ) (before after : List ℕ) (count : ℕ)
-      → SetListed rule scheme f r x before after (Count count)
+      → SetListed rule scheme f r x before after (Ok count)
       → (members : List ℕ) × (after ≡ overwritten members before) × (front : List ℕ) × (back : List ℕ) × (list ≡ front ++ ((x ∷ count ∷ members) ++ back))
   set_in_sets list all x before after count (none, written) =
       let u = not_refused rule f r x (MembersBy scheme read r x) before none in

@@ -1,8 +1,8 @@
 -- Inner: what the functions of the call for all sets count and write.
+use Rattle.std.specs.Prelude.{Ok, Err}
+use Rattle.terms.specs.Says.{Answer, fault_number}
 use Rattle.std.specs.Prelude.{ℕ, ◌≤◌, ◌<◌, ◌≡◌, Bool, true, false, cond, List, [], ℤ, length}
 use Rattle.std.proofs.lemmas.List.Edits.{sets}
-use Rattle.terms.specs.declared.Filled.{Filled}
-use Rattle.terms.specs.declared.Filled.TheVariants.{Count, Refused}
 use Rattle.formula.specs.InnerLevels.{SoundPrefix, Levelled}
 use Rattle.formula.specs.Lent.{formula_of}
 use Rattle.forest_tables.specs.Formula.{universal}
@@ -41,6 +41,6 @@ abbrev pub PutAll : (List ℕ → Type 0) → Bool → List ℕ → List ℕ →
 PutAll R writing before after end = (list : List ℕ) × R list × (end ≡ length list) × (after ≡ cond writing (sets before 0 list) before)
 
 -- the list is written, or there is too little room for it
-abbrev pub Fills : (List ℕ → Type 0) → List ℕ → List ℕ → Filled → Type 0
-Fills R before after (Count count) = (list : List ℕ) × R list × (count ≡ length list) × (length list ≤ length before) × (after ≡ sets before 0 list)
-Fills R before after (Refused number place) = (number ≡ 14) × (place ≡ 0) × ((list : List ℕ) × R list × (length before < length list)) × (after ≡ before)
+abbrev pub Fills : (List ℕ → Type 0) → List ℕ → List ℕ → Answer ℕ → Type 0
+Fills R before after (Ok count) = (list : List ℕ) × R list × (count ≡ length list) × (length list ≤ length before) × (after ≡ sets before 0 list)
+Fills R before after (Err refusal) = (fault_number refusal.0 ≡ 14) × (refusal.1 ≡ 0) × ((list : List ℕ) × R list × (length before < length list)) × (after ≡ before)

@@ -2,7 +2,7 @@
 -- call promises.
 use Rattle.std.specs.Prelude.{ℕ, zero, suc, ◌<◌, ◌≡◌, Bool, true, false, List, [], ◌∷◌, ◌++◌, length}
 use Rattle.terms.specs.Refusals.{Causes, At0}
-use Rattle.terms.specs.declared.Filled.{Filled}
+use Rattle.terms.specs.Says.{Answer}
 use Rattle.formula.specs.Causes.{VariableCount, LengthCause, ClauseCause}
 use Rattle.formula.specs.Lent.{Formula}
 use Rattle.formula_rules.specs.Rules.{read_as, read_by, RuleCause, PrefixCauseBy}
@@ -43,5 +43,5 @@ sets_order rule scheme f r before =
     ∷ ClauseCause f.n f.clauses ∷ ForestCause f.n (read_as rule f.prefix) r ∷ SetsOutputCause scheme (read_by rule f) r before ∷ []
 
 -- what the call for all sets by a scheme promises
-abbrev pub SetsListed : ℕ → Scheme → Formula → Rows → List ℕ → List ℕ → Filled → Type 0
+abbrev pub SetsListed : ℕ → Scheme → Formula → Rows → List ℕ → List ℕ → Answer ℕ → Type 0
 SetsListed rule scheme f r before = Filling (sets_order rule scheme f r before) (AllSetsBy scheme (read_by rule f) r) before

@@ -15,7 +15,7 @@ use forest_climb::{Floor, clear_rows};
 use forest_tables::rows::universal_at;
 use sets_occurrences::thread;
 use sets_record::{Draft, put_set};
-use terms::{Filled, Level, Literal, Scheme, Variable};
+use terms::{Fault, Level, Literal, Refusal, Scheme, Variable};
 
 // A pass over all universals among n variables: by which scheme, and whether it writes their sets or only counts.
 #[derive(Clone, Copy)]
@@ -45,7 +45,7 @@ pub fn list_sets(
     classes: &[u32],
     parents: &[u32],
     out: &mut [u32],
-) -> Filled
+) -> Result<u32, Refusal>
     requires sound { SoundPrefix n prefix.now × Levelled prefix.now levels.now universals.now × SoundClauses clauses.now
         × Closed clauses.now × FormedBy n prefix.now classes.now parents.now }
     ensures listed { Fills (SetsUpto scheme n prefix.now clauses.now classes.now parents.now n)
@@ -83,7 +83,7 @@ fn write_fitting(
     first: &[u32],
     next: &[u32],
     out: &mut [u32],
-) -> Filled
+) -> Result<u32, Refusal>
     requires ready { Ready pass.n prefix.now levels.now universals.now clauses.now classes.now parents.now first.now next.now }
     requires writing { pass.writing ≡ true }
     ensures listed { Fills (SetsUpto pass.scheme pass.n prefix.now clauses.now classes.now
@@ -92,12 +92,12 @@ fn write_fitting(
     if !sets_fit(
         pass, prefix, levels, universals, clauses, classes, parents, first, next, out,
     ) {
-        return Filled::Refused(14, 0);
+        return Err(Refusal(Fault::TooLittleRoom, 0));
     }
     let end = pass_sets(
         pass, prefix, levels, universals, clauses, classes, parents, first, next, out,
     );
-    Filled::Count(end as u32)
+    Ok(end as u32)
 }
 
 // Whether there is room for all sets that a pass writes. They are counted only where there is room for less than n records of n members each.
@@ -131,10 +131,7 @@ fn sets_fit(
     let needed = pass_sets(
         counting, prefix, levels, universals, clauses, classes, parents, first, next, out,
     );
-    if out.len() < needed {
-        return false;
-    }
-    true
+    needed <= out.len()
 }
 
 // Passes over all universals in ascending order and writes their sets, or only counts; gives the count of all entries. The tops, their runs and the
@@ -168,10 +165,8 @@ fn pass_sets(
         from: 0,
     };
     let mut end: usize = 0;
-    let mut passed = 0;
-    while passed < pass.n {
-        passed += 1;
-        let x = Variable::new(passed);
+    for number in 1..=pass.n {
+        let x = Variable::new(number);
         if universal_at(pass.n, universals, x) {
             let visit = Visit {
                 n: pass.n,
@@ -239,12 +234,10 @@ fn refloor(
 {
     let x = visit.x;
     let was = visit.was;
-    let old = was.level;
     let floor = sets_subtrees::refloor(
         visit.n, prefix, levels, classes, parents, was, x, tops, lead, after,
     );
-    let level = floor.level;
-    if old.0 != level.0 {
+    if was.level != floor.level {
         clear_rows(visit.n + 1, places);
     }
     floor

@@ -19,8 +19,8 @@ ghost use Rattle.sets_occurrences.specs.InnerThreads.{Closed};
 use all_sets::list_sets;
 use forest_tables::checking::check_forest;
 use formula_levels::fill_levels;
-use formula_rules::{as_read, read_formula};
-use terms::{Filled, Level, Scheme, Variable, Verdict};
+use formula_rules::take_formula;
+use terms::{Level, Refusal, Scheme, Variable};
 
 // The sets of all universals by a scheme, written into `out`: for each universal ascending its number, the count of its set and its set
 // ascending; with the count of all entries.
@@ -34,17 +34,12 @@ pub fn sets(
     parents: &[u32],
     counts: &[u32],
     out: &mut [u32],
-) -> Filled
+) -> Result<u32, Refusal>
     ensures listed { SetsListed rule scheme (formula_in n prefix clauses) (rows_in classes parents counts) out.old out.new result }
 {
     let mut joined = [0u32; Level::JOINED];
-    match read_formula(rule, n, prefix, clauses, &mut joined) {
-        Filled::Refused(number, place) => Filled::Refused(number, place),
-        Filled::Count(count) => {
-            let read = as_read(rule, prefix, &joined, count);
-            sound_sets(scheme, n, read, clauses, classes, parents, counts, out)
-        }
-    }
+    let read = take_formula(rule, n, prefix, clauses, &mut joined)?;
+    sound_sets(scheme, n, read, clauses, classes, parents, counts, out)
 }
 
 // The sets of all universals of an accepted formula: the rows are judged, and then all sets are listed.
@@ -57,7 +52,7 @@ fn sound_sets(
     parents: &[u32],
     counts: &[u32],
     out: &mut [u32],
-) -> Filled
+) -> Result<u32, Refusal>
     requires sound { SoundPrefix n prefix.now × SoundClauses clauses.now × Closed clauses.now }
     ensures listed { Filling (behind_sets scheme (formula_in n prefix clauses) (rows_in classes parents counts) out.old)
         (AllSetsBy scheme (formula_in n prefix clauses) (rows_in classes parents counts)) out.old out.new result }
@@ -65,20 +60,18 @@ fn sound_sets(
     let mut levels = [0u32; Variable::ROWS];
     let mut universals = [false; Variable::ROWS];
     fill_levels(prefix, &mut levels, &mut universals);
-    match check_forest(n, prefix, &levels, &universals, classes, parents, counts) {
-        Verdict::Refused(number, place) => Filled::Refused(number, place),
-        Verdict::Accepted => list_sets(
-            scheme,
-            n,
-            prefix,
-            &levels,
-            &universals,
-            clauses,
-            classes,
-            parents,
-            out,
-        ),
-    }
+    check_forest(n, prefix, &levels, &universals, classes, parents, counts)?;
+    list_sets(
+        scheme,
+        n,
+        prefix,
+        &levels,
+        &universals,
+        clauses,
+        classes,
+        parents,
+        out,
+    )
 }
 
 // The sets of all universals of an accepted formula by rows that are well formed, as those of its own forest are: nothing is judged, and all that is
@@ -91,7 +84,7 @@ pub fn formed_sets(
     classes: &[u32],
     parents: &[u32],
     out: &mut [u32],
-) -> Filled
+) -> Result<u32, Refusal>
     requires sound { SoundPrefix n prefix.now × SoundClauses clauses.now × Closed clauses.now }
     requires formed { FormedBy n prefix.now classes.now parents.now }
     ensures listed { Fills (AllSetsBy scheme (formula_in n prefix clauses) (rows classes.now parents.now []))

@@ -87,11 +87,6 @@ levelled_covers {es} levelled sound =
       none = levelled.universal_is 0 (omega arith) ∙ universal_zero es;
     }
 
--- An entry counts at most 1.
-pub counts_most : (b : Bool) → cond b 1 0 ≤ 1
-counts_most true = omega arith
-counts_most false = omega arith
-
 -- Gathering: none at first, and one entry more, stored in any case.
 pub gathered_none : (ls : List ℤ) (universals : List Bool) (places starts : List ℕ) → Gathered ls universals places starts 0 0
 gathered_none ls universals places starts =

@@ -68,14 +68,12 @@ fn gather(clauses: &[i32], universals: &[bool], places: &mut [u16], starts: &mut
 {
     let mut count: usize = 0;
     let mut start: usize = 0;
-    let mut i: usize = 0;
-    while i < clauses.len() {
+    for i in 0..clauses.len() {
         places[count] = i as u16;
         starts[count] = start as u16;
         let variable = variable_at(clauses, i);
-        i += 1;
         count += counted(universals, variable);
-        start = begun(variable, start, i);
+        start = begun(variable, start, i + 1);
     }
     count
 }
@@ -85,11 +83,7 @@ fn counted(universals: &[bool], variable: Variable) -> usize
     requires covered { (variable.0 < length universals.now) × (get_or universals.now 0 false ≡ false) }
     ensures counted { result ≡ cond (marked universals.now variable.0) 1 0 }
 {
-    if universals[variable.0 as usize] {
-        1
-    } else {
-        0
-    }
+    usize::from(universals[variable.0 as usize])
 }
 
 // Where the clause of the next entry begins: with that entry behind a 0, else where the clause of this entry does.
@@ -119,16 +113,12 @@ fn tie_places(
     let mut seen = [0u16; Literal::ROWS];
     let mut skip = false;
     let mut judged = clauses.len();
-    let mut j: usize = 0;
-    while j < count {
+    for j in 0..count {
         let start = starts[j] as usize;
         skip = is_true(clauses, start, judged, skip, &mut seen);
         judged = start;
-        if skip {
-            j += 1;
-        } else {
+        if !skip {
             note(clauses, start, places[j] as usize, first, next);
-            j += 1;
         }
     }
 }
@@ -217,18 +207,9 @@ fn keep_common(other: &[bool], flags: &mut [bool])
     requires enough { length flags.old ≤ length other.now }
     ensures common { Common other.now flags.old flags.new }
 {
-    let mut i = 0;
-    while i < flags.len() {
-        flags[i] = both(other[i], flags[i]);
-        i += 1;
+    for (i, flag) in flags.iter_mut().enumerate() {
+        *flag &= other[i];
     }
-}
-
-// Whether both flags are set.
-fn both(one: bool, other: bool) -> bool
-    ensures told { result ≡ one && other }
-{
-    if one { other } else { false }
 }
 
 // Flags the tops of the variables that share a clause with the universal x, where it has one of the signs, along its chain.
@@ -247,6 +228,7 @@ fn flag_along(
         flags.old flags.new }
 {
     let mut at = first[x.0 as usize];
+    // A walk along the chain: each row says which entry comes next.
     while at != 0 {
         let entry = (at - 1) as usize;
         let row = unpack(next[entry]);

@@ -1,15 +1,17 @@
 -- Sets that stand in the table already: what is stored behind one leaves it, a copy of it is it, and where the first of a top stands is noted.
-use Prim.Native.Nat.{ℕ, zero, suc, ◌+◌, ◌≤◌, ◌<◌}
+use Prim.Native.Nat.{ℕ, zero, suc, ◌+◌, ◌-◌, ◌≤◌, ◌<◌}
 use mathlib.Core.Path.{◌≡◌, refl, sym, ap, ap₂, ◌∙◌, subst, subst₂}
 use mathlib.Core.Bool.{Bool, true, false}
 use mathlib.Core.List.{List, [], ◌∷◌}
 use mathlib.Core.Logic.{⊎_elim, by_cases}
 use native.Mathlib.Decide.{ℕ_discrete, dec_lt}
-use native.Mathlib.Numerals.{add-one}
 use native.Mathlib.Omega.{arith}
-use lib.ListN.{length, get_or, set, take, length-set}
-use lib.Seq.{sets, set_out, get_or-set_same, get_or-set_other, take-suc, length-take-le}
-use Rattle.forest_members.proofs.Picked.{sets_more}
+use lib.ListN.{length, get_or, set, take, drop, length-set, length-take, length-drop}
+use lib.Seq.{sets, set_out, get_or-set_same, get_or-set_other}
+use Rattle.std.specs.List.{copy_within}
+use Rattle.std.proofs.lemmas.Grind.{same_number_lists}
+use Rattle.std.proofs.lemmas.List.{get_or-take, get_or-drop}
+use Rattle.std.proofs.lemmas.List.Edits.{sets-eq}
 use Rattle.sets_subtrees.specs.InnerRuns.{having}
 use Rattle.sets_record.specs.InnerPlaces.{Standing, Placed, Noting}
 use Rattle.sets_record.specs.InnerPut.{PutList}
@@ -30,17 +32,16 @@ within_sets out at (a ∷ list) (suc i) l room =
     let size = length-set out at a in
     ap (λ j. get_or (sets (set out at a) (suc at) list) j 0) q ∙ within_sets (set out at a) (suc at) list i (omega arith) (omega arith)
 
--- A copy on the way: one entry more.
-pub copy_more : {before out list : List ℕ} {from to i : ℕ} → Standing before from list to → i < length list
-    → out ≡ sets before to (take i list) → set out (to + i) (get_or out (from + i) 0) ≡ sets before to (take (i + 1) list)
-copy_more {before} {out} {list} {from} {to} {i} s less is =
+-- A copy of what stands there.
+pub copied : {out list : List ℕ} {from to : ℕ} → Standing out from list to → to + length list ≤ length out
+    → copy_within out from (from + length list) to ≡ sets out to list
+copied {out} {list} {from} {to} s room =
     let here = s.before in
-    let read : get_or out (from + i) 0 ≡ get_or list i 0 = ap (λ (o : List ℕ). get_or o (from + i) 0) is
-    ∙ before_sets before to (take i list) (from + i) (omega arith) ∙ s.each i less in
-    ap₂ (λ (o : List ℕ) (a : ℕ). set o (to + i) a) is read
-    ∙ ap (λ j. set (sets before to (take i list)) (to + j) (get_or list i 0)) (sym (length-take-le i list (omega arith)))
-    ∙ sets_more before to (get_or list i 0) (take i list)
-    ∙ ap (sets before to) (sym (take-suc list i 0 less) ∙ ap (λ j. take j list) (sym (add-one i)))
+    let size : from + length list - from ≡ length list = omega arith in
+    let own : take (length list) (drop from out) ≡ list =
+    same_number_lists _ list (omega (arith, length-take (length list) (drop from out), length-drop from out))
+    (λ i l. let less : i < length list = omega (arith, length-take (length list) (drop from out)) in rw (get_or-take, get_or-drop) (s.each i less)) in
+    rw (size, own) (sym (sets-eq list out to room))
 
 -- What stands in front stays, whatever is stored behind it.
 pub stand_on : {out : List ℕ} {place : ℕ} {list : List ℕ} {at end : ℕ} → at ≤ end → Standing out place list at → Standing out place list end

@@ -4,22 +4,25 @@ use Prim.Native.Nat.{ℕ, suc, ◌+◌, ◌-◌, ◌≤◌, ◌<◌}
 use mathlib.Core.Path.{◌≡◌, refl, sym, ap, ap₂, ◌∙◌, subst}
 use mathlib.Core.Bool.{Bool, false, not-eq-not}
 use mathlib.Core.List.{List, [], ◌∷◌}
-use mathlib.Core.Logic.{◌↔◌, ⊎_elim, by_cases}
+use mathlib.Core.Logic.{◌≢◌, ◌↔◌, ⊎_elim, by_cases}
 use native.Mathlib.Decide.{ℕ_discrete}
 use native.Mathlib.Numerals.{add-one}
 use native.Mathlib.Omega.{arith}
 use lib.IntN.{ℤ}
 use lib.ListN.{length, get_or, set}
 use lib.Seq.{sets, set_comm}
+use Rattle.std.specs.Prelude.{Option, None, Some, Ok}
+use Rattle.terms.specs.declared.Variable.{Variable}
 use Rattle.terms.specs.declared.Scheme.{Scheme}
 use Rattle.forest_theory.specs.Tables.{row}
 use Rattle.forest_members.specs.declared.Asked.TheVariants.{Set}
 use Rattle.forest_members.specs.InnerPicked.{pick, NoneUpto}
+use Rattle.forest_members.proofs.Picked.{picked_none}
 use Rattle.forest_climb.specs.InnerSearch.{Topless}
 use Rattle.forest_entries.specs.InnerFlags.{Takes, Via, Entering}
 use Rattle.sets_occurrences.specs.InnerThreads.{Together, EnteredBy}
-use Rattle.sets_occurrences.specs.InnerSoleTops.{Is}
-use Rattle.sets_subtrees.specs.InnerRuns.{only, Within}
+use Rattle.sets_occurrences.specs.InnerSoleTops.{Is, SoleOf, top_number}
+use Rattle.sets_subtrees.specs.InnerRuns.{only, having, Within}
 use Rattle.sets_subtrees.proofs.Linked.{only_set, only_own}
 
 -- The flag of the sole top tells of which numbers P holds.
@@ -32,6 +35,25 @@ sole_entering top sole =
       );
       same = λ y. refl;
     }
+
+-- A sole entry point that may be there, by its number: none is 0, and no entry point is 0.
+pub takes_some : (scheme : Scheme) (n : ℕ) (tops : List ℕ) (P : Bool → ℕ → Type 0) {e : ℕ} → Takes scheme (λ sign. Via n tops (P sign) e) → e ≢ 0
+takes_some Scheme.Standard n tops P = ⊎_elim (λ t. t.some) (λ t. t.some)
+takes_some Scheme.Strict n tops P = λ t. t.0.some
+
+pub sole_is : (scheme : Scheme) (n : ℕ) (tops : List ℕ) (P : Bool → ℕ → Type 0) {top : Option Variable} (other : Option Variable) → top ≡ other
+    → SoleOf (Ok top) (λ e. Takes scheme (λ sign. Via n tops (P sign) e)) → (e : ℕ) → Is (top_number other) e ↔ Takes scheme (λ sign. Via n tops (P sign) e)
+sole_is scheme n tops P other is sole e = go other (subst (λ t. SoleOf (Ok t) (λ e. Takes scheme (λ sign. Via n tops (P sign) e))) is sole)
+  where
+    go : (t : Option Variable) → SoleOf (Ok t) (λ e. Takes scheme (λ sign. Via n tops (P sign) e)) → Is (top_number t) e ↔ Takes scheme (λ sign. Via n tops (P sign) e)
+    go None sole = (λ i. absurd (i.1 i.0), λ p. absurd ((sole e).1 p))
+    go (Some top) sole = (λ i. (sole e).0 i.0, λ p. ((sole e).1 p, takes_some scheme n tops P p))
+
+-- No variable has the top that is none.
+pub having_none : (n : ℕ) (tops : List ℕ) → having n tops 0 ≡ []
+unfolding pick
+having_none n tops =
+    picked_none (pick Set n (only 0) tops) n (λ v low high. (not-eq-not {b = false}).0 (λ t. let (q, some, _) = only_set 0 (row n tops v) t in some q))
 
 -- It is one of the variables, as all tops are.
 pub sole_within : (scheme : Scheme) (n : ℕ) (tops : List ℕ) (P : Bool → ℕ → Type 0) (top : ℕ)

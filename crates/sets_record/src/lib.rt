@@ -3,7 +3,7 @@
 
 #![tactic(auto)]
 
-ghost use Rattle.std.specs.Prelude.{ℕ, ◌+◌, ◌-◌, ◌≤◌, ◌<◌, ◌≡◌, true, false, List, ◌≢◌, length, get_or, set};
+ghost use Rattle.std.specs.Prelude.{ℕ, ◌+◌, ◌-◌, ◌≤◌, ◌<◌, ◌≡◌, true, false, List, [], ◌≢◌, length, get_or, set};
 ghost use Rattle.std.proofs.lemmas.List.Edits.{sets};
 ghost use Rattle.forest_members.specs.declared.Asked.TheVariants.{Set};
 ghost use Rattle.forest_members.specs.InnerPicked.{pick, picked, NoneUpto};
@@ -15,7 +15,7 @@ ghost use Rattle.sets_record.specs.InnerPut.{PutList, Put, PutDraft, RoomForDraf
 
 use forest_members::{Asked, count_picked, write_picked};
 use sets_occurrences::flag_points;
-use sets_occurrences::soles::{Sole, sole_point};
+use sets_occurrences::soles::{Several, sole_point};
 use sets_subtrees::{row_at, write_run};
 use terms::pairs::unpack;
 use terms::{Scheme, Variable};
@@ -32,8 +32,8 @@ pub struct Draft {
     pub writing: bool,
 }
 
-// Puts a record; gives the entry behind it. Where x has one entry point, its set is the run of that, and only where it has several do the flags of all
-// variables tell it.
+// Puts a record; gives the entry behind it. Where x has no entry point, its set is empty; where it has one, its set is the run of that; and only where it
+// has several do the flags of all variables tell it.
 pub fn put_set(
     draft: Draft,
     clauses: &[i32],
@@ -55,9 +55,24 @@ pub fn put_set(
     let scheme = draft.scheme;
     let x = draft.x;
     match sole_point(scheme, draft.n, clauses, first, next, x, tops) {
-        Sole::Several => put_flagged(draft, clauses, first, next, tops, out),
-        Sole::Top(top) => put_run(draft, row_at(lead, top), after, places, top, out),
+        Ok(None) => put_empty(draft, out),
+        Ok(Some(top)) => put_run(draft, row_at(lead, top), after, places, top, out),
+        Err(Several) => put_flagged(draft, clauses, first, next, tops, out),
     }
+}
+
+// Puts a record of which the set is empty.
+fn put_empty(draft: Draft, out: &mut [u32]) -> usize
+    requires room { (draft.at + 2 < 4294967296) × (draft.writing ≡ true → draft.at + 2 ≤ length out.old) }
+    ensures put { PutList [] draft.x.0 draft.at draft.writing out.old out.new result }
+{
+    let end = draft.at + 2;
+    if !draft.writing {
+        return end;
+    }
+    let x = draft.x;
+    write_front(x, draft.at, end, out);
+    end
 }
 
 // Puts a record by the flags of the entry points, whose number does not matter.
@@ -152,7 +167,8 @@ fn write_top(
     let run = unpack(row);
     let place = row_at(places, top);
     if place != 0 {
-        copy_entries(place as usize, run.high as usize, start, out);
+        let from = place as usize;
+        out.copy_within(from..from + run.high as usize, start);
         return;
     }
     note_place(places, top, start as u32);
@@ -166,19 +182,6 @@ fn note_place(places: &mut [u32], top: Variable, start: u32)
     let at = top.0 as usize;
     if at < places.len() {
         places[at] = start;
-    }
-}
-
-// Copies `count` entries from the entry `from` on to the entry `to` on, which is behind them.
-fn copy_entries(from: usize, count: usize, to: usize, out: &mut [u32])
-    requires behind { (from + count ≤ to) × (to + count ≤ length out.old) }
-    ensures copied { (list : List ℕ) → length list ≡ count → Standing out.old from list to
-        → out.new ≡ sets out.old to list }
-{
-    let mut i: usize = 0;
-    while i < count {
-        out[to + i] = out[from + i];
-        i += 1;
     }
 }
 

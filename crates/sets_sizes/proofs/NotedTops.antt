@@ -8,41 +8,43 @@ use native.Mathlib.Omega.{arith}
 use lib.IntN.{ℤ}
 use lib.ListN.{length, get_or, set, length-set}
 use lib.Seq.{get_or-set_same, get_or-set_other}
-use Rattle.terms.specs.declared.Variable.{Variable}
+use Rattle.std.specs.Prelude.{None, Some, Ok, Err}
 use Rattle.formula.specs.InnerLookup.{NextZero}
 use Rattle.forest_entries.specs.declared.Signs.{Signs}
 use Rattle.forest_entries.specs.InnerFlags.{Has, Via}
-use Rattle.sets_occurrences.specs.declared.soles.Sole.{Sole}
-use Rattle.sets_occurrences.specs.declared.soles.Sole.TheVariants.{Top, Several}
-use Rattle.sets_occurrences.specs.InnerSoleTops.{Is, SoleOf}
+use Rattle.sets_occurrences.specs.InnerSoleTops.{Sole, Names, SoleOf}
 use Rattle.sets_occurrences.specs.InnerThreads.{start_at}
 use Rattle.sets_occurrences.proofs.Followed.{Tracing, trace_link, follow_noted, next_from}
-use Rattle.sets_occurrences.proofs.SoleTops.{sole_as}
+use Rattle.sets_occurrences.proofs.SoleTops.{sole_as, both_tops, both_none}
 use Rattle.sets_subtrees.specs.InnerRuns.{Within}
-use Rattle.sets_sizes.specs.InnerNotes.{SmallSole, NoteOf, NoteIs, Notes, NoneOrSeveral, CommonOf}
+use Rattle.sets_sizes.specs.InnerNotes.{SmallSole, NoteOf, NoteIs, Notes, CommonOf}
 
 -- A note says one thing.
 pub note_one : (note : ℕ) (P : ℕ → Type 0) (sole other : Sole) → NoteOf note sole → NoteOf note other → SoleOf sole P → SoleOf other P
-note_one note P (Top a) (Top b) (q, _) (q', _) p = let same : a.0 ≡ b.0 = omega arith in λ e. subst (λ i. Is i e ↔ P e) same (p e)
-note_one note P (Top a) Several (_, other) q p = absurd (other q)
-note_one note P Several (Top b) q (_, other) p = absurd (other q)
-note_one note P Several Several q q' p = tt
+note_one note P (Ok None) (Ok None) q q' p = p
+note_one note P (Ok (Some a)) (Ok (Some b)) (q, _, _) (q', _, _) p = let same : a.0 ≡ b.0 = omega arith in λ e. subst (λ i. (e ≡ i) ↔ P e) same (p e)
+note_one note P (Ok None) (Ok (Some b)) q (q', some, _) p = absurd (omega arith)
+note_one note P (Ok (Some a)) (Ok None) (q, some, _) q' p = absurd (omega arith)
+note_one note P (Ok None) (Err _) q q' p = absurd (omega arith)
+note_one note P (Err _) (Ok None) q q' p = absurd (omega arith)
+note_one note P (Ok (Some a)) (Err _) (_, _, other) q p = absurd (other q)
+note_one note P (Err _) (Ok (Some b)) q (_, _, other) p = absurd (other q)
+note_one note P (Err _) (Err _) q q' p = tt
 
 -- With nothing before it, what is told of a clause is its own.
-pub alone_sole : (P : ℕ → Type 0) {before : ℕ} → before ≡ 0 → (sole : Sole) → SoleOf sole (λ e. Is before e ⊎ P e) → SoleOf sole P
-alone_sole P zero sole = sole_as (λ e. (⊎_elim (λ o. absurd (o.1 (o.0 ∙ zero))) (λ p. p), inr)) sole
+pub alone_sole : (P : ℕ → Type 0) (sole : Sole) → SoleOf sole (λ e. Names None e ⊎ P e) → SoleOf sole P
+alone_sole P sole = sole_as (λ e. (⊎_elim (λ o. absurd o) (λ p. p), inr)) sole
 
 -- A sole top is a variable.
 pub sole_small : (n : ℕ) (tops : List ℕ) (ls : List ℤ) (start : ℕ) → n ≤ 4096 → Within n tops → start < length ls → (sole : Sole)
     → ((z : ℕ) → NextZero ls start z → SoleOf sole (Via n tops (Has ls start z))) → SmallSole sole
-sole_small n tops ls start few within less Several told = tt
-sole_small n tops ls start few within less (Top top) told =
-    by_cases (ℕ_discrete top.0 0) (λ z. omega arith)
-    (λ some.
+sole_small n tops ls start few within less (Err _) told = tt
+sole_small n tops ls start few within less (Ok None) told = tt
+sole_small n tops ls start few within less (Ok (Some top)) told =
     let (z, next) = next_from ls (length ls - start) start (omega arith) in
-    let via = (told z next top.0).0 (refl, some) in
+    let via = (told z next top.0).0 refl in
     let low : top.0 ≤ n = subst (λ e. e ≤ n) via.is (within via.for) in
-    omega arith)
+    (via.some, omega arith)
 
 -- One note more.
 pub notes_set : (n : ℕ) (tops : List ℕ) (ls : List ℤ) (notes : List ℕ) (start note : ℕ) → start < length ls → Notes n tops ls notes → NoteIs n tops ls start note
@@ -72,18 +74,11 @@ notes_follow n tops tops' ls notes notes' old new right size same-tops same gone
 
 -- What both have.
 pub common_both : (P Q : ℕ → Type 0) (both one other : Sole) → CommonOf both one other → SoleOf one P → SoleOf other Q → SoleOf both (λ e. P e × Q e)
-common_both P Q Several one other c p q = tt
-common_both P Q (Top both) (Top one) (Top other) c p q =
-    λ e. (λ i. let (a, b) = (c e).0 i in ((p e).0 a, (q e).0 b), λ (a, b). (c e).1 ((p e).1 a, (q e).1 b))
-common_both P Q (Top both) (Top one) Several (none, zero) p q =
-    λ e. (λ i. absurd (i.1 (i.0 ∙ zero)), λ (a, _). let i = (p e).1 a in absurd (i.1 (i.0 ∙ none)))
-common_both P Q (Top both) Several (Top other) (none, zero) p q =
-    λ e. (λ i. absurd (i.1 (i.0 ∙ zero)), λ (_, b). let i = (q e).1 b in absurd (i.1 (i.0 ∙ none)))
-common_both P Q (Top both) Several Several c p q = absurd c
-
-pub with_several : (both : Sole) (top : Variable) → NoneOrSeveral top.0 both → CommonOf both (Top top) Several × CommonOf both Several (Top top)
-with_several (Top both) top none = (none, none)
-with_several Several top none = (tt, tt)
+common_both P Q (Err _) one other c p q = tt
+common_both P Q (Ok both) (Ok one) (Ok other) c p q = both_tops c p q
+common_both P Q (Ok both) (Ok one) (Err _) (none, same) p q = subst (λ t. SoleOf (Ok t) (λ e. P e × Q e)) (sym same) (both_none none (λ e b. b.0) p)
+common_both P Q (Ok both) (Err _) (Ok other) (none, same) p q = subst (λ t. SoleOf (Ok t) (λ e. P e × Q e)) (sym same) (both_none none (λ e b. b.1) q)
+common_both P Q (Ok both) (Err _) (Err _) c p q = absurd c
 
 -- The clause of an entry on a chain begins within the table.
 pub trace_start : {n : ℕ} {tops : List ℕ} {ls : List ℤ} {next : List ℕ} {signs : Signs} {head : ℕ} {Asked Old New : ℕ → Type 0} {k : ℕ}

@@ -24,7 +24,7 @@ use forest_tables::rows::{flag_at, row_of, universal_at};
 use formula::clauses::variable_at;
 use formula_levels::fill_levels;
 use noting::{forget, sole_point};
-use sets_occurrences::soles::Sole;
+use sets_occurrences::soles::Several;
 use sets_occurrences::{flag_points, thread};
 use sets_subtrees::{refloor, row_at};
 use terms::pairs::unpack;
@@ -119,10 +119,8 @@ fn pass_sizes(
         place: 0,
         from: 0,
     };
-    let mut passed = 0;
-    while passed < pass.n {
-        passed += 1;
-        let x = Variable::new(passed);
+    for number in 1..=pass.n {
+        let x = Variable::new(number);
         if universal_at(pass.n, universals, x) {
             let old = floor.level;
             floor = refloor(
@@ -135,7 +133,7 @@ fn pass_sizes(
             let size = size_of(
                 scheme, pass.n, clauses, first, next, x, &tops, &lead, &mut notes,
             );
-            sizes[passed as usize] = size as u16;
+            sizes[number as usize] = size as u16;
         }
     }
 }
@@ -160,8 +158,9 @@ fn size_of(
     ensures noted { Notes n tops.now clauses.now notes.new }
 {
     match sole_point(scheme, n, clauses, first, next, x, tops, notes) {
-        Sole::Several => size_flagged(scheme, n, clauses, first, next, x, tops, lead),
-        Sole::Top(top) => unpack(row_at(lead, top)).high,
+        Ok(None) => 0,
+        Ok(Some(top)) => unpack(row_at(lead, top)).high,
+        Err(Several) => size_flagged(scheme, n, clauses, first, next, x, tops, lead),
     }
 }
 
@@ -203,6 +202,7 @@ fn drain_along(
 {
     let mut total: u32 = 0;
     let mut at = first[x.0 as usize];
+    // A walk along the chain: each row says which entry comes next.
     while at != 0 {
         let row = unpack(next[(at - 1) as usize]);
         at = row.low;
@@ -226,15 +226,13 @@ fn drain_after(
     ensures summed { result + under n tops.now flags.new ≡ under n tops.now flags.old }
 {
     let mut total: u32 = 0;
-    let mut i = start;
-    while i < clauses.len() {
+    for i in start..clauses.len() {
         let variable = variable_at(clauses, i);
         if variable.0 == 0 {
             return total;
         }
         let top = row_of(n, tops, variable);
         total += drain(lead, top, flags);
-        i += 1;
     }
     total
 }

@@ -1,18 +1,18 @@
 // The sole entry point of a universal, found along its chain with the sole top of each clause noted: a long clause is looked through once for each block of
-// universals, and not once for each universal that it has. Row s of `notes` is for the clause that begins with entry s: 0 for none noted, t + 1 for the
-// sole top t, 0 among them for no top, and SEVERAL for several tops.
+// universals, and not once for each universal that it has. Row s of `notes` is for the clause that begins with entry s: 0 for none noted, 1 for no top,
+// t + 1 for the sole top t, and SEVERAL for several tops.
 
 ghost use Rattle.std.specs.Prelude.{ℕ, ◌≤◌, ◌<◌, ◌≡◌, ◌⊎◌, ◌≢◌, length, get_or};
 ghost use Rattle.formula.specs.InnerLookup.{NextZero};
 ghost use Rattle.forest_entries.specs.InnerFlags.{Has, By, Takes, Via};
 ghost use Rattle.sets_occurrences.specs.InnerThreads.{Together, Tied};
-ghost use Rattle.sets_occurrences.specs.InnerSoleTops.{Is, SoleOf};
+ghost use Rattle.sets_occurrences.specs.InnerSoleTops.{Names, SoleOf};
 ghost use Rattle.sets_subtrees.specs.InnerRuns.{Within};
-ghost use Rattle.sets_sizes.specs.InnerNotes.{SmallSole, NoteOf, NoteIs, Notes, NoneOrSeveral, CommonOf};
+ghost use Rattle.sets_sizes.specs.InnerNotes.{SmallSole, NoteOf, NoteIs, Notes, CommonOf};
 
 use forest_entries::{Signs, has_sign, side_of};
 use formula::clauses::literal_at;
-use sets_occurrences::soles::{Sole, join, sole_after};
+use sets_occurrences::soles::{Several, join, same, sole_after};
 use terms::pairs::unpack;
 use terms::{Level, Scheme, Variable};
 
@@ -29,7 +29,7 @@ pub fn sole_point(
     x: Variable,
     tops: &[u32],
     notes: &mut [u16],
-) -> Sole
+) -> Result<Option<Variable>, Several>
     requires tied { Tied clauses.now first.now next.now x.0 }
     requires notes { (n ≤ 4096) × Within n tops.now × Notes n tops.now clauses.now notes.old }
     ensures sole { SoleOf result (λ e. Takes scheme (λ sign. Via n tops.now (Together clauses.now sign x.0) e)) }
@@ -46,33 +46,17 @@ pub fn sole_point(
 }
 
 // The sole top of what two have in common. Where one of them has none there is none, whatever the other has.
-fn common(one: Sole, other: Sole) -> Sole
+fn common(
+    one: Result<Option<Variable>, Several>,
+    other: Result<Option<Variable>, Several>,
+) -> Result<Option<Variable>, Several>
     ensures common { CommonOf result one other }
 {
-    match one {
-        Sole::Several => match other {
-            Sole::Several => Sole::Several,
-            Sole::Top(top) => none_or_several(top),
-        },
-        Sole::Top(top) => match other {
-            Sole::Several => none_or_several(top),
-            Sole::Top(second) => if top.0 == second.0 {
-                Sole::Top(top)
-            } else {
-                Sole::Top(Variable::new(0))
-            },
-        },
+    match (one, other) {
+        (Ok(None), _) | (_, Ok(None)) => Ok(None),
+        (Ok(top), Ok(second)) => Ok(same(top, second)),
+        (Err(Several), _) | (_, Err(Several)) => Err(Several),
     }
-}
-
-// What a top has in common with several of which nothing is known.
-fn none_or_several(top: Variable) -> Sole
-    ensures none { NoneOrSeveral top.0 result }
-{
-    if top.0 == 0 {
-        return Sole::Top(top);
-    }
-    Sole::Several
 }
 
 // The sole top of the variables that share a clause with the universal x, where it has one of the signs, along its chain.
@@ -85,48 +69,43 @@ fn sole_along(
     x: Variable,
     tops: &[u32],
     notes: &mut [u16],
-) -> Sole
+) -> Result<Option<Variable>, Several>
     requires tied { Tied clauses.now first.now next.now x.0 }
     requires notes { (n ≤ 4096) × Within n tops.now × Notes n tops.now clauses.now notes.old }
     ensures sole { SoleOf result (Via n tops.now (λ y. By signs (λ sign. Together clauses.now sign x.0 y))) }
     ensures noted { Notes n tops.now clauses.now notes.new }
 {
-    let mut sole = Variable::new(0);
+    let mut sole = None;
     let mut at = first[x.0 as usize];
+    // A walk along the chain: each row says which entry comes next.
     while at != 0 {
         let entry = (at - 1) as usize;
         let row = unpack(next[entry]);
         at = row.low;
         let side = side_of(literal_at(clauses, entry));
         if has_sign(signs, side) {
-            match clause_top(n, clauses, row.high as usize, tops, sole, notes) {
-                Sole::Several => return Sole::Several,
-                Sole::Top(top) => sole = top,
-            }
+            sole = clause_top(n, clauses, row.high as usize, tops, sole, notes)?;
         }
     }
-    Sole::Top(sole)
+    Ok(sole)
 }
 
-// The sole top of the clause that begins with `start`, together with `before`, 0 for none.
+// The sole top of the clause that begins with `start`, together with `before`.
 fn clause_top(
     n: u32,
     clauses: &[i32],
     start: usize,
     tops: &[u32],
-    before: Variable,
+    before: Option<Variable>,
     notes: &mut [u16],
-) -> Sole
+) -> Result<Option<Variable>, Several>
     requires notes { (n ≤ 4096) × Within n tops.now × (start < length clauses.now) × Notes n tops.now clauses.now notes.old }
     ensures sole { (z : ℕ) → NextZero clauses.now start z
-        → SoleOf result (λ e. Is before.0 e ⊎ Via n tops.now (Has clauses.now start z) e) }
+        → SoleOf result (λ e. Names before e ⊎ Via n tops.now (Has clauses.now start z) e) }
     ensures noted { Notes n tops.now clauses.now notes.new }
 {
     let note = noted(n, clauses, start, tops, notes);
-    match sole_in(note) {
-        Sole::Several => Sole::Several,
-        Sole::Top(top) => join(before, top),
-    }
+    join(before, sole_in(note)?)
 }
 
 // The note of the clause that begins with `start`, which is made if there is none yet.
@@ -139,31 +118,33 @@ fn noted(n: u32, clauses: &[i32], start: usize, tops: &[u32], notes: &mut [u16])
     if old != 0 {
         return old;
     }
-    let note = note_of(sole_after(n, clauses, start, tops, Variable::new(0)));
+    let note = note_of(sole_after(n, clauses, start, tops, None));
     notes[start] = note;
     note
 }
 
 // The note of a sole top, or of several.
-fn note_of(sole: Sole) -> u16
+fn note_of(sole: Result<Option<Variable>, Several>) -> u16
     requires small { SmallSole sole }
     ensures note { NoteOf result sole × (result ≢ 0) }
 {
     match sole {
-        Sole::Several => SEVERAL,
-        Sole::Top(top) => (top.0 + 1) as u16,
+        Ok(None) => 1,
+        Ok(Some(top)) => (top.0 + 1) as u16,
+        Err(Several) => SEVERAL,
     }
 }
 
 // What a note says.
-fn sole_in(note: u16) -> Sole
+fn sole_in(note: u16) -> Result<Option<Variable>, Several>
     requires some { note ≢ 0 }
     ensures said { NoteOf note result }
 {
-    if note == SEVERAL {
-        return Sole::Several;
+    match note {
+        SEVERAL => Err(Several),
+        1 => Ok(None),
+        _ => Ok(Some(Variable::new(note as u32 - 1))),
     }
-    Sole::Top(Variable::new(note as u32 - 1))
 }
 
 // Forgets the notes of so many entries, if the tops are over another level than that which they were over.
@@ -172,12 +153,7 @@ pub fn forget(old: Level, new: Level, count: usize, notes: &mut [u16])
     ensures stays { old.0 ≡ new.0 → notes.new ≡ notes.old }
     ensures gone { old.0 ≢ new.0 → (e : ℕ) → e < count → get_or notes.new e 0 ≡ 0 }
 {
-    if old.0 == new.0 {
-        return;
-    }
-    let mut i: usize = 0;
-    while i < count {
-        notes[i] = 0;
-        i += 1;
+    if old != new {
+        notes[..count].fill(0);
     }
 }

@@ -38,8 +38,7 @@ pub fn refloor(
     ensures own { (result.level.0 ≡ level prefix.now x.0) × (was.level.0 ≡ result.level.0 → tops.new ≡ tops.old) }
 {
     let level = level_at(levels, x);
-    let old = was.level;
-    if old.0 == level.0 {
+    if was.level == level {
         return was;
     }
     let floor = retop(n, prefix, levels, classes, parents, was, x, tops);
@@ -54,14 +53,12 @@ fn link_runs(n: u32, tops: &[u32], from: u32, lead: &mut [u32], after: &mut [u32
     ensures led { Led n tops.now lead.new after.new }
 {
     clear_rows(n + 1, lead);
-    let mut v = n;
-    while from < v {
+    for v in (from + 1..n + 1).rev() {
         let top = row_of(n, tops, Variable::new(v));
         let at = top.0 as usize;
         let row = unpack(lead[at]);
         after[v as usize] = row.low;
         lead[at] = pack(v, row.high + 1);
-        v -= 1;
     }
     lead[0] = 0;
 }
@@ -70,11 +67,7 @@ fn link_runs(n: u32, tops: &[u32], from: u32, lead: &mut [u32], after: &mut [u32
 pub fn row_at(rows: &[u32], top: Variable) -> u32
     ensures read { result ≡ get_or rows.now top.0 0 }
 {
-    let at = top.0 as usize;
-    if at < rows.len() {
-        return rows[at];
-    }
-    0
+    rows.get(top.0 as usize).copied().unwrap_or(0)
 }
 
 // Writes the variables of the run from `head` on, from the entry `at` on.
@@ -84,6 +77,7 @@ pub fn write_run(after: &[u32], head: u32, at: usize, out: &mut [u32])
 {
     let mut end = at;
     let mut v = head;
+    // A walk along the run: the row of each variable says which comes next.
     while v != 0 {
         out[end] = v;
         end += 1;

@@ -1,4 +1,6 @@
 -- Places in a text with dependency lists, and the counts of what is read from one, fit 32 bits: a text holds no more entries than bytes.
+use Rattle.terms.specs.Says.{Answer}
+use Rattle.terms.specs.declared.ListedCounts.{ListedCounts}
 use Prim.Native.Nat.{ℕ, ◌+◌, ◌≤◌, ◌<◌}
 use mathlib.Core.Path.{◌≡◌, ap}
 use mathlib.Core.List.{List, [], ◌∷◌, ◌++◌}
@@ -9,7 +11,6 @@ use Rattle.terms.specs.Refusals.{NoneOf}
 use Rattle.text_lines.specs.Format.{LineCause}
 use Rattle.text_lines.proofs.Places.{place_append, cause_place}
 use Rattle.text_write.specs.Texts.{TEXT-MOST, Overlong, overlong}
-use Rattle.terms.specs.declared.ListedReading.{ListedReading}
 use Rattle.dqbf_text.specs.Format.{ListLine, d_line, ListedText, ListedFollow}
 use Rattle.dqbf_text.specs.Reading.{Tables, NoListedRoom, no_room_prefix, no_room_clauses, no_room_lists, listed_read_order, ListedReadInto, ListedReadIs}
 use Rattle.c_answers.specs.InnerCells.{Fits, Laid}
@@ -67,8 +68,8 @@ module _ (text : List ℕ) (before after : Tables) where
   abbrev Stay : Type 0
   Stay = (after.0 ≡ before.0) × (after.1 ≡ before.1) × (after.2 ≡ before.2)
 
-  pub fits_read : (answer : ListedReading) → ListedReadIs text before after answer → Fits ThreeInCells (listed_said answer)
-  fits_read answer said =
+  pub fits_read : (answer : Answer ListedCounts) → ListedReadIs text before after answer → Fits ThreeInCells (listed_said answer)
+  fits_read answer known =
       fits_known (listed_read_order text before) Into Stay ThreeInCells (listed_said answer) (small_read text before)
       (λ cells clean r.
       let few = counts_few cells.0 cells.1 cells.2 cells.3 text before after clean r in
@@ -76,13 +77,13 @@ module _ (text : List ℕ) (before after : Tables) where
       let b = few.1 in
       let c = few.2 in
       (omega arith, omega arith, omega arith))
-      said
+      known
 
-  pub tell_read : (answer : ListedReading) {n entries literals rows n' entries' literals' rows' place place' returned : ℕ}
+  pub tell_read : (answer : Answer ListedCounts) {n entries literals rows n' entries' literals' rows' place place' returned : ℕ}
       → Laid (listed_said answer) (n, entries, literals, rows) (n', entries', literals', rows') place place' returned
       → ListedReadIs text before after answer
       → Told (listed_read_order text before) (ListedReadInto n' entries' literals' rows' text before after)
       ((n' ≡ n) × (entries' ≡ entries) × (literals' ≡ literals) × (rows' ≡ rows) × (after.0 ≡ before.0) × (after.1 ≡ before.1) × (after.2 ≡ before.2)) returned place place'
-  tell_read answer laid said =
-      tell_known (listed_read_order text before) Into Stay laid said
+  tell_read answer laid known =
+      tell_known (listed_read_order text before) Into Stay laid known
       (λ q k. (ap (λ (t : ℕ × ℕ × ℕ × ℕ). t.0) q, ap (λ (t : ℕ × ℕ × ℕ × ℕ). t.1) q, ap (λ (t : ℕ × ℕ × ℕ × ℕ). t.2) q, ap (λ (t : ℕ × ℕ × ℕ × ℕ). t.3) q, k.0, k.1, k.2))

@@ -1,4 +1,8 @@
 -- The places of storing and loading a file, and the counts of what is loaded, fit 32 bits; and what C is given of a file.
+use Rattle.std.specs.Prelude.{Ok, Err}
+use Rattle.terms.specs.declared.Loaded.{Loaded}
+use Rattle.std.specs.Prelude.{Ok, Err}
+use Rattle.terms.specs.Says.{Answer}
 use Prim.Native.Nat.{ℕ, ◌≤◌, ◌<◌}
 use mathlib.Core.Path.{◌≡◌, refl, ap}
 use mathlib.Core.List.{List, [], ◌∷◌, ◌++◌}
@@ -7,7 +11,6 @@ use native.Mathlib.Omega.{arith}
 use lib.ListN.{length}
 use Rattle.terms.specs.Answers.{Settles}
 use Rattle.terms.specs.Refusals.{At0, NoneOf}
-use Rattle.terms.specs.declared.Loaded.{Loaded}
 use Rattle.formula.specs.Lent.{Formula}
 use Rattle.formula_rules.specs.Rules.{NoRule, read_as, read_by, check_order}
 use Rattle.file_format.specs.Layout.{SumsToZero}
@@ -78,12 +81,12 @@ module _ (rule : ℕ) (file : List ℕ) (lent lent' : Lent) where
   abbrev GivenIn : ℕ × ℕ × ℕ × ℕ → Type 0
   GivenIn cells = GivenByFile rule file lent lent' cells.0 cells.1 cells.2 cells.3
 
-  load_known : (answer : Loaded) → Loads rule file lent lent' answer → Settles (load_order rule file lent) GivenIn (lent' ≡ lent) (loaded_cells answer)
-  load_known (Loaded.Formula n entries literals there) said = (
-    said.0,
-    record { count = said.1.0; prefix_count = said.1.1; clauses_count = said.1.2; sets_told = ap tells_sets said.1.3; filled = said.1.4 },
+  load_known : (answer : Answer Loaded) → Loads rule file lent lent' answer → Settles (load_order rule file lent) GivenIn (lent' ≡ lent) (loaded_cells answer)
+  load_known (Ok held) known = (
+    known.0,
+    record { count = known.1.0; prefix_count = known.1.1; clauses_count = known.1.2; sets_told = ap tells_sets known.1.3; filled = known.1.4 },
   )
-  load_known (Loaded.Refused number at) said = said
+  load_known (Err refusal) known = known
 
   -- the entries of an accepted formula are few
   loaded_few : (cells : ℕ × ℕ × ℕ × ℕ) → NoneOf (load_order rule file lent) → GivenIn cells → LoadedInCells cells
@@ -94,18 +97,18 @@ module _ (rule : ℕ) (file : List ℕ) (lent lent' : Lent) where
       let more = g.clauses_count in
       (omega arith, omega arith)
 
-  pub fits_load : (answer : Loaded) → Loads rule file lent lent' answer → Fits LoadedInCells (loaded_cells answer)
-  fits_load answer said =
+  pub fits_load : (answer : Answer Loaded) → Loads rule file lent lent' answer → Fits LoadedInCells (loaded_cells answer)
+  fits_load answer known =
       fits_known (load_order rule file lent) GivenIn (lent' ≡ lent) LoadedInCells (loaded_cells answer) (small_load file rule lent) loaded_few
-      (load_known answer said)
+      (load_known answer known)
 
-  pub tell_load : (answer : Loaded) {n entries literals with_sets n' entries' literals' with-sets' place place' returned : ℕ}
+  pub tell_load : (answer : Answer Loaded) {n entries literals with_sets n' entries' literals' with-sets' place place' returned : ℕ}
       → InCells (loaded_cells answer) (n, entries, literals, with_sets) (n', entries', literals', with-sets') place place' returned
       → Loads rule file lent lent' answer
       → Told (load_order rule file lent) (GivenByFile rule file lent lent' n' entries' literals' with-sets')
       ((n' ≡ n) × (entries' ≡ entries) × (literals' ≡ literals) × (with-sets' ≡ with_sets) × (lent' ≡ lent)) returned place place'
-  tell_load answer laid said =
-      tell_known (load_order rule file lent) GivenIn (lent' ≡ lent) laid (load_known answer said)
+  tell_load answer laid known =
+      tell_known (load_order rule file lent) GivenIn (lent' ≡ lent) laid (load_known answer known)
       (λ q k. (
         ap (λ (t : ℕ × ℕ × ℕ × ℕ). t.0) q,
         ap (λ (t : ℕ × ℕ × ℕ × ℕ). t.1) q,

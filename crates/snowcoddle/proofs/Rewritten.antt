@@ -1,11 +1,11 @@
 -- How what build and add leave is told: the forest tables, and the tally in its cells.
+use Rattle.std.specs.Prelude.{Ok, Err}
+use Rattle.terms.specs.Says.{Answer, fault_number}
 use Prim.Native.Nat.{ℕ}
 use mathlib.Core.Path.{◌≡◌, refl, ap, subst}
 use mathlib.Core.List.{List}
 use lib.IntN.{ℤ}
-use Rattle.terms.specs.declared.Filled.{Filled}
-use Rattle.terms.specs.declared.Filled.TheVariants.{Count, Refused}
-use Rattle.terms.specs.Answers.{Settles, verdict_of}
+use Rattle.terms.specs.Answers.{Settles}
 use Rattle.terms.specs.Refusals.{Causes, Judged}
 use Rattle.forest_theory.specs.Reach.{Variables}
 use Rattle.forest_tables.specs.Formula.{variables, Shares}
@@ -15,20 +15,20 @@ use Rattle.formula_rules.specs.Rules.{read_as, read_by}
 use Rattle.forest_tables.specs.Lent.{Rows, variables_of}
 use Rattle.grow.specs.Grown.{Standing, standing, forest_in, build_order, add_order, Extended, Grown, Tallies, Took, Rewrites, Builds, Adds}
 use Rattle.c_answers.specs.Codes.{tally_in}
-use Rattle.c_answers.specs.InnerCells.{Fits, Any, Laid, filled_said, built_said, added_said}
+use Rattle.c_answers.specs.InnerCells.{Fits, Any, Laid, said, built_said, added_said}
 use Rattle.snowcoddle.specs.Told.{Told, Left}
 use Rattle.snowcoddle.proofs.Places.{Small, small_build, small_add}
 use Rattle.snowcoddle.proofs.Telling.{tell_known}
 
 -- the place of a verdict fits its cell, where those of all causes do
-fits_judged : (order : List Causes) (answer : Filled) → Small order → Judged order (verdict_of answer) → Fits Any (filled_said answer)
-fits_judged order (Count written) small judged = tt
-fits_judged order (Refused number at) small judged = small number at judged
+fits_judged : (order : List Causes) (answer : Answer ℕ) → Small order → Judged order answer → Fits Any (said answer)
+fits_judged order (Ok written) small judged = tt
+fits_judged order (Err refusal) small judged = small (fault_number refusal.0) refusal.1 judged
 
-pub fits_built : {rule : ℕ} (f : Formula) {s s' : Standing} (answer : Filled) → Builds rule f s s' answer → Fits Any (filled_said answer)
+pub fits_built : {rule : ℕ} (f : Formula) {s s' : Standing} (answer : Answer ℕ) → Builds rule f s s' answer → Fits Any (said answer)
 fits_built {rule} f {s} answer built = fits_judged (build_order rule f s) answer (small_build rule f s) built.judged
 
-pub fits_added : {rule n : ℕ} (es : List ℕ) {s : Standing} {ls : List ℤ} {s' : Standing} (answer : Filled) → Adds rule n es s ls s' answer → Fits Any (filled_said answer)
+pub fits_added : {rule n : ℕ} (es : List ℕ) {s : Standing} {ls : List ℤ} {s' : Standing} (answer : Answer ℕ) → Adds rule n es s ls s' answer → Fits Any (said answer)
 fits_added {rule} {n} es {s} {ls} answer added = fits_judged (add_order rule n es s ls) answer (small_add rule n es s ls) added.judged
 
 -- All that is lent to be rewritten, before and after.
@@ -48,18 +48,18 @@ module _ (r r' : Rows) (cells : List ℕ) where
     stay : standing r' tally ≡ standing r lent → Stay
     stay q = (ap (λ (s : Standing). s.rows.classes) q, ap (λ (s : Standing). s.rows.parents) q, ap (λ (s : Standing). s.rows.counts) q)
 
-    built_known : (answer : Filled) → Rewrites order X J T (standing r lent) (standing r' tally) answer
-        → Settles order LeaveCounted Stay (built_said (filled_said answer) tally)
-    built_known (Count written) b = (b.judged, (b.leaves.0, (tally, (b.leaves.1, b.leaves.2), refl)))
-    built_known (Refused number at) b = (b.judged, stay b.leaves)
+    built_known : (answer : Answer ℕ) → Rewrites order X J T (standing r lent) (standing r' tally) answer
+        → Settles order LeaveCounted Stay (built_said (said answer) tally)
+    built_known (Ok written) b = (b.judged, (b.leaves.0, (tally, (b.leaves.1, b.leaves.2), refl)))
+    built_known (Err refusal) b = (b.judged, stay b.leaves)
 
-    added_known : (answer : Filled) → Rewrites order X J T (standing r lent) (standing r' tally) answer
-        → Settles order Leave Stay (added_said (built_said (filled_said answer) tally))
-    added_known (Count written) b = (b.judged, (tally, (b.leaves.1, b.leaves.2), refl))
-    added_known (Refused number at) b = (b.judged, stay b.leaves)
+    added_known : (answer : Answer ℕ) → Rewrites order X J T (standing r lent) (standing r' tally) answer
+        → Settles order Leave Stay (added_said (built_said (said answer) tally))
+    added_known (Ok written) b = (b.judged, (tally, (b.leaves.1, b.leaves.2), refl))
+    added_known (Err refusal) b = (b.judged, stay b.leaves)
 
-  pub tell_built : (rule : ℕ) (f : Formula) (tally : Tally) (answer : Filled) {lent : Tally} {cells' : List ℕ} {count count' place place' returned : ℕ}
-      → lent ≡ tally_in cells → Laid (built_said (filled_said answer) tally) (count, cells) (count', cells') place place' returned
+  pub tell_built : (rule : ℕ) (f : Formula) (tally : Tally) (answer : Answer ℕ) {lent : Tally} {cells' : List ℕ} {count count' place place' returned : ℕ}
+      → lent ≡ tally_in cells → Laid (built_said (said answer) tally) (count, cells) (count', cells') place place' returned
       → Builds rule f (standing r lent) (standing r' tally) answer
       → Told (build_order rule f (standing r (tally_in cells)))
       ((count' ≡ f.n) × Left (λ s. Grown (variables_of (read_by rule f)) (Shares f.clauses) (standing r (tally_in cells)) s
@@ -74,8 +74,8 @@ module _ (r r' : Rows) (cells : List ℕ) where
       (built_known order X (Shares f.clauses) T (tally_in cells) tally answer b)
       (λ c k. (ap (λ (p : ℕ × List ℕ). p.0) c, (k.0, k.1, k.2, ap (λ (p : ℕ × List ℕ). p.1) c)))
 
-  pub tell_added : (rule n : ℕ) (es : List ℕ) (ls : List ℤ) (tally : Tally) (answer : Filled) {lent : Tally} {cells' : List ℕ} {place place' returned : ℕ}
-      → lent ≡ tally_in cells → Laid (added_said (built_said (filled_said answer) tally)) cells cells' place place' returned
+  pub tell_added : (rule n : ℕ) (es : List ℕ) (ls : List ℤ) (tally : Tally) (answer : Answer ℕ) {lent : Tally} {cells' : List ℕ} {place place' returned : ℕ}
+      → lent ≡ tally_in cells → Laid (added_said (built_said (said answer) tally)) cells cells' place place' returned
       → Adds rule n es (standing r lent) ls (standing r' tally) answer
       → Told (add_order rule n es (standing r (tally_in cells)) ls)
       (Left (λ s. Grown (variables n (read_as rule es))

@@ -1,4 +1,6 @@
 -- Places in a text, and the counts of what is read from one, fit 32 bits: a text holds no more entries than bytes.
+use Rattle.terms.specs.Says.{Answer}
+use Rattle.terms.specs.declared.Counts.{Counts}
 use Prim.Native.Nat.{ℕ, suc, ◌+◌, ◌≤◌, ◌<◌}
 use mathlib.Core.Path.{◌≡◌, refl, sym, ap, ◌∙◌}
 use mathlib.Core.List.{List, [], ◌∷◌, ◌++◌, append_assoc}
@@ -6,14 +8,13 @@ use native.Mathlib.Omega.{arith}
 use lib.IntN.{ℤ}
 use lib.ListN.{length, length-append}
 use Rattle.terms.specs.Refusals.{NoneOf}
-use Rattle.terms.specs.declared.Reading.{Reading}
 use Rattle.text_words.specs.Words.{SPACE, pieces, filled, words, Entries, closing, entry}
 use Rattle.text_lines.specs.Format.{QuantifierLine, e_line, a_line, ClauseLine, literals_line, Say, say_none, say_more, TextWith, TextOf, MayFollow}
 use Rattle.text_lines.specs.Format.{place_after, LineCause}
 use Rattle.text_lines.proofs.Places.{pieces_place, place_append, place_few, cause_place}
 use Rattle.text_qdimacs.specs.Reading.{TEXT-MOST, Overlong, overlong, NoRoom, no_room_prefix, no_room_clauses, read_order, ReadInto, ReadIs}
 use Rattle.c_answers.specs.InnerCells.{Fits, Laid}
-use Rattle.c_answers.specs.InnerFormulas.{TwoInCells, reading_said}
+use Rattle.c_answers.specs.InnerFormulas.{TwoInCells, counts_said}
 use Rattle.snowcoddle.specs.Told.{Told}
 use Rattle.snowcoddle.proofs.Places.{Small, small_then, small_within}
 use Rattle.snowcoddle.proofs.Telling.{fits_known, tell_known}
@@ -106,17 +107,17 @@ module _ (text prefix prefix' : List ℕ) (clauses clauses' : List ℤ) where
   abbrev Into : ℕ × ℕ × ℕ → Type 0
   Into cells = ReadInto cells.0 cells.1 cells.2 text prefix prefix' clauses clauses'
 
-  pub fits_read : (answer : Reading) → ReadIs text prefix prefix' clauses clauses' answer → Fits TwoInCells (reading_said answer)
-  fits_read answer said =
-      fits_known (read_order text prefix clauses) Into ((prefix' ≡ prefix) × (clauses' ≡ clauses)) TwoInCells (reading_said answer) (small_read text prefix clauses)
+  pub fits_read : (answer : Answer Counts) → ReadIs text prefix prefix' clauses clauses' answer → Fits TwoInCells (counts_said answer)
+  fits_read answer known =
+      fits_known (read_order text prefix clauses) Into ((prefix' ≡ prefix) × (clauses' ≡ clauses)) TwoInCells (counts_said answer) (small_read text prefix clauses)
       (λ cells clean r. let few = counts_few cells.0 cells.1 cells.2 text prefix prefix' clauses clauses' clean r in let a = few.0 in
-      let b = few.1 in (omega arith, omega arith)) said
+      let b = few.1 in (omega arith, omega arith)) known
 
-  pub tell_read : (answer : Reading) {n entries literals n' entries' literals' place place' returned : ℕ}
-      → Laid (reading_said answer) (n, entries, literals) (n', entries', literals') place place' returned
+  pub tell_read : (answer : Answer Counts) {n entries literals n' entries' literals' place place' returned : ℕ}
+      → Laid (counts_said answer) (n, entries, literals) (n', entries', literals') place place' returned
       → ReadIs text prefix prefix' clauses clauses' answer
       → Told (read_order text prefix clauses) (ReadInto n' entries' literals' text prefix prefix' clauses clauses')
       ((n' ≡ n) × (entries' ≡ entries) × (literals' ≡ literals) × (prefix' ≡ prefix) × (clauses' ≡ clauses)) returned place place'
-  tell_read answer laid said =
-      tell_known (read_order text prefix clauses) Into ((prefix' ≡ prefix) × (clauses' ≡ clauses)) laid said
+  tell_read answer laid known =
+      tell_known (read_order text prefix clauses) Into ((prefix' ≡ prefix) × (clauses' ≡ clauses)) laid known
       (λ q k. (ap (λ (t : ℕ × ℕ × ℕ). t.0) q, ap (λ (t : ℕ × ℕ × ℕ). t.1) q, ap (λ (t : ℕ × ℕ × ℕ). t.2) q, k.0, k.1))

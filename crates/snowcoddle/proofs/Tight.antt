@@ -1,5 +1,7 @@
 -- What C is told leaves nothing open (rule 18.1): the number and the cell `place` are settled by what was lent, and so are the tables and the cells of the
 -- tally after build and add, and the bytes, tables and cells after store and load. (All else is settled as the library's calls settle it.)
+use Rattle.std.specs.Prelude.{Ok, Err}
+use Rattle.terms.specs.declared.Loaded.{Loaded}
 use Prim.Native.Nat.{ℕ}
 use mathlib.Core.Path.{◌≡◌, refl, sym, ap, ◌∙◌}
 use mathlib.Core.List.{List}
@@ -7,12 +9,8 @@ use lib.IntN.{ℤ}
 use lib.ListN.{length}
 use Rattle.terms.specs.Answers.{InFront}
 use Rattle.terms.specs.Overwritten.{overwritten}
-use Rattle.terms.specs.declared.Verdict.{Verdict}
-use Rattle.terms.specs.declared.Verdict.TheVariants.{Accepted, Refused}
-use Rattle.terms.specs.declared.Filled.TheVariants.{Count}
-use Rattle.terms.specs.declared.Loaded.TheVariants.{Formula as Held}
 use Rattle.terms.specs.Refusals.{Causes, NoneOf}
-use Rattle.terms.proofs.Verdicts.{judged_unique, first_or_none}
+use Rattle.terms.proofs.Verdicts.{first_of_same, first_or_none}
 use Rattle.formula.specs.Lent.{Formula}
 use Rattle.formula_rules.specs.Rules.{read_as, read_by}
 use Rattle.forest_tables.specs.Formula.{variables, Shares}
@@ -28,23 +26,13 @@ use Rattle.c_answers.specs.Codes.{cells_of}
 use Rattle.snowcoddle.specs.Told.{Told, accepted, refused, Left}
 use Rattle.snowcoddle.specs.Filed.{GivenByFile}
 
-number_in : Verdict → ℕ
-number_in Accepted = 0
-number_in (Refused number place) = number
-
-place_in : Verdict → ℕ
-place_in Accepted = 0
-place_in (Refused number place) = place
-
 pub told_tight : (order : List Causes) {given kept : Type 0} (place : ℕ) {k p k' p' : ℕ} → Told order given kept k place p
     → Told order given kept k' place p' → (k ≡ k') × (p ≡ p')
-unfolding number_in place_in
 told_tight order place (accepted _ _ q s) (accepted _ _ q' s') = (q ∙ sym q', s ∙ sym s')
 told_tight order place {k' = k'} {p' = p'} (accepted none _ _ _) (refused first _) = absurd (first_or_none order k' p' first none)
 told_tight order place {k} {p} (refused first _) (accepted none _ _ _) = absurd (first_or_none order k p first none)
 told_tight order place {k} {p} {k'} {p'} (refused first _) (refused first' _) =
-    let same = judged_unique order (Refused k p) (Refused k' p') first first' in
-    (ap number_in same, ap place_in same)
+    first_of_same order k p k' p' first first'
 
 -- Where S settles what is left, it settles the rows and the cells.
 left_tight : (S : Standing → Type 0) → ((a b : Standing) → S a → S b → a ≡ b) → {r r' : Rows} {after after' : List ℕ}
@@ -60,9 +48,9 @@ module _ (rule : ℕ) (f : Formula) (s : Standing) where
 
   pub built_tight : {r r' : Rows} {after after' : List ℕ} → NoneOf (build_order rule f s)
       → Left Built r after → Left Built r' after' → (r ≡ r') × (after ≡ after')
-  built_tight none = left_tight Built (λ a b g h. (build_tight f (Count f.n) (Count f.n) (built a g) (built b h)).1)
+  built_tight none = left_tight Built (λ a b g h. (build_tight f (Ok f.n) (Ok f.n) (built a g) (built b h)).1)
     where
-      built : (a : Standing) → Built a → Builds rule f s a (Count f.n)
+      built : (a : Standing) → Built a → Builds rule f s a (Ok f.n)
       built a (grown, tally) = record { judged = none; leaves = (refl, grown, tally) }
 
 -- what add leaves
@@ -72,9 +60,9 @@ module _ (rule n : ℕ) (es : List ℕ) (ls : List ℤ) (s : Standing) where
 
   pub added_tight : {r r' : Rows} {after after' : List ℕ} → NoneOf (add_order rule n es s ls)
       → Left Added r after → Left Added r' after' → (r ≡ r') × (after ≡ after')
-  added_tight none = left_tight Added (λ a b g h. (add_tight es (Count n) (Count n) (added a g) (added b h)).1)
+  added_tight none = left_tight Added (λ a b g h. (add_tight es (Ok n) (Ok n) (added a g) (added b h)).1)
     where
-      added : (a : Standing) → Added a → Adds rule n es s ls a (Count n)
+      added : (a : Standing) → Added a → Adds rule n es s ls a (Ok n)
       added a (grown, took) = record { judged = none; leaves = (refl, grown, took) }
 
 -- what store gives: the count and every byte
@@ -90,10 +78,10 @@ pub loaded_tight : (rule : ℕ) (file : List ℕ) (lent a b : Lent) {n entries l
     → (n ≡ n') × (entries ≡ entries') × (literals ≡ literals') × (with_sets ≡ with-sets') × (a ≡ b)
 loaded_tight rule file lent a b none f g =
     let held = formula_held file in
-    let said = Held held.n (length held.prefix) (length held.clauses) (has_sets file) in (
+    let loaded : Loaded = record { n = held.n; prefix = length held.prefix; clauses = length held.clauses; sets = has_sets file } in (
       f.count ∙ sym g.count,
       f.prefix_count ∙ sym g.prefix_count,
       f.clauses_count ∙ sym g.clauses_count,
       f.sets_told ∙ sym g.sets_told,
-      (load_settled rule file lent a b said said (none, (refl, refl, refl, refl, f.filled)) (none, (refl, refl, refl, refl, g.filled))).1,
+      (load_settled rule file lent a b (Ok loaded) (Ok loaded) (none, (refl, refl, refl, refl, f.filled)) (none, (refl, refl, refl, refl, g.filled))).1,
     )

@@ -1,14 +1,14 @@
 -- The places of writing fit 32 bits, whatever stands in the order before 15 and 14; and how writing is told.
+use Rattle.terms.specs.Says.{Answer}
 use Prim.Native.Nat.{ℕ, ◌≤◌}
 use mathlib.Core.Path.{◌≡◌}
 use mathlib.Core.List.{List, [], ◌∷◌, ◌++◌}
 use native.Mathlib.Omega.{arith}
 use Rattle.terms.specs.Refusals.{Causes}
-use Rattle.terms.specs.declared.Filled.{Filled}
 use Rattle.text_write.specs.Texts.{Overlong}
 use Rattle.text_write.specs.Stored.{ShortOut, short_out, Stored}
 use Rattle.text_write.specs.InnerOrders.{write_order, WritesAfter}
-use Rattle.c_answers.specs.InnerCells.{Fits, Any, Laid, filled_said}
+use Rattle.c_answers.specs.InnerCells.{Fits, Any, Laid, said}
 use Rattle.snowcoddle.specs.Told.{Told}
 use Rattle.snowcoddle.proofs.Places.{Small, small_then, small_within}
 use Rattle.snowcoddle.proofs.Telling.{fits_known, tell_known}
@@ -24,11 +24,11 @@ small_write order text out small =
     (λ _. small_within (ShortOut text out) 0 (omega arith) (λ k p cause. short_place cause)))
 
 module _ (order : List Causes) (text out out' : List ℕ) where
-  pub fits_write : (answer : Filled) → Small order → WritesAfter order text out out' answer → Fits Any (filled_said answer)
-  fits_write answer small said =
-      fits_known (order ++ write_order text out) (Stored text out out') (out' ≡ out) Any (filled_said answer) (small_write order text out small)
-      (λ _ _ _. tt) said
+  pub fits_write : (answer : Answer ℕ) → Small order → WritesAfter order text out out' answer → Fits Any (said answer)
+  fits_write answer small known =
+      fits_known (order ++ write_order text out) (Stored text out out') (out' ≡ out) Any (said answer) (small_write order text out small)
+      (λ _ _ _. tt) known
 
-  pub tell_write : (answer : Filled) {count count' place place' returned : ℕ} → Laid (filled_said answer) count count' place place' returned → WritesAfter order text out out' answer
+  pub tell_write : (answer : Answer ℕ) {count count' place place' returned : ℕ} → Laid (said answer) count count' place place' returned → WritesAfter order text out out' answer
       → Told (order ++ write_order text out) (Stored text out out' count') ((count' ≡ count) × (out' ≡ out)) returned place place'
-  tell_write answer laid said = tell_known (order ++ write_order text out) (Stored text out out') (out' ≡ out) laid said (λ q k. (q, k))
+  tell_write answer laid known = tell_known (order ++ write_order text out) (Stored text out out') (out' ≡ out) laid known (λ q k. (q, k))

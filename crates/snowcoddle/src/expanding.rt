@@ -3,7 +3,7 @@
 ghost use Rattle.formula.specs.Lent.{formula_in};
 ghost use Rattle.snowcoddle.specs.Promises.{ExpandTold};
 
-use c_answers::formulas::lay_expanded;
+use c_answers::formulas::lay_counts;
 use terms::Variable;
 
 // Expand: the formula with the universal x removed, its variable count, and the counts of the entries of both its tables.
@@ -31,5 +31,5 @@ pub fn snow_expand(
         out_prefix,
         out_clauses,
     );
-    lay_expanded(answer, out_n, prefix_count, clauses_count, place)
+    lay_counts(answer, out_n, prefix_count, clauses_count, place)
 }

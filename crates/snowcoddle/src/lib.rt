@@ -17,11 +17,10 @@ ghost use Rattle.c_answers.specs.Codes.{scheme_of};
 ghost use Rattle.snowcoddle.specs.Promises.{CheckTold, ClauseTold, BuildTold, AddTold, EntryTold, EntriesTold, SetTold, SizeTold, SetsTold, ReadTold};
 ghost use Rattle.snowcoddle.specs.Promises.{WriteTold};
 
-use c_answers::formulas::lay_reading;
+use c_answers::formulas::lay_counts;
 use c_answers::tallies::{TallyCells, lay_added, lay_built, tally_in};
 use c_answers::{lay, lay_entry, lay_verdict, scheme_in};
-use formula::clauses::Span;
-use terms::{Variable, Verdict};
+use terms::{Fault, Variable};
 
 // The number by which C asks for the strict scheme, which the calls mean that take none.
 const STRICT: u32 = 2;
@@ -45,17 +44,17 @@ pub fn snow_clause(
     ensures told { ClauseTold n clauses.now asked start len place result }
 {
     match formula_checks::clause_verdict(n, clauses, asked) {
-        Verdict::Refused(number, at) => {
-            *place = at as u32;
-            number
+        Err(refusal) => {
+            *place = refusal.1 as u32;
+            refusal.0.number()
         }
-        Verdict::Accepted => match formula::clauses::find(clauses, asked) {
-            Span::At { start: from, end } => {
-                *start = from as u32;
-                *len = (end - from) as u32;
+        Ok(()) => match formula::clauses::find(clauses, asked) {
+            Some(span) => {
+                *start = span.start as u32;
+                *len = (span.end - span.start) as u32;
                 0
             }
-            Span::Nowhere => 13,
+            None => Fault::NotAskable.number(),
         },
     }
 }
@@ -348,7 +347,7 @@ pub fn snow_read(
     ensures told { ReadTold text.now n prefix prefix_count clauses clauses_count place result }
 {
     let answer = text_qdimacs::read(text, prefix, clauses);
-    lay_reading(answer, n, prefix_count, clauses_count, place)
+    lay_counts(answer, n, prefix_count, clauses_count, place)
 }
 
 // Write a text, with the count of its bytes.

@@ -3,7 +3,7 @@
 ghost use Rattle.formula.specs.Lent.{formula_in};
 ghost use Rattle.snowcoddle.specs.Promises.{PathTold};
 
-use terms::{Variable, Verdict};
+use terms::Variable;
 
 // The path check: whether a path of clause numbers is acceptable for the pair (x, y). The cell `place` is as wide as a length, since a path may
 // be of any length.
@@ -19,18 +19,12 @@ pub fn snow_path(
 ) -> u32
     ensures told { PathTold rule (formula_in n prefix clauses) x y path.now place result }
 {
-    let verdict = path_check::path_verdict(
-        rule,
-        n,
-        prefix,
-        clauses,
-        Variable(x),
-        Variable(y),
-        path,
-    );
-    if let Verdict::Refused(number, at) = verdict {
-        *place = at;
-        return number;
+    let answer = path_check::path_verdict(rule, n, prefix, clauses, Variable(x), Variable(y), path);
+    match answer {
+        Ok(()) => 0,
+        Err(refusal) => {
+            *place = refusal.1;
+            refusal.0.number()
+        }
     }
-    0
 }

@@ -2,6 +2,7 @@
 pub mod Common
 pub mod Overwritten
 pub mod Signed
+pub mod Faults
 pub mod Verdicts
 pub mod Orders
 pub mod Listed

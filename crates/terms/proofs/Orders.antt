@@ -1,21 +1,20 @@
 -- One order of refusals for another: when what the first says, the second says as well.
 use Prim.Native.Nat.{ℕ}
-use mathlib.Core.Path.{refl}
 use mathlib.Core.List.{List, [], ◌∷◌, ◌++◌}
 use mathlib.Core.Logic.{inl, inr}
 use Rattle.terms.specs.Refusals.{Causes, First, FirstOf, NoneOf, Judged}
-use Rattle.terms.specs.declared.Verdict.{Verdict}
-use Rattle.terms.specs.declared.Verdict.TheVariants.{Accepted, Refused}
-use Rattle.terms.proofs.Verdicts.{accepted_then}
+use Rattle.std.specs.Prelude.{Result, Ok, Err}
+use Rattle.terms.specs.Says.{Answer, gives, refuses}
+use Rattle.terms.proofs.Verdicts.{judges_later}
 
 -- What one order says, another says as well.
 pub record Carries (order order' : List Causes) : Type 0 where
   pub none : NoneOf order → NoneOf order'
   pub first : (number place : ℕ) → FirstOf order number place → FirstOf order' number place
 
-pub carry_judged : (order order' : List Causes) → Carries order order' → (v : Verdict) → Judged order v → Judged order' v
-carry_judged order order' c Accepted judged = c.none judged
-carry_judged order order' c (Refused number place) judged = c.first number place judged
+pub carry_judged : {A : Type 0} (order order' : List Causes) → Carries order order' → (v : Answer A) → Judged order v → Judged order' v
+carry_judged order order' c (Ok values) judged = c.none judged
+carry_judged order order' c (Err refusal) judged = c.first _ _ judged
 
 -- An order carries over to itself; with causes put in front of each, where the two say the same; behind a common front; and by way of a third order.
 pub same_order : (order : List Causes) → Carries order order
@@ -53,18 +52,16 @@ later_first [] later number place none first = first
 later_first (causes ∷ front) later number place none (inl first) = absurd (none.0 number place first.holds)
 later_first (causes ∷ front) later number place none (inr first) = later_first front later number place none.1 first.1
 
--- Two fronts of which no cause holds may be exchanged.
-pub exchanged : (front front' later : List Causes) → NoneOf front → NoneOf front' → Carries (front ++ later) (front' ++ later)
-exchanged front front' later none none' =
-    record {
-      none = λ all. accepted_then front' later {v = Accepted} Accepted refl none' (none_later front later all);
-      first = λ number place f. accepted_then front' later {v = Accepted} (Refused number place) refl none' (later_first front later number place none f);
-    }
-
 -- What is said behind causes of which none holds is said by the whole order.
 pub behind_none : (front later : List Causes) → NoneOf front → Carries later (front ++ later)
 behind_none front later none =
     record {
-      none = λ all. accepted_then front later {v = Accepted} Accepted refl none all;
-      first = λ number place f. accepted_then front later {v = Accepted} (Refused number place) refl none f;
+      none = judges_later {A = Unit {0}} front later (gives tt) none;
+      first = λ number place. judges_later {A = Unit {0}} front later (refuses number place) none;
     }
+
+-- Two fronts of which no cause holds may be exchanged.
+pub exchanged : (front front' later : List Causes) → NoneOf front → NoneOf front' → Carries (front ++ later) (front' ++ later)
+exchanged front front' later none none' =
+    let back = behind_none front' later none' in
+    record { none = λ all. back.none (none_later front later all); first = λ number place f. back.first number place (later_first front later number place none f) }

@@ -1,13 +1,18 @@
 -- Laws of first causes and verdicts (rule 8.2): how a first cause is found, and that what was lent settles the verdict.
 use Prim.Native.Nat.{ℕ, ◌≤◌, ◌<◌}
-use mathlib.Core.Path.{◌≡◌, refl, sym, ap₂, subst}
+use mathlib.Core.Path.{◌≡◌, refl, sym, ap, ap₂, subst}
 use mathlib.Core.List.{List, [], ◌∷◌, ◌++◌}
 use mathlib.Core.Logic.{inl, inr}
 use native.Mathlib.Nat.{le_antisymm}
 use native.Mathlib.Omega.{arith}
-use Rattle.terms.specs.declared.Verdict.{Verdict}
-use Rattle.terms.specs.declared.Verdict.TheVariants.{Accepted, Refused}
-use Rattle.terms.specs.Refusals.{Causes, At0, None, First, FirstOf, NoneOf, Judged}
+use Rattle.std.specs.Prelude.{Result, Ok, Err}
+use Rattle.std.specs.Result.{IsErrAnd}
+use Rattle.std.proofs.lemmas.Result.{err_from_is_err_and}
+use Rattle.terms.specs.declared.Refusal.{Refusal}
+use Rattle.terms.specs.Says.{Said, gives, refuses, Answer, Verdict, said, fault_number}
+use Rattle.terms.specs.Refusals.{Causes, At0, None, First, FirstOf, NoneOf, Judges, Judged}
+use Rattle.terms.specs.Answers.{verdict_by}
+use Rattle.terms.proofs.Faults.{one_refusal}
 
 -- A cause that has none to its left, and no lower number at its place, is the first.
 pub first_at : {causes : Causes} {number place : ℕ} → ((e : ℕ) → e < place → (k : ℕ) → causes k e → ⊥) → causes number place
@@ -24,21 +29,22 @@ pub at0_none : (k : ℕ) {condition : Type 0} → ¬ condition → None (At0 k c
 at0_none k not number place cause = not cause.2
 
 -- Orders one after the other: a refusal of the first stands, and where the first accepts the second judges.
-first_of_more : (order more : List Causes) (k p : ℕ) → FirstOf order k p → FirstOf (order ++ more) k p
+pub first_of_more : (order more : List Causes) (k p : ℕ) → FirstOf order k p → FirstOf (order ++ more) k p
 first_of_more [] more k p f = absurd f
 first_of_more (causes ∷ later) more k p (inl f) = inl f
 first_of_more (causes ∷ later) more k p (inr f) = inr (f.0, first_of_more later more k p f.1)
 
-none_then : (order more : List Causes) (v : Verdict) → NoneOf order → Judged more v → Judged (order ++ more) v
-none_then [] more v none judged = judged
-none_then (causes ∷ later) more Accepted none judged = (none.0, none_then later more Accepted none.1 judged)
-none_then (causes ∷ later) more (Refused k p) none judged = inr (none.0, none_then later more (Refused k p) none.1 judged)
+pub judges_later : {A : Type 0} (order more : List Causes) (told : Said A) → NoneOf order → Judges more told → Judges (order ++ more) told
+judges_later [] more told none judged = judged
+judges_later (causes ∷ later) more (gives values) none judged = (none.0, judges_later later more (gives values) none.1 judged)
+judges_later {A = A} (causes ∷ later) more (refuses k p) none judged = inr (none.0, judges_later {A = A} later more (refuses k p) none.1 judged)
 
-pub refused_first : (order more : List Causes) {v : Verdict} {k p : ℕ} → v ≡ Refused k p → Judged order v → Judged (order ++ more) (Refused k p)
-refused_first order more {k = k} {p = p} q judged = first_of_more order more k p (subst (Judged order) q judged)
+pub refused_first : {A : Type 0} (order more : List Causes) {v : Answer A} {r : Refusal} → v ≡ Err r → Judged order v
+    → FirstOf (order ++ more) (fault_number r.0) r.1
+refused_first order more {r = r} q judged = first_of_more order more _ _ (subst (Judged order) q judged)
 
-pub accepted_then : (order more : List Causes) {v : Verdict} (w : Verdict) → v ≡ Accepted → Judged order v → Judged more w → Judged (order ++ more) w
-accepted_then order more w q judged later = none_then order more w (subst (Judged order) q judged) later
+pub accepted_then : {A B : Type 0} (order more : List Causes) {v : Answer A} {a : A} (w : Answer B) → v ≡ Ok a → Judged order v → Judged more w → Judged (order ++ more) w
+accepted_then order more w q judged later = judges_later order more (said w) (subst (Judged order) q judged) later
 
 -- The first of some causes is one number at one place; so is the first in an order.
 first_same : {causes : Causes} (k p k' p' : ℕ) → First causes k p → First causes k' p' → (k ≡ k') × (p ≡ p')
@@ -61,9 +67,22 @@ first_or_none [] k p f none = f
 first_or_none (causes ∷ later) k p (inl f) none = none.0 k p f.holds
 first_or_none (causes ∷ later) k p (inr f) none = first_or_none later k p f.1 none.1
 
--- What was lent settles the verdict: of two verdicts that an order judges right, neither differs.
+-- What was lent settles the refusal, and the verdict: of two that an order judges right, neither differs.
+pub refusal_unique : (order : List Causes) (r r' : Refusal) → FirstOf order (fault_number r.0) r.1 → FirstOf order (fault_number r'.0) r'.1 → r ≡ r'
+refusal_unique order r r' f g = let same = first_of_same order _ _ _ _ f g in one_refusal r r' same.0 same.1
+
 pub judged_unique : (order : List Causes) (v w : Verdict) → Judged order v → Judged order w → v ≡ w
-judged_unique order Accepted Accepted f g = refl
-judged_unique order Accepted (Refused k p) f g = absurd (first_or_none order k p g f)
-judged_unique order (Refused k p) Accepted f g = absurd (first_or_none order k p f g)
-judged_unique order (Refused k p) (Refused k' p') f g = let same = first_of_same order k p k' p' f g in ap₂ Refused same.0 same.1
+judged_unique order (Ok a) (Ok b) f g = refl
+judged_unique order (Ok _) (Err r) f g = absurd (first_or_none order _ _ g f)
+judged_unique order (Err r) (Ok _) f g = absurd (first_or_none order _ _ f g)
+judged_unique order (Err r) (Err r') f g = ap Err (refusal_unique order r r' f g)
+
+pub verdict_unique : {A : Type 0} (order : List Causes) (told : Said A) (w : Said (Unit {0})) → Judges order told → Judges order w → verdict_by told ≡ w
+verdict_unique order (gives values) (gives u) f g = refl
+verdict_unique order (gives values) (refuses k p) f g = absurd (first_or_none order k p g f)
+verdict_unique order (refuses k p) (gives u) f g = absurd (first_or_none order k p f g)
+verdict_unique order (refuses k p) (refuses k' p') f g = let same = first_of_same order k p k' p' f g in ap₂ refuses same.0 same.1
+
+-- What a `?` hands on is the refusal that it met.
+pub handed_on : {A : Type 0} {r : Refusal} (result : Answer A) → IsErrAnd result (λ (e : Refusal). e ≡ r) → result ≡ Err r
+handed_on result and = let p = err_from_is_err_and result and in rw (p.1, p.2)

@@ -1,11 +1,9 @@
 -- What calls promise that give more than a verdict, by what their answers say (rule 18.9), and what a call leaves in a table that it fills (rule 7.5).
 use Rattle.std.specs.Prelude.{ℕ, ◌<◌, ◌≡◌, List, length}
-use Rattle.terms.specs.declared.Verdict.{Verdict}
-use Rattle.terms.specs.declared.Filled.{Filled}
-use Rattle.terms.specs.declared.EntryAnswer.{EntryAnswer}
+use Rattle.terms.specs.declared.Point.{Point}
 use Rattle.terms.specs.Listed.{Listed}
 use Rattle.terms.specs.Overwritten.{overwritten}
-use Rattle.terms.specs.Says.{Said, gives, refuses, filled_said, entry_said}
+use Rattle.terms.specs.Says.{Said, gives, refuses, said_by, Answer, said, entry_said}
 use Rattle.terms.specs.Refusals.{Causes, Judges}
 
 -- What holds once something is said: `given` of the values, where it is accepted, and `kept` where it is refused.
@@ -17,21 +15,17 @@ Then given kept (refuses number place) = kept
 abbrev pub Settles : {Values : Type 0} → List Causes → (Values → Type 0) → Type 0 → Said Values → Type 0
 Settles order given kept said = Judges order said × Then given kept said
 
--- the verdict of what is said
-abbrev pub verdict_by : {Values : Type 0} → Said Values → Verdict
-verdict_by (gives values) = Verdict.Accepted
-verdict_by (refuses number place) = Verdict.Refused number place
-
-abbrev pub verdict_of : Filled → Verdict
-verdict_of answer = verdict_by (filled_said answer)
+-- what is said without its values: accepted, or the number and the place
+abbrev pub verdict_by : {Values : Type 0} → Said Values → Said (Unit {0})
+verdict_by {Values} = said_by (λ (values : Values). tt)
 
 -- a call that answers with an entry point: P holds of the class and the number of rises
-abbrev pub Answered : List Causes → (ℕ → ℕ → Type 0) → EntryAnswer → Type 0
+abbrev pub Answered : List Causes → (ℕ → ℕ → Type 0) → Answer Point → Type 0
 Answered order P answer = Settles order (λ (point : ℕ × ℕ). P point.0 point.1) (Unit {0}) (entry_said answer)
 
 -- a call that answers with a number, of which P holds
-abbrev pub AnsweredNumber : List Causes → (ℕ → Type 0) → Filled → Type 0
-AnsweredNumber order P answer = Settles order P (Unit {0}) (filled_said answer)
+abbrev pub AnsweredNumber : List Causes → (ℕ → Type 0) → Answer ℕ → Type 0
+AnsweredNumber order P answer = Settles order P (Unit {0}) (said answer)
 
 -- a list of which L holds stands in front in a lent table, with nothing past it changed, and the count is its length
 abbrev pub InFront : (List ℕ → Type 0) → List ℕ → List ℕ → ℕ → Type 0
@@ -39,11 +33,11 @@ InFront L before after count = (list : List ℕ) × L list × (count ≡ length 
 
 -- A call that writes the list of which L holds, and what it leaves in the lent table: accepted, it gives the count of all entries and the list stands in
 -- front, with nothing past it changed; refused, nothing is changed at all.
-abbrev pub Filling : List Causes → (List ℕ → Type 0) → List ℕ → List ℕ → Filled → Type 0
-Filling order L before after answer = Settles order (InFront L before after) (after ≡ before) (filled_said answer)
+abbrev pub Filling : List Causes → (List ℕ → Type 0) → List ℕ → List ℕ → Answer ℕ → Type 0
+Filling order L before after answer = Settles order (InFront L before after) (after ≡ before) (said answer)
 
 -- so for a call that lists the numbers of which P holds
-abbrev pub Listing : List Causes → (ℕ → Type 0) → List ℕ → List ℕ → Filled → Type 0
+abbrev pub Listing : List Causes → (ℕ → Type 0) → List ℕ → List ℕ → Answer ℕ → Type 0
 Listing order P = Filling order (Listed P)
 
 -- 14 of rule 8.1: the list needs more room than the lent table has

@@ -1,7 +1,6 @@
--- Refusals: what it is to be the first cause in a call's order, and what a verdict then says (demand 1, rule 8.2, rule 18.9).
+-- Refusals: what it is to be the first cause in a call's order, and what an answer then says (demand 1, rule 8.2, rule 18.9).
 use Rattle.std.specs.Prelude.{ℕ, ◌≤◌, ◌≡◌, List, [], ◌∷◌, ◌⊎◌}
-use Rattle.terms.specs.declared.Verdict.{Verdict}
-use Rattle.terms.specs.Says.{Said, gives, refuses, verdict_said}
+use Rattle.terms.specs.Says.{Said, gives, refuses, Answer, said}
 
 -- Causes that are looked for together: which refusal number has a cause at which place.
 abbrev pub Causes : Type 1
@@ -36,6 +35,6 @@ abbrev pub Judges : {Values : Type 0} → List Causes → Said Values → Type 0
 Judges order (gives values) = NoneOf order
 Judges order (refuses number place) = FirstOf order number place
 
--- so of a verdict
-abbrev pub Judged : List Causes → Verdict → Type 0
-Judged order verdict = Judges order (verdict_said verdict)
+-- so of an answer
+abbrev pub Judged : {Values : Type 0} → List Causes → Answer Values → Type 0
+Judged order answer = Judges order (said answer)

@@ -1,12 +1,15 @@
 -- What each answer of a call says, as the table of refusals numbers it (rule 8.1, rule 18.9): 0 is accepted, with the values that the call gives; a refusal is its
 -- number and its place, and gives no value.
-use Rattle.std.specs.Prelude.{ℕ, Bool}
-use Rattle.terms.specs.declared.Verdict.{Verdict}
-use Rattle.terms.specs.declared.Filled.{Filled}
-use Rattle.terms.specs.declared.EntryAnswer.{EntryAnswer}
-use Rattle.terms.specs.declared.Reading.{Reading}
-use Rattle.terms.specs.declared.ListedReading.{ListedReading}
-use Rattle.terms.specs.declared.Expanded.{Expanded}
+use Rattle.std.specs.Prelude.{ℕ, Bool, Option, None, Some, Result, Ok, Err}
+use Rattle.terms.specs.declared.Fault.{Fault}
+use Rattle.terms.specs.declared.Fault.TheVariants.{TooManyVariables, TooManyEntries, UnclosedBlock, NoMark, SameMark, TooManyBlocks, ForeignVariable}
+use Rattle.terms.specs.declared.Fault.TheVariants.{NamedBefore, EmptyBlock, ForeignLiteral, UnclosedClause, MalformedForest, NotAskable, TooLittleRoom}
+use Rattle.terms.specs.declared.Fault.TheVariants.{TextTooLong, WrongLine, WrongClauseCount, WrongTally, WrongRecord, WrongOrder, WrongSum}
+use Rattle.terms.specs.declared.Fault.TheVariants.{WrongContents, NoSuchRule, WrongPath, MisplacedExistential, MisplacedUniversal, TooManyForPaths}
+use Rattle.terms.specs.declared.Refusal.{Refusal}
+use Rattle.terms.specs.declared.Point.{Point}
+use Rattle.terms.specs.declared.Counts.{Counts}
+use Rattle.terms.specs.declared.ListedCounts.{ListedCounts}
 use Rattle.terms.specs.declared.Loaded.{Loaded}
 use Rattle.terms.specs.declared.Tally.{Tally}
 use Rattle.terms.specs.declared.Tallied.{Tallied}
@@ -26,40 +29,76 @@ abbrev pub said_by : {A B : Type 0} → (A → B) → Said A → Said B
 said_by f (gives values) = gives (f values)
 said_by f (refuses number place) = refuses number place
 
--- check, and the path check: no value
-abbrev pub verdict_said : Verdict → Said (Unit {0})
-verdict_said Verdict.Accepted = gives tt
-verdict_said (Verdict.Refused number place) = refuses number place
+-- the number of each fault
+abbrev pub fault_number : Fault → ℕ
+fault_number TooManyVariables = 1
+fault_number TooManyEntries = 2
+fault_number UnclosedBlock = 3
+fault_number NoMark = 4
+fault_number SameMark = 5
+fault_number TooManyBlocks = 6
+fault_number ForeignVariable = 7
+fault_number NamedBefore = 8
+fault_number EmptyBlock = 9
+fault_number ForeignLiteral = 10
+fault_number UnclosedClause = 11
+fault_number MalformedForest = 12
+fault_number NotAskable = 13
+fault_number TooLittleRoom = 14
+fault_number TextTooLong = 15
+fault_number WrongLine = 16
+fault_number WrongClauseCount = 17
+fault_number WrongTally = 18
+fault_number WrongRecord = 19
+fault_number WrongOrder = 20
+fault_number WrongSum = 21
+fault_number WrongContents = 22
+fault_number NoSuchRule = 23
+fault_number WrongPath = 24
+fault_number MisplacedExistential = 25
+fault_number MisplacedUniversal = 26
+fault_number TooManyForPaths = 27
 
--- a list that was written, or a number that was asked for: how many entries it has, or the number
-abbrev pub filled_said : Filled → Said ℕ
-filled_said (Filled.Count count) = gives count
-filled_said (Filled.Refused number place) = refuses number place
+-- the number of a fault that may be there: 0 where none is
+abbrev pub number_told : Option Fault → ℕ
+number_told None = 0
+number_told (Some fault) = fault_number fault
+
+-- what a call answers: its values, or its refusal
+abbrev pub Answer : Type 0 → Type 0
+Answer Values = Result Values Refusal
+
+abbrev pub refused : {Values : Type 0} → Fault → ℕ → Answer Values
+refused fault place = Err (record { 0 = fault; 1 = place })
+
+-- what the answer says
+abbrev pub said : {Values : Type 0} → Answer Values → Said Values
+said (Ok values) = gives values
+said (Err refusal) = refuses (fault_number refusal.0) refusal.1
+
+-- check, and the path check: no value
+abbrev pub Verdict : Type 0
+Verdict = Answer (Unit {0})
+
+abbrev pub accepted : Verdict
+accepted = Ok tt
 
 -- an entry point: the class, and the number of rises
-abbrev pub entry_said : EntryAnswer → Said (ℕ × ℕ)
-entry_said (EntryAnswer.At class rises) = gives (class.0, rises)
-entry_said (EntryAnswer.Refused number place) = refuses number place
+abbrev pub entry_said : Answer Point → Said (ℕ × ℕ)
+entry_said answer = said_by (λ (point : Point). (point.class.0, point.rises)) (said answer)
 
 -- build and add: the count of rows, and the tally
 abbrev pub tallied_said : Tallied → Said (ℕ × Tally)
-tallied_said told = said_by (λ (count : ℕ). (count, told.tally)) (filled_said told.answer)
+tallied_said told = said_by (λ (count : ℕ). (count, told.tally)) (said told.answer)
 
--- a text that was read: n, and the counts of the entries of the prefix and of the clauses; and of the lists, where it may have them
-abbrev pub reading_said : Reading → Said (ℕ × ℕ × ℕ)
-reading_said (Reading.Read n entries literals) = gives (n, entries, literals)
-reading_said (Reading.Refused number place) = refuses number place
+-- a text that was read, or a formula with a universal expanded: n, and the counts of the entries of the prefix and of the clauses; and of the lists, where it
+-- may have them
+abbrev pub counts_said : Answer Counts → Said (ℕ × ℕ × ℕ)
+counts_said answer = said_by (λ (counts : Counts). (counts.n, counts.prefix, counts.clauses)) (said answer)
 
-abbrev pub listed_said : ListedReading → Said (ℕ × ℕ × ℕ × ℕ)
-listed_said (ListedReading.Read n entries literals rows) = gives (n, entries, literals, rows)
-listed_said (ListedReading.Refused number place) = refuses number place
-
--- a formula with a universal expanded: n, and the counts of the entries of its prefix and of its clauses
-abbrev pub expanded_said : Expanded → Said (ℕ × ℕ × ℕ)
-expanded_said (Expanded.Formula n entries literals) = gives (n, entries, literals)
-expanded_said (Expanded.Refused number place) = refuses number place
+abbrev pub listed_said : Answer ListedCounts → Said (ℕ × ℕ × ℕ × ℕ)
+listed_said answer = said_by (λ (counts : ListedCounts). (counts.n, counts.prefix, counts.clauses, counts.lists)) (said answer)
 
 -- a file that was read: so of its formula, and whether sets were there
-abbrev pub loaded_said : Loaded → Said (ℕ × ℕ × ℕ × Bool)
-loaded_said (Loaded.Formula n entries literals with_sets) = gives (n, entries, literals, with_sets)
-loaded_said (Loaded.Refused number place) = refuses number place
+abbrev pub loaded_said : Answer Loaded → Said (ℕ × ℕ × ℕ × Bool)
+loaded_said answer = said_by (λ (held : Loaded). (held.n, held.prefix, held.clauses, held.sets)) (said answer)

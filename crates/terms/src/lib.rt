@@ -8,17 +8,18 @@ ghost use Rattle.std.specs.Prelude.{◌≤◌, ◌≡◌, pos, neg_ℤ};
 ghost use Rattle.terms.specs.Literals.{variable_of};
 ghost use Rattle.terms.specs.InnerLiteralRows.{most_literal};
 ghost use Rattle.terms.specs.InnerLiteralRows.{row_by, row_of, other_row};
+ghost use Rattle.terms.specs.Says.{fault_number};
 
 // A variable by its number, from 1 on; 0 stands for none.
-#[derive(Clone, Copy)]
+#[derive(Clone, Copy, PartialEq, Eq, PartialOrd, Ord)]
 pub struct Variable(pub u32);
 
 // A level: the number of a block, outermost 1; 0 is the level of free variables outside every block.
-#[derive(Clone, Copy)]
+#[derive(Clone, Copy, PartialEq, Eq, PartialOrd, Ord)]
 pub struct Level(pub u32);
 
 // A literal as it is lent: the number of its variable, negative for the negation.
-#[derive(Clone, Copy)]
+#[derive(Clone, Copy, PartialEq, Eq)]
 pub struct Literal(pub i32);
 
 impl Variable {
@@ -128,71 +129,109 @@ fn magnitude(number: i32) -> u32
     }
 }
 
-// What a call says of what was lent to it: accepted, or the number of the refusal and its place.
-#[derive(Clone, Copy)]
-pub enum Verdict {
-    Accepted,
-    // the number of the refusal, and its place
-    Refused(u32, usize),
+// What is wrong with what was lent, as the table of refusals has it (rule 8.1): each fault by its number there.
+#[derive(Clone, Copy, Debug, PartialEq, Eq)]
+pub enum Fault {
+    // n over the limit
+    TooManyVariables = 1,
+    // a table longer than its limit
+    TooManyEntries = 2,
+    // the prefix ends inside a block
+    UnclosedBlock = 3,
+    // a mark that is neither 1 nor 2
+    NoMark = 4,
+    // the mark of the block before
+    SameMark = 5,
+    // the mark of one block too many
+    TooManyBlocks = 6,
+    // a variable of the prefix outside 1 to n
+    ForeignVariable = 7,
+    // a variable that was named before
+    NamedBefore = 8,
+    // a block with no variable
+    EmptyBlock = 9,
+    // a literal of a variable outside 1 to n; a 0 in an added clause
+    ForeignLiteral = 10,
+    // the clause table ends inside a clause, or the table of lists inside a list
+    UnclosedClause = 11,
+    // forest tables that are not well formed
+    MalformedForest = 12,
+    // no clause with that number; an x that is not universal; a y that is not existential and deeper than x
+    NotAskable = 13,
+    // an output shorter than is needed
+    TooLittleRoom = 14,
+    // a text over its limit
+    TextTooLong = 15,
+    // a line that is not of the format, or may not stand there
+    WrongLine = 16,
+    // clause lines not as many as announced
+    WrongClauseCount = 17,
+    // a tally that takes no more, or that is not of these tables
+    WrongTally = 18,
+    // a record of a file that is cut, odd or not of its length; a file over its limit
+    WrongRecord = 19,
+    // a record of unknown kind or out of order, or none where one belongs
+    WrongOrder = 20,
+    // the words of a file do not sum to zero
+    WrongSum = 21,
+    // rows or sets of a file that are not those of its formula
+    WrongContents = 22,
+    // a rule number that is neither 1 nor 2
+    NoSuchRule = 23,
+    // a path that is empty or fails
+    WrongPath = 24,
+    // the y of a list out of range, or placed before
+    MisplacedExistential = 25,
+    // an x of a list that is not universal, or twice in it
+    MisplacedUniversal = 26,
+    // n over the limit for resolution paths
+    TooManyForPaths = 27,
 }
 
-// What a call says that fills a lent table: how many entries it wrote, or the number of the refusal and its place.
-#[derive(Clone, Copy)]
-pub enum Filled {
-    Count(u32),
-    // the number of the refusal, and its place
-    Refused(u32, usize),
+impl Fault {
+    // Its number in the table of refusals.
+    pub fn number(self) -> u32
+        ensures numbered { result ≡ fault_number self }
+    {
+        self as u32
+    }
 }
 
-// What the entry point call says: the class and the number of rises, or the number of the refusal and its place.
+// Why a call does not accept what was lent to it: what is wrong, and at which place.
+#[derive(Clone, Copy, Debug, PartialEq, Eq)]
+pub struct Refusal(pub Fault, pub usize);
+
+// Where the climb for a variable ends: the class, and how many classes were passed on the way, the first not counted.
 #[derive(Clone, Copy)]
-pub enum EntryAnswer {
-    At(Variable, u32),
-    // the number of the refusal, and its place
-    Refused(u32, usize),
+pub struct Point {
+    pub class: Variable,
+    pub rises: u32,
 }
 
-// What reading a text says: n and the counts of the entries of its prefix and of its clauses, or the number of the refusal and its place.
+// How much of a formula was written: n, and how many entries its prefix and its clause table have.
 #[derive(Clone, Copy)]
-pub enum Reading {
-    Read {
-        n: u32,
-        prefix: usize,
-        clauses: usize,
-    },
-    // the number of the refusal, and its place
-    Refused(u32, usize),
+pub struct Counts {
+    pub n: u32,
+    pub prefix: usize,
+    pub clauses: usize,
 }
 
-// What reading a text with dependency lists says: beside those counts that of the entries of its lists.
+// The same of a formula with dependency lists: also how many entries their table has.
 #[derive(Clone, Copy)]
-pub enum ListedReading {
-    Read {
-        n: u32,
-        prefix: usize,
-        clauses: usize,
-        lists: usize,
-    },
-    // the number of the refusal, and its place
-    Refused(u32, usize),
+pub struct ListedCounts {
+    pub n: u32,
+    pub prefix: usize,
+    pub clauses: usize,
+    pub lists: usize,
 }
 
-// What expanding a universal says: n of the result, and how many entries its prefix and its clause table have; or the number of the refusal and
-// its place.
+// What a file has: its formula, of which so much was written, and whether it has sets.
 #[derive(Clone, Copy)]
-pub enum Expanded {
-    Formula(u32, u32, u32),
-    // the number of the refusal, and its place
-    Refused(u32, usize),
-}
-
-// What reading a file says: n, how many entries its prefix and its clause table have, and whether it has sets; or the number of the refusal and
-// its place.
-#[derive(Clone, Copy)]
-pub enum Loaded {
-    Formula(u32, usize, usize, bool),
-    // the number of the refusal, and its place
-    Refused(u32, usize),
+pub struct Loaded {
+    pub n: u32,
+    pub prefix: usize,
+    pub clauses: usize,
+    pub sets: bool,
 }
 
 // Which dependencies are asked for: the standard ones, reached from clauses that have x in either sign, or the strict ones, reached both from
@@ -214,7 +253,7 @@ pub struct Tally {
 // What a call that keeps a tally comes to: its answer, and the tally afterwards.
 #[derive(Clone, Copy)]
 pub struct Tallied {
-    pub answer: Filled,
+    pub answer: Result<u32, Refusal>,
     pub tally: Tally,
 }
 

@@ -1,4 +1,5 @@
 -- The laws of lines at a stage: what may stand there, what may not, and what is then wrong.
+use Rattle.std.specs.Prelude.{None}
 use Prim.Native.Nat.{ℕ, suc, ◌+◌, ◌<◌, ◌≤◌}
 use mathlib.Core.Path.{◌≡◌, refl, sym, ap, ◌∙◌, subst}
 use mathlib.Core.List.{List, [], ◌∷◌}
@@ -9,8 +10,6 @@ use lib.ListN.{length, get_or, drop, length-drop}
 use lib.IntN.{ℤ}
 use Rattle.text_lines.specs.declared.Stage.{Stage}
 use Rattle.text_lines.specs.declared.Stage.TheVariants.{Opening, Body}
-use Rattle.text_lines.specs.declared.Mark.TheVariants.{Unmarked}
-use Rattle.text_words.specs.declared.Spelt.TheVariants.{Missing}
 use Rattle.text_words.specs.Words.{LF, LETTER-A, LETTER-E, pieces}
 use Rattle.text_words.specs.InnerNumbers.{entries_of, variables, literals}
 use Rattle.text_lines.specs.Format.{CommentLine, ProblemLine, QuantifierLine, e_line, a_line, ClauseLine, literals_line}
@@ -187,7 +186,7 @@ module _ {text : List ℕ} {at mark i : ℕ} (marked : MarkAt text at mark i) wh
       go (a_line q s) (a_mark e g) = differ g q (variables_read s)
 
 -- A line that does not.
-pub unmarked_none : (text : List ℕ) (at : ℕ) → SpeltIs (LETTER-E ∷ []) text at Missing → SpeltIs (LETTER-A ∷ []) text at Missing → (bs : List ℕ)
+pub unmarked_none : (text : List ℕ) (at : ℕ) → SpeltIs (LETTER-E ∷ []) text at None → SpeltIs (LETTER-A ∷ []) text at None → (bs : List ℕ)
     → QuantifierLine (line_at text at) bs → ⊥
 unmarked_none text at no-e no-a bs (e_line {line} {entries} {more} q r) = no-e more q
 unmarked_none text at no-e no-a bs (a_line {line} {entries} {more} q r) = no-a more q
@@ -262,7 +261,7 @@ module _ {text : List ℕ} {at n m k : ℕ} (h : at < length text) where
 
 -- The first byte but spaces is neither mark.
 pub unmarked : (text : List ℕ) (at start : ℕ) → start ≡ past is_space text at → (get_or text start 0 ≡ LETTER-E → ⊥) → (get_or text start 0 ≡ LETTER-A → ⊥)
-    → MarkIs text at Unmarked
+    → MarkIs text at None
 unmarked text at start is no-e no-a = (spelt_unlike text at LETTER-E (λ e. no-e (read ∙ e)), spelt_unlike text at LETTER-A (λ e. no-a (read ∙ e)))
   where
     read : get_or text start 0 ≡ get_or text (past is_space text at) 0

@@ -1,4 +1,5 @@
 -- The laws of the lines before the body: comments and the problem line.
+use Rattle.std.specs.Prelude.{None}
 use Prim.Native.Nat.{ℕ, suc, ◌+◌, ◌<◌, ◌≤◌}
 use mathlib.Core.Path.{◌≡◌, refl, sym, ap, ◌∙◌}
 use mathlib.Core.Bool.{false}
@@ -7,8 +8,6 @@ use native.Mathlib.Omega.{arith}
 use lib.Dec.{eqb}
 use lib.ListN.{length, get_or, drop, length-drop}
 use lib.Seq.{drop-cons, drop-drop}
-use Rattle.text_words.specs.declared.Spelt.TheVariants.{Missing}
-use Rattle.text_words.specs.declared.Counted.TheVariants.{Uncounted}
 use Rattle.text_words.specs.Words.{LF, LETTER-C, LETTER-F, LETTER-N, LETTER-P, pieces, words, Spells}
 use Rattle.text_lines.specs.Format.{CommentLine, comment, ProblemLine, p_cnf}
 use Rattle.text_words.specs.InnerPlaces.{leading, past, in_line, front, later, line_at, after_at, words_at, Passed, Open, words_left, no_feed}
@@ -95,11 +94,11 @@ cnf_word = LETTER-C ∷ LETTER-N ∷ LETTER-F ∷ []
 
 -- The problem line word by word: where it is none, and where it ends.
 module _ (text : List ℕ) (at : ℕ) (plain : NoComment text at) where
-  pub no_p : SpeltIs p_word text at Missing → NoOpening text at
+  pub no_p : SpeltIs p_word text at None → NoOpening text at
   no_p missing = no_opening plain (λ n m line. let q = problem_words line in missing (cnf_word ∷ q.number ∷ q.count ∷ []) q.are)
 
   module _ {i : ℕ} (p : Goes p_word text at i) where
-    pub no_cnf : SpeltIs cnf_word text i Missing → NoOpening text at
+    pub no_cnf : SpeltIs cnf_word text i None → NoOpening text at
     no_cnf missing =
         no_opening plain (λ n m line.
         let q = problem_words line in
@@ -116,7 +115,7 @@ module _ (text : List ℕ) (at : ℕ) (plain : NoComment text at) where
           let g = cnf.first in
           cc
 
-      pub no_number : CountedIs text j Uncounted → NoOpening text at
+      pub no_number : CountedIs text j None → NoOpening text at
       no_number missing =
           no_opening plain (λ n m line.
           let q = problem_words line in
@@ -129,7 +128,7 @@ module _ (text : List ℕ) (at : ℕ) (plain : NoComment text at) where
             let f = number.goes.first in
             cc
 
-        pub no_count : CountedIs text k Uncounted → NoOpening text at
+        pub no_count : CountedIs text k None → NoOpening text at
         no_count missing =
             no_opening plain (λ n m line.
             let q = problem_words line in

@@ -1,10 +1,10 @@
 -- Worked examples of numbers padded with zeros (rule 9.3): what the format makes of its own line and words, from both sides.
+use Rattle.std.specs.Prelude.{None, Some}
 use mathlib.Core.Path.{◌≡◌, refl}
 use mathlib.Core.List.{List, [], ◌∷◌}
 use Prim.Native.Nat.{ℕ}
 use native.Mathlib.Omega.{arith}
 use lib.IntN.{ℤ, pos, neg_ℤ}
-use Rattle.text_words.specs.declared.Number.TheVariants.{Is, Not}
 use Rattle.text_words.specs.Words.{SPACE, MINUS, ZERO, LETTER-E, onto, pieces, filled, words, Spells, LiteralWord, unsigned_word, negated_word}
 use Rattle.text_words.specs.InnerNumbers.{all_digits, spelt, is_number, number_of, plain_item, item_of, prepend, closed, entry, entries_of}
 use Rattle.text_words.proofs.Spelled.{number_of_lem, spells, spells_same, read_variables}
@@ -39,7 +39,7 @@ zeros_close = spells refl
 
 pub minus_zeros_refused : (z : ℤ) → ¬ LiteralWord (MINUS ∷ three_zeros) z
 unfolding number_of is_number all_digits spelt
-minus_zeros_refused z (unsigned_word {v = v} s some) = let q : Not ≡ Is v = number_of_lem s in let no : ◌≡◌ {A = ℕ} 0 1 = cc in omega arith
+minus_zeros_refused z (unsigned_word {v = v} s some) = let q : None ≡ Some v = number_of_lem s in let no : ◌≡◌ {A = ℕ} 0 1 = cc in omega arith
 minus_zeros_refused z (negated_word s some) = some (spells_same s zeros_close)
 
 -- zeros count as digits: five are a number, six are none
@@ -49,4 +49,4 @@ five_digits = spells refl
 
 pub sixth_digit_refused : (v : ℕ) → ¬ Spells (ZERO ∷ five_zeros) v
 unfolding number_of is_number all_digits spelt
-sixth_digit_refused v s = let q : Not ≡ Is v = number_of_lem s in let no : ◌≡◌ {A = ℕ} 0 1 = cc in omega arith
+sixth_digit_refused v s = let q : None ≡ Some v = number_of_lem s in let no : ◌≡◌ {A = ℕ} 0 1 = cc in omega arith

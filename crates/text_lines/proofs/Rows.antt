@@ -1,8 +1,9 @@
 -- The laws of a row: the entries of a line, one by one, as they are stored in a table.
+use Rattle.std.specs.Prelude.{Option, None, Some}
 use Prim.Native.Nat.{ℕ, ◌+◌, ◌≤◌}
 use mathlib.Core.Path.{◌≡◌, refl, sym, ap, ◌∙◌}
 use mathlib.Core.List.{List, [], ◌∷◌, ◌++◌}
-use mathlib.Core.Option.{Option, none, some}
+use mathlib.Core.Option.{Option as Maybe, none, some}
 use native.Mathlib.Omega.{arith}
 use native.Mathlib.Nat.{add-zero}
 use native.Mathlib.Numerals.{add-one}
@@ -14,7 +15,6 @@ use mir.Val.{SFits, to_z, of_z}
 use mir.Facts.{to_z-of_z}
 use Rattle.terms.proofs.Common.{sets_append}
 use Rattle.text_words.specs.declared.Row.{Row}
-use Rattle.text_words.specs.declared.Row.TheVariants.{Broken, Whole}
 use Rattle.text_words.specs.InnerNumbers.{variables, Item, Kind, prepend, closed, entry, entries_of}
 use Rattle.text_words.specs.InnerPlaces.{past, in_line, words_at, after_at, Taken, Unread, wordless, strange, early, endless, Closes, WholeRow, NoRow, unread}
 use Rattle.text_words.specs.InnerPlaces.{endless_row, RowIs}
@@ -22,11 +22,11 @@ use Rattle.text_lines.specs.InnerSteps.{BlockIs}
 
 module _ {A : Type 0} where
   -- entries in front of others, if those are entries
-  unfoldable pub after : List A → Option (List A) → Option (List A)
+  unfoldable pub after : List A → Maybe (List A) → Maybe (List A)
   after [] later = later
   after (x ∷ xs) later = prepend (some x) (after xs later)
 
-  after_one : (xs : List A) (x : A) (later : Option (List A)) → after xs (prepend (some x) later) ≡ after (xs ++ (x ∷ [])) later
+  after_one : (xs : List A) (x : A) (later : Maybe (List A)) → after xs (prepend (some x) later) ≡ after (xs ++ (x ∷ [])) later
   unfolding after
   after_one [] x later = refl
   after_one (y ∷ xs) x later = ap (prepend (some y)) (after_one xs x later)
@@ -78,7 +78,7 @@ module _ {A : Type 0} where
       item_read = ap (entries_of kind) takes.first ∙ ap (λ (it : Item). entry kind it (words_at text next) (entries_of kind (words_at text next))) takes.is
 
       -- an entry is taken and stored
-      pub partly_more : (x : A) → ((more : List (List ℕ)) (later : Option (List A)) → entry kind item more later ≡ prepend (some x) later)
+      pub partly_more : (x : A) → ((more : List (List ℕ)) (later : Maybe (List A)) → entry kind item more later ≡ prepend (some x) later)
           → (table' : List A) → table' ≡ set table row x
           → Partly kind text at from before next (row + 1) table'
       partly_more x is table' put =
@@ -95,7 +95,7 @@ module _ {A : Type 0} where
           }
 
       -- a number that may not stand there
-      pub partly_barred : ((more : List (List ℕ)) (later : Option (List A)) → entry kind item more later ≡ none) → NoRow kind text at
+      pub partly_barred : ((more : List (List ℕ)) (later : Maybe (List A)) → entry kind item more later ≡ none) → NoRow kind text at
       partly_barred is = unread (partly.read ∙ ap (after done) (item_read ∙ is (words_at text next) (entries_of kind (words_at text next))) ∙ after_none done)
 
     -- the closing 0
@@ -136,10 +136,10 @@ pub literal_put : (table : List ℤ) (row : ℕ) (z : ℤ) {x : ℤ} → SFits w
 literal_put table row z fits is = ap (λ (v : ℤ). set table row v) (to_z-of_z {w = w32} {z = z} fits ∙ is)
 
 -- A mark in front of the variables.
-pub block_row : (mark : ℕ) (text : List ℕ) (at from : ℕ) (before mid after' : List ℕ) (r : Row) → mid ≡ set before from mark
+pub block_row : (mark : ℕ) (text : List ℕ) (at from : ℕ) (before mid after' : List ℕ) (r : Option Row) → mid ≡ set before from mark
     → RowIs variables text at (from + 1) mid after' r → BlockIs mark text at from before after' r
-block_row mark text at from before mid after' Broken put row = row
-block_row mark text at from before mid after' (Whole next count) put row =
+block_row mark text at from before mid after' None put row = row
+block_row mark text at from before mid after' (Some whole) put row =
     let counted = row.counted in
     record {
       entries = row.entries;

@@ -1,20 +1,18 @@
 -- What the functions on one line promise, in the grammar's words, for the line that stands at a place of a text.
-use Rattle.std.specs.Prelude.{ℕ, ◌+◌, ◌≤◌, ◌≡◌, cond, List, [], ◌∷◌, length, drop, ℤ}
+use Rattle.std.specs.Prelude.{ℕ, ◌+◌, ◌≤◌, ◌≡◌, cond, List, [], ◌∷◌, length, drop, ℤ, None, Some, Option, Result, Ok, Err}
 use Rattle.std.proofs.Math.Option.{some}
 use Rattle.std.proofs.lemmas.List.Edits.{sets}
 use Rattle.text_lines.specs.declared.Stage.{Stage}
 use Rattle.text_lines.specs.declared.Stage.TheVariants.{Opening, Body}
-use Rattle.text_words.specs.declared.Spelt.TheVariants.{Missing}
 use Rattle.text_lines.specs.declared.Opened.{Opened}
-use Rattle.text_lines.specs.declared.Opened.TheVariants.{Misfit, Comment, Problem}
+use Rattle.text_lines.specs.declared.Opened.TheVariants.{Comment, Problem}
 use Rattle.text_lines.specs.declared.Signed.{Signed}
 use Rattle.text_lines.specs.declared.Signed.TheVariants.{Unfit, Close, Literal}
 use Rattle.text_lines.specs.declared.Mark.{Mark}
-use Rattle.text_lines.specs.declared.Mark.TheVariants.{Unmarked, Marked}
 use Rattle.text_words.specs.declared.Row.{Row}
-use Rattle.text_words.specs.declared.Row.TheVariants.{Broken, Whole}
 use Rattle.text_lines.specs.declared.Step.{Step}
-use Rattle.text_lines.specs.declared.Step.TheVariants.{Wrong, On}
+use Rattle.terms.specs.declared.Fault as terms
+use Rattle.terms.specs.Says.{fault_number}
 use Rattle.text_words.specs.InnerNumbers.{Plain, Negated, entries_of, variables}
 use Rattle.text_words.specs.Words.{LF, LETTER-A, LETTER-E, pieces}
 use Rattle.text_lines.specs.Format.{CommentLine, ProblemLine}
@@ -31,19 +29,19 @@ pub data NoOpening (text : List ℕ) (at : ℕ) : Type 0 where
   no_opening : (CommentLine (line_at text at) → ⊥) → ((n m : ℕ) → ProblemLine (line_at text at) n m → ⊥) → NoOpening text at
   endless_line : after_at text at ≡ [] → NoOpening text at
 
-abbrev pub OpenedIs : List ℕ → ℕ → Opened → Type 0
-OpenedIs text at Misfit = NoOpening text at
-OpenedIs text at (Comment next) = CommentLine (line_at text at) × Passed text at next
-OpenedIs text at (Problem n m next) = ProblemLine (line_at text at) n m × Passed text at next
+abbrev pub OpenedIs : List ℕ → ℕ → Option Opened → Type 0
+OpenedIs text at None = NoOpening text at
+OpenedIs text at (Some (Comment next)) = CommentLine (line_at text at) × Passed text at next
+OpenedIs text at (Some (Problem n m next)) = ProblemLine (line_at text at) n m × Passed text at next
 
 -- Whether a line begins with the word `e` or `a`, whose marks are 1 and 2.
 pub data MarkAt (text : List ℕ) (at mark next : ℕ) : Type 0 where
   e_mark : mark ≡ 1 → Goes (LETTER-E ∷ []) text at next → MarkAt text at mark next
   a_mark : mark ≡ 2 → Goes (LETTER-A ∷ []) text at next → MarkAt text at mark next
 
-abbrev pub MarkIs : List ℕ → ℕ → Mark → Type 0
-MarkIs text at Unmarked = SpeltIs (LETTER-E ∷ []) text at Missing × SpeltIs (LETTER-A ∷ []) text at Missing
-MarkIs text at (Marked mark next) = MarkAt text at mark next
+abbrev pub MarkIs : List ℕ → ℕ → Option Mark → Type 0
+MarkIs text at None = SpeltIs (LETTER-E ∷ []) text at None × SpeltIs (LETTER-A ∷ []) text at None
+MarkIs text at (Some marked) = MarkAt text at marked.mark marked.next
 
 -- The next entry of a clause line: a literal, its sign beside its number, or the closing 0.
 abbrev pub SignedIs : List ℕ → ℕ → Signed → Type 0
@@ -60,9 +58,9 @@ pub record WholeBlock (mark : ℕ) (text : List ℕ) (at from : ℕ) (before aft
   pub stored : after ≡ sets before from (mark ∷ entries)
   pub few : count ≤ next
 
-abbrev pub BlockIs : ℕ → List ℕ → ℕ → ℕ → List ℕ → List ℕ → Row → Type 0
-BlockIs mark text at from before after Broken = NoRow variables text at
-BlockIs mark text at from before after (Whole next count) = WholeBlock mark text at from before after next count
+abbrev pub BlockIs : ℕ → List ℕ → ℕ → ℕ → List ℕ → List ℕ → Option Row → Type 0
+BlockIs mark text at from before after None = NoRow variables text at
+BlockIs mark text at from before after (Some row) = WholeBlock mark text at from before after row.next row.count
 
 -- The line at a place may stand at a stage: the stage it leads to, the next line, and what it added to the tables.
 pub record Went (stage : Stage) (text : List ℕ) (at entries literals : ℕ) (before after : List ℕ × List ℤ) (stage' : Stage) (next entries' literals' : ℕ) :
@@ -79,10 +77,10 @@ pub record Went (stage : Stage) (text : List ℕ) (at entries literals : ℕ) (b
   pub few_literals : literals' ≤ next
 
 -- What a line makes of a stage and two tables, which `before` and `after` hold: a fault, or the next stage.
-abbrev pub StepIs : Stage → List ℕ → ℕ → ℕ → ℕ → List ℕ × List ℤ → List ℕ × List ℤ → Step → Type 0
-StepIs stage text at entries literals before after (Wrong number) = Fault number stage (pieces LF (drop at text))
-StepIs stage text at entries literals before after (On stage' next entries' literals') =
-    Went stage text at entries literals before after stage' next entries' literals'
+abbrev pub StepIs : Stage → List ℕ → ℕ → ℕ → ℕ → List ℕ × List ℤ → List ℕ × List ℤ → Result Step terms.Fault → Type 0
+StepIs stage text at entries literals before after (Err fault) = Fault (fault_number fault) stage (pieces LF (drop at text))
+StepIs stage text at entries literals before after (Ok step) =
+    Went stage text at entries literals before after step.stage step.next step.entries step.literals
 
 -- No more clause lines have stood than were announced.
 abbrev pub Sound : Stage → Type 0

@@ -1,14 +1,13 @@
 // The lines after the problem line: quantifier lines and clause lines.
 
-ghost use Rattle.std.specs.Prelude.{◌≡◌, false, ◌<◌, ◌≤◌, length};
-ghost use Rattle.text_lines.specs.declared.Mark.TheVariants.{Unmarked};
+ghost use Rattle.std.specs.Prelude.{◌≡◌, None, false, ◌<◌, ◌≤◌, length};
 ghost use Rattle.text_lines.specs.InnerSteps.{MarkIs, StepIs};
 
 use crate::tables::{block_at, literals_at};
 use crate::{Mark, Stage, Step};
+use terms::Fault;
 use text_words::expected::letter_at;
 use text_words::words::gap_end;
-use text_words::{Row, Spelt};
 use text_write::{LETTER_A, LETTER_E};
 
 // A line after the problem line: a quantifier line if no clause line has stood, or a clause line if not all that were announced have.
@@ -22,64 +21,64 @@ pub fn body_at(
     entries: usize,
     clauses: &mut [i32],
     literals: usize,
-) -> Step
+) -> Result<Step, Fault>
     requires within { (at < length text.now) × (entries ≤ at) × (literals ≤ at) × (stood ≤ announced) }
     ensures steps { StepIs (Stage.Body n announced stood) text.now at entries literals
         (prefix.old, clauses.old) (prefix.new, clauses.new) result }
 {
     match mark_at(text, at) {
-        Mark::Marked { mark, next: after } => {
+        Some(marked) => {
             if stood != 0 {
-                return Step::Wrong(16);
+                return Err(Fault::WrongLine);
             }
-            match block_at(text, after, mark, prefix, entries) {
-                Row::Broken => Step::Wrong(16),
-                Row::Whole { next, count } => Step::On {
-                    stage: Stage::Body {
-                        n,
-                        announced,
-                        stood,
-                    },
-                    next,
-                    entries: count,
-                    literals,
+            let Some(block) = block_at(text, marked.next, marked.mark, prefix, entries) else {
+                return Err(Fault::WrongLine);
+            };
+            Ok(Step {
+                stage: Stage::Body {
+                    n,
+                    announced,
+                    stood,
                 },
-            }
+                next: block.next,
+                entries: block.count,
+                literals,
+            })
         }
-        Mark::Unmarked => match literals_at(text, at, clauses, literals) {
-            Row::Broken => Step::Wrong(16),
-            Row::Whole { next, count } => {
-                if announced <= stood {
-                    return Step::Wrong(17);
-                }
-                Step::On {
-                    stage: Stage::Body {
-                        n,
-                        announced,
-                        stood: stood + 1,
-                    },
-                    next,
-                    entries,
-                    literals: count,
-                }
+        None => {
+            let Some(clause) = literals_at(text, at, clauses, literals) else {
+                return Err(Fault::WrongLine);
+            };
+            if announced <= stood {
+                return Err(Fault::WrongClauseCount);
             }
-        },
+            Ok(Step {
+                stage: Stage::Body {
+                    n,
+                    announced,
+                    stood: stood + 1,
+                },
+                next: clause.next,
+                entries,
+                literals: clause.count,
+            })
+        }
     }
 }
 
-// Whether a line begins with `e` or `a`. Nearly all lines are clause lines, which one byte tells.
-fn mark_at(text: &[u8], at: usize) -> Mark
+// The mark of the `e` or `a` that begins a line. Nearly all lines are clause lines, which one byte tells.
+fn mark_at(text: &[u8], at: usize) -> Option<Mark>
     ensures marked { MarkIs text.now at result }
 {
     if !may_be_mark(text, at) {
-        return Mark::Unmarked;
+        return None;
     }
     spelt_mark(text, at)
 }
 
 // Whether the first byte of a line but spaces is `e` or `a`.
 fn may_be_mark(text: &[u8], at: usize) -> bool
-    ensures unmarked { result ≡ false → MarkIs text.now at Unmarked }
+    ensures unmarked { result ≡ false → MarkIs text.now at None }
 {
     let start = gap_end(text, at);
     if text.len() <= start {
@@ -95,15 +94,13 @@ fn may_be_mark(text: &[u8], at: usize) -> bool
     false
 }
 
-// Whether the first word of a line is `e` or `a`.
-fn spelt_mark(text: &[u8], at: usize) -> Mark
+// The mark of the first word of a line, if it is `e` or `a`.
+fn spelt_mark(text: &[u8], at: usize) -> Option<Mark>
     ensures marked { MarkIs text.now at result }
 {
-    match letter_at(text, at, LETTER_E) {
-        Spelt::Spelled(next) => Mark::Marked { mark: 1, next },
-        Spelt::Missing => match letter_at(text, at, LETTER_A) {
-            Spelt::Spelled(next) => Mark::Marked { mark: 2, next },
-            Spelt::Missing => Mark::Unmarked,
-        },
+    if let Some(next) = letter_at(text, at, LETTER_E) {
+        return Some(Mark { mark: 1, next });
     }
+    let next = letter_at(text, at, LETTER_A)?;
+    Some(Mark { mark: 2, next })
 }

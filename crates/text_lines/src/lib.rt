@@ -6,7 +6,7 @@ pub mod body;
 pub mod opening;
 pub mod tables;
 
-// What stands next in a clause line: a literal, its sign beside its number, or the closing 0.
+// What stands next in a clause line: a literal, its sign beside its number, or the closing 0. As for entries, what is neither is one case more.
 #[derive(Clone, Copy)]
 enum Signed {
     Unfit,
@@ -27,29 +27,25 @@ pub enum Stage {
     Body { n: u32, announced: u32, stood: u32 },
 }
 
-// What a line makes of a stage: the number of the refusal if it may not stand there, or the stage and the counts of entries that it leads to.
+// What a line that may stand at a stage makes of it: the stage that it leads to, where the next line stands, and the counts of entries by then.
 #[derive(Clone, Copy)]
-pub enum Step {
-    Wrong(u32),
-    On {
-        stage: Stage,
-        next: usize,
-        entries: usize,
-        literals: usize,
-    },
+pub struct Step {
+    pub stage: Stage,
+    pub next: usize,
+    pub entries: usize,
+    pub literals: usize,
 }
 
 // A line before or at the problem line, and where the next one stands.
 #[derive(Clone, Copy)]
 pub enum Opened {
-    Misfit,
     Comment { next: usize },
     Problem { n: u32, announced: u32, next: usize },
 }
 
-// Whether a line begins with `e` or `a`, the mark that stands for it in the prefix table, and where the line goes on.
+// The mark that stands in the prefix table for the `e` or `a` that begins a line, and where the line goes on.
 #[derive(Clone, Copy)]
-enum Mark {
-    Unmarked,
-    Marked { mark: u32, next: usize },
+struct Mark {
+    mark: u32,
+    next: usize,
 }

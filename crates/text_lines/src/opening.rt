@@ -7,11 +7,10 @@ ghost use Rattle.text_words.specs.InnerPlaces.{past, in_line, line_at};
 
 use crate::Opened;
 use text_words::expected::{cnf_at, letter_at, line_ended, number_at};
-use text_words::{Counted, Ended, Spelt};
 use text_write::{LETTER_C, LETTER_P, LF};
 
-// A line before or at the problem line.
-pub fn opening_at(text: &[u8], at: usize) -> Opened
+// A line before or at the problem line, if it is one.
+pub fn opening_at(text: &[u8], at: usize) -> Option<Opened>
     requires within { at < length text.now }
     ensures opened { OpenedIs text.now at result }
 {
@@ -23,59 +22,42 @@ pub fn opening_at(text: &[u8], at: usize) -> Opened
 }
 
 // A comment, which needs its LF.
-fn comment_at(text: &[u8], at: usize) -> Opened
+fn comment_at(text: &[u8], at: usize) -> Option<Opened>
     requires comment { CommentLine (line_at text.now at) }
     ensures opened { OpenedIs text.now at result }
 {
     let stop = line_end(text, at);
-    if stop < text.len() {
-        Opened::Comment { next: stop + 1 }
-    } else {
-        Opened::Misfit
+    if text.len() <= stop {
+        return None;
     }
+    Some(Opened::Comment { next: stop + 1 })
 }
 
 // The place of the LF of the line at a place, or the text's end.
 fn line_end(text: &[u8], at: usize) -> usize
     ensures passed { result ≡ past in_line text.now at }
 {
-    let mut i = at;
-    while i < text.len() {
+    for i in at..text.len() {
         if text[i] == LF {
             return i;
         }
-        i += 1;
     }
-    i
+    at.max(text.len())
 }
 
 // The problem line `p cnf n m`.
-fn problem_at(text: &[u8], at: usize) -> Opened
+fn problem_at(text: &[u8], at: usize) -> Option<Opened>
     requires plain { NoComment text.now at }
     ensures opened { OpenedIs text.now at result }
 {
-    let Spelt::Spelled(p) = letter_at(text, at, LETTER_P) else {
-        return Opened::Misfit;
-    };
-    let Spelt::Spelled(cnf) = cnf_at(text, p) else {
-        return Opened::Misfit;
-    };
-    let Counted::Count {
-        value: n,
-        next: after,
-    } = number_at(text, cnf)
-    else {
-        return Opened::Misfit;
-    };
-    let Counted::Count {
-        value: announced,
-        next: last,
-    } = number_at(text, after)
-    else {
-        return Opened::Misfit;
-    };
-    let Ended::Next(next) = line_ended(text, last) else {
-        return Opened::Misfit;
-    };
-    Opened::Problem { n, announced, next }
+    let p = letter_at(text, at, LETTER_P)?;
+    let cnf = cnf_at(text, p)?;
+    let n = number_at(text, cnf)?;
+    let announced = number_at(text, n.next)?;
+    let next = line_ended(text, announced.next)?;
+    Some(Opened::Problem {
+        n: n.value,
+        announced: announced.value,
+        next,
+    })
 }

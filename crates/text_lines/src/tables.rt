@@ -11,34 +11,35 @@ use text_words::items::entry_at;
 use text_words::{Entry, Row};
 
 // The entries of a quantifier line, its mark first, stored in the prefix table from a row on. The place is the one after the mark.
-pub fn block_at(text: &[u8], at: usize, mark: u32, prefix: &mut [u32], from: usize) -> Row
+pub fn block_at(text: &[u8], at: usize, mark: u32, prefix: &mut [u32], from: usize) -> Option<Row>
     requires behind { from < at }
     ensures stored { BlockIs mark text.now at from prefix.old prefix.new result }
 {
-    store_entry(prefix, from, mark);
+    store(prefix, from, mark);
     variables_at(text, at, prefix, from + 1)
 }
 
 // The variables of a quantifier line and its 0, stored in the prefix table from a row on.
-pub fn variables_at(text: &[u8], at: usize, prefix: &mut [u32], from: usize) -> Row
+pub fn variables_at(text: &[u8], at: usize, prefix: &mut [u32], from: usize) -> Option<Row>
     requires behind { from ≤ at }
     ensures stored { RowIs variables text.now at from prefix.old prefix.new result }
 {
     let mut i = at;
     let mut row = from;
+    // A walk along the words: where the next one is looked for is what the last one says.
     loop {
         match entry_at(text, i) {
-            Entry::Unfit => return Row::Broken,
-            Entry::Negate { value: _, next: _ } => return Row::Broken,
+            Entry::Unfit => return None,
+            Entry::Negate { value: _, next: _ } => return None,
             Entry::Close { next } => {
-                store_entry(prefix, row, 0);
-                return Row::Whole {
+                store(prefix, row, 0);
+                return Some(Row {
                     next,
                     count: row + 1,
-                };
+                });
             }
             Entry::Take { value, next } => {
-                store_entry(prefix, row, value);
+                store(prefix, row, value);
                 row += 1;
                 i = next;
             }
@@ -47,28 +48,29 @@ pub fn variables_at(text: &[u8], at: usize, prefix: &mut [u32], from: usize) -> 
 }
 
 // The literals of a clause line and its 0, stored in the clause table from a row on.
-pub fn literals_at(text: &[u8], at: usize, clauses: &mut [i32], from: usize) -> Row
+pub fn literals_at(text: &[u8], at: usize, clauses: &mut [i32], from: usize) -> Option<Row>
     requires behind { from ≤ at }
     ensures stored { RowIs literals text.now at from clauses.old clauses.new result }
 {
     let mut i = at;
     let mut row = from;
+    // A walk along the words, as for variables.
     loop {
         match signed_at(text, i) {
-            Signed::Unfit => return Row::Broken,
+            Signed::Unfit => return None,
             Signed::Close { next } => {
-                store_literal(clauses, row, 0);
-                return Row::Whole {
+                store(clauses, row, 0);
+                return Some(Row {
                     next,
                     count: row + 1,
-                };
+                });
             }
             Signed::Literal {
                 value,
                 negative,
                 next,
             } => {
-                store_literal(clauses, row, literal_of(value, negative));
+                store(clauses, row, literal_of(value, negative));
                 row += 1;
                 i = next;
             }
@@ -97,17 +99,8 @@ fn signed_at(text: &[u8], at: usize) -> Signed
     }
 }
 
-// Stores an entry of the prefix table if the table has that row.
-fn store_entry(table: &mut [u32], row: usize, entry: u32)
-    ensures stored { table.new ≡ set table.old row entry }
-{
-    if row < table.len() {
-        table[row] = entry;
-    }
-}
-
-// Stores an entry of the clause table if the table has that row.
-fn store_literal(table: &mut [i32], row: usize, entry: i32)
+// Stores an entry of a table if the table has that row.
+fn store<T: Copy>(table: &mut [T], row: usize, entry: T)
     ensures stored { table.new ≡ set table.old row entry }
 {
     if row < table.len() {

@@ -10,8 +10,8 @@ use native.Mathlib.Omega.{arith}
 use lib.IntN.{ℤ}
 use Rattle.terms.specs.Refusals.{First, None}
 use Rattle.terms.proofs.Verdicts.{first_of_same}
-use Rattle.text_words.specs.declared.Number.{Number}
-use Rattle.text_words.specs.declared.Number.TheVariants.{Is, Not}
+use Rattle.text_words.specs.InnerNumbers.{Number}
+use Rattle.std.specs.Prelude.{Some, None as NoNumber}
 use Rattle.text_words.specs.Words.{LF, LETTER-A, LETTER-C, LETTER-E, LETTER-F, LETTER-N, LETTER-P, pieces, words, VariableWords}
 use Rattle.text_words.specs.InnerNumbers.{number_of, entries_of, variables, literals}
 use Rattle.text_words.proofs.Lines.{front_later}
@@ -109,15 +109,15 @@ problem? line = go (words line) refl
   where
     -- the words of a problem line, and so none if its words are others
     clash : (ws : List (List ℕ)) → words line ≡ ws
-        → ((number count : List ℕ) → ws ≡ p_word ∷ cnf_word ∷ number ∷ count ∷ [] → (n m : ℕ) → number_of number ≡ Is n → number_of count ≡ Is m → ⊥)
+        → ((number count : List ℕ) → ws ≡ p_word ∷ cnf_word ∷ number ∷ count ∷ [] → (n m : ℕ) → number_of number ≡ Some n → number_of count ≡ Some m → ⊥)
         → IsProblem line → ⊥
     clash ws e f (n, m, p_cnf {number = a} {count = b} is x y) = f a b (sym e ∙ is) n m (number_of_lem x) (number_of_lem y)
 
     numbers : (a b : List ℕ) → words line ≡ p_word ∷ cnf_word ∷ a ∷ b ∷ [] → (x y : Number) → number_of a ≡ x → number_of b ≡ y → Dec (IsProblem line)
-    numbers a b e (Is n) (Is m) p q = yes (n, m, p_cnf e (spells p) (spells q))
-    numbers a b e Not y p q =
+    numbers a b e (Some n) (Some m) p q = yes (n, m, p_cnf e (spells p) (spells q))
+    numbers a b e NoNumber y p q =
         no (clash _ e (λ c d w n m u v. let s : a ≡ c = cc in let t = ap number_of s in let no : ◌≡◌ {A = ℕ} 0 1 = cc in omega arith))
-    numbers a b e (Is n) Not p q =
+    numbers a b e (Some n) NoNumber p q =
         no (clash _ e (λ c d w n m u v. let s : b ≡ d = cc in let t = ap number_of s in let no : ◌≡◌ {A = ℕ} 0 1 = cc in omega arith))
 
     four : (p cnf a b : List ℕ) → words line ≡ p ∷ cnf ∷ a ∷ b ∷ [] → Dec (p ≡ p_word) → Dec (cnf ≡ cnf_word) → Dec (IsProblem line)

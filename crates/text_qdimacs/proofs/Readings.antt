@@ -1,4 +1,7 @@
 -- The laws of read's answers: what a scan finds is the first cause in read's order, or that there is none.
+use Rattle.std.specs.Prelude.{Ok, Err}
+use Rattle.terms.specs.Says.{Answer, fault_number}
+use Rattle.terms.specs.declared.Counts.{Counts}
 use Prim.Native.Nat.{ℕ, ◌≤◌}
 use mathlib.Core.Path.{ap, ◌∙◌}
 use mathlib.Core.List.{List}
@@ -9,8 +12,6 @@ use lib.IntN.{ℤ}
 use Rattle.terms.specs.Refusals.{First, FirstOf, None, NoneOf}
 use Rattle.terms.proofs.Overwritten.{stored_overwritten}
 pub use Rattle.text_write.proofs.Outputs.{first_overlong, not_overlong}
-use Rattle.terms.specs.declared.Reading.{Reading}
-use Rattle.terms.specs.declared.Reading.TheVariants.{Read, Refused}
 use Rattle.text_lines.specs.Format.{TextOf, MayFollow, LineCause}
 use Rattle.text_qdimacs.specs.InnerScans.{ScanIs}
 use Rattle.text_qdimacs.specs.Reading.{TEXT-MOST, NoRoom, no_room_prefix, no_room_clauses, read_order, ReadIs}
@@ -44,10 +45,10 @@ module _ (text prefix : List ℕ) (clauses : List ℤ) (short : length text ≤ 
         room number place (no_room_clauses t h) = let same = ap length (text_same text_of t).clauses in omega arith
 
     -- the answer of the second scan, where the text is known to be within the rules and to fit
-    pub read_all : length P ≤ length prefix → length C ≤ length clauses → (prefix' : List ℕ) (clauses' : List ℤ) (r : Reading)
+    pub read_all : length P ≤ length prefix → length C ≤ length clauses → (prefix' : List ℕ) (clauses' : List ℤ) (r : Answer Counts)
         → ScanIs text (prefix, clauses) (prefix', clauses') r → ReadIs text prefix prefix' clauses clauses' r
-    read_all p c prefix' clauses' (Refused number place) f = absurd (no_cause text_of number place f.holds)
-    read_all p c prefix' clauses' (Read n' entries literals) s =
+    read_all p c prefix' clauses' (Err refusal) f = absurd (no_cause text_of (fault_number refusal.0) refusal.1 f.holds)
+    read_all p c prefix' clauses' (Ok counts) s =
         let same = text_same text_of s.text_of in
         let lp = ap length same.prefix in
         let lc = ap length same.clauses in

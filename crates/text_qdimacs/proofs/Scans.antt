@@ -1,4 +1,7 @@
 -- The laws of a scan: the lines passed lead to a stage, and what they added stands in the tables.
+use Rattle.std.specs.Prelude.{Ok, Err}
+use Rattle.terms.specs.Says.{Answer, fault_number}
+use Rattle.terms.specs.declared.Counts.{Counts}
 use Prim.Native.Nat.{ℕ, ◌+◌, ◌<◌, ◌≤◌}
 use mathlib.Core.Path.{◌≡◌, refl, sym, ap, ◌∙◌, subst, subst₂}
 use mathlib.Core.List.{List, [], ◌∷◌, ◌++◌, append_assoc, append-nil}
@@ -10,8 +13,6 @@ use lib.IntN.{ℤ}
 use Rattle.text_lines.specs.declared.Stage.{Stage}
 use Rattle.text_lines.specs.declared.Stage.TheVariants.{Opening}
 use Rattle.terms.specs.Refusals.{First}
-use Rattle.terms.specs.declared.Reading.{Reading}
-use Rattle.terms.specs.declared.Reading.TheVariants.{Read, Refused}
 use Rattle.text_words.specs.Words.{LF, pieces}
 use Rattle.text_lines.specs.InnerGrammar.{Line, a_comment, the_problem, a_block, a_clause, Lines, no_line, one_more, Fault}
 use Rattle.text_lines.specs.Format.{MayFollow, place_after, LineCause}
@@ -154,9 +155,9 @@ module _ {text : List ℕ} {before : List ℕ × List ℤ} {at : ℕ} {stage : S
       })
 
   -- the text's end
-  pub reached_end : length text ≤ at → (r : Reading) → FinishIs stage at entries literals r → ScanIs text before now r
+  pub reached_end : length text ≤ at → (r : Answer Counts) → FinishIs stage at entries literals r → ScanIs text before now r
   unfolding pieces
-  reached_end h (Read n e l) f =
+  reached_end h (Ok counts) f =
       record {
         P = reached.P;
         C = reached.C;
@@ -172,6 +173,6 @@ module _ {text : List ℕ} {before : List ℕ × List ℤ} {at : ℕ} {stage : S
         prefix_stored = reached.prefix_stored;
         clauses_stored = reached.clauses_stored;
       }
-  reached_end h (Refused number place) f =
-      subst (First (LineCause MayFollow text) number) (sym f.1)
-      (reached_fault (subst (λ (xs : List ℕ). Fault number stage (pieces LF xs)) (sym (drop_of_length-le text h)) f.0))
+  reached_end h (Err refusal) f =
+      subst (First (LineCause MayFollow text) (fault_number refusal.0)) (sym f.1)
+      (reached_fault (subst (λ (xs : List ℕ). Fault (fault_number refusal.0) stage (pieces LF xs)) (sym (drop_of_length-le text h)) f.0))

@@ -1,11 +1,11 @@
 -- What reading a text promises (rule 7.5, rule 8.3): n and the tables of the text, or the first cause in the
 -- order 15, then 16 and 17 by the earliest line, 16 first at one line, then 14.
+use Rattle.terms.specs.declared.Counts.{Counts}
 use Rattle.std.specs.Prelude.{ℕ, ◌<◌, ◌≡◌, List, [], ◌∷◌, length, ℤ}
 use Rattle.terms.specs.Overwritten.{overwritten}
-use Rattle.terms.specs.Says.{reading_said}
+use Rattle.terms.specs.Says.{counts_said, Answer}
 use Rattle.terms.specs.Answers.{Settles}
 use Rattle.terms.specs.Refusals.{Causes}
-use Rattle.terms.specs.declared.Reading.{Reading}
 use Rattle.text_lines.specs.Format.{TextOf, MayFollow, LineCause}
 pub use Rattle.text_write.specs.Texts.{TEXT-MOST, Overlong, overlong}
 
@@ -28,7 +28,7 @@ pub record ReadInto (n entries literals : ℕ) (text prefix prefix' : List ℕ) 
   pub clauses_left : clauses' ≡ overwritten C clauses
 
 -- Each answer: accepted, with n and the two counts, or refused, with the tables as they were.
-abbrev pub ReadIs : List ℕ → List ℕ → List ℕ → List ℤ → List ℤ → Reading → Type 0
+abbrev pub ReadIs : List ℕ → List ℕ → List ℕ → List ℤ → List ℤ → Answer Counts → Type 0
 ReadIs text prefix prefix' clauses clauses' answer =
     Settles (read_order text prefix clauses) (λ (counts : ℕ × ℕ × ℕ). ReadInto counts.0 counts.1 counts.2 text prefix prefix' clauses clauses')
-    ((prefix' ≡ prefix) × (clauses' ≡ clauses)) (reading_said answer)
+    ((prefix' ≡ prefix) × (clauses' ≡ clauses)) (counts_said answer)

@@ -1,8 +1,8 @@
 -- What write promises (rule 7.5, rule 8.2): the text is that of the formula as it is lent, so that it reads back as that, and the
 -- order that of check under the rule, then 15 and 14.
+use Rattle.terms.specs.Says.{Answer}
 use Rattle.std.specs.Prelude.{ℕ, List, [], ◌∷◌, length}
 use Rattle.terms.specs.Refusals.{Causes}
-use Rattle.terms.specs.declared.Filled.{Filled}
 use Rattle.formula.specs.Causes.{VariableCount, LengthCause, ClauseCause}
 use Rattle.formula.specs.Lent.{Formula}
 use Rattle.formula_rules.specs.Rules.{RuleCause, PrefixCauseBy}
@@ -20,5 +20,5 @@ writing_order rule f out =
     RuleCause rule ∷ VariableCount f.n ∷ LengthCause f.prefix (length f.clauses) ∷ PrefixCauseBy rule f.n f.prefix
     ∷ ClauseCause f.n f.clauses ∷ Overlong (formula_text f) ∷ ShortOut (formula_text f) out ∷ []
 
-abbrev pub Writes : ℕ → Formula → List ℕ → List ℕ → Filled → Type 0
+abbrev pub Writes : ℕ → Formula → List ℕ → List ℕ → Answer ℕ → Type 0
 Writes rule f out = WritesBy (writing_order rule f out) (formula_text f) out

@@ -10,7 +10,7 @@ ghost use Rattle.text_qdimacs.specs.Stored.{Writes};
 ghost use Rattle.text_qdimacs.specs.Reading.{ReadIs};
 
 use filling::read_by_way;
-use terms::{Filled, Level, Literal, Reading, Verdict};
+use terms::{Counts, Fault, Level, Literal, Refusal};
 use text_write::TEXT_MOST;
 use text_write::writing::write_accepted;
 
@@ -21,11 +21,11 @@ const SHORT_ROWS: usize = 2048;
 
 // Reads a text into two lent tables: n and the counts of entries, or the refusal. It goes by way of scratch tables: of the
 // size that formulas within the limits need, or for a short text of fewer rows, which cost less to clear.
-pub fn read(text: &[u8], prefix: &mut [u32], clauses: &mut [i32]) -> Reading
+pub fn read(text: &[u8], prefix: &mut [u32], clauses: &mut [i32]) -> Result<Counts, Refusal>
     ensures answered { ReadIs text.now prefix.old prefix.new clauses.old clauses.new result }
 {
     if TEXT_MOST < text.len() {
-        return Reading::Refused(15, TEXT_MOST);
+        return Err(Refusal(Fault::TextTooLong, TEXT_MOST));
     }
     if text.len() <= SHORT_TEXT {
         let mut few_entries = [0u32; SHORT_ROWS];
@@ -39,11 +39,15 @@ pub fn read(text: &[u8], prefix: &mut [u32], clauses: &mut [i32]) -> Reading
 
 // Writes the text of a formula, its prefix as it is lent, into a lent buffer: refused as check refuses it under the rule, where the text is too long, or
 // where it does not fit.
-pub fn write(rule: u32, n: u32, prefix: &[u32], clauses: &[i32], out: &mut [u8]) -> Filled
+pub fn write(
+    rule: u32,
+    n: u32,
+    prefix: &[u32],
+    clauses: &[i32],
+    out: &mut [u8],
+) -> Result<u32, Refusal>
     ensures answered { Writes rule (formula_in n prefix clauses) out.old out.new result }
 {
-    match formula_rules::check(rule, n, prefix, clauses) {
-        Verdict::Refused(number, place) => Filled::Refused(number, place),
-        Verdict::Accepted => write_accepted(n, prefix, clauses, out),
-    }
+    formula_rules::check(rule, n, prefix, clauses)?;
+    write_accepted(n, prefix, clauses, out)
 }

@@ -4,34 +4,28 @@ ghost use Rattle.std.specs.Prelude.{◌<◌, ◌≤◌, length};
 ghost use Rattle.text_lines.specs.InnerSteps.{StepIs, Sound};
 ghost use Rattle.text_qdimacs.specs.InnerScans.{FinishIs, ScanIs};
 
-use terms::Reading;
+use terms::{Counts, Fault, Refusal};
 use text_lines::body::body_at;
 use text_lines::opening::opening_at;
 use text_lines::{Opened, Stage, Step};
 
 // Scans a whole text line by line, and stores what its lines add as far as the tables have rows: a short table only learns the counts.
-pub fn scan(text: &[u8], prefix: &mut [u32], clauses: &mut [i32]) -> Reading
+pub fn scan(text: &[u8], prefix: &mut [u32], clauses: &mut [i32]) -> Result<Counts, Refusal>
     ensures scanned { ScanIs text.now (prefix.old, clauses.old) (prefix.new, clauses.new) result }
 {
     let mut at = 0;
     let mut stage = Stage::Opening;
     let mut entries = 0;
     let mut literals = 0;
+    // A walk along the lines: each says where the next one begins.
     while at < text.len() {
         match line_at(text, at, stage, prefix, entries, clauses, literals) {
-            Step::Wrong(number) => {
-                return Reading::Refused(number, at);
-            }
-            Step::On {
-                stage: reached,
-                next,
-                entries: entries_now,
-                literals: literals_now,
-            } => {
-                stage = reached;
-                at = next;
-                entries = entries_now;
-                literals = literals_now;
+            Err(fault) => return Err(Refusal(fault, at)),
+            Ok(step) => {
+                stage = step.stage;
+                at = step.next;
+                entries = step.entries;
+                literals = step.literals;
             }
         }
     }
@@ -47,21 +41,21 @@ pub fn line_at(
     entries: usize,
     clauses: &mut [i32],
     literals: usize,
-) -> Step
+) -> Result<Step, Fault>
     requires within { (at < length text.now) × (entries ≤ at) × (literals ≤ at) × Sound stage }
     ensures steps { StepIs stage text.now at entries literals
         (prefix.old, clauses.old) (prefix.new, clauses.new) result }
 {
     match stage {
         Stage::Opening => match opening_at(text, at) {
-            Opened::Misfit => Step::Wrong(16),
-            Opened::Comment { next } => Step::On {
+            None => Err(Fault::WrongLine),
+            Some(Opened::Comment { next }) => Ok(Step {
                 stage: Stage::Opening,
                 next,
                 entries,
                 literals,
-            },
-            Opened::Problem { n, announced, next } => Step::On {
+            }),
+            Some(Opened::Problem { n, announced, next }) => Ok(Step {
                 stage: Stage::Body {
                     n,
                     announced,
@@ -70,7 +64,7 @@ pub fn line_at(
                 next,
                 entries,
                 literals,
-            },
+            }),
         },
         Stage::Body {
             n,
@@ -83,25 +77,25 @@ pub fn line_at(
 }
 
 // What the end of a text makes of the stage that its lines led to.
-pub fn finish(stage: Stage, at: usize, entries: usize, literals: usize) -> Reading
+pub fn finish(stage: Stage, at: usize, entries: usize, literals: usize) -> Result<Counts, Refusal>
     requires sound { Sound stage }
     ensures finished { FinishIs stage at entries literals result }
 {
     match stage {
-        Stage::Opening => Reading::Refused(16, at),
+        Stage::Opening => Err(Refusal(Fault::WrongLine, at)),
         Stage::Body {
             n,
             announced,
             stood,
         } => {
             if stood < announced {
-                Reading::Refused(17, at)
+                Err(Refusal(Fault::WrongClauseCount, at))
             } else {
-                Reading::Read {
+                Ok(Counts {
                     n,
                     prefix: entries,
                     clauses: literals,
-                }
+                })
             }
         }
     }

@@ -1,4 +1,5 @@
 -- The laws of entries: what the next word of a line says of the line as a row of entries.
+use Rattle.std.specs.Prelude.{None}
 use Prim.Native.Nat.{ℕ, ◌+◌}
 use mathlib.Core.Path.{◌≡◌, refl, sym, ap, ◌∙◌, subst}
 use mathlib.Core.Bool.{Bool, true, false, cond, ◌&&◌}
@@ -10,8 +11,7 @@ use lib.ListN.{length}
 use lib.Seq.{slice}
 use Rattle.text_words.specs.declared.Word.{Word}
 use Rattle.text_words.specs.declared.Word.TheVariants.{Found}
-use Rattle.text_words.specs.declared.Number.{Number}
-use Rattle.text_words.specs.declared.Number.TheVariants.{Not}
+use Rattle.text_words.specs.InnerNumbers.{Number}
 use Rattle.text_words.specs.declared.Entry.{Entry}
 use Rattle.text_words.specs.declared.Entry.TheVariants.{Unfit, Close, Take, Negate}
 use Rattle.text_words.specs.InnerNumbers.{Item, Closing, Plain, Negated, Other, all_digits, is_number, number_of, plain_item, negated_item, item_of}
@@ -48,14 +48,14 @@ unfolding signed bare
 plain_number [] e = refl
 plain_number (byte ∷ bytes) e = rw e
 
-pub signed_number : (word : List ℕ) → signed word ≡ true → number_of word ≡ Not
+pub signed_number : (word : List ℕ) → signed word ≡ true → number_of word ≡ None
 unfolding signed number_of is_number all_digits
 signed_number [] e = let no : ◌≡◌ {A = ℕ} 0 1 = cc in let no : ⊥ = omega arith in absurd no
 signed_number (byte ∷ bytes) e =
     rw (eqb-true byte MINUS e, and-false (leb 1 (length (MINUS ∷ bytes)) && leb (length (MINUS ∷ bytes)) 5))
 
 -- what is no number is no item, with `-` or without
-pub not_item : (negative : Bool) → signed_item negative Not ≡ Other
+pub not_item : (negative : Bool) → signed_item negative None ≡ Other
 unfolding signed_item plain_item negated_item
 not_item true = refl
 not_item false = refl

@@ -1,6 +1,6 @@
 -- The laws of bytes that pass a test, which each scan of the text cites.
 use Prim.Native.Nat.{ℕ, suc, ◌+◌, ◌<◌, ◌≤◌}
-use mathlib.Core.Path.{◌≡◌, refl, sym, ap, ◌∙◌}
+use mathlib.Core.Path.{◌≡◌, sym, ap, ◌∙◌}
 use mathlib.Core.Bool.{Bool, true, false, cond}
 use mathlib.Core.List.{List, [], ◌∷◌}
 use native.Mathlib.Omega.{arith}
@@ -54,9 +54,6 @@ module _ (test : ℕ → Bool) (text : List ℕ) (i : ℕ) where
 -- A scan from a place, which has come to i: where the bytes that pass from i on end is where those from the place do.
 pub record Passing (test : ℕ → Bool) (text : List ℕ) (at i : ℕ) : Type 0 where
   pub so_far : past test text i ≡ past test text at
-
-pub passing_none : (test : ℕ → Bool) (text : List ℕ) (at : ℕ) → Passing test text at at
-passing_none test text at = record { so_far = refl }
 
 module _ {test : ℕ → Bool} {text : List ℕ} {at i : ℕ} (passing : Passing test text at i) where
   pub passing_more : i < length text → test (get_or text i 0) ≡ true → Passing test text at (i + 1)

@@ -11,7 +11,7 @@ use lib.ListN.{length, take, drop, length-drop}
 use lib.Seq.{slice, take-nil, drop-drop, length-take-le}
 use Rattle.text_words.specs.declared.Word.{Word}
 use Rattle.text_words.specs.declared.Word.TheVariants.{Found, End}
-use Rattle.text_words.specs.declared.Number.{Number}
+use Rattle.text_words.specs.InnerNumbers.{Number}
 use Rattle.text_words.specs.Words.{LF, SPACE, onto, pieces, filled, words}
 use Rattle.text_words.specs.InnerNumbers.{number_of}
 use Rattle.text_words.specs.InnerPlaces.{leading, is_space, in_word, in_line, past, signed, bare, found_from, word_from, word_at, front, later, line_at, after_at}

@@ -1,39 +1,33 @@
 -- Numbers: digits one by one, and how large five of them can be.
+use Rattle.std.specs.Prelude.{None, Some}
 use Prim.Native.Nat.{ℕ, suc, ◌+◌, ◌-◌, ◌*◌, ◌^◌, ◌<◌, ◌≤◌}
 use mathlib.Core.Path.{◌≡◌, refl, subst}
 use mathlib.Core.Bool.{Bool, true, false, cond, ◌&&◌}
 use mathlib.Core.List.{List, [], ◌∷◌}
 use native.Mathlib.Omega.{arith}
 use native.Mathlib.Nat.{pow-succ', pow-le-pow_right, add-zero}
-use native.Mathlib.Numerals.{add-one}
 use borrow.Author.Tests.{le-leb, lt-leb, leb-true}
 use lib.Dec.{eqb, leb, lit<}
-use lib.ListN.{length, get_or}
-use lib.Seq.{slice, slice-cons, slice_empty}
-use Rattle.text_words.specs.declared.Number.{Number}
-use Rattle.text_words.specs.declared.Number.TheVariants.{Is, Not}
+use lib.ListN.{length}
+use Rattle.text_words.specs.InnerNumbers.{Number}
 use Rattle.text_words.specs.InnerNumbers.{Item, Closing, Plain, Negated, Other, all_digits, spelt, is_number, number_of, plain_item, negated_item, item_of}
 use Rattle.text_words.specs.Words.{MINUS, ZERO}
 use Rattle.text_words.specs.InnerNumbers.{NINE}
 use Rattle.text_words.specs.InnerPlaces.{spelt_of}
 
-module _ (value i end : ℕ) (text : List ℕ) (h : i < end) (e : end ≤ length text) where
-  -- the first byte of what is left is a digit: the number goes on
-  pub spelt_digit : ZERO ≤ get_or text i 0 → get_or text i 0 ≤ NINE
-      → spelt_of value (slice i end text) ≡ spelt_of (value * 10 + (get_or text i 0 - ZERO)) (slice (i + 1) end text)
+-- Digits by the next byte: a digit, and the number goes on; no digit, and they are none; no byte, and the number is the one so far.
+module _ (value byte : ℕ) (more : List ℕ) where
+  pub spelt_digit : ZERO ≤ byte → byte ≤ NINE → spelt_of value (byte ∷ more) ≡ spelt_of (value * 10 + (byte - ZERO)) more
   unfolding spelt_of all_digits spelt
-  spelt_digit low high =
-      rw (slice-cons i end text 0 h e, le-leb ZERO (get_or text i 0) low, le-leb (get_or text i 0) NINE high, add-one)
+  spelt_digit low high = rw (le-leb ZERO byte low, le-leb byte NINE high)
 
-  -- it is no digit: no number
-  pub spelt_other : (leb ZERO (get_or text i 0) && leb (get_or text i 0) NINE) ≡ false → spelt_of value (slice i end text) ≡ Not
+  pub spelt_other : (leb ZERO byte && leb byte NINE) ≡ false → spelt_of value (byte ∷ more) ≡ None
   unfolding spelt_of all_digits spelt
-  spelt_other no_digit = rw (slice-cons i end text 0 h e, no_digit)
+  spelt_other no_digit = rw no_digit
 
--- nothing is left
-pub spelt_none : (value end : ℕ) (text : List ℕ) → spelt_of value (slice end end text) ≡ Is value
+pub spelt_none : (value : ℕ) → spelt_of value [] ≡ Some value
 unfolding spelt_of all_digits spelt
-spelt_none value end text = rw (slice_empty end text)
+spelt_none value = refl
 
 -- k digits are below the k-th power of 10, and so below 100,000 if they are at most five
 pub power_next : (value digit k : ℕ) → value < 10 ^ k → digit ≤ 9 → value * 10 + digit < 10 ^ suc k
@@ -44,11 +38,11 @@ power_most h = pow-le-pow_right (lit< tt) h
 
 -- a word as a number, by its length
 module _ (word : List ℕ) where
-  pub number_short : length word < 1 → number_of word ≡ Not
+  pub number_short : length word < 1 → number_of word ≡ None
   unfolding number_of is_number
   number_short h = rw (lt-leb 1 (length word) h)
 
-  pub number_long : 5 < length word → number_of word ≡ Not
+  pub number_long : 5 < length word → number_of word ≡ None
   unfolding number_of is_number
   number_long h = rw (le-leb 1 (length word) (omega arith), lt-leb (length word) 5 h)
 
@@ -71,8 +65,8 @@ spelt_most before k (b ∷ bs) h d =
     rw sum (spelt_most (before * 10 + (b - ZERO)) (suc k) bs (power_next before (b - ZERO) k h (omega arith)) ds.1)
 
 number_size : Number → ℕ
-number_size (Is v) = v
-number_size Not = 0
+number_size (Some v) = v
+number_size None = 0
 
 item_size : Item → ℕ
 item_size Closing = 0
@@ -84,7 +78,7 @@ number_most : (word : List ℕ) → number_size (number_of word) < 100000
 unfolding number_of is_number number_size
 number_most word = go (is_number word) refl
   where
-    go : (t : Bool) → is_number word ≡ t → number_size (cond t (Is (spelt 0 word)) Not) < 100000
+    go : (t : Bool) → is_number word ≡ t → number_size (cond t (Some (spelt 0 word)) None) < 100000
     go true t-is =
         let parts = both (leb 1 (length word) && leb (length word) 5) (all_digits word) t-is in
         let most = leb-true (length word) 5 (both (leb 1 (length word)) (leb (length word) 5) parts.0).1 in
@@ -95,21 +89,21 @@ number_most word = go (is_number word) refl
 
 plain_size : (number : Number) → item_size (plain_item number) ≤ number_size number
 unfolding plain_item item_size number_size
-plain_size (Is v) = go (eqb v 0)
+plain_size (Some v) = go (eqb v 0)
   where
     go : (t : Bool) → item_size (cond t Closing (Plain v)) ≤ v
     go true = omega arith
     go false = omega arith
-plain_size Not = omega arith
+plain_size None = omega arith
 
 negated_size : (number : Number) → item_size (negated_item number) ≤ number_size number
 unfolding negated_item item_size number_size
-negated_size (Is v) = go (eqb v 0)
+negated_size (Some v) = go (eqb v 0)
   where
     go : (t : Bool) → item_size (cond t Other (Negated v)) ≤ v
     go true = omega arith
     go false = omega arith
-negated_size Not = omega arith
+negated_size None = omega arith
 
 item_size_lem : (word : List ℕ) → item_size (item_of word) < 100000
 unfolding item_of item_size

@@ -1,20 +1,18 @@
 -- The laws of a number that is read while its word's end is found.
+use Rattle.std.specs.Prelude.{None, Some, Option}
 use Prim.Native.Nat.{ℕ, suc, ◌+◌, ◌-◌, ◌*◌, ◌^◌, ◌<◌, ◌≤◌}
-use mathlib.Core.Path.{◌≡◌, refl, sym, ap, ◌∙◌}
+use mathlib.Core.Path.{◌≡◌, sym, ap, ◌∙◌}
 use mathlib.Core.Bool.{Bool, true}
 use mathlib.Core.List.{List, ◌∷◌}
 use native.Mathlib.Omega.{arith}
-use native.Mathlib.Nat.{sub_self}
 use native.Mathlib.Numerals.{add-one}
 use borrow.Author.Tests.{eq-eqb, ne_eqb, lt-ltb, le-ltb}
-use lib.Dec.{ltb, lit<}
+use lib.Dec.{ltb}
 use lib.ListN.{length, get_or}
-use lib.Seq.{slice, slice-cons, length-slice}
+use lib.Seq.{slice, slice-cons, slice_empty, length-slice}
 use Rattle.text_words.specs.declared.Word.TheVariants.{Found}
-use Rattle.text_words.specs.declared.Number.{Number}
-use Rattle.text_words.specs.declared.Number.TheVariants.{Is}
+use Rattle.text_words.specs.InnerNumbers.{Number}
 use Rattle.text_words.specs.declared.Counted.{Counted}
-use Rattle.text_words.specs.declared.Counted.TheVariants.{Uncounted, Count}
 use Rattle.text_words.specs.Words.{LF, SPACE, MINUS, ZERO}
 use Rattle.text_words.specs.InnerNumbers.{NINE, number_of}
 use Rattle.text_words.specs.InnerPlaces.{past, in_word, signed, bare, word_from, spelt_of, SignIs, minus, unsigned, Numeral, NumeralIs, StopIs}
@@ -29,11 +27,6 @@ pub record Digits (text : List ℕ) (from i value : ℕ) : Type 0 where
   pub spells : (end : ℕ) → i ≤ end → end ≤ length text → spelt_of value (slice i end text) ≡ spelt_of 0 (slice from end text)
   pub stops : past in_word text i ≡ past in_word text from
 
-pub digits_none : (text : List ℕ) (from : ℕ) → Digits text from from 0
-digits_none text from =
-    let one : 0 < 10 ^ (from - from) = rw (sub_self from) (lit< tt) in
-    record { on = omega arith; few = omega arith; below = one; spells = λ end h w. refl; stops = refl }
-
 module _ {text : List ℕ} {from i value : ℕ} (digits : Digits text from i value) (inside : i < length text) where
   abbrev b : ℕ
   b = get_or text i 0
@@ -47,14 +40,14 @@ module _ {text : List ℕ} {from i value : ℕ} (digits : Digits text from i val
         on = omega arith;
         few = omega arith;
         below = rw next (power_next value (b - ZERO) (i - from) digits.below (omega arith));
-        spells = λ end h w. sym (spelt_digit value i end text (omega arith) w low high) ∙ digits.spells end (omega arith) w;
+        spells = λ end h w. sym (rw (slice-cons i end text 0 (omega arith) w, add-one) (spelt_digit value b _ low high)) ∙ digits.spells end (omega arith) w;
         stops = sym (past_more in_word text i inside (rw (ne_eqb b SPACE (λ e. omega arith), ne_eqb b LF (λ e. omega arith)))) ∙ digits.stops;
       }
 
   -- the byte that stands there ends the word, or nothing is told
-  pub digits_stop : (r : Counted) → StopIs b value from i r → NumeralIs text from r
-  digits_stop Uncounted s = tt
-  digits_stop (Count v e) s =
+  pub digits_stop : (r : Option Counted) → StopIs b value from i r → NumeralIs text from r
+  digits_stop None s = tt
+  digits_stop (Some counted) s =
       let on = digits.on in
       let few = digits.few in
       let some = s.2 in
@@ -63,7 +56,7 @@ module _ {text : List ℕ} {from i value : ℕ} (digits : Digits text from i val
       record {
         is =
             number_spelt (slice from i text) (omega arith) (omega arith) ∙ sym (digits.spells i (omega arith) (omega arith))
-            ∙ spelt_none value i text;
+            ∙ rw (slice_empty i text) (spelt_none value);
         stop = sym (past_stop in_word text i inside s.3) ∙ digits.stops;
         some = some;
         within = omega arith;
@@ -103,15 +96,15 @@ module _ (text : List ℕ) (start from end : ℕ) (sign : SignIs text start from
       ∙ sym (from_found text start end stop h)
 
   -- a number that was read with its end
-  pub numeral_word : (value : ℕ) → Numeral text from value end → Found start end (Is value) (ltb start from) ≡ word_from text start (past in_word text start)
+  pub numeral_word : (value : ℕ) → Numeral text from value end → Found start end (Some value) (ltb start from) ≡ word_from text start (past in_word text start)
   numeral_word value n = go sign
     where
-      go : SignIs text start from → Found start end (Is value) (ltb start from) ≡ word_from text start (past in_word text start)
+      go : SignIs text start from → Found start end (Some value) (ltb start from) ≡ word_from text start (past in_word text start)
       go (minus inside m f) =
           let some = n.some in
           let letter : in_word (get_or text start 0) ≡ true = rw m in
-          signed_word (Is value) (n.stop ∙ ap (λ (k : ℕ). past in_word text k) f ∙ sym (past_more in_word text start inside letter)) (omega arith)
+          signed_word (Some value) (n.stop ∙ ap (λ (k : ℕ). past in_word text k) f ∙ sym (past_more in_word text start inside letter)) (omega arith)
           n.within (sym n.is)
       go (unsigned m f) =
           let some = n.some in
-          signed_word (Is value) (n.stop ∙ ap (λ (k : ℕ). past in_word text k) f) (omega arith) n.within (sym n.is)
+          signed_word (Some value) (n.stop ∙ ap (λ (k : ℕ). past in_word text k) f) (omega arith) n.within (sym n.is)

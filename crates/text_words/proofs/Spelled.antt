@@ -1,4 +1,5 @@
 -- What words say, plainly and by computing, is the same: a number (number_of_lem, spells), and the entries of a line (entries_read, read_entries).
+use Rattle.std.specs.Prelude.{None, Some}
 use Prim.Native.Nat.{ℕ, ◌+◌, ◌-◌, ◌*◌, ◌<◌, ◌≤◌}
 use mathlib.Core.Path.{◌≡◌, refl, sym, ap, ◌∙◌, subst}
 use mathlib.Core.Bool.{Bool, true, false, cond, ◌&&◌}
@@ -12,8 +13,7 @@ use lib.ListN.{length}
 use lib.IntN.{ℤ, pos, neg_ℤ}
 use Rattle.text_write.specs.Numbers.{Digits, no_digit, digit, decimal}
 use Rattle.text_write.proofs.Decimal.{digits_most, decimal_is}
-use Rattle.text_words.specs.declared.Number.{Number}
-use Rattle.text_words.specs.declared.Number.TheVariants.{Is, Not}
+use Rattle.text_words.specs.InnerNumbers.{Number}
 use Rattle.text_words.specs.Words.{MINUS, ZERO, Spells, VariableWord, variable_word, LiteralWord, unsigned_word, negated_word, Entries, closing, VariableWords}
 use Rattle.text_words.specs.InnerNumbers.{NINE}
 use Rattle.text_words.specs.Words.{LiteralWords}
@@ -58,15 +58,15 @@ digits_read (digit {word} {v} {d} more small) =
     (all_more word (ZERO + d) all (omega arith) (omega arith), omega arith)
 
 -- A number word, both ways.
-pub number_of_lem : {word : List ℕ} {v : ℕ} → Spells word v → number_of word ≡ Is v
+pub number_of_lem : {word : List ℕ} {v : ℕ} → Spells word v → number_of word ≡ Some v
 unfolding number_of is_number
 number_of_lem {word} s = let (all, is) = digits_read s.digits in rw (le-leb 1 (length word) s.some, le-leb (length word) 5 s.few, all, is)
 
-pub spells : {word : List ℕ} {v : ℕ} → number_of word ≡ Is v → Spells word v
+pub spells : {word : List ℕ} {v : ℕ} → number_of word ≡ Some v → Spells word v
 unfolding number_of is_number
 spells {word} {v} e = go (is_number word) refl e
   where
-    go : (b : Bool) → is_number word ≡ b → cond b (Is (spelt 0 word)) Not ≡ Is v → Spells word v
+    go : (b : Bool) → is_number word ≡ b → cond b (Some (spelt 0 word)) None ≡ Some v → Spells word v
     go true is q =
         let (long, all) = both (leb 1 (length word) && leb (length word) 5) (all_digits word) is in
         let (low, high) = both (leb 1 (length word)) (leb (length word) 5) long in
@@ -99,20 +99,20 @@ item_says [] = tt
 item_says (byte ∷ bytes) = go (eqb byte MINUS) refl
   where
     plainly : (number : Number) → number_of (byte ∷ bytes) ≡ number → ItemSays (byte ∷ bytes) (plain_item number)
-    plainly (Is v) e = by_zero (eqb v 0) refl
+    plainly (Some v) e = by_zero (eqb v 0) refl
       where
         by_zero : (b : Bool) → eqb v 0 ≡ b → ItemSays (byte ∷ bytes) (cond b Closing (Plain v))
         by_zero true z = subst (Spells (byte ∷ bytes)) (eqb-true v 0 z) (spells e)
         by_zero false z = (spells e, eqb-false v 0 z)
-    plainly Not e = tt
+    plainly None e = tt
 
     minus : byte ≡ MINUS → (number : Number) → number_of bytes ≡ number → ItemSays (byte ∷ bytes) (negated_item number)
-    minus is (Is v) e = by_zero (eqb v 0) refl
+    minus is (Some v) e = by_zero (eqb v 0) refl
       where
         by_zero : (b : Bool) → eqb v 0 ≡ b → ItemSays (byte ∷ bytes) (cond b Other (Negated v))
         by_zero true z = tt
         by_zero false z = (bytes, ap (λ (c : ℕ). c ∷ bytes) is, spells e, eqb-false v 0 z)
-    minus is Not e = tt
+    minus is None e = tt
 
     go : (b : Bool) → eqb byte MINUS ≡ b → ItemSays (byte ∷ bytes) (cond b (negated_item (number_of bytes)) (plain_item (number_of (byte ∷ bytes))))
     go true m = minus (eqb-true byte MINUS m) (number_of bytes) refl
@@ -126,7 +126,7 @@ digits_plain (b ∷ bs) all h =
     let low = leb-true ZERO b (both (leb ZERO b) (leb b NINE) (both (leb ZERO b && leb b NINE) (all_digits bs) all).0).0 in
     rw (ne_eqb b MINUS (λ z. omega arith))
 
-spelt_item : {word : List ℕ} {v : ℕ} → Spells word v → item_of word ≡ plain_item (Is v)
+spelt_item : {word : List ℕ} {v : ℕ} → Spells word v → item_of word ≡ plain_item (Some v)
 spelt_item {word} s = digits_plain word (digits_read s.digits).0 s.some ∙ ap plain_item (number_of_lem s)
 
 -- A kind of line whose entries are what its words say: what a word says is taken, and a number is said, with `-` where it may carry one.

@@ -1,4 +1,5 @@
 -- The laws of a word that is looked for: by its length and by its bytes.
+use Rattle.std.specs.Prelude.{None}
 use Prim.Native.Nat.{ℕ, suc, ◌+◌, ◌-◌, ◌<◌}
 use mathlib.Core.Path.{◌≡◌, refl, sym, ap, ◌∙◌}
 use mathlib.Core.Bool.{Bool, true, false, cond}
@@ -8,7 +9,6 @@ use native.Mathlib.Omega.{arith}
 use lib.Dec.{ltb}
 use lib.ListN.{length, get_or, take}
 use lib.Seq.{slice, slice_empty, slice-cons, length-slice, get_or-drop, get_or-take}
-use Rattle.text_words.specs.declared.Spelt.TheVariants.{Missing}
 use Rattle.text_words.specs.declared.Word.TheVariants.{End}
 use Rattle.text_words.specs.InnerPlaces.{words_at, past, is_space, in_word, found_from, word_at, word_from}
 use Rattle.text_words.specs.InnerExpected.{Goes, SpeltIs}
@@ -34,11 +34,11 @@ module _ {text : List ℕ} {at start end : ℕ} (found : FoundIs text at start e
   only word more q = let first = found.first in cc
 
   -- of another length
-  pub spelt_long : (word : List ℕ) → (end - start ≡ length word → ⊥) → SpeltIs word text at Missing
+  pub spelt_long : (word : List ℕ) → (end - start ≡ length word → ⊥) → SpeltIs word text at None
   spelt_long word differs more q = differs (sym (length-slice start end text found.within) ∙ ap length (only word more q))
 
   -- with another byte
-  pub spelt_other : (word : List ℕ) (i : ℕ) → start + i < end → (get_or text (start + i) 0 ≡ get_or word i 0 → ⊥) → SpeltIs word text at Missing
+  pub spelt_other : (word : List ℕ) (i : ℕ) → start + i < end → (get_or text (start + i) 0 ≡ get_or word i 0 → ⊥) → SpeltIs word text at None
   spelt_other word i h differs more q =
       differs (sym (get_or-drop start (take end text) i 0 ∙ get_or-take end text (start + i) 0 h) ∙ ap (λ (w : List ℕ). get_or w i 0) (only word more q))
 
@@ -68,7 +68,7 @@ module _ {text : List ℕ} {at start end : ℕ} (found : FoundIs text at start e
       ∙ ap (λ (x : ℕ). a ∷ b ∷ x ∷ []) (ap (λ (k : ℕ). get_or text k 0) (sym two) ∙ third)
 
 -- the first byte but spaces is another
-pub spelt_unlike : (text : List ℕ) (at letter : ℕ) → (get_or text (past is_space text at) 0 ≡ letter → ⊥) → SpeltIs (letter ∷ []) text at Missing
+pub spelt_unlike : (text : List ℕ) (at letter : ℕ) → (get_or text (past is_space text at) 0 ≡ letter → ⊥) → SpeltIs (letter ∷ []) text at None
 unfolding word_at word_from
 spelt_unlike text at letter differs = go (ltb start stop) refl
   where
@@ -78,7 +78,7 @@ spelt_unlike text at letter differs = go (ltb start stop) refl
     stop : ℕ
     stop = past in_word text start
 
-    go : (t : Bool) → ltb start stop ≡ t → SpeltIs (letter ∷ []) text at Missing
+    go : (t : Bool) → ltb start stop ≡ t → SpeltIs (letter ∷ []) text at None
     go true is =
         let f = found_of text at refl (ap (λ (t : Bool). cond t (found_from text start stop) (End start)) is) in
         spelt_other f (letter ∷ []) 0 (let more = f.some in omega arith) (λ e. differs (sym (ap (λ (n : ℕ). get_or text n 0) (add-zero start)) ∙ e))

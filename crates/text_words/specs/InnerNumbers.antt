@@ -1,8 +1,6 @@
 -- What words say, by computing: for the words of Words it is the same (proofs/Spelled).
-use Rattle.std.specs.Prelude.{ℕ, ◌+◌, ◌-◌, ◌*◌, Bool, true, cond, ◌&&◌, List, [], ◌∷◌, eqb, leb, ℤ, pos, neg_ℤ, length}
+use Rattle.std.specs.Prelude.{ℕ, ◌+◌, ◌-◌, ◌*◌, Bool, true, cond, ◌&&◌, List, [], ◌∷◌, eqb, leb, ℤ, pos, neg_ℤ, length, None, Some, Option as Maybe}
 use Rattle.std.proofs.Math.Option.{Option, none, some}
-use Rattle.text_words.specs.declared.Number.{Number}
-use Rattle.text_words.specs.declared.Number.TheVariants.{Is, Not}
 use Rattle.text_words.specs.Words.{MINUS, ZERO}
 
 -- The last of the digits.
@@ -22,8 +20,12 @@ spelt before (digit ∷ digits) = spelt (before * 10 + (digit - ZERO)) digits
 unfoldable pub is_number : List ℕ → Bool
 is_number word = (leb 1 (length word) && leb (length word) 5) && all_digits word
 
+-- A word as a number, if it is one.
+abbrev pub Number : Type 0
+Number = Maybe ℕ
+
 unfoldable pub number_of : List ℕ → Number
-number_of word = cond (is_number word) (Is (spelt 0 word)) Not
+number_of word = cond (is_number word) (Some (spelt 0 word)) None
 
 -- A word of a quantifier or clause line: the closing 0, a nonzero number, a nonzero number that carries `-`, or none of these.
 pub data Item : Type 0 where
@@ -33,12 +35,12 @@ pub data Item : Type 0 where
   Other : Item
 
 unfoldable pub plain_item : Number → Item
-plain_item (Is value) = cond (eqb value 0) Closing (Plain value)
-plain_item Not = Other
+plain_item (Some value) = cond (eqb value 0) Closing (Plain value)
+plain_item None = Other
 
 unfoldable pub negated_item : Number → Item
-negated_item (Is value) = cond (eqb value 0) Other (Negated value)
-negated_item Not = Other
+negated_item (Some value) = cond (eqb value 0) Other (Negated value)
+negated_item None = Other
 
 unfoldable pub item_of : List ℕ → Item
 item_of [] = Other

@@ -1,21 +1,16 @@
 -- What the functions on words and on lines of entries promise, for a text and a place in it: where the next word stands, by computing, and what
 -- it says of the line in the grammar's words.
-use Rattle.std.specs.Prelude.{ℕ, suc, ◌+◌, ◌<◌, ◌≤◌, ◌≡◌, Bool, false, not, cond, ◌&&◌, List, [], ◌∷◌, eqb, ltb, length, drop, get_or}
+use Rattle.std.specs.Prelude.{ℕ, suc, ◌+◌, ◌<◌, ◌≤◌, ◌≡◌, Bool, false, not, cond, ◌&&◌, List, [], ◌∷◌, eqb, ltb, length, drop, get_or, None, Some, Option}
 use Rattle.std.proofs.Math.Option.{none, some}
 use Rattle.std.proofs.lemmas.List.Edits.{sets}
 use Rattle.std.proofs.Math.Seq.{slice}
 use Rattle.text_words.specs.declared.Word.{Word}
 use Rattle.text_words.specs.declared.Word.TheVariants.{Found, End}
-use Rattle.text_words.specs.declared.Number.{Number}
-use Rattle.text_words.specs.declared.Number.TheVariants.{Is, Not}
-use Rattle.text_words.specs.declared.Ended.{Ended}
-use Rattle.text_words.specs.declared.Ended.TheVariants.{Nowhere, Next}
+use Rattle.text_words.specs.InnerNumbers.{Number}
 use Rattle.text_words.specs.declared.Entry.{Entry}
 use Rattle.text_words.specs.declared.Entry.TheVariants.{Unfit, Close, Take, Negate}
 use Rattle.text_words.specs.declared.Row.{Row}
-use Rattle.text_words.specs.declared.Row.TheVariants.{Broken, Whole}
 use Rattle.text_words.specs.declared.Counted.{Counted}
-use Rattle.text_words.specs.declared.Counted.TheVariants.{Uncounted, Count}
 use Rattle.text_words.specs.InnerNumbers.{Item, Closing, Plain, Negated, Other, all_digits, spelt, number_of, plain_item}
 use Rattle.text_words.specs.Words.{LF, SPACE, MINUS, pieces, words}
 use Rattle.text_words.specs.InnerNumbers.{negated_item, item_of, Kind, entries_of}
@@ -67,23 +62,23 @@ pub data SignIs (text : List ℕ) (at from : ℕ) : Type 0 where
 
 -- A number stands at a place, with nothing of its word behind it; nothing is said where none was told.
 pub record Numeral (text : List ℕ) (from value end : ℕ) : Type 0 where
-  pub is : number_of (slice from end text) ≡ Is value
+  pub is : number_of (slice from end text) ≡ Some value
   pub stop : end ≡ past in_word text from
   pub some : from < end
   pub within : end ≤ length text
 
-abbrev pub NumeralIs : List ℕ → ℕ → Counted → Type 0
-NumeralIs text from Uncounted = Unit {0}
-NumeralIs text from (Count value end) = Numeral text from value end
+abbrev pub NumeralIs : List ℕ → ℕ → Option Counted → Type 0
+NumeralIs text from None = Unit {0}
+NumeralIs text from (Some counted) = Numeral text from counted.value counted.next
 
 -- Digits up to a place are a number where the byte that stands there ends their word.
-abbrev pub StopIs : ℕ → ℕ → ℕ → ℕ → Counted → Type 0
-StopIs byte value from end Uncounted = Unit {0}
-StopIs byte value from end (Count v e) = (v ≡ value) × (e ≡ end) × (from < end) × (in_word byte ≡ false)
+abbrev pub StopIs : ℕ → ℕ → ℕ → ℕ → Option Counted → Type 0
+StopIs byte value from end None = Unit {0}
+StopIs byte value from end (Some counted) = (counted.value ≡ value) × (counted.next ≡ end) × (from < end) × (in_word byte ≡ false)
 
 -- Digits as the number that they spell after the number `before`.
 unfoldable pub spelt_of : ℕ → List ℕ → Number
-spelt_of before word = cond (all_digits word) (Is (spelt before word)) Not
+spelt_of before word = cond (all_digits word) (Some (spelt before word)) None
 
 -- The line that stands at a place, up to its LF or the text's end, and what follows its LF, cut at LF: nothing if it has none.
 unfoldable pub front : List (List ℕ) → List ℕ
@@ -125,9 +120,9 @@ pub data Open (text : List ℕ) (at : ℕ) : Type 0 where
   no_feed : after_at text at ≡ [] → Open text at
 
 -- Whether a line ends at a place, with nothing but spaces before its LF.
-abbrev pub EndedIs : List ℕ → ℕ → Ended → Type 0
-EndedIs text at Nowhere = Open text at
-EndedIs text at (Next next) = (words_at text at ≡ []) × Passed text at next
+abbrev pub EndedIs : List ℕ → ℕ → Option ℕ → Type 0
+EndedIs text at None = Open text at
+EndedIs text at (Some next) = (words_at text at ≡ []) × Passed text at next
 
 abbrev pub CloseIs : List ℕ → ℕ → Entry → Type 0
 CloseIs text at Unfit = Open text at
@@ -177,6 +172,6 @@ pub data NoRow {A : Type 0} (kind : Kind A) (text : List ℕ) (at : ℕ) : Type 
   unread : entries_of kind (words_at text at) ≡ none → NoRow kind text at
   endless_row : after_at text at ≡ [] → NoRow kind text at
 
-abbrev pub RowIs : {A : Type 0} → Kind A → List ℕ → ℕ → ℕ → List A → List A → Row → Type 0
-RowIs kind text at from before after Broken = NoRow kind text at
-RowIs kind text at from before after (Whole next count) = WholeRow kind text at from before after next count
+abbrev pub RowIs : {A : Type 0} → Kind A → List ℕ → ℕ → ℕ → List A → List A → Option Row → Type 0
+RowIs kind text at from before after None = NoRow kind text at
+RowIs kind text at from before after (Some row) = WholeRow kind text at from before after row.next row.count

@@ -1,11 +1,11 @@
 // The entries of a quantifier or clause line, one by one: what the next word is, and where the line goes on.
 
-ghost use Rattle.text_words.specs.declared.Number.TheVariants.{Is};
+ghost use Rattle.std.specs.Prelude.{Some};
 ghost use Rattle.text_words.specs.InnerPlaces.{signed_item, ItemIs, CloseIs, EntryIs};
 
 use crate::expected::line_ended;
 use crate::words::word_in;
-use crate::{Ended, Entry, Number, Word};
+use crate::{Entry, Word};
 
 // What stands next in a line of entries.
 pub fn entry_at(text: &[u8], at: usize) -> Entry
@@ -19,15 +19,15 @@ pub fn entry_at(text: &[u8], at: usize) -> Entry
             number,
             negative,
         } => match number {
-            Number::Not => Entry::Unfit,
-            Number::Is(value) => numbered(text, end, value, negative),
+            None => Entry::Unfit,
+            Some(value) => numbered(text, end, value, negative),
         },
     }
 }
 
 // What a number says, with `-` or without, where the line goes on at a place: only one that is not 0 may carry `-`.
 fn numbered(text: &[u8], next: usize, value: u32, negative: bool) -> Entry
-    ensures read { ItemIs (signed_item negative (Is value)) text.now next result }
+    ensures read { ItemIs (signed_item negative (Some value)) text.now next result }
 {
     if value == 0 {
         if negative {
@@ -47,7 +47,7 @@ fn close_at(text: &[u8], at: usize) -> Entry
     ensures read { CloseIs text.now at result }
 {
     match line_ended(text, at) {
-        Ended::Nowhere => Entry::Unfit,
-        Ended::Next(next) => Entry::Close { next },
+        None => Entry::Unfit,
+        Some(next) => Entry::Close { next },
     }
 }

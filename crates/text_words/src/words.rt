@@ -5,7 +5,7 @@ ghost use Rattle.std.proofs.Math.Seq.{slice};
 ghost use Rattle.text_words.specs.InnerNumbers.{number_of};
 ghost use Rattle.text_words.specs.InnerPlaces.{past, is_space, in_word, word_from, word_at, spelt_of, SignIs, NumeralIs, StopIs};
 
-use crate::{Counted, Number, Word};
+use crate::{Counted, Word};
 use text_write::{LF, MINUS, NINE, SPACE, ZERO};
 
 // The word reader: the lent text and a place in it.
@@ -43,13 +43,13 @@ fn word_at(text: &[u8], at: usize) -> Word
     let start = gap_end(text, at);
     let from = after_sign(text, start);
     match digits_at(text, from) {
-        Counted::Count { value, next: end } => Word::Found {
+        Some(counted) => Word::Found {
             start,
-            end,
-            number: Number::Is(value),
+            end: counted.next,
+            number: Some(counted.value),
             negative: start < from,
         },
-        Counted::Uncounted => any_word(text, start, from),
+        None => any_word(text, start, from),
     }
 }
 
@@ -82,108 +82,90 @@ fn after_sign(text: &[u8], at: usize) -> usize
 }
 
 // The number that stands at a place, if it is one to five digits and a space or LF follows: what is not told here has to be looked at again.
-fn digits_at(text: &[u8], from: usize) -> Counted
+fn digits_at(text: &[u8], from: usize) -> Option<Counted>
     ensures counted { NumeralIs text.now from result }
 {
     let mut value: u32 = 0;
-    let mut i = from;
-    while i < text.len() {
+    for i in from..text.len() {
         let byte = text[i];
         if byte < ZERO {
             return number_to(byte, value, from, i);
         }
-        if NINE < byte {
-            return Counted::Uncounted;
-        }
-        if 4 < i - from {
-            return Counted::Uncounted;
+        if NINE < byte || 4 < i - from {
+            return None;
         }
         value = value * 10 + ((byte - ZERO) as u32);
-        i += 1;
     }
-    Counted::Uncounted
+    None
 }
 
 // The number of the digits up to a place, if there are any and the byte there ends their word.
-fn number_to(byte: u8, value: u32, from: usize, end: usize) -> Counted
+fn number_to(byte: u8, value: u32, from: usize, end: usize) -> Option<Counted>
     ensures counted { StopIs byte value from end result }
 {
     if end <= from {
-        return Counted::Uncounted;
+        return None;
     }
     if byte == SPACE {
-        return Counted::Count { value, next: end };
+        return Some(Counted { value, next: end });
     }
     if byte == LF {
-        return Counted::Count { value, next: end };
+        return Some(Counted { value, next: end });
     }
-    Counted::Uncounted
+    None
 }
 
 // The place after the spaces that stand at a place.
 pub fn gap_end(text: &[u8], at: usize) -> usize
     ensures passed { result ≡ past is_space text.now at }
 {
-    let mut i = at;
-    while i < text.len() {
+    for i in at..text.len() {
         if text[i] != SPACE {
             return i;
         }
-        i += 1;
     }
-    i
+    at.max(text.len())
 }
 
 // The place after the bytes that stand at a place before the next space or LF.
 fn run_end(text: &[u8], at: usize) -> usize
     ensures passed { result ≡ past in_word text.now at }
 {
-    let mut i = at;
-    while i < text.len() {
+    for i in at..text.len() {
         let byte = text[i];
-        if byte == SPACE {
+        if byte == SPACE || byte == LF {
             return i;
         }
-        if byte == LF {
-            return i;
-        }
-        i += 1;
     }
-    i
+    at.max(text.len())
 }
 
 // A word as a number.
-fn number_in(text: &[u8], start: usize, end: usize) -> Number
+fn number_in(text: &[u8], start: usize, end: usize) -> Option<u32>
     requires within { (start ≤ end) × (end ≤ length text.now) }
     ensures counted { result ≡ number_of (slice start end text.now) }
 {
     let size = end - start;
     if size < 1 {
-        return Number::Not;
+        return None;
     }
     if 5 < size {
-        return Number::Not;
+        return None;
     }
     digits_in(text, start, end)
 }
 
 // The number that the digits from a place up to an end spell, at most five.
-fn digits_in(text: &[u8], start: usize, end: usize) -> Number
+fn digits_in(text: &[u8], start: usize, end: usize) -> Option<u32>
     requires few { (start ≤ end) × (end ≤ start + 5) × (end ≤ length text.now) }
     ensures counted { result ≡ spelt_of 0 (slice start end text.now) }
 {
     let mut value: u32 = 0;
-    let mut i = start;
-    while i < end {
-        let byte = text[i];
-        if byte < ZERO {
-            return Number::Not;
-        }
-        if NINE < byte {
-            return Number::Not;
+    for &byte in &text[start..end] {
+        if byte < ZERO || NINE < byte {
+            return None;
         }
         value = value * 10 + ((byte - ZERO) as u32);
-        i += 1;
     }
-    Number::Is(value)
+    Some(value)
 }

@@ -5,7 +5,7 @@ use mathlib.Core.Bool.{Bool, true, false, cond}
 use mathlib.Core.List.{List, [], ◌∷◌, ◌++◌, append_assoc, append-nil}
 use native.Mathlib.Omega.{arith}
 use native.Mathlib.Nat.{add-zero}
-use native.Mathlib.Numerals.{add-one}
+use native.Mathlib.Numerals.{add-one, one-add}
 use lib.Dec.{eqb}
 use lib.ListN.{length, get_or, drop, length-append, drop_of_length-le}
 use lib.Seq.{sets, set_out, length-sets, drop-cons}
@@ -15,6 +15,9 @@ use lib.Signed.{lt_z}
 use mir.Syntax.{w32}
 use mir.Val.{to_z, of_z}
 use mir.Facts.{to_z-of_z}
+use Rattle.std.specs.List.{count_by}
+use Rattle.std.proofs.lemmas.List.Recursion.{is_count_by}
+use Rattle.std.proofs.lemmas.List.Sums.{count_by-le-length}
 use Rattle.terms.proofs.Common.{sets_append}
 use Rattle.text_write.specs.Texts.{LF, SPACE, MINUS, LETTER-A, LETTER-E}
 use Rattle.text_write.specs.Numbers.{decimal}
@@ -149,10 +152,6 @@ pub record Upto {A : Type 0} (s : Script A) (table : List A) (before now : List 
   pub is : s.text_from true table ≡ bytes ++ s.text_from first (drop i table)
   pub wrote : Wrote bytes before now at next
   pub few : next ≤ at + 8 * i
-  pub within : i ≤ length table
-
-pub upto_none : {A : Type 0} (s : Script A) (table : List A) (buffer : List ℕ) (at : ℕ) → Upto s table buffer buffer at 0 at true
-upto_none s table buffer at = record { bytes = []; is = refl; wrote = wrote_none buffer at; few = omega arith; within = omega arith }
 
 module _ {A : Type 0} {s : Script A} {table : List A} {before now : List ℕ} {at i next : ℕ} {first : Bool}
     (u : Upto s table before now at i next first) where
@@ -176,7 +175,6 @@ module _ {A : Type 0} {s : Script A} {table : List A} {before now : List ℕ} {a
             ∙ sym (append_assoc u.bytes one (s.text_from first' (drop (i + 1) table)));
         wrote = wrote_more u.wrote w;
         few = omega arith;
-        within = omega arith;
       }
 
   -- all rows
@@ -185,9 +183,6 @@ module _ {A : Type 0} {s : Script A} {table : List A} {before now : List ℕ} {a
       wrote_as
       (u.is ∙ ap (λ (xs : List ℕ). u.bytes ++ xs) (ap (s.text_from first) (drop_of_length-le table h) ∙ s.empty first) ∙ append-nil u.bytes)
       u.wrote
-
-  pub upto_length : length now ≡ length before
-  upto_length = wrote_length u.bytes before now at next u.wrote
 
 -- how long a text is at most
 pub text_most : {A : Type 0} (s : Script A) (first : Bool) (table : List A)
@@ -234,42 +229,6 @@ unfolding literal_bytes spaced ended
 clause_more true z e = rw e (append-nil (literal_word z))
 clause_more false z e = rw e (ap (λ (xs : List ℕ). SPACE ∷ xs) (append-nil (literal_word z)))
 
--- Counting clauses, entry by entry.
-pub count_closes : (z : ℤ) → eqb (nat_abs z) 0 ≡ true → clause_count (z ∷ []) ≡ 1
-unfolding clause_count
-count_closes z e = rw e
-
-pub count_goes_on : (z : ℤ) → eqb (nat_abs z) 0 ≡ false → clause_count (z ∷ []) ≡ 0
-unfolding clause_count
-count_goes_on z e = rw e
-
-count_split : (z : ℤ) (more : List ℤ) → clause_count (z ∷ more) ≡ clause_count (z ∷ []) + clause_count more
-unfolding clause_count
-count_split z more = go (eqb (nat_abs z) 0)
-  where
-    go : (b : Bool) → cond b (suc (clause_count more)) (clause_count more) ≡ cond b 1 0 + clause_count more
-    go true = omega arith
-    go false = omega arith
-
-pub count_one : (z : ℤ) → clause_count (z ∷ []) ≤ 1
-unfolding clause_count
-count_one z = go (eqb (nat_abs z) 0)
-  where
-    go : (b : Bool) → cond b 1 0 ≤ 1
-    go true = omega arith
-    go false = omega arith
-
-pub count_more : (clauses : List ℤ) (i count : ℕ) → i < length clauses
-    → count + clause_count (drop i clauses) ≡ count + clause_count (get_or clauses i (pos 0) ∷ []) + clause_count (drop (i + 1) clauses)
-count_more clauses i count h =
-    let e = ap clause_count (drop-cons clauses i (pos 0) h) ∙ count_split (get_or clauses i (pos 0)) (drop (suc i) clauses) in
-    let s = ap (λ (k : ℕ). clause_count (drop k clauses)) (add-one i) in
-    omega arith
-
-pub count_all : (clauses : List ℤ) (i : ℕ) → length clauses ≤ i → clause_count (drop i clauses) ≡ 0
-unfolding clause_count
-count_all clauses i h = ap clause_count (drop_of_length-le clauses h)
-
 -- A small literal is read back from its bits.
 pub small_bits : (z : ℤ) → nat_abs z < 100000 → to_z w32 (of_z w32 z) ≡ z
 small_bits (pos n) h = to_z-of_z {w = w32} {z = pos n} (record { sfits = omega arith })
@@ -284,11 +243,10 @@ problem_most n m hn hm =
 pub prefix_most : (first : Bool) (prefix : List ℕ) → SmallEntries prefix → length (prefix_text first prefix) ≤ 8 * length prefix
 prefix_most first prefix small = text_most prefix_script first prefix (λ b i h. entry_most b (get_or prefix i 0) (small i h))
 
-pub count_most : (clauses : List ℤ) → clause_count clauses ≤ length clauses
+-- A clause table has a clause for each entry whose magnitude is 0, and so no more clauses than entries.
+pub counted_by : (clauses : List ℤ) → clause_count clauses ≡ count_by (λ (z : ℤ). eqb (nat_abs z) 0) clauses
 unfolding clause_count
-count_most [] = omega arith
-count_most (z ∷ more) = go (eqb (nat_abs z) 0) (count_most more)
-  where
-    go : (b : Bool) → clause_count more ≤ length more → cond b (suc (clause_count more)) (clause_count more) ≤ suc (length more)
-    go true h = omega arith
-    go false h = omega arith
+counted_by = is_count_by clause_count _ refl (λ z more. rw one-add)
+
+pub count_most : (clauses : List ℤ) → clause_count clauses ≤ length clauses
+count_most clauses = omega (arith, counted_by clauses, count_by-le-length (λ (z : ℤ). eqb (nat_abs z) 0) clauses)

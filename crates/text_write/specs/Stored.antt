@@ -1,10 +1,9 @@
 -- What writing a text promises: it stands in front in the lent buffer, or the first cause is given in an order that ends with 15 and 14 (rule 7.5, rule 8.2).
 use Rattle.std.specs.Prelude.{ℕ, ◌<◌, ◌≡◌, List, length}
 use Rattle.terms.specs.Overwritten.{overwritten}
-use Rattle.terms.specs.Says.{filled_said}
+use Rattle.terms.specs.Says.{said, Answer}
 use Rattle.terms.specs.Answers.{Settles}
 use Rattle.terms.specs.Refusals.{Causes}
-use Rattle.terms.specs.declared.Filled.{Filled}
 
 -- 14: the buffer is shorter than the text.
 pub data ShortOut (text out : List ℕ) : ℕ → ℕ → Type 0 where
@@ -16,5 +15,5 @@ pub record Stored (text out out' : List ℕ) (count : ℕ) : Type 0 where
   pub left : out' ≡ overwritten text out
 
 -- What a call promises that writes a text, by its order of refusals: the text stands in front, or nothing is changed.
-abbrev pub WritesBy : List Causes → List ℕ → List ℕ → List ℕ → Filled → Type 0
-WritesBy order text out out' answer = Settles order (Stored text out out') (out' ≡ out) (filled_said answer)
+abbrev pub WritesBy : List Causes → List ℕ → List ℕ → List ℕ → Answer ℕ → Type 0
+WritesBy order text out out' answer = Settles order (Stored text out out') (out' ≡ out) (said answer)

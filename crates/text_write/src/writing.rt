@@ -12,24 +12,29 @@ use crate::bytes::{put_byte, put_number};
 use crate::{
     LETTER_A, LETTER_C, LETTER_E, LETTER_F, LETTER_N, LETTER_P, LF, MINUS, SPACE, TEXT_MOST,
 };
-use terms::{Filled, Literal};
+use terms::{Fault, Literal, Refusal};
 
 // Writes the text of tables that were accepted into a lent buffer. The length is found first, by writing into a scratch buffer of one byte, so that
 // nothing is written where the text is too long or does not fit.
-pub fn write_accepted(n: u32, prefix: &[u32], clauses: &[i32], out: &mut [u8]) -> Filled
+pub fn write_accepted(
+    n: u32,
+    prefix: &[u32],
+    clauses: &[i32],
+    out: &mut [u8],
+) -> Result<u32, Refusal>
     requires writable { Writable n prefix.now clauses.now }
     ensures answered { WriteIs (text_by_entries n prefix.now clauses.now) out.old out.new result }
 {
     let mut unseen = [0u8; 1];
     let count = put_text(&mut unseen, n, prefix, clauses);
     if TEXT_MOST < count {
-        return Filled::Refused(15, TEXT_MOST);
+        return Err(Refusal(Fault::TextTooLong, TEXT_MOST));
     }
     if out.len() < count {
-        return Filled::Refused(14, 0);
+        return Err(Refusal(Fault::TooLittleRoom, 0));
     }
     let written = put_text(out, n, prefix, clauses);
-    Filled::Count(written as u32)
+    Ok(written as u32)
 }
 
 // The text of n and two tables.
@@ -72,24 +77,7 @@ pub fn count_clauses(clauses: &[i32]) -> u32
     requires small { (length clauses.now ≤ clause_entries) × SmallLiterals clauses.now }
     ensures counted { result ≡ clause_count clauses.now }
 {
-    let mut i = 0;
-    let mut count: u32 = 0;
-    while i < clauses.len() {
-        count = count_more(count, clauses[i]);
-        i += 1;
-    }
-    count
-}
-
-// A count of clauses with one more entry.
-fn count_more(count: u32, literal: i32) -> u32
-    requires few { count < clause_entries }
-    ensures counted { result ≡ count + clause_count (literal ∷ []) }
-{
-    if closes(literal) {
-        return count + 1;
-    }
-    count
+    clauses.iter().filter(|&&literal| closes(literal)).count() as u32
 }
 
 // The lines of the prefix table.
@@ -97,14 +85,11 @@ pub fn put_prefix(out: &mut [u8], at: usize, prefix: &[u32]) -> usize
     requires small { (at < 4096) × (length prefix.now ≤ prefix_entries) × SmallEntries prefix.now }
     ensures wrote { Wrote (prefix_text true prefix.now) out.old out.new at result }
 {
-    let mut i = 0;
     let mut next = at;
     let mut first = true;
-    while i < prefix.len() {
-        let entry = prefix[i];
+    for &entry in prefix {
         next = put_entry(out, next, first, entry);
         first = starts(first, entry);
-        i += 1;
     }
     next
 }
@@ -143,14 +128,11 @@ pub fn put_clauses(out: &mut [u8], at: usize, clauses: &[i32]) -> usize
     requires small { (at < 1048576) × (length clauses.now ≤ clause_entries) × SmallLiterals clauses.now }
     ensures wrote { Wrote (clause_text true clauses.now) out.old out.new at result }
 {
-    let mut i = 0;
     let mut next = at;
     let mut first = true;
-    while i < clauses.len() {
-        let literal = clauses[i];
+    for &literal in clauses {
         next = put_clause_entry(out, next, first, literal);
         first = closes(literal);
-        i += 1;
     }
     next
 }

@@ -1,4 +1,7 @@
 -- The theorems of truth for expanding; their proofs are in the files before.
+use Rattle.terms.specs.Says.{Answer}
+use Rattle.std.specs.Prelude.{Ok}
+use Rattle.terms.specs.declared.Counts.{Counts}
 use Prim.Native.Nat.{ℕ}
 use mathlib.Core.Path.{◌≡◌, refl, subst}
 use mathlib.Core.Bool.{true}
@@ -7,7 +10,6 @@ use mathlib.Core.Logic.{◌↔◌}
 use lib.ListN.{length}
 use Rattle.terms.specs.Listed.{Listed}
 use Rattle.terms.specs.Refusals.{NoneOf}
-use Rattle.terms.specs.declared.Expanded.{Expanded}
 use Rattle.terms.specs.declared.Scheme.{Scheme}
 use Rattle.terms.specs.declared.Scheme.TheVariants.{Standard}
 use Rattle.terms.proofs.Common.{by_test}
@@ -55,9 +57,9 @@ module _ (rule : ℕ) (f : Formula) (x : ℕ) where
       (expanding_keeps_truth checked u members (sets_serve (read_by rule f) x u Standard members set))
 
   -- So by the promise of the call.
-  pub expand_keeps_truth : (out out' : ResultTables) (count entries literals : ℕ) → Expands rule f x out out' (Expanded.Formula count entries literals)
-      → Holds (read_by rule f) ↔ Holds (written out' count entries literals)
-  expand_keeps_truth out out' count entries literals (none, leaves) = written_keeps_truth out out' count entries literals none leaves
+  pub expand_keeps_truth : (out out' : ResultTables) (counts : Counts) → Expands rule f x out out' (Ok counts)
+      → Holds (read_by rule f) ↔ Holds (written out' counts.n counts.prefix counts.clauses)
+  expand_keeps_truth out out' counts (none, leaves) = written_keeps_truth out out' counts.n counts.prefix counts.clauses none leaves
 
 -- The story: a true formula, of which the set of 1 is 2 and 4; a search that starts one existential block too far in finds 4 alone. Expanded by the set
 -- the formula stays true, and expanded by what is found too far in it is false.

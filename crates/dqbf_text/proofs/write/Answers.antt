@@ -3,45 +3,38 @@
 use Prim.Native.Nat.{ℕ}
 use mathlib.Core.Path.{refl, subst}
 use mathlib.Core.List.{List}
-use Rattle.terms.specs.Refusals.{NoneOf}
-use Rattle.terms.proofs.Verdicts.{refused_first}
-use Rattle.formula.specs.Lent.{Formula, formula_of}
+use Rattle.terms.proofs.Verdicts.{refused_first, handed_on}
+use Rattle.formula.specs.Lent.{formula_of}
 use Rattle.text_write.specs.InnerOrders.{write_order, WriteIs}
 use Rattle.text_write.proofs.Outputs.{writes_accepted}
 use Rattle.dqbf_lists.specs.Causes.{check_lists_order}
-use Rattle.dqbf_lists.specs.Answers.{ListsChecked}
 use Rattle.dqbf_text.specs.Stored.{listed_text}
 use Rattle.dqbf_text.proofs.Accepted.{fit, written_text}
 use Rattle.dqbf_text.proofs.write.Goals as goal
 
 pub write_accepted-requires : goal.write_accepted-requires
 write_accepted-requires c =
-    let lent : Formula = let a = c.args in
-    formula_of a.n a.prefix.now a.clauses.now in
-    let accepted : NoneOf (check_lists_order c.args.rule lent c.args.lists.now) = subst (ListsChecked c.args.rule lent c.args.lists.now) c.in-Accepted.is c.check.ensures.judged in
-    record { writable = fit c.args.rule lent c.args.lists.now accepted }
-
-pub returns-in-Refused : goal.returns-in-Refused
-returns-in-Refused c =
-    let lent : Formula = let a = c.args in
-    formula_of a.n a.prefix.now a.clauses.now in
     let a = c.args in
-    let order = check_lists_order a.rule lent a.lists.now in
-    let text = listed_text lent a.lists.now in
-    record { answered = (refused_first order (write_order text a.out.now) c.in-Refused.is c.check.ensures.judged, refl) }
+    record { writable = fit a.rule (formula_of a.n a.prefix.now a.clauses.now) a.lists.now c.in_ok-check.ensures.judged }
 
-pub returns-in-Accepted : goal.returns-in-Accepted
-returns-in-Accepted c =
-    let lent : Formula = let a = c.args in
-    formula_of a.n a.prefix.now a.clauses.now in
-    let accepted : NoneOf (check_lists_order c.args.rule lent c.args.lists.now) = subst (ListsChecked c.args.rule lent c.args.lists.now) c.in-Accepted.is c.check.ensures.judged in
+pub returns-in_err-check : goal.returns-in_err-check
+returns-in_err-check c =
+    let a = c.args in
+    let f = formula_of a.n a.prefix.now a.clauses.now in
+    let order = check_lists_order a.rule f a.lists.now in
+    rw (handed_on c.from_residual.result c.from_residual.ensures.1)
+    (record { answered = (refused_first order (write_order (listed_text f a.lists.now) a.out.now) c.in_err-check.was c.check.ensures.judged, refl) })
+
+pub returns : goal.returns
+returns c =
     let a = c.args in
     let w = c.write_accepted in
-    let f = lent in
+    let f = formula_of a.n a.prefix.now a.clauses.now in
     let ds = a.lists.now in
-    let none = accepted in
+    let none = c.in_ok-check.ensures.judged in
     let out' = w.new.out in
     record {
-      answered = writes_accepted (check_lists_order a.rule f ds) (listed_text f ds) a.out.now out' w.result none
+      answered =
+          writes_accepted (check_lists_order a.rule f ds) (listed_text f ds) a.out.now out' w.result none
           (subst (λ (text : List ℕ). WriteIs text a.out.now out' w.result) (written_text a.rule f ds none) w.ensures.answered);
     }

@@ -8,8 +8,8 @@ use Rattle.expand.specs.InnerOrders.{behind_expand}
 use Rattle.expand.proofs.Outcome.{carry_expands}
 use Rattle.expand.proofs.expand.Goals as goal
 
-pub returns-in-Count : goal.returns-in-Count
-returns-in-Count c =
+pub returns : goal.returns
+returns c =
     let a = c.args in
     let order = check_order a.rule (formula_of a.n a.prefix.now a.clauses.now) in
     let done = c.sound_expand in
@@ -17,8 +17,7 @@ returns-in-Count c =
     let out' = result_tables done.new.out_prefix done.new.out_clauses in
     let later = λ (read : List ℕ). behind_expand (formula_of a.n read a.clauses.now) a.x.0 out in
     record {
-      expanded = behind_read order _ a.rule a.n a.prefix.now _ c.in-Count.is c.read_formula.ensures.reads
+      expanded = behind_read order _ a.rule a.n a.prefix.now c.in_ok-read.was c.take_formula.ensures.takes
           (λ order read. ExpandsBy order (formula_of a.n read a.clauses.now) a.x.0 out out' done.result)
-          (λ order order' read. carry_expands (formula_of a.n read a.clauses.now) a.x.0 out out' done.result order order') later
-          c.as_read-read.ensures.read done.ensures.expanded;
+          (λ order order' read. carry_expands (formula_of a.n read a.clauses.now) a.x.0 out out' done.result order order') later done.ensures.expanded;
     }

@@ -1,6 +1,5 @@
--- x is looked up; where it is universal its set is found, and what is expanded by that stands behind 13 in the order.
-use Rattle.std.proofs.Common.{ℕ, ◌≡◌, sym, ◌∙◌, true, [], ◌∷◌, arith}
-use borrow.Author.Tests.{not-false}
+-- The level of x is looked up; where it is universal its set is found, and what is expanded by that stands behind 13 in the order.
+use Rattle.std.proofs.Common.{ℕ, [], ◌∷◌, arith}
 use Rattle.std.proofs.lemmas.List.{length-replicate}
 use Rattle.terms.specs.InnerLimits.{variable_rows}
 use Rattle.terms.specs.Refusals.{At0}
@@ -8,22 +7,11 @@ use Rattle.terms.proofs.Common.{clash}
 use Rattle.terms.proofs.Orders.{behind_none}
 use Rattle.terms.proofs.Verdicts.{at0_none}
 use Rattle.formula.specs.Lent.{formula_of}
-use Rattle.forest_tables.specs.Formula.{universal}
-use Rattle.forest_tables.proofs.Agreeing.{universal_within}
 use Rattle.forest.specs.Causes.{NotUniversal}
 use Rattle.expand.specs.Promise.{result_tables}
 use Rattle.expand.specs.InnerOrders.{result_order, behind_expand}
 use Rattle.expand.proofs.Outcome.{found_room, found_set, carry_expands}
 use Rattle.expand.proofs.sound_expand.Goals as goal
-
--- behind the test x is universal
-pub find-size-requires-clause-place : goal.find-size-requires-clause-place
-find-size-requires-clause-place c =
-    let a = c.args in
-    let found = c.look_up-standing in
-    let known = sym found.ensures.universal ∙ not-false found.result.universal c.if-not-standing.false in
-    let within = (universal_within a.n a.prefix.now a.x.0 known).1 in
-    (known, found.ensures.level within)
 
 -- a table for the members has a row for each variable
 pub slice_bounds-expand_set-end : goal.slice_bounds-expand_set-end
@@ -48,10 +36,8 @@ returns c =
     let a = c.args in
     let f = formula_of a.n a.prefix.now a.clauses.now in
     let x = a.x.0 in
-    let found = c.look_up-standing in
-    let known : universal a.n a.prefix.now x ≡ true = sym found.ensures.universal ∙ not-false found.result.universal c.if-not-standing.false in
     let front = At0 13 (NotUniversal f.n f.prefix x) in
-    let none = at0_none 13 (λ no'. clash known no') in
+    let none = at0_none 13 (λ no'. clash c.in-Some.ensures.found.0 no') in
     let done = c.expand_set in
     let out = result_tables a.out_prefix.now a.out_clauses.now in
     let out' = result_tables done.new.out_prefix done.new.out_clauses in

@@ -36,8 +36,9 @@ loop-at-preserved c =
     (ordered_more file l.invariant c.requires.whole.1 c.next_at-at.result c.next_at-at.ensures.found c.loop-at-test.true
     (ap (may_follow l.before) (sym kind.read) ∙ may))
 
-pub returns-then-before-eq-CLOSING : goal.returns-then-before-eq-CLOSING
-returns-then-before-eq-CLOSING c = record { judged = (ordered_all c.args.file.now c.loop-at.invariant c.loop-at-test.false c.if-before-eq-CLOSING.true, tt) }
+pub returns-then-before-ne-CLOSING : goal.returns-then-before-ne-CLOSING
+returns-then-before-ne-CLOSING c =
+    record { judged = inl (ordered_missing c.args.file.now c.loop-at.invariant c.loop-at-test.false c.if-before-ne-CLOSING.true) }
 
 pub returns : goal.returns
-returns c = record { judged = inl (ordered_missing c.args.file.now c.loop-at.invariant c.loop-at-test.false c.if-before-eq-CLOSING.false) }
+returns c = record { judged = (ordered_all c.args.file.now c.loop-at.invariant c.loop-at-test.false c.if-before-ne-CLOSING.false, tt) }

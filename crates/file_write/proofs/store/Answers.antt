@@ -10,16 +10,15 @@ use Rattle.file_format.specs.Layout.{FileWith}
 use Rattle.file_format.specs.InnerOrders.{behind_store}
 use Rattle.file_write.proofs.store.Goals as goal
 
-pub returns-in-Count : goal.returns-in-Count
-returns-in-Count c =
+pub returns : goal.returns
+returns c =
     let a = c.args in
     let f : Formula = formula_of a.n a.prefix.now a.clauses.now in
     let after = c.store_read.new.file in
     let answer = c.store_read.result in
     record {
       stored =
-          behind_read (check_order a.rule f) _ a.rule a.n a.prefix.now _ refl c.in-Count.ensures.reads
+          behind_read (check_order a.rule f) _ a.rule a.n a.prefix.now c.in_ok-read.was c.take_formula.ensures.takes
           (λ order read. Filling order (FileWith false f read) a.file.now after answer)
-          (λ order order' read. carry-filling (FileWith false f read) a.file.now after answer order order') (λ read. behind_store f read a.file.now)
-          c.as_read-read.ensures.read c.store_read.ensures.stored;
+          (λ order order' read. carry-filling (FileWith false f read) a.file.now after answer order order') (λ read. behind_store f read a.file.now) c.store_read.ensures.stored;
     }

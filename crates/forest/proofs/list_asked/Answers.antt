@@ -1,4 +1,5 @@
 -- The formula is judged by the rule first; what is listed by the prefix as the rule reads it stands behind that in the order.
+use Rattle.terms.proofs.Verdicts.{handed_on}
 use Prim.Native.Nat.{ℕ}
 use mathlib.Core.Path.{refl}
 use mathlib.Core.List.{List, [], ◌∷◌, ◌++◌}
@@ -8,7 +9,7 @@ use Rattle.terms.specs.Refusals.{Causes, At0}
 use Rattle.terms.proofs.Answers.{carry-filling}
 use Rattle.formula.specs.Lent.{Formula, formula_of}
 use Rattle.formula_rules.specs.Rules.{check_order, read_as}
-use Rattle.formula_rules.proofs.Reading.{refused_read, hand_read, sound_read, more_read, behind_read}
+use Rattle.formula_rules.proofs.Reading.{refused_read, sound_read, more_read, behind_read}
 use Rattle.forest_tables.specs.Lent.{Rows, rows}
 use Rattle.forest.specs.InnerOrders.{behind_check}
 use Rattle.forest.specs.InnerWanted.{Wanted}
@@ -33,12 +34,6 @@ later at-start read =
     let a = at-start.args in
     behind_check a.n read (lent at-start) a.question.x.0 ++ (At0 14 (TooLong (Asked-for at-start read) a.out.now) ∷ [])
 
-pub as_read-read-requires : goal.as_read-read-requires
-as_read-read-requires c =
-    let s = (goal.at.as_read-read-requires c).Start in
-    let a = c.args in
-    record { hand = hand_read (check_order a.rule (formula s)) _ a.rule a.n a.prefix.now _ c.in-Count.is c.read_formula.ensures.reads }
-
 pub sound_list-requires : goal.sound_list-requires
 sound_list-requires c =
     let s = (goal.at.sound_list-requires c).Start in
@@ -46,32 +41,33 @@ sound_list-requires c =
     let order = check_order a.rule (formula s) in
     record {
       sound = (
-        sound_read order _ a.rule a.n a.prefix.now _ c.in-Count.is c.read_formula.ensures.reads c.as_read-read.ensures.read,
-        more_read order _ a.rule a.n a.prefix.now _ c.in-Count.is c.read_formula.ensures.reads,
+        sound_read order _ a.rule a.n a.prefix.now c.in_ok-read.was c.take_formula.ensures.takes,
+        more_read order _ a.rule a.n a.prefix.now c.in_ok-read.was c.take_formula.ensures.takes,
       );
     }
 
-pub returns-in-Refused : goal.returns-in-Refused
-returns-in-Refused c =
-    let s = (goal.at.returns-in-Refused c).Start in
+pub returns-in_err-read : goal.returns-in_err-read
+returns-in_err-read c =
+    let s = (goal.at.returns-in_err-read c).Start in
     let a = c.args in
+    rw (handed_on c.from_residual.result c.from_residual.ensures.1)
     record {
       listed = (
-        refused_read (check_order a.rule (formula s)) _ a.rule a.n a.prefix.now _ (later s (read_as a.rule a.prefix.now)) c.in-Refused.is
-            c.read_formula.ensures.reads,
+        refused_read (check_order a.rule (formula s)) _ a.rule a.n a.prefix.now (later s (read_as a.rule a.prefix.now)) c.in_err-read.was
+            c.take_formula.ensures.takes,
         refl,
       );
     }
 
-pub returns-in-Count : goal.returns-in-Count
-returns-in-Count c =
-    let s = (goal.at.returns-in-Count c).Start in
+pub returns : goal.returns
+returns c =
+    let s = (goal.at.returns c).Start in
     let a = c.args in
     let after = c.sound_list.new.out in
     let answer = c.sound_list.result in
     record {
-      listed = behind_read (check_order a.rule (formula s)) _ a.rule a.n a.prefix.now _ c.in-Count.is c.read_formula.ensures.reads
+      listed = behind_read (check_order a.rule (formula s)) _ a.rule a.n a.prefix.now c.in_ok-read.was c.take_formula.ensures.takes
           (λ order read. Listing order (Asked-for s read) a.out.now after answer)
           (λ order order' read. carry-filling (Listed (Asked-for s read)) a.out.now after answer order order')
-          (later s) c.as_read-read.ensures.read c.sound_list.ensures.listed;
+          (later s) c.sound_list.ensures.listed;
     }

@@ -1,10 +1,8 @@
--- The invariant: no variable up to `passed` has a top. It is kept while the next row is 0, and the answer is where it stops.
-use Prim.Native.Nat.{◌≤◌, ◌-◌}
-use Rattle.forest_climb.specs.InnerSearch.{Topless}
+-- No variable before v has a top. It is kept while the row of v is 0, and the answer is the number before the first that is not.
+use Prim.Native.Nat.{ℕ, ◌≤◌, ◌<◌}
+use mathlib.Core.Path.{◌≡◌}
+use Rattle.forest_theory.specs.Tables.{row}
 use Rattle.forest_climb.proofs.topless.Given as goal
 
-abbrev pub invariant-loop-passed : goal.invariant-loop-passed
-invariant-loop-passed l = (l.passed ≤ l.n) × Topless l.n l.tops l.passed
-
-abbrev pub decreases-loop-passed : goal.decreases-loop-passed
-decreases-loop-passed l = l.n - l.passed
+abbrev pub invariant-loop-v : goal.invariant-loop-v
+invariant-loop-v l = (w : ℕ) → 1 ≤ w → w < l.v → row l.n l.tops w ≡ 0

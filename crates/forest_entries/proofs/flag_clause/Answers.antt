@@ -1,20 +1,9 @@
 -- A clause that is always true connects nothing; any other connects what it has, whose tops flag_after flags.
 use mathlib.Core.Path.{sym, ◌∙◌, subst}
 use native.Mathlib.Omega.{arith}
-use Rattle.formula.proofs.Lookups.{part_rows}
-use Rattle.formula.proofs.Signs.{stamps_more}
 use Rattle.forest_entries.specs.InnerFlags.{Has, Via, Flagged}
 use Rattle.forest_entries.proofs.Flags.{next_one, flag_connected, flag_unconnected}
 use Rattle.forest_entries.proofs.flag_clause.Goals as goal
-
-pub always_true-requires : goal.always_true-requires
-always_true-requires c =
-    let a = c.args in
-    let (sound, next, less, stamps) = c.requires.sound in
-    record {
-      rows = part_rows a.clauses.now a.start a.end (omega (arith, less)) sound.rows;
-      stamps = stamps_more stamps (omega (arith, next.from));
-    }
 
 pub returns-then-always_true-clause-flagged : goal.returns-then-always_true-clause-flagged
 returns-then-always_true-clause-flagged c =

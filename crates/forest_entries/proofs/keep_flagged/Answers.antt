@@ -1,22 +1,18 @@
-use Rattle.forest_entries.proofs.Taken.{keeping_none, keeping_same, keeping_out, keeping_all}
+use native.Mathlib.Omega.{arith}
+use lib.ListN.{length-take}
+use Rattle.std.proofs.lemmas.Grind.{common_steps}
+use Rattle.forest_entries.specs.InnerFlags.{if_flagged}
+use Rattle.forest_entries.proofs.Taken.{kept_rows}
 use Rattle.forest_entries.proofs.keep_flagged.Goals as goal
 
-pub loop-passed-init : goal.loop-passed-init
-loop-passed-init c =
-    let a = c.args in
-    keeping_none a.n a.flags.now a.tops.now
-
-pub shape_of-tops : goal.shape_of-tops
-shape_of-tops c = c.loop-passed.invariant.size
+pub loop-top-preserved : goal.loop-top-preserved
+unfolding if_flagged
+loop-top-preserved c = record { done = grind (arith, common_steps); rest = grind (arith, common_steps) }
 
 pub returns : goal.returns
-returns c = record { kept = keeping_all c.loop-passed.invariant c.loop-passed-test.false }
-
-pub loop-passed-preserved-then-flag_at : goal.loop-passed-preserved-then-flag_at
-loop-passed-preserved-then-flag_at c =
-    keeping_same c.loop-passed.invariant c.loop-passed-test.true c.new-v.ensures.holds c.row_of-top.ensures.read c.flag_at.ensures.read c.if-flag_at.true
-
-pub loop-passed-preserved : goal.loop-passed-preserved
-loop-passed-preserved c =
-    keeping_out c.loop-passed.invariant c.requires.enough c.loop-passed-test.true c.new-v.ensures.holds c.row_of-top.ensures.read
-    c.flag_at.ensures.read c.if-flag_at.false
+returns c =
+    let long = c.requires.enough in
+    let size = length-take c.args.n c.args.tops.now in
+    let same = c.loop-top.auto.top-items in
+    let all = c.loop-top-test.false in
+    record { kept = kept_rows _ _ _ _ long (omega arith) (λ k l. c.loop-top.invariant.done k (omega arith)) }

@@ -11,9 +11,6 @@ returns-then-n-room c =
     let l = c.if-n-room.true in
     record { told = omega arith }
 
-pub count_picked-count-requires : goal.count_picked-count-requires
-count_picked-count-requires c = record { skipped = (omega arith, λ v low high. absurd (omega arith)) }
-
 pub returns-then-room-count : goal.returns-then-room-count
 returns-then-room-count c =
     record {

@@ -1,50 +1,33 @@
-use Prim.Native.Nat.{ℕ}
-use mathlib.Core.Path.{◌≡◌, sym, ap, ◌∙◌}
-use mathlib.Core.Bool.{Bool, false}
+use Prim.Native.Nat.{◌+◌}
+use mathlib.Core.Path.{sym, ap, ◌∙◌}
+use mathlib.Core.Bool.{false}
 use native.Mathlib.Omega.{arith}
 use lib.ListN.{get_or}
 use Rattle.forest_theory.specs.Tables.{row}
-use Rattle.forest_theory.specs.Counts.{sum}
-use Rattle.forest_members.specs.InnerPicked.{picked}
-use Rattle.forest_members.proofs.Picked.{sum_none, sum_more_flagged, sum_same}
+use Rattle.forest_members.proofs.Picked.{Summed, sum_none, sum_more_flagged, sum_same, sum_all}
 use Rattle.forest_members.proofs.sum_flagged.Goals as goal
-use Rattle.forest_members.proofs.sum_flagged.Goals.{Start}
+use Rattle.forest_members.proofs.sum_flagged.Goals.{Joined-flag_at, then-flag_at, else-flag_at}
 
--- whether a number is flagged, and its row
-abbrev f : Start → ℕ → Bool
-f s v = get_or s.args.flags.now v false
+-- The total behind v.
+step : (c : Joined-flag_at) → let a = c.args in
+    Summed a.n (λ w. get_or a.flags.now w false) (row a.n a.rows.now) (c.loop-v.v + 1) c.if-flag_at.total
+step c =
+    let a = c.args in
+    let s = c.loop-v.invariant in
+    let some = c.loop-v.auto.v in
+    let low = c.loop-v-test.true in
+    let flag = sym (c.flag_at.ensures.read ∙ ap (λ w. get_or a.flags.now w false) c.new.ensures.holds) in
+    elim c.if-flag_at.branch [
+      | then-flag_at w ↦ rw w.total-is (sum_more_flagged some low s c.requires.small.1 (flag ∙ w.if-flag_at.true)
+          (w.row_of-total.ensures.read ∙ ap (row a.n a.rows.now) w.new-then-flag_at.ensures.holds))
+      | else-flag_at w ↦ rw w.total-is (sum_same some low s (flag ∙ w.if-flag_at.false))
+    ]
 
-abbrev g : Start → ℕ → ℕ
-g s = row s.args.n s.args.rows.now
+pub loop-v-init : goal.loop-v-init
+loop-v-init c = sum_none
 
-pub loop-passed-init : goal.loop-passed-init
-loop-passed-init c = let s = (goal.at.loop-passed-init c).Start in sum_none c.args.n (f s) (g s)
+pub loop-v-preserved : goal.loop-v-preserved
+loop-v-preserved c = step (goal.at.loop-v-preserved c).Joined-flag_at
 
-pub overflow_add-total : goal.overflow_add-total
-overflow_add-total c =
-    let (few, small) = c.requires.small in
-    let most = c.loop-passed.invariant.most in
-    let here = small c.new-v.result.0 in
-    let read = c.row_of-total.ensures in
-    omega arith
-
-pub loop-passed-preserved-then-flag_at : goal.loop-passed-preserved-then-flag_at
-loop-passed-preserved-then-flag_at c =
-    let s = (goal.at.loop-passed-preserved-then-flag_at c).Start in
-    let (few, small) = c.requires.small in
-    let at = c.new-v.ensures.holds in
-    let flag = sym (ap (f s) at) ∙ sym c.flag_at.ensures.read ∙ c.if-flag_at.true in
-    sum_more_flagged c.args.n (f s) (g s) small c.loop-passed.invariant c.loop-passed-test.true flag (c.row_of-total.ensures.read ∙ ap (g s) at)
-
-pub loop-passed-preserved : goal.loop-passed-preserved
-loop-passed-preserved c =
-    let s = (goal.at.loop-passed-preserved c).Start in
-    let flag = sym (ap (f s) c.new-v.ensures.holds) ∙ sym c.flag_at.ensures.read ∙ c.if-flag_at.false in
-    sum_same c.args.n (f s) (g s) c.loop-passed.invariant c.loop-passed-test.true flag
-
-pub returns : goal.returns
-returns c =
-    let s = (goal.at.returns c).Start in
-    let i = c.loop-passed.invariant in
-    let all : c.loop-passed.passed ≡ c.args.n = omega (arith, c.loop-passed-test.false, i.within) in
-    record { summed = i.sum_is ∙ ap (λ (m : ℕ). sum (g s) (picked (f s) m)) all }
+pub returns-after-flag_at : goal.returns-after-flag_at
+returns-after-flag_at c = record { summed = sum_all (step (goal.at.returns-after-flag_at c).Joined-flag_at) (omega arith) }

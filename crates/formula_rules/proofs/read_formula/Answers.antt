@@ -1,25 +1,26 @@
 -- The prefix is read, and then the clauses are judged: what each refuses is the first cause of the whole order.
+use Rattle.std.specs.Prelude.{Err}
+use Rattle.terms.proofs.Verdicts.{handed_on}
 use Rattle.formula.specs.Lent.{formula_of}
-use Rattle.formula_rules.proofs.Reading.{prefix_refused, clauses_refused, formula_read}
+use Rattle.formula_rules.proofs.Reading.{prefix_refused, judged_behind, formula_read}
 use Rattle.formula_rules.proofs.read_formula.Goals as goal
 
-pub returns-in-Refused : goal.returns-in-Refused
-returns-in-Refused c =
+pub returns-in_err-count : goal.returns-in_err-count
+returns-in_err-count c =
     let a = c.args in
-    record { reads = prefix_refused a.rule (formula_of a.n a.prefix.now a.clauses.now) _ c.in-Refused.is c.read_prefix.ensures.reads }
+    rw (handed_on c.from_residual.result c.from_residual.ensures.1)
+    record { reads = prefix_refused a.rule (formula_of a.n a.prefix.now a.clauses.now) a.joined.now c.in_err-count.field-0.0 c.in_err-count.ensures.reads }
 
-pub returns-in-Refused-check_clauses : goal.returns-in-Refused-check_clauses
-returns-in-Refused-check_clauses c =
+pub returns-in_err-check_clauses : goal.returns-in_err-check_clauses
+returns-in_err-check_clauses c =
     let a = c.args in
+    rw (handed_on c.from_residual-in_err-check_clauses.result c.from_residual-in_err-check_clauses.ensures.1)
     record {
-      reads = clauses_refused a.rule (formula_of a.n a.prefix.now a.clauses.now) _ c.in-Count.is c.read_prefix.ensures.reads
-          c.check_clauses.result c.in-Refused-check_clauses.is c.check_clauses.ensures.judged;
+      reads = judged_behind a.rule (formula_of a.n a.prefix.now a.clauses.now) _ c.in_ok-count.ensures.reads
+          (Err c.in_err-check_clauses.field-0.0) c.in_err-check_clauses.ensures.judged;
     }
 
-pub returns-in-Accepted : goal.returns-in-Accepted
-returns-in-Accepted c =
+pub returns : goal.returns
+returns c =
     let a = c.args in
-    record {
-      reads = formula_read a.rule (formula_of a.n a.prefix.now a.clauses.now) _ c.in-Count.is c.read_prefix.ensures.reads
-          c.check_clauses.result c.in-Accepted.is c.check_clauses.ensures.judged;
-    }
+    record { reads = formula_read a.rule (formula_of a.n a.prefix.now a.clauses.now) _ c.in_ok-count.ensures.reads c.in_ok-check_clauses.ensures.judged }

@@ -1,9 +1,10 @@
 -- By the rule number: neither is 23, rule 1 judges as the plain order does, and rule 2 by the joined causes.
+use Rattle.terms.specs.Says.{accepted, refused}
+use Rattle.terms.specs.declared.Fault.TheVariants.{TooManyEntries, TooManyVariables}
 use mathlib.Core.Path.{refl}
 use mathlib.Core.List.{[], ◌∷◌}
 use mathlib.Core.Logic.{◌⊎◌, inl, inr, ⊎_elim}
 use native.Mathlib.Omega.{arith}
-use Rattle.terms.specs.declared.Verdict.TheVariants.{Accepted, Refused}
 use Rattle.terms.specs.Refusals.{At0}
 use Rattle.terms.proofs.Verdicts.{at0_first, at0_none, accepted_then}
 use Rattle.formula.specs.Causes.{VariableCount, PrefixLong, ClausesLong}
@@ -19,13 +20,13 @@ returns-then-rule-eq1 c =
 pub returns-then-n-gt-MOST : goal.returns-then-n-gt-MOST
 returns-then-n-gt-MOST c =
     let a = c.args in
-    record { judged = rule_two a.rule a.n a.prefix.now a.entries (omega arith) (Refused 1 0) (inl (at0_first 1 c.if-n-gt-MOST.true)) }
+    record { judged = rule_two a.rule a.n a.prefix.now a.entries (omega arith) (refused TooManyVariables 0) (inl (at0_first 1 c.if-n-gt-MOST.true)) }
 
 pub returns-then-prefix-gt-ENTRIES : goal.returns-then-prefix-gt-ENTRIES
 returns-then-prefix-gt-ENTRIES c =
     let a = c.args in
     record {
-      judged = rule_two a.rule a.n a.prefix.now a.entries (omega arith) (Refused 2 0)
+      judged = rule_two a.rule a.n a.prefix.now a.entries (omega arith) (refused TooManyEntries 0)
           (inr (at0_none 1 (λ over. omega arith), inl (at0_first 2 (inl c.if-prefix-gt-ENTRIES.true))));
     }
 
@@ -33,7 +34,7 @@ pub returns-then-entries-gt-ENTRIES : goal.returns-then-entries-gt-ENTRIES
 returns-then-entries-gt-ENTRIES c =
     let a = c.args in
     record {
-      judged = rule_two a.rule a.n a.prefix.now a.entries (omega arith) (Refused 2 0)
+      judged = rule_two a.rule a.n a.prefix.now a.entries (omega arith) (refused TooManyEntries 0)
           (inr (at0_none 1 (λ over. omega arith), inl (at0_first 2 (inr c.if-entries-gt-ENTRIES.true))));
     }
 
@@ -46,6 +47,6 @@ returns c =
     record {
       judged = rule_two a.rule a.n a.prefix.now a.entries (omega arith) c.joined_verdict.result
           (accepted_then (VariableCount a.n ∷ At0 2 (PrefixLong a.prefix.now ⊎ ClausesLong a.entries) ∷ [])
-          (JoinedCause a.n a.prefix.now ∷ []) {v = Accepted} c.joined_verdict.result refl
+          (JoinedCause a.n a.prefix.now ∷ []) {v = accepted} c.joined_verdict.result refl
           (at0_none 1 (λ over. omega arith), (at0_none 2 (⊎_elim (λ m. omega arith) (λ m. omega arith)), tt)) c.joined_verdict.ensures.judged);
     }

@@ -11,9 +11,10 @@ use Rattle.terms.specs.Listed.{Listed}
 use Rattle.terms.specs.Limits.{clause_entries}
 use Rattle.terms.specs.Refusals.{Causes}
 use Rattle.terms.proofs.Answers.{carry-filling}
+use Rattle.terms.proofs.Verdicts.{handed_on}
 use Rattle.formula.specs.Lent.{Formula, formula_of}
 use Rattle.formula_rules.specs.Rules.{ruled_prefix, read_as}
-use Rattle.formula_rules.proofs.Reading.{refused_read, hand_read, none_read, sound_read, behind_read}
+use Rattle.formula_rules.proofs.Reading.{refused_read, none_read, sound_read, behind_read}
 use Rattle.forest_tables.specs.Lent.{Rows, rows}
 use Rattle.grow.specs.Grown.{with_last}
 use Rattle.grow_changed.specs.Changed.{Changes}
@@ -21,26 +22,19 @@ use Rattle.grow_changed.specs.InnerChanged.{behind_changed}
 use Rattle.grow_changed.proofs.Telling.{entries_alike}
 use Rattle.grow_changed.proofs.changed.Goals as goal
 
-pub as_read-read-requires : goal.as_read-read-requires
-as_read-read-requires c =
-    let front : List Causes = let a = c.args in
-    ruled_prefix a.rule a.n a.prefix.now c.entries.result in
-    let a = c.args in
-    record { hand = hand_read front _ a.rule a.n a.prefix.now _ c.in-Count.is c.read_prefix.ensures.reads }
-
 pub changed_read-requires : goal.changed_read-requires
 changed_read-requires c =
     let front : List Causes = let a = c.args in
     ruled_prefix a.rule a.n a.prefix.now c.entries.result in
     let a = c.args in
-    let is = c.in-Count.is in
-    let none = none_read front _ a.rule a.n a.prefix.now _ is c.read_prefix.ensures.reads in
+    let is = c.in_ok-read.was in
+    let none = none_read front _ a.rule a.n a.prefix.now is c.take_prefix.ensures.takes in
     let short : clause_entries < length (with_last a.clauses.now a.clause.now) → ⊥ =
     λ long. none.1.1.0 2 0 (refl, refl, inr (c.entries.ensures.alike.1 long)) in
-    record { sound = (sound_read front _ a.rule a.n a.prefix.now _ is c.read_prefix.ensures.reads c.as_read-read.ensures.read, omega arith) }
+    record { sound = (sound_read front _ a.rule a.n a.prefix.now is c.take_prefix.ensures.takes, omega arith) }
 
-pub returns-in-Refused : goal.returns-in-Refused
-returns-in-Refused c =
+pub returns-in_err-read : goal.returns-in_err-read
+returns-in_err-read c =
     let lent : Rows = let a = c.args in
     rows a.classes.now a.parents.now a.counts.now in
     let with_prefix : List ℕ → Formula = λ read. let a = c.args in
@@ -51,16 +45,17 @@ returns-in-Refused c =
     behind_changed a.scheme (with_prefix read) lent a.clause.now a.out.now in
     let a = c.args in
     let behind = later (read_as a.rule a.prefix.now) in
+    rw (handed_on c.from_residual.result c.from_residual.ensures.1)
     record {
       listed = (
         (entries_alike a.rule a.n a.prefix.now c.entries.ensures.alike behind).first _ _
-            (refused_read front _ a.rule a.n a.prefix.now _ behind c.in-Refused.is c.read_prefix.ensures.reads),
+            (refused_read front _ a.rule a.n a.prefix.now behind c.in_err-read.was c.take_prefix.ensures.takes),
         refl,
       );
     }
 
-pub returns-in-Count : goal.returns-in-Count
-returns-in-Count c =
+pub returns : goal.returns
+returns c =
     let lent : Rows = let a = c.args in
     rows a.classes.now a.parents.now a.counts.now in
     let with_prefix : List ℕ → Formula = λ read. let a = c.args in
@@ -74,9 +69,9 @@ returns-in-Count c =
     let after = done.new.out in
     let P : List ℕ → ℕ → Type 0 = λ read. Changes a.scheme (with_prefix read) lent a.clause.now in
     let read = read_as a.rule a.prefix.now in
-    let listed = behind_read front _ a.rule a.n a.prefix.now _ c.in-Count.is c.read_prefix.ensures.reads
+    let listed = behind_read front _ a.rule a.n a.prefix.now c.in_ok-read.was c.take_prefix.ensures.takes
     (λ order read. Listing order (P read) a.out.now after done.result)
-    (λ order order' read. carry-filling (Listed (P read)) a.out.now after done.result order order') later c.as_read-read.ensures.read
+    (λ order order' read. carry-filling (Listed (P read)) a.out.now after done.result order order') later
     done.ensures.listed in
     record {
       listed = carry-filling (Listed (P read)) a.out.now after done.result (front ++ later read) _

@@ -4,9 +4,12 @@ use Prim.Native.Nat.{ℕ}
 use mathlib.Core.Path.{◌≡◌, subst}
 use native.Mathlib.Omega.{arith}
 use lib.ListN.{length-replicate}
+use mathlib.Core.List.{List}
+use Rattle.std.proofs.Common.{Option, None, Some}
+use Rattle.std.specs.Prelude.{Ok, Err}
 use Rattle.terms.specs.Refusals.{FirstOf, NoneOf}
-use Rattle.terms.specs.declared.Filled.{Filled}
-use Rattle.terms.specs.declared.Filled.TheVariants.{Count, Refused}
+use Rattle.terms.specs.Says.{Answer, fault_number}
+use Rattle.terms.specs.declared.Refusal.{Refusal}
 use Rattle.formula.specs.Lent.{Formula, formula_of}
 use Rattle.formula.specs.InnerLevels.{SoundPrefix}
 use Rattle.formula.specs.InnerLookup.{SoundClauses}
@@ -17,19 +20,19 @@ use Rattle.sets_occurrences.specs.InnerThreads.{Closed}
 use Rattle.sets.proofs.AllSets.{sound_closed}
 use Rattle.grow.specs.Grown.{Standing, Builds}
 use Rattle.grow.specs.InnerRows.{Room}
-use Rattle.listing.specs.Listing.{not_accepted, listing}
+use Rattle.listing.specs.Listing.{IsRead, Lists, Prints, AllPrinted, not_accepted, listing}
 use Rattle.listing.specs.Inner.{OwnForest}
 use Rattle.listing.proofs.Refusals.{build_check}
 use Rattle.listing.proofs.list_formula.Goals as goal
 
 -- Where build counts, it has no cause of check's refusals ...
-accepted : {f : Formula} {s s' : Standing} {k : ℕ} (answer : Filled) → answer ≡ Count k → Builds 1 f s s' answer → NoneOf (check_order 1 f)
+accepted : {f : Formula} {s s' : Standing} {k : ℕ} (answer : Answer ℕ) → answer ≡ Ok k → Builds 1 f s s' answer → NoneOf (check_order 1 f)
 accepted {f} {s} {s'} answer is built =
     let all = (subst (Builds 1 f s s') is built).judged in
     (all.0, (all.1.0, (all.1.1.0, (all.1.1.1.0, (all.1.1.1.1.0, tt)))))
 
 -- ... so that the formula is sound, and its rows are the formula's own forest.
-ready : {f : Formula} {s s' : Standing} {k : ℕ} (answer : Filled) → answer ≡ Count k → Builds 1 f s s' answer
+ready : {f : Formula} {s s' : Standing} {k : ℕ} (answer : Answer ℕ) → answer ≡ Ok k → Builds 1 f s s' answer
     → SoundPrefix f.n f.prefix × SoundClauses f.clauses × Closed f.clauses × OwnForest f s'.rows.classes s'.rows.parents
 unfolding read_as
 ready {f} {s} {s'} answer is built =
@@ -38,9 +41,15 @@ ready {f} {s} {s'} answer is built =
     (sound, clauses_sound 1 f none, sound_closed 1 f none, (subst (Builds 1 f s s') is built).leaves.1.forest)
 
 -- Where it refuses, check refuses so.
-refused : {f : Formula} {s s' : Standing} {number place : ℕ} (answer : Filled) → answer ≡ Refused number place → Builds 1 f s s' answer
-    → Room 4096 s.rows.classes s.rows.parents s.rows.counts → FirstOf (check_order 1 f) number place
-refused {f} {s} {s'} {number} {place} answer is built room = build_check f s number place room (subst (Builds 1 f s s') is built).judged
+refused : {f : Formula} {s s' : Standing} {refusal : Refusal} (answer : Answer ℕ) → answer ≡ Err refusal → Builds 1 f s s' answer
+    → Room 4096 s.rows.classes s.rows.parents s.rows.counts → FirstOf (check_order 1 f) (fault_number refusal.0) refusal.1
+refused {f} {s} {s'} answer is built room = build_check f s _ _ room (subst (Builds 1 f s s') is built).judged
+
+-- Where the formula of a text is accepted, its lines are those of the text.
+listed : (text : List ℕ) (f : Formula) → IsRead text f → NoneOf (check_order 1 f) → (before after : Option (List ℕ)) (told : Option ℕ)
+    → AllPrinted (Lists f) before after told → AllPrinted (Prints text) before after told
+listed text f read none before after None all = all
+listed text f read none before after (Some count) (lines, own, size, sent) = (lines, listing f read none own, size, sent)
 
 pub print_refusal-requires : goal.print_refusal-requires
 print_refusal-requires g c =
@@ -50,15 +59,15 @@ print_refusal-requires g c =
     record {
       refused =
           not_accepted f c.requires.read
-          (refused _ c.in-Refused.is c.build-built.ensures.built (omega arith, omega arith, omega arith));
+          (refused _ c.in-Err.is c.build-built.ensures.built (omega arith, omega arith, omega arith));
     }
 
 pub list_forest-requires : goal.list_forest-requires
-list_forest-requires g c = record { accepted = ready _ c.in-Count.is c.build-built.ensures.built }
+list_forest-requires g c = record { accepted = ready _ c.in-Ok.is c.build-built.ensures.built }
 
-pub returns-in-Count : goal.returns-in-Count
-returns-in-Count g c =
+pub returns-in-Ok : goal.returns-in-Ok
+returns-in-Ok g c =
     let a = c.args in
     let f = formula_of a.n a.prefix.now a.clauses.now in
-    let none = accepted {f = f} _ c.in-Count.is c.build-built.ensures.built in
-    record { printed = λ some. let (lines, own, size, sent) = c.list_forest.ensures.printed some in (lines, listing f c.requires.read none own, size, sent) }
+    let none = accepted {f = f} _ c.in-Ok.is c.build-built.ensures.built in
+    record { printed = listed _ f c.requires.read none _ _ _ c.list_forest.ensures.printed }

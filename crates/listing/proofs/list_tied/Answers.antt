@@ -41,7 +41,7 @@ line_of-end-requires-clause-tied g c =
     let short = ready.sound.short in
     let heads = ready.heads in
     let x = c.new-x.result.0 in
-    let u : universal_in a.n a.universals.now x ≡ true = sym c.universal_at.ensures.told ∙ c.if-universal_at.true in
+    let u : universal_in a.n a.universals.now x ≡ true = sym c.universal_at.ensures.told ∙ c.if-not-universal_at.false in
     let (_, most, flag) = flag_within a.n x (get_or a.universals.now x false) u in
     let level = c.refloor-floor.ensures.own.0 in
     let shallow = level_most ready.sound x (omega arith) in
@@ -55,7 +55,7 @@ line_of-end-requires-clause-own g c =
     let a = c.args in
     let ready = c.requires.ready in
     let x = c.new-x.result.0 in
-    let u : universal_in a.n a.universals.now x ≡ true = sym c.universal_at.ensures.told ∙ c.if-universal_at.true in
+    let u : universal_in a.n a.universals.now x ≡ true = sym c.universal_at.ensures.told ∙ c.if-not-universal_at.false in
     record {
       classes = a.classes.now;
       parents = a.parents.now;
@@ -72,28 +72,28 @@ overflow_add-lines g c =
     let few = c.requires.ready.sound.few in
     omega arith
 
-pub loop-passed-preserved-then-universal_at : goal.loop-passed-preserved-then-universal_at
-loop-passed-preserved-then-universal_at g c =
+pub loop-passed-preserved : goal.loop-passed-preserved
+loop-passed-preserved g c =
     let ready = c.requires.ready in
     let less = c.loop-passed-test.true in
     let x = c.new-x.result.0 in
     let u : universal c.args.n c.args.prefix.now x ≡ true =
-    sym (universal_agrees ready.sound ready.table x) ∙ sym c.universal_at.ensures.told ∙ c.if-universal_at.true in
+    sym (universal_agrees ready.sound ready.table x) ∙ sym c.universal_at.ensures.told ∙ c.if-not-universal_at.false in
     let (line, own, size, left) = c.line_of-end.ensures.stored in
-    let sent = line_sent _ _ line _ size left (c.print.ensures.written c.if-not-print.false) in
+    let sent = line_sent _ _ line _ size left c.in_ok-print.ensures.written in
     record {
       passed = passed_more c.loop-passed.invariant.passed less c.new-x.ensures.holds u line own _ sent;
       floored = c.refloor-floor.ensures.floored;
       whole = c.line_of-end.auto.line ∙ c.loop-passed.invariant.whole;
     }
 
-pub loop-passed-preserved : goal.loop-passed-preserved
-loop-passed-preserved g c =
+pub loop-passed-preserved-then-not-universal_at : goal.loop-passed-preserved-then-not-universal_at
+loop-passed-preserved-then-not-universal_at g c =
     let ready = c.requires.ready in
     let i = c.loop-passed.invariant in
     let x = c.new-x.result.0 in
     let u : universal c.args.n c.args.prefix.now x ≡ false =
-    sym (universal_agrees ready.sound ready.table x) ∙ sym c.universal_at.ensures.told ∙ c.if-universal_at.false in
+    sym (universal_agrees ready.sound ready.table x) ∙ sym c.universal_at.ensures.told ∙ c.if-not-universal_at.true in
     record { passed = passed_other i.passed c.loop-passed-test.true c.new-x.ensures.holds u; floored = i.floored; whole = i.whole }
 
 pub returns : goal.returns

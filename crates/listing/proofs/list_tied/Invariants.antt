@@ -1,7 +1,7 @@
 -- The invariant says that the lines of the universals so far were counted and written, that the tops and their runs are those over the floor, and that the
 -- buffer is whole. A universal has them laid anew over its own level, which is what its line is made of; at first they are over a level that nothing is
 -- deeper than, so that there is none.
-use Rattle.std.proofs.Common.{◌-◌, ◌≡◌, length}
+use Rattle.std.proofs.Common.{◌≡◌, length}
 use Rattle.formula.specs.Lent.{formula_of}
 use Rattle.sets_subtrees.specs.InnerRuns.{Floored}
 use Rattle.listing_lines.specs.Inner.{line_bytes}
@@ -14,6 +14,3 @@ invariant-loop-passed g l = record {
   floored : Floored l.n l.prefix l.classes l.parents l.floor.level.0 l.floor.place l.floor.from l.tops l.lead l.after;
   whole : length l.line ≡ line_bytes;
 }
-
-abbrev pub decreases-loop-passed : goal.decreases-loop-passed
-decreases-loop-passed g l = l.n - l.passed

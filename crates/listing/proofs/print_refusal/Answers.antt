@@ -8,5 +8,5 @@ use Rattle.listing.proofs.print_refusal.Goals as goal
 pub returns : goal.returns
 returns g c =
     let (line, prints, size, left) = c.refusal_of-end.ensures.stored in
-    let sent = line_sent _ _ line _ size left (c.print.ensures.written c.if-not-print.false) in
-    record { printed = λ some. (line ∷ [], prints, refl, subst (Appends _ _) (sym (append-nil line)) sent) }
+    let sent = line_sent _ _ line _ size left (c.in_ok-print.ensures.written) in
+    record { printed = (line ∷ [], prints, refl, subst (Appends _ _) (sym (append-nil line)) sent) }

@@ -1,8 +1,9 @@
 -- The number and the place of a refusal are short, so that it has a line, which is the one line that the text prints.
+use mathlib.Core.Path.{sym, subst}
 use mathlib.Core.List.{List, [], ◌∷◌}
 use Prim.Native.Nat.{ℕ}
 use native.Mathlib.Omega.{arith}
-use Rattle.listing.specs.Listing.{Prints, refusal}
+use Rattle.listing.specs.Listing.{Refuses, Prints, refusal}
 use Rattle.listing.proofs.Printed.{line_is}
 use Rattle.listing.proofs.Refusals.{refusal_digits}
 use Rattle.listing.proofs.refusal_of.Goals as goal
@@ -19,4 +20,7 @@ refused_line-requires c =
     record { small = (omega arith, omega arith, room) }
 
 pub returns : goal.returns
-returns c = record { stored = line_is {P = λ (bytes : List ℕ). Prints c.args.text.now (bytes ∷ [])} (refusal c.requires.refused.0) c.refused_line.ensures.stored }
+returns c =
+    let a = c.args in
+    let refused = subst (λ number. Refuses a.text.now number a.refusal.1) (sym c.number.ensures.numbered) c.requires.refused.0 in
+    record { stored = line_is {P = λ (bytes : List ℕ). Prints a.text.now (bytes ∷ [])} (refusal refused) c.refused_line.ensures.stored }

@@ -1,12 +1,11 @@
--- The run is written into a new table, in front of which it stands, whole; so that the line is that of the sole entry point, or none, and of the run.
-use mathlib.Core.Path.{sym, subst, subst₂}
-use mathlib.Core.List.{List}
+-- The run is written into a new table, in front of which it stands, whole; so that the line is that of the sole entry point and of the run.
+use mathlib.Core.Path.{sym, subst}
+use mathlib.Core.List.{List, [], ◌∷◌}
 use Prim.Native.Nat.{ℕ}
 use native.Mathlib.Omega.{arith}
 use lib.ListN.{length-replicate}
 use lib.Seq.{length-take-le}
 use Rattle.listing_lines.specs.Lines.{universal_line, LineIn}
-use Rattle.listing_lines.specs.Inner.{Small}
 use Rattle.listing.proofs.Printed.{run_room, run_front, run_small, sole_small}
 use Rattle.listing.proofs.run_line.Goals as goal
 
@@ -16,16 +15,6 @@ write_run-requires c =
     let few = small.few in
     let long = length-replicate {A = ℕ} 4096 0 in
     record { room = (list, run, omega arith) }
-
-pub slice_bounds-points-end : goal.slice_bounds-points-end
-slice_bounds-points-end c =
-    let one = c.sole_count-count.ensures.counted.0 in
-    omega arith
-
-pub slice_bounds-universal_line-end : goal.slice_bounds-universal_line-end
-slice_bounds-universal_line-end c =
-    let one = c.sole_count-count.ensures.counted.0 in
-    sym (length-take-le _ _ (omega arith))
 
 pub slice_bounds-set-end : goal.slice_bounds-set-end
 slice_bounds-set-end c =
@@ -41,8 +30,7 @@ pub universal_line-requires : goal.universal_line-requires
 universal_line-requires c =
     let a = c.args in
     let (own, low, x, level, long) = c.requires.small in
-    let points-small = subst Small (sym c.sole_count-count.ensures.counted.1) (sole_small a.top.0 low) in
-    record { small = (omega arith, level, points-small, run_small a.after.now a.run.low a.run.high own c.write_run.ensures.written, long) }
+    record { small = (omega arith, level, sole_small a.top.0 low, run_small a.after.now a.run.low a.run.high own c.write_run.ensures.written, long) }
 
 pub returns : goal.returns
 returns c =
@@ -51,6 +39,5 @@ returns c =
     record {
       stored = λ list run.
           let set = run_front a.after.now a.run.low a.run.high c.requires.small.0 c.write_run.ensures.written list run in
-          subst₂ (λ (e m : List ℕ). LineIn (universal_line a.x.0 a.level.0 e m) a.line.now call.new.out call.result)
-          c.sole_count-count.ensures.counted.1 set call.ensures.stored;
+          subst (λ (m : List ℕ). LineIn (universal_line a.x.0 a.level.0 (a.top.0 ∷ []) m) a.line.now call.new.out call.result) set call.ensures.stored;
     }

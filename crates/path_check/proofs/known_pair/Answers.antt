@@ -1,11 +1,11 @@
 -- A clause number over the count is 13; else every entry names a clause, and the walk says where the path fails.
-use mathlib.Core.Path.{refl, sym, subst}
+use mathlib.Core.Path.{sym, subst}
 use mathlib.Core.List.{[], ◌∷◌}
 use mathlib.Core.Logic.{inl}
 use lib.ListN.{length}
 use Rattle.terms.specs.Refusals.{At0}
-use Rattle.terms.specs.declared.Verdict.TheVariants.{Accepted}
-use Rattle.terms.proofs.Verdicts.{at0_first, at0_none, accepted_then}
+use Rattle.terms.specs.Says.{said}
+use Rattle.terms.proofs.Verdicts.{at0_first, at0_none, judges_later}
 use Rattle.formula.specs.Meaning.{clauses}
 use Rattle.forest_tables.specs.InnerTabled.{tabled}
 use Rattle.forest_tables.proofs.Readings.{told, told_not}
@@ -42,6 +42,6 @@ returns c =
     let none = told_not c.some_over.result c.if-some_over.false c.some_over.ensures.told in
     let over = NumberOver (length (clauses a.clauses.now)) a.path.now in
     record {
-      judged = accepted_then (At0 13 over ∷ []) (PathCause (tabled a.n a.levels.now a.universals.now) a.clauses.now a.x.0 a.y.0 a.path.now ∷ []) {v = Accepted} c.follow.result refl
+      judged = judges_later (At0 13 over ∷ []) (PathCause (tabled a.n a.levels.now a.universals.now) a.clauses.now a.x.0 a.y.0 a.path.now ∷ []) (said c.follow.result)
           (at0_none 13 (λ o. none (subst (λ k. NumberOver k a.path.now) (sym filled.ensures.filled.0) o)), tt) c.follow.ensures.judged;
     }

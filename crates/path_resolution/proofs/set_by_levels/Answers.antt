@@ -29,8 +29,7 @@ returns-then-not-universal_at c =
 
 pub returns-then-n-gt-RESOLUTION_MOST : goal.returns-then-n-gt-RESOLUTION_MOST
 returns-then-n-gt-RESOLUTION_MOST c =
-    let universal : (let a = c.args in
-    universal_in a.n a.universals.now a.x.0 ≡ true) = sym c.universal_at.ensures.told ∙ c.if-not-universal_at.false in
+    let universal : universal_in c.args.n c.args.universals.now c.args.x.0 ≡ true = sym c.universal_at.ensures.told ∙ c.if-not-universal_at.false in
     record {
       listed = λ es sound table. let no-13 = at0_none 13 (λ no'. clash universal (universal_agrees sound table c.args.x.0 ∙ no')) in
           (inr (no-13, inl (at0_first 27 c.if-n-gt-RESOLUTION_MOST.true)), refl);
@@ -38,8 +37,7 @@ returns-then-n-gt-RESOLUTION_MOST c =
 
 pub flag_dependent-requires : goal.flag_dependent-requires
 flag_dependent-requires c =
-    let universal : (let a = c.args in
-    universal_in a.n a.universals.now a.x.0 ≡ true) = sym c.universal_at.ensures.told ∙ c.if-not-universal_at.false in
+    let universal : universal_in c.args.n c.args.universals.now c.args.x.0 ≡ true = sym c.universal_at.ensures.told ∙ c.if-not-universal_at.false in
     let a = c.args in
     let upto = universal_upto a.n a.universals.now a.x.0 universal in
     record { few = (omega (arith, c.if-n-gt-RESOLUTION_MOST.false), c.requires.sound, upto, length-replicate {A = Bool} resolution_rows false) }
@@ -47,8 +45,7 @@ flag_dependent-requires c =
 pub returns : goal.returns
 unfolding pick
 returns c =
-    let universal : (let a = c.args in
-    universal_in a.n a.universals.now a.x.0 ≡ true) = sym c.universal_at.ensures.told ∙ c.if-not-universal_at.false in
+    let universal : universal_in c.args.n c.args.universals.now c.args.x.0 ≡ true = sym c.universal_at.ensures.told ∙ c.if-not-universal_at.false in
     record {
       listed = λ es sound table. let a = c.args in
           let u = universal in

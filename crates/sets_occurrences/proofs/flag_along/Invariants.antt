@@ -8,8 +8,9 @@ use Rattle.sets_occurrences.proofs.Followed.{Tracing}
 use Rattle.sets_occurrences.proofs.flag_along.Given as goal
 
 abbrev pub invariant-loop-at : goal.invariant-loop-at
-invariant-loop-at l = (length l.flags ≡ length l.initial.flags)
-    × Tracing l.n l.tops l.clauses l.next l.signs l.initial.at (λ e. e < length l.initial.flags) (λ e. get_or l.initial.flags e false ≡ true) (λ e. get_or l.flags e false ≡ true) l.at
+invariant-loop-at l =
+    Tracing l.n l.tops l.clauses l.next l.signs l.initial.at (λ e. e < length l.initial.flags) (λ e. get_or l.initial.flags e false ≡ true)
+    (λ e. get_or l.flags e false ≡ true) l.at
 
 abbrev pub decreases-loop-at : goal.decreases-loop-at
 decreases-loop-at l = l.at

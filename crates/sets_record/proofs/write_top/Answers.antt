@@ -7,16 +7,17 @@ use lib.ListN.{length}
 use Rattle.sets_subtrees.specs.InnerRuns.{Run}
 use Rattle.sets_subtrees.proofs.Linked.{run_one}
 use Rattle.sets_record.specs.InnerPlaces.{Standing}
+use Rattle.sets_record.proofs.Places.{copied}
 use Rattle.sets_record.proofs.write_top.Goals as goal
 
-pub copy_entries-requires : goal.copy_entries-requires
-copy_entries-requires c =
+pub copy_within-requires : goal.copy_within-requires
+copy_within-requires c =
     let (list, leads, stands, room) = c.requires.led.1 in
     let is = c.row_at-place.ensures in
     let here = (stands (λ z. c.if-place-ne0.true (is.read ∙ z))).before in
     let size = leads.1 in
     let high = c.unpack-run.ensures.both.1 in
-    record { behind = (omega arith, omega arith) }
+    record { start_le_end = omega arith; in_bounds = omega arith; dest_in_bounds = omega arith; not_exhausted = tt }
 
 pub returns-then-place-ne0 : goal.returns-then-place-ne0
 returns-then-place-ne0 c =
@@ -26,7 +27,7 @@ returns-then-place-ne0 c =
     let here = subst (λ i. Standing a.out.now i list a.start) (sym is.read) (stands (λ z. c.if-place-ne0.true (is.read ∙ z))) in
     let size = sym (c.unpack-run.ensures.both.1 ∙ leads.1) in
     record {
-      written = (list, leads, c.copy_entries.ensures.copied list size here);
+      written = (list, leads, c.copy_within.ensures.after ∙ rw (← size) (copied here room));
       noted = inl refl;
     }
 

@@ -11,57 +11,52 @@ pub loop-i-init : goal.loop-i-init
 loop-i-init c =
     let a = c.args in
     let none = has_none a.clauses.now a.start in
-    (unclosed_none a.clauses.now a.start, drained_none a.flags.now (λ e t. none t.for t.holds), omega arith, c.requires.weighed.3)
-
-pub shape_of-flags-then-variable-eq0 : goal.shape_of-flags-then-variable-eq0
-shape_of-flags-then-variable-eq0 c = c.loop-i.invariant.1.size
+    record {
+      unclosed = unclosed_none a.clauses.now a.start;
+      drained = drained_none a.flags.now (λ e t. none t.for t.holds);
+      sum = omega arith;
+      off = c.requires.weighed.3;
+    }
 
 pub returns-then-variable-eq0 : goal.returns-then-variable-eq0
 returns-then-variable-eq0 c =
-    let loop = c.loop-i in
-    let (unclosed, drained, sum, _) = loop.invariant in
+    let l = c.loop-i.invariant in
     record {
-      drained = (loop.i, unclosed_zero unclosed c.variable_at-variable.ensures.read c.if-variable-eq0.true, drained);
-      summed = sum;
+      drained = (c.loop-i.i, unclosed_zero l.unclosed c.variable_at-variable.ensures.read c.if-variable-eq0.true, l.drained);
+      summed = l.sum;
     }
-
-pub shape_of-flags : goal.shape_of-flags
-shape_of-flags c = c.loop-i.invariant.1.size
 
 pub returns : goal.returns
-returns c =
-    let loop = c.loop-i in
-    let (unclosed, drained, sum, _) = loop.invariant in
-    record {
-      drained = (loop.i, unclosed_end unclosed c.loop-i-test.false, drained);
-      summed = sum;
-    }
+returns c = let l = c.loop-i.invariant in
+    record { drained = (c.loop-i.i, unclosed_end l.unclosed c.loop-i-test.false, l.drained); summed = l.sum }
 
 pub overflow_add-total : goal.overflow_add-total
 overflow_add-total c =
     let a = c.args in
-    let l = c.loop-i in
-    let (few, within, weighed, zero) = c.requires.weighed in
+    let l = c.loop-i.invariant in
+    let (few, within, weighed, _) = c.requires.weighed in
     let row = c.row_of-top.ensures.read in
     let low = within c.variable_at-variable.result.0 in
-    let here = drained_sum a.n a.tops.now a.lead.now few weighed (omega arith) l.invariant.3 c.drain-total.ensures.drained in
-    let sum = l.invariant.2 in
+    let here = drained_sum a.n a.tops.now a.lead.now few weighed (omega arith) l.off c.drain-total.ensures.drained in
+    let sum = l.sum in
     let most = picked_most (pick Set a.n a.flags.now a.tops.now) a.n in
     omega arith
 
 pub loop-i-preserved : goal.loop-i-preserved
 loop-i-preserved c =
     let a = c.args in
-    let l = c.loop-i in
+    let l = c.loop-i.invariant in
     let (few, within, weighed, zero) = c.requires.weighed in
     let row = c.row_of-top.ensures.read in
     let low = within c.variable_at-variable.result.0 in
-    let here = drained_sum a.n a.tops.now a.lead.now few weighed (omega arith) l.invariant.3 c.drain-total.ensures.drained in
-    let (unclosed, drained, sum, off) = l.invariant in
+    let one = c.drain-total.ensures.drained in
+    let here = drained_sum a.n a.tops.now a.lead.now few weighed (omega arith) l.off one in
     let read = c.variable_at-variable.ensures.read in
-    let more = has_next a.clauses.now a.start l.i c.variable_at-variable.result.0 unclosed.from read in (
-      unclosed_more unclosed c.loop-i-test.true read c.if-variable-eq0.false,
-      drained_next more row zero drained c.drain-total.ensures.drained,
-      omega arith,
-      (one_off c.drain-total.ensures.drained 0).1 (inl off),
-    )
+    let more = has_next a.clauses.now a.start c.loop-i.i c.variable_at-variable.result.0 l.unclosed.from read in
+    let sum = l.sum in
+    record {
+      unclosed = unclosed_more l.unclosed c.loop-i-test.true read c.if-variable-eq0.false;
+      drained = drained_next more row zero l.drained one;
+      sum = omega arith;
+      off = (one_off one 0).1 (inl l.off);
+    }

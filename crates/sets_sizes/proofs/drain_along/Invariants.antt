@@ -10,9 +10,12 @@ use Rattle.sets_sizes.specs.InnerSizes.{under}
 use Rattle.sets_sizes.proofs.drain_along.Given as goal
 
 abbrev pub invariant-loop-at : goal.invariant-loop-at
-invariant-loop-at l = (length l.flags ≡ length l.initial.flags)
-    × Tracing l.n l.tops l.clauses l.next Either l.initial.at (λ e. e < length l.initial.flags) (λ e. get_or l.initial.flags e false ≡ false) (λ e. get_or l.flags e false ≡ false) l.at
-    × (l.total + under l.n l.tops l.flags ≡ under l.n l.tops l.initial.flags) × (get_or l.flags 0 false ≡ false)
+invariant-loop-at l = record {
+  tracing : Tracing l.n l.tops l.clauses l.next Either l.initial.at (λ e. e < length l.initial.flags) (λ e. get_or l.initial.flags e false ≡ false)
+      (λ e. get_or l.flags e false ≡ false) l.at;
+  sum : l.total + under l.n l.tops l.flags ≡ under l.n l.tops l.initial.flags;
+  off : get_or l.flags 0 false ≡ false;
+}
 
 abbrev pub decreases-loop-at : goal.decreases-loop-at
 decreases-loop-at l = l.at

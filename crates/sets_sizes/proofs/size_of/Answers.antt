@@ -1,14 +1,14 @@
--- A sole entry point is entered alone, so that its row has the size of the set (sole_entering).
+-- Where x has no entry point no variable is counted (having_none). A sole entry point is entered alone, so that its row has the size of the set (sole_entering).
 use Prim.Native.Nat.{ℕ}
-use mathlib.Core.Path.{ap, subst, ◌∙◌}
+use mathlib.Core.Path.{◌≡◌, sym, ap, ◌∙◌}
 use mathlib.Core.Bool.{Bool}
-use mathlib.Core.Logic.{◌↔◌}
+use lib.ListN.{length, get_or}
+use Rattle.std.specs.Prelude.{None, Some}
+use Rattle.terms.specs.declared.Variable.{Variable}
 use Rattle.terms.specs.InnerPairs.{high_of}
-use Rattle.forest_entries.specs.InnerFlags.{Takes, Via}
 use Rattle.sets_occurrences.specs.InnerThreads.{Together}
-use Rattle.sets_occurrences.specs.InnerSoleTops.{Is, SoleOf}
 use Rattle.sets_subtrees.specs.InnerRuns.{only}
-use Rattle.sets_record.proofs.Soles.{sole_entering, sole_within}
+use Rattle.sets_record.proofs.Soles.{sole_entering, sole_is, having_none, sole_within}
 use Rattle.sets_sizes.proofs.size_of.Goals as goal
 
 pub sole_point-requires : goal.sole_point-requires
@@ -26,22 +26,34 @@ size_flagged-requires c =
       weighed = c.requires.weighed;
     }
 
-pub returns-in-Several : goal.returns-in-Several
-returns-in-Several c =
+pub returns-in-Ok-None : goal.returns-in-Ok-None
+returns-in-Ok-None c =
+    let a = c.args in
+    let P : Bool → ℕ → Type 0 = λ sign. Together a.clauses.now sign a.x.0 in
+    let sole = sole_is a.scheme a.n a.tops.now P None c.in-Ok-None.field-0-is c.in-Ok-None.ensures.sole in
     record {
-      told = c.size_flagged.ensures.told;
+      told = (only 0, sole_entering 0 sole, sym (ap length (having_none a.n a.tops.now)));
       noted = c.sole_point.ensures.noted;
     }
 
-pub returns-in-Top : goal.returns-in-Top
-returns-in-Top c =
+pub returns-in-Ok-Some : goal.returns-in-Ok-Some
+returns-in-Ok-Some c =
     let a = c.args in
     let (few, within, weighed) = c.requires.weighed in
-    let top = c.in-Top.top.0 in
-    let Entry : ℕ → Type 0 = λ e. Takes a.scheme (λ (sign : Bool). Via a.n a.tops.now (Together a.clauses.now sign a.x.0) e) in
-    let sole : (e : ℕ) → Is top e ↔ Entry e = subst (λ s. SoleOf s Entry) c.in-Top.is c.sole_point.ensures.sole in
-    let low = sole_within a.scheme a.n a.tops.now (λ (sign : Bool). Together a.clauses.now sign a.x.0) top sole within in
+    let top : ℕ = c.in-Ok-Some.top.0 in
+    let P : Bool → ℕ → Type 0 = λ sign. Together a.clauses.now sign a.x.0 in
+    let sole = sole_is a.scheme a.n a.tops.now P (Some c.in-Ok-Some.top) c.in-Ok-Some.field-0-is c.in-Ok-Some.ensures.sole in
+    let low = sole_within a.scheme a.n a.tops.now P top sole within in
+    let read : c.row_at.result ≡ get_or a.lead.now top 0 =
+    rw (← ap (λ (v : Variable). v.0) c.in-Ok-Some.top-is) c.row_at.ensures.read in
     record {
-      told = (only top, sole_entering top sole, c.unpack.ensures.both.1 ∙ ap high_of c.row_at.ensures.read ∙ weighed top low);
+      told = (only top, sole_entering top sole, c.unpack.ensures.both.1 ∙ ap high_of read ∙ weighed top low);
+      noted = c.sole_point.ensures.noted;
+    }
+
+pub returns-in-Err : goal.returns-in-Err
+returns-in-Err c =
+    record {
+      told = c.size_flagged.ensures.told;
       noted = c.sole_point.ensures.noted;
     }

@@ -1,19 +1,20 @@
 -- Tops over the level of x stay with their runs; others are refilled by retop and tied anew, in tables of the same lengths.
 use mathlib.Core.Path.{◌≡◌, refl, sym, ◌∙◌}
 use native.Mathlib.Omega.{arith}
+use borrow.Author.Tests.{eqb-true, eqb-false}
 use Rattle.formula.specs.Meaning.{level}
 use Rattle.forest_tables.proofs.Agreeing.{lawful}
 use Rattle.sets_subtrees.specs.InnerRuns.{Within}
 use Rattle.sets_subtrees.proofs.Linked.{tops_within}
 use Rattle.sets_subtrees.proofs.refloor.Goals as goal
 
-pub returns-then-old-level : goal.returns-then-old-level
-returns-then-old-level c =
+pub returns-then-eq : goal.returns-then-eq
+returns-then-eq c =
     let own_level : c.level_at-level.result.0 ≡ level c.args.prefix.now c.args.x.0 = let (sound, formed, small, levelled) = c.requires.sound in
     c.level_at-level.ensures.read ∙ levelled.1.level_is c.args.x.0 small in
     record {
       floored = c.requires.floored;
-      own = (c.if-old-level.true ∙ own_level, λ same. refl);
+      own = (eqb-true _ _ (sym c.eq.ensures ∙ c.if-eq.true) ∙ own_level, λ same. refl);
     }
 
 pub retop-floor-requires : goal.retop-floor-requires
@@ -59,5 +60,5 @@ returns c =
         heads = link.auto.lead ∙ floored.heads;
         links = link.auto.after ∙ floored.links;
       };
-      own = (own, λ same. absurd (c.if-old-level.false (same ∙ own ∙ sym (own_level))));
+      own = (own, λ same. absurd (eqb-false _ _ (sym c.eq.ensures ∙ c.if-eq.false) (same ∙ own ∙ sym own_level)));
     }

@@ -2,8 +2,8 @@
 use Rattle.snowcoddle.proofs.Texts.{fits_read, tell_read}
 use Rattle.snowcoddle.proofs.snow_read.Goals as goal
 
-pub lay_reading-requires : goal.lay_reading-requires
-lay_reading-requires c =
+pub lay_counts-requires : goal.lay_counts-requires
+lay_counts-requires c =
     let a = c.args in
     let b = c.read-answer in
     record { fits = fits_read a.text.now a.prefix.now _ a.clauses.now _ b.result b.ensures.answered }
@@ -12,4 +12,4 @@ pub returns : goal.returns
 returns c =
     let a = c.args in
     let b = c.read-answer in
-    record { told = tell_read a.text.now a.prefix.now _ a.clauses.now _ b.result c.lay_reading.ensures.laid b.ensures.answered }
+    record { told = tell_read a.text.now a.prefix.now _ a.clauses.now _ b.result c.lay_counts.ensures.laid b.ensures.answered }

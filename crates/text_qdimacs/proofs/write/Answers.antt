@@ -5,7 +5,7 @@ use mathlib.Core.Path.{refl, subst}
 use mathlib.Core.List.{List}
 use native.Mathlib.Omega.{arith}
 use Rattle.terms.specs.Refusals.{NoneOf}
-use Rattle.terms.proofs.Verdicts.{refused_first}
+use Rattle.terms.proofs.Verdicts.{refused_first, handed_on}
 use Rattle.formula.specs.Lent.{formula_of}
 use Rattle.formula_rules.specs.Rules.{check_order}
 use Rattle.formula_rules.proofs.Orders.{limits}
@@ -20,28 +20,29 @@ pub write_accepted-requires : goal.write_accepted-requires
 write_accepted-requires c =
     let a = c.args in
     let f = formula_of a.n a.prefix.now a.clauses.now in
-    let none : NoneOf (check_order a.rule f) = c.in-Accepted.ensures.judged in
+    let none : NoneOf (check_order a.rule f) = c.in_ok-check.ensures.judged in
     let (few, short, room) = limits a.rule f none in
     let (entries, literals) = small a.rule f none in
     record { writable = (omega arith, short, room, entries, literals) }
 
-pub returns-in-Refused : goal.returns-in-Refused
-returns-in-Refused c =
+pub returns-in_err-check : goal.returns-in_err-check
+returns-in_err-check c =
     let a = c.args in
     let f = formula_of a.n a.prefix.now a.clauses.now in
+    rw (handed_on c.from_residual.result c.from_residual.ensures.1)
     record {
       answered = (
-        refused_first (check_order a.rule f) (write_order (formula_text f) a.out.now) c.in-Refused.is c.check.ensures.judged,
+        refused_first (check_order a.rule f) (write_order (formula_text f) a.out.now) c.in_err-check.was c.check.ensures.judged,
         refl,
       );
     }
 
-pub returns-in-Accepted : goal.returns-in-Accepted
-returns-in-Accepted c =
+pub returns : goal.returns
+returns c =
     let a = c.args in
     let w = c.write_accepted in
     let f = formula_of a.n a.prefix.now a.clauses.now in
-    let none : NoneOf (check_order a.rule f) = c.in-Accepted.ensures.judged in
+    let none : NoneOf (check_order a.rule f) = c.in_ok-check.ensures.judged in
     let out' = w.new.out in
     let same = text_is f.n f.prefix f.clauses (holdable a.rule f none) in
     record {

@@ -1,29 +1,30 @@
 -- Each variant stores what it holds: the counts of the three tables and the place fit their cells by what is required of the answer.
+use Rattle.terms.specs.Says.{Answer}
+use Rattle.terms.specs.declared.ListedCounts.{ListedCounts}
 use mathlib.Core.Path.{refl, ap, subst}
-use Rattle.terms.specs.declared.ListedReading.{ListedReading}
 use Rattle.c_answers.specs.InnerCells.{Fits}
 use Rattle.c_answers.specs.InnerFormulas.{listed_said, ThreeInCells}
 use Rattle.c_answers.proofs.Laying.{laid_given, laid_refused}
 use Rattle.c_answers.proofs.formulas.lay_listed.Goals as goal
 
 -- what it holds fits its cells
-abbrev Fitting : ListedReading → Type 0
+abbrev Fitting : Answer ListedCounts → Type 0
 Fitting answer = Fits ThreeInCells (listed_said answer)
 
 pub overflow_cast-prefix_count : goal.overflow_cast-prefix_count
-overflow_cast-prefix_count c = record { fits = (subst Fitting c.in-Read.is c.requires.fits).0 }
+overflow_cast-prefix_count c = record { fits = (subst Fitting c.in-Ok.is c.requires.fits).0 }
 
 pub overflow_cast-clauses_count : goal.overflow_cast-clauses_count
-overflow_cast-clauses_count c = record { fits = (subst Fitting c.in-Read.is c.requires.fits).1 }
+overflow_cast-clauses_count c = record { fits = (subst Fitting c.in-Ok.is c.requires.fits).1 }
 
 pub overflow_cast-lists_count : goal.overflow_cast-lists_count
-overflow_cast-lists_count c = record { fits = (subst Fitting c.in-Read.is c.requires.fits).2 }
+overflow_cast-lists_count c = record { fits = (subst Fitting c.in-Ok.is c.requires.fits).2 }
 
-pub overflow_cast-place : goal.overflow_cast-place
-overflow_cast-place c = record { fits = subst Fitting c.in-Refused.is c.requires.fits }
+pub lay_refusal-requires : goal.lay_refusal-requires
+lay_refusal-requires c = record { fits = subst Fitting c.in-Err.is c.requires.fits }
 
-pub returns-in-Read : goal.returns-in-Read
-returns-in-Read c = record { laid = laid_given (ap listed_said c.in-Read.is) refl refl }
+pub returns-in-Ok : goal.returns-in-Ok
+returns-in-Ok c = record { laid = laid_given (ap listed_said c.in-Ok.is) refl refl }
 
-pub returns-in-Refused : goal.returns-in-Refused
-returns-in-Refused c = record { laid = laid_refused (ap listed_said c.in-Refused.is) refl refl }
+pub returns-in-Err : goal.returns-in-Err
+returns-in-Err c = record { laid = laid_refused (ap listed_said c.in-Err.is) refl c.lay_refusal.ensures.place c.lay_refusal.ensures.number }

@@ -1,12 +1,6 @@
 -- All entries passed may follow, and the table has the place behind each (PassedTo); where the loop stops, the table of lists ends or an entry may not follow.
-use Prim.Native.Nat.{◌-◌, ◌≤◌}
-use mathlib.Core.Path.{◌≡◌}
-use lib.ListN.{length}
 use Rattle.dqbf_lists.specs.Inner.{PassedTo}
 use Rattle.dqbf_lists.proofs.checking.pass_universals.Given as goal
 
 abbrev pub invariant-loop-i : goal.invariant-loop-i
-invariant-loop-i l = (l.start ≤ l.i) × (l.i ≤ length l.lists) × (length l.last ≡ length l.initial.last) × PassedTo l.n l.universals l.lists l.start l.initial.last l.i l.last
-
-abbrev pub decreases-loop-i : goal.decreases-loop-i
-decreases-loop-i l = length l.lists - l.i
+invariant-loop-i l = PassedTo l.n l.universals l.lists l.start l.initial.last l.i l.last

@@ -1,11 +1,6 @@
--- The flags tell what is named before entry i (Placing): a mark and a 0 name nothing, and a variable is flagged.
-use Prim.Native.Nat.{◌-◌}
-use lib.ListN.{length}
+-- The flags tell what is named by the entries that are passed (Placing): a mark and a 0 name nothing, and a variable is flagged.
 use Rattle.dqbf_lists.proofs.Placed.{Placing}
 use Rattle.dqbf_lists.proofs.checking.place_blocks.Given as goal
 
-abbrev pub invariant-loop-i : goal.invariant-loop-i
-invariant-loop-i l = Placing l.prefix l.i l.opens l.placed
-
-abbrev pub decreases-loop-i : goal.decreases-loop-i
-decreases-loop-i l = length l.prefix - l.i
+abbrev pub invariant-loop-entry : goal.invariant-loop-entry
+invariant-loop-entry l = Placing l.prefix l.entry-index l.opens l.placed

@@ -7,8 +7,8 @@ pub returns-then-entries-gt-ENTRIES : goal.returns-then-entries-gt-ENTRIES
 returns-then-entries-gt-ENTRIES c =
     let a = c.args in
     record {
-      reads = long_refused a.rule (formula_of a.n a.prefix.now a.clauses.now) a.entries c.if-entries-gt-ENTRIES.true c.long_refusal.result
-          c.long_refusal.ensures.first;
+      reads = long_refused a.rule (formula_of a.n a.prefix.now a.clauses.now) a.entries c.if-entries-gt-ENTRIES.true _
+          c.long_fault.ensures.first;
     }
 
 pub returns : goal.returns

@@ -5,7 +5,7 @@ use mathlib.Core.List.{[], ◌∷◌}
 use mathlib.Core.Logic.{inl, inr}
 use Rattle.terms.specs.Refusals.{At0}
 use Rattle.terms.proofs.Common.{clash}
-use Rattle.terms.proofs.Verdicts.{at0_first, at0_none, refused_first}
+use Rattle.terms.proofs.Verdicts.{at0_first, at0_none, first_of_more, handed_on}
 use Rattle.forest_tables.specs.Formula.{universal}
 use Rattle.forest_tables.proofs.Agreeing.{universal_agrees}
 use Rattle.forest.specs.Causes.{NotUniversal}
@@ -29,26 +29,27 @@ pub open_for-requires : goal.open_for-requires
 open_for-requires c =
     record {
       sound = (c.requires.sound, c.fill_levels.ensures.levelled);
-      listed = c.in-Accepted.ensures.judged.0;
-      universal = told (goal.at.open_for-requires c).After-universal_at c.if-universal_at.true;
+      listed = c.in_ok-check_lists.ensures.judged.0;
+      universal = told (goal.at.open_for-requires c).After-universal_at c.if-not-universal_at.false;
       rows = c.requires.rows;
     }
 
-pub returns-in-Refused : goal.returns-in-Refused
-returns-in-Refused c =
+pub returns-in_err-check_lists : goal.returns-in_err-check_lists
+returns-in_err-check_lists c =
     let a = c.args in
+    rw (handed_on c.from_residual.result c.from_residual.ensures.1)
     record {
-      judged = refused_first (ListCause a.n a.prefix.now a.lists.now ∷ []) (At0 13 (NotUniversal a.n a.prefix.now a.x.0) ∷ [])
-          c.in-Refused.is c.check_lists.ensures.judged;
+      judged = first_of_more (ListCause a.n a.prefix.now a.lists.now ∷ []) (At0 13 (NotUniversal a.n a.prefix.now a.x.0) ∷ []) _ _
+          c.in_err-check_lists.ensures.judged;
       opens = tt;
     }
 
-pub returns-then-universal_at : goal.returns-then-universal_at
-returns-then-universal_at c =
-    let u = told (goal.at.returns-then-universal_at c).After-universal_at c.if-universal_at.true in
-    record { judged = (c.in-Accepted.ensures.judged.0, (at0_none 13 (λ no'. clash u no'), tt)); opens = c.open_for.ensures.told }
+pub returns : goal.returns
+returns c =
+    let u = told (goal.at.returns c).After-universal_at c.if-not-universal_at.false in
+    record { judged = (c.in_ok-check_lists.ensures.judged.0, (at0_none 13 (λ no'. clash u no'), tt)); opens = c.open_for.ensures.told }
 
-pub returns-else-universal_at : goal.returns-else-universal_at
-returns-else-universal_at c =
-    let u = told (goal.at.returns-else-universal_at c).After-universal_at c.if-universal_at.false in
-    record { judged = inr (c.in-Accepted.ensures.judged.0, inl (at0_first 13 u)); opens = tt }
+pub returns-then-not-universal_at : goal.returns-then-not-universal_at
+returns-then-not-universal_at c =
+    let u = told (goal.at.returns-then-not-universal_at c).After-universal_at c.if-not-universal_at.true in
+    record { judged = inr (c.in_ok-check_lists.ensures.judged.0, inl (at0_first 13 u)); opens = tt }

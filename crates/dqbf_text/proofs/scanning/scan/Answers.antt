@@ -1,7 +1,5 @@
-use mathlib.Core.Path.{◌∙◌, subst}
+use mathlib.Core.Path.{◌∙◌}
 use native.Mathlib.Omega.{arith}
-use Rattle.dqbf_text.specs.Reading.{Tables}
-use Rattle.dqbf_text.specs.InnerSteps.{Went, OnwardIs}
 use Rattle.dqbf_text.proofs.Scans.{reached_none, reached_sound, adds_length, reached_more, went_less, reached_fault, reached_end}
 use Rattle.dqbf_text.proofs.scanning.scan.Goals as goal
 
@@ -15,59 +13,31 @@ line_at-requires c =
     let l = c.loop-at in
     record { within = (c.loop-at-test.true, l.invariant.few_now, reached_sound l.invariant) }
 
-pub shape_of-prefix-in-Wrong : goal.shape_of-prefix-in-Wrong
-shape_of-prefix-in-Wrong c =
+pub shape_of-prefix-in-Err : goal.shape_of-prefix-in-Err
+shape_of-prefix-in-Err c =
     let l = c.loop-at in
     c.line_at.auto.prefix ∙ adds_length l.invariant.prefix_adds
 
-pub shape_of-clauses-in-Wrong : goal.shape_of-clauses-in-Wrong
-shape_of-clauses-in-Wrong c =
+pub shape_of-clauses-in-Err : goal.shape_of-clauses-in-Err
+shape_of-clauses-in-Err c =
     let l = c.loop-at in
     c.line_at.auto.clauses ∙ adds_length l.invariant.clauses_adds
 
-pub shape_of-lists-in-Wrong : goal.shape_of-lists-in-Wrong
-shape_of-lists-in-Wrong c =
+pub shape_of-lists-in-Err : goal.shape_of-lists-in-Err
+shape_of-lists-in-Err c =
     let l = c.loop-at in
     c.line_at.auto.lists ∙ adds_length l.invariant.lists_adds
 
-pub returns-in-Wrong : goal.returns-in-Wrong
-returns-in-Wrong c =
-    let text = c.args.text.now in
-    let l = c.loop-at in
-    let o = c.line_at in
-    let after : Tables = (o.new.prefix, o.new.clauses, o.new.lists) in
-    let Is = OnwardIs l.listed l.stage text l.at (l.entries, l.literals, l.rows) (l.prefix, l.clauses, l.lists) after in
-    record { scanned = reached_fault l.invariant (subst Is c.in-Wrong.is o.ensures.steps) }
+pub returns-in-Err : goal.returns-in-Err
+returns-in-Err c = record { scanned = reached_fault c.loop-at.invariant c.in-Err.ensures.steps }
 
 pub loop-at-smaller : goal.loop-at-smaller
 loop-at-smaller c =
-    let went : let text = c.args.text.now in
-    let l = c.loop-at in
-    let o = c.line_at in
-    let after : Tables = (o.new.prefix, o.new.clauses, o.new.lists) in
-    Went l.listed l.stage text l.at (l.entries, l.literals, l.rows) (l.prefix, l.clauses, l.lists) after
-    c.in-On.listed_now c.in-On.reached c.in-On.next (c.in-On.entries_now, c.in-On.literals_now, c.in-On.rows_now) = let text = c.args.text.now in
-    let l = c.loop-at in
-    let o = c.line_at in
-    let after : Tables = (o.new.prefix, o.new.clauses, o.new.lists) in
-    let Is = OnwardIs l.listed l.stage text l.at (l.entries, l.literals, l.rows) (l.prefix, l.clauses, l.lists) after in
-    subst Is c.in-On.is o.ensures.steps in
+    let went = c.in-Ok.ensures.steps in
     omega (arith, went_less went, went.passed.within)
 
 pub loop-at-preserved : goal.loop-at-preserved
-loop-at-preserved c =
-    let went : let text = c.args.text.now in
-    let l = c.loop-at in
-    let o = c.line_at in
-    let after : Tables = (o.new.prefix, o.new.clauses, o.new.lists) in
-    Went l.listed l.stage text l.at (l.entries, l.literals, l.rows) (l.prefix, l.clauses, l.lists) after
-    c.in-On.listed_now c.in-On.reached c.in-On.next (c.in-On.entries_now, c.in-On.literals_now, c.in-On.rows_now) = let text = c.args.text.now in
-    let l = c.loop-at in
-    let o = c.line_at in
-    let after : Tables = (o.new.prefix, o.new.clauses, o.new.lists) in
-    let Is = OnwardIs l.listed l.stage text l.at (l.entries, l.literals, l.rows) (l.prefix, l.clauses, l.lists) after in
-    subst Is c.in-On.is o.ensures.steps in
-    reached_more c.loop-at.invariant went
+loop-at-preserved c = reached_more c.loop-at.invariant c.in-Ok.ensures.steps
 
 pub finish-requires : goal.finish-requires
 finish-requires c = record { sound = reached_sound c.loop-at.invariant }

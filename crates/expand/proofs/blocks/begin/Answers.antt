@@ -12,8 +12,8 @@ returns-then-mark-last c =
 pub close-closed-requires : goal.close-closed-requires
 close-closed-requires c = record { within = search rules }
 
-pub store_entry-requires : goal.store_entry-requires
-store_entry-requires c = search rules
+pub store-requires : goal.store-requires
+store-requires c = search rules
 
 pub overflow_add-result : goal.overflow_add-result
 overflow_add-result c =
@@ -26,4 +26,4 @@ shape_of-out c = search rules
 pub returns : goal.returns
 returns c =
     let a = c.args in
-    record { stored = begun_new a.mark a.last c.if-mark-last.false c.close-closed.ensures.stored c.store_entry.ensures.stored }
+    record { stored = begun_new a.mark a.last c.if-mark-last.false c.close-closed.ensures.stored c.store.ensures.stored }

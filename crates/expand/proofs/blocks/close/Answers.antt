@@ -8,8 +8,8 @@ returns-then-last-eq0 c =
     let a = c.args in
     record { stored = closed_none a.out.now a.at a.last c.if-last-eq0.true }
 
-pub store_entry-requires : goal.store_entry-requires
-store_entry-requires c = search rules
+pub store-requires : goal.store-requires
+store-requires c = search rules
 
 pub overflow_add-result : goal.overflow_add-result
 overflow_add-result c = search rules
@@ -20,4 +20,4 @@ shape_of-out c = search rules
 pub returns : goal.returns
 returns c =
     let a = c.args in
-    record { stored = closed_zero a.out.now a.at a.last c.if-last-eq0.false c.store_entry.ensures.stored }
+    record { stored = closed_zero a.out.now a.at a.last c.if-last-eq0.false c.store.ensures.stored }

@@ -4,15 +4,15 @@ use Prim.Native.Nat.{◌+◌}
 use Rattle.expand.proofs.Blocking.{placed_alone, placed_both}
 use Rattle.expand.proofs.blocks.place.Goals as goal
 
-pub returns-then-copy-eq0 : goal.returns-then-copy-eq0
-returns-then-copy-eq0 c =
+pub returns-in_default : goal.returns-in_default
+returns-in_default c =
     let a = c.args in
-    record { stored = placed_alone a.copies.now a.v.0 a.at (stored_one a.v.0 a.at c.store_entry.ensures.stored) c.copy_at-copy.ensures.found c.if-copy-eq0.true }
+    record { stored = placed_alone a.copies.now a.v.0 a.at (stored_one a.v.0 a.at c.store.ensures.stored) c.in_default.ensures.found }
 
 pub returns : goal.returns
 returns c =
     let a = c.args in
     record {
-      stored = placed_both a.copies.now a.v.0 a.at (stored_one a.v.0 a.at c.store_entry.ensures.stored)
-          c.copy_at-copy.ensures.found c.if-copy-eq0.false (stored_one c.copy_at-copy.result.0 (a.at + 1) c.store_entry-2.ensures.stored);
+      stored = placed_both a.copies.now a.v.0 a.at (stored_one a.v.0 a.at c.store.ensures.stored) c.in-Some.ensures.found
+          (stored_one _ (a.at + 1) c.store-2.ensures.stored);
     }

@@ -24,9 +24,8 @@ pub returns : goal.returns
 returns c =
     let a = c.args in
     let head = c.put_head-next in
-    let word = c.wrapping_sub_u16-word in
     let wrote = head.ensures.wrote in
     let stands = front_stored wrote (omega (arith, wrote.end, head_end 2 closing_kind wrote, c.requires.room.1)) in
     let sum = c.sum_words-sum.ensures.summed ∙ ap (λ (xs : List ℕ). word_sum xs % 65536) stands in
-    let closes = closing_is (take a.at a.out.now) _ word.result sum (word.type_inv) word.ensures.value in
-    record { wrote = wrote_as (ap closing_record closes) (closing_wrote word.result wrote c.put_number.ensures.wrote) }
+    let closes = closing_is (take a.at a.out.now) c.sum_words-sum.result c.from.result sum c.from.ensures in
+    record { wrote = wrote_as (ap closing_record closes) (closing_wrote c.from.result wrote c.put_number.ensures.wrote) }

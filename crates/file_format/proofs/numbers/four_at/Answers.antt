@@ -1,5 +1,5 @@
 -- Four bytes are two numbers of two bytes, the higher of which counts 65,536 times (four_is).
-use Rattle.std.proofs.Common.{arith, rules}
+use Rattle.std.proofs.Common.{arith}
 use Rattle.file_format.proofs.Bits.{four_is}
 use Rattle.file_format.proofs.numbers.four_at.Goals as goal
 

@@ -1,5 +1,5 @@
 -- The machine reads the bits of the number, and the literal is what it reads (literal_is); below the middle that is the number itself.
-use Rattle.std.proofs.Common.{◌≡◌, ◌-◌, ap, ◌∙◌, arith, w32, to_z, rules}
+use Rattle.std.proofs.Common.{◌≡◌, ◌-◌, ap, ◌∙◌, arith, w32, to_z}
 use Rattle.file_format.proofs.Bits.{literal_is}
 use Rattle.file_format.proofs.numbers.literal_of.Goals as goal
 

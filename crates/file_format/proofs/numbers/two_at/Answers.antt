@@ -1,5 +1,5 @@
 -- Of two bytes the higher counts 256 times (two_is).
-use Rattle.std.proofs.Common.{arith, rules}
+use Rattle.std.proofs.Common.{arith}
 use Rattle.file_format.proofs.Bits.{two_is}
 use Rattle.file_format.proofs.numbers.two_at.Goals as goal
 

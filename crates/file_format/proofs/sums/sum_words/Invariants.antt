@@ -1,12 +1,8 @@
--- The invariant: the sum so far and that of the words from here on make the whole sum, where both are let wrap. Each round moves one word
--- over (sum_step).
-use Rattle.std.proofs.Common.{◌≡◌, ◌+◌, ◌-◌, ◌%◌, ◌<◌, ◌≤◌, length, drop, arith, rules}
-use Rattle.file_format.specs.Numbers.{word_sum}
-use Rattle.file_format.proofs.WordSums.{sum_step, sum_over}
+-- The sum so far is that of the words that are passed, where it is let wrap.
+use Rattle.std.proofs.Common.{◌≡◌, ◌%◌, take}
+use Rattle.std.specs.Int.{from_le_bytes, w16}
+use Rattle.std.specs.List.{sum_by}
 use Rattle.file_format.proofs.sums.sum_words.Given as goal
 
-abbrev pub invariant-loop-at : goal.invariant-loop-at
-invariant-loop-at l = (l.at ≤ length l.file) × (l.sum < 65536) × ((l.sum + word_sum (drop l.at l.file)) % 65536 ≡ word_sum l.file % 65536)
-
-abbrev pub decreases-loop-at : goal.decreases-loop-at
-decreases-loop-at l = length l.file - l.at
+abbrev pub invariant-loop-word : goal.invariant-loop-word
+invariant-loop-word l = l.sum ≡ sum_by (from_le_bytes w16) (take l.word-index l.words) % 65536

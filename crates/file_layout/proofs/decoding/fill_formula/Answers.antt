@@ -3,8 +3,9 @@
 use Prim.Native.Nat.{ℕ, ◌+◌}
 use mathlib.Core.Path.{refl, ap, ap₂, ◌∙◌}
 use mathlib.Core.List.{map}
-use mathlib.Core.Logic.{inl}
+use mathlib.Core.Logic.{inl, inr}
 use native.Mathlib.Omega.{arith}
+use Rattle.std.proofs.Common.{of_calls}
 use lib.Seq.{sets}
 use Rattle.file_format.specs.Numbers.{numbers_at, literal_of}
 use Rattle.file_layout.proofs.Held.{prefix_is, clauses_are}
@@ -23,14 +24,17 @@ fill_numbers-requires c =
 pub overflow_add-second : goal.overflow_add-second
 overflow_add-second c = omega (arith, c.second_at-second.ensures.found, (laid_near c.args.file.now c.requires.room.0).0)
 
-pub fill_literals-requires : goal.fill_literals-requires
-fill_literals-requires c =
+pub fill_entries-requires : goal.fill_entries-requires
+fill_entries-requires c =
     let file = c.args.file.now in
     let ends = laid_ends file c.requires.room.0 in
     let is = c.second_at-second.ensures in
     let many = c.clause_entries-literals.ensures in
     let size = clauses_length file in
-    record { room = (omega (arith, ends.second, ends.third, ends.fourth), omega (arith, c.requires.room.2)) }
+    record {
+      room = (inr refl, omega (arith, ends.second, ends.third, ends.fourth), omega (arith, c.requires.room.2));
+      callable = search of_calls;
+    }
 
 pub returns : goal.returns
 returns c =
@@ -42,5 +46,5 @@ returns c =
     c.clause_entries-literals.ensures.counted ∙ clauses_are file in
     record {
       prefix = c.fill_numbers.ensures.stored ∙ ap (sets a.prefix.now 0) entries;
-      clauses = c.fill_literals.ensures.stored ∙ ap (sets a.clauses.now 0) literals;
+      clauses = c.fill_entries.ensures.stored literal_of (λ x y post. search of_calls) ∙ ap (sets a.clauses.now 0) literals;
     }

@@ -28,23 +28,23 @@ formed_sets-requires c =
       formed = ((forest_is (lawful a.n a.prefix.now)).0 c.requires.forest.0).formed;
     }
 
-pub returns-in-Refused : goal.returns-in-Refused
-returns-in-Refused c =
+pub returns-in-Err : goal.returns-in-Err
+returns-in-Err c =
     let a = c.args in
     let f : Formula = formula_of a.n a.prefix.now a.clauses.now in
     let own : Rows = rows a.classes.now a.parents.now [] in
     let standard : (list : List ℕ) → AllSetsBy Standard f own list → StandardSets f list = sets_are_dependencies Standard f own c.requires.forest.0 in
-    let (_, _, (list, all, long), _) = c.in-Refused.ensures.listed in
+    let (_, _, (list, all, long), _) = c.in-Err.ensures.listed in
     record { told = long_sets f a.file.now list c.requires.sound.0 (standard list all) (omega (arith, c.requires.forest.1)) }
 
-pub returns-in-Count : goal.returns-in-Count
-returns-in-Count c =
+pub returns-in-Ok : goal.returns-in-Ok
+returns-in-Ok c =
     let a = c.args in
     let f : Formula = formula_of a.n a.prefix.now a.clauses.now in
     let own : Rows = rows a.classes.now a.parents.now [] in
     let standard : (list : List ℕ) → AllSetsBy Standard f own list → StandardSets f list = sets_are_dependencies Standard f own c.requires.forest.0 in
-    let (list, all, is, room, stored) = c.in-Count.ensures.listed in
-    let many = c.in-Count.count in
+    let (list, all, is, room, stored) = c.in-Ok.ensures.listed in
+    let many = c.in-Ok.count in
     let same = ap (take many) stored ∙ take_stored a.list.now list many is room in
     record {
       told = tells_iff c.list_holds.result (right_sets f a.file.now list (standard list all))

@@ -1,66 +1,45 @@
 -- Tables that are too short come first, then the first bad row, and once no row is bad the tables are well formed (formed), and the counts tell.
-use mathlib.Core.Path.{subst}
-use mathlib.Core.Logic.{inl, inr}
-use Rattle.forest_tables.specs.InnerRows.{RightRow, FirstBad}
+use mathlib.Core.Logic.{inl}
 use Rattle.forest_tables.specs.InnerCounting.{FormedBy}
-use Rattle.forest_tables.proofs.Formed.{forest_short, forest_bad, forest_miscounted, forest_fine}
+use Rattle.forest_tables.proofs.Formed.{forest_bad, forest_miscounted, forest_fine}
 use Rattle.forest_tables.proofs.Agreeing.{bad_rows, fine_rows}
 use Rattle.forest_tables.proofs.checking.check_forest.Goals as goal
+use Rattle.forest_tables.proofs.checking.check_forest.Goals.{In_default}
 
-pub returns-then-classes-size : goal.returns-then-classes-size
-returns-then-classes-size c = record { judged = inl (forest_short (inl c.if-classes-size.true)) }
-
-pub returns-then-parents-size : goal.returns-then-parents-size
-returns-then-parents-size c = record { judged = inl (forest_short (inr (inl c.if-parents-size.true))) }
-
-pub returns-then-counts-size : goal.returns-then-counts-size
-returns-then-counts-size c = record { judged = inl (forest_short (inr (inr c.if-counts-size.true))) }
-
-pub returns-then-bad-ne0 : goal.returns-then-bad-ne0
-returns-then-bad-ne0 c =
+-- Past the first test of rows they are well formed.
+formed : (c : In_default) → FormedBy c.args.n c.args.prefix.now c.args.classes.now c.args.parents.now
+formed c =
     let a = c.args in
     let (sound, table) = c.requires.levelled in
+    fine_rows sound table a.classes.now a.parents.now c.in_default.ensures.first
+
+pub returns-in-Some : goal.returns-in-Some
+returns-in-Some c =
+    let a = c.args in
+    let (sound, table) = c.requires.levelled in
+    let (some, first) = c.in-Some.ensures.first in
     record {
-      judged = inl (forest_bad c.if-classes-size.false c.if-parents-size.false c.if-counts-size.false c.first_bad-bad.result c.if-bad-ne0.true
-          (bad_rows sound table a.classes.now a.parents.now c.first_bad-bad.ensures.first));
+      judged = inl (forest_bad c.if-classes-size.false c.if-parents-size.false c.if-counts-size.false c.in-Some.bad.0 some
+          (bad_rows sound table a.classes.now a.parents.now first));
     }
 
-pub first_miscounted-wrong-requires : goal.first_miscounted-wrong-requires
-first_miscounted-wrong-requires c =
-    let formed : let a = c.args in
-    FormedBy a.n a.prefix.now a.classes.now a.parents.now = let a = c.args in
-    let (sound, table) = c.requires.levelled in
-    let right = RightRow a.n a.levels.now a.universals.now a.classes.now a.parents.now in
-    fine_rows sound table a.classes.now a.parents.now (subst (FirstBad right a.n) c.if-bad-ne0.false c.first_bad-bad.ensures.first) in
-    record {
-      sound = c.requires.levelled.0;
-      formed = formed;
-    }
+pub first_miscounted-requires : goal.first_miscounted-requires
+first_miscounted-requires c = record { sound = c.requires.levelled.0; formed = formed (goal.at.first_miscounted-requires c).In_default }
 
-pub returns-then-wrong-ne0 : goal.returns-then-wrong-ne0
-returns-then-wrong-ne0 c =
-    let formed : let a = c.args in
-    FormedBy a.n a.prefix.now a.classes.now a.parents.now = let a = c.args in
-    let (sound, table) = c.requires.levelled in
-    let right = RightRow a.n a.levels.now a.universals.now a.classes.now a.parents.now in
-    fine_rows sound table a.classes.now a.parents.now (subst (FirstBad right a.n) c.if-bad-ne0.false c.first_bad-bad.ensures.first) in
+pub returns-in-Some-first_miscounted : goal.returns-in-Some-first_miscounted
+returns-in-Some-first_miscounted c =
+    let (some, first) = c.in-Some-first_miscounted.ensures.first in
     record {
-      judged = inl (forest_miscounted c.if-classes-size.false c.if-parents-size.false c.if-counts-size.false (formed)
-          c.first_miscounted-wrong.result c.if-wrong-ne0.true c.first_miscounted-wrong.ensures.first);
+      judged = inl (forest_miscounted c.if-classes-size.false c.if-parents-size.false c.if-counts-size.false
+          (formed (goal.at.returns-in-Some-first_miscounted c).In_default) c.in-Some-first_miscounted.wrong.0 some first);
     }
 
 pub returns : goal.returns
 returns c =
-    let formed : let a = c.args in
-    FormedBy a.n a.prefix.now a.classes.now a.parents.now = let a = c.args in
-    let (sound, table) = c.requires.levelled in
-    let right = RightRow a.n a.levels.now a.universals.now a.classes.now a.parents.now in
-    fine_rows sound table a.classes.now a.parents.now (subst (FirstBad right a.n) c.if-bad-ne0.false c.first_bad-bad.ensures.first) in
-    let a = c.args in
     record {
       judged = (
-        forest_fine c.if-classes-size.false c.if-parents-size.false c.if-counts-size.false (formed)
-            (subst (FirstBad _ a.n) c.if-wrong-ne0.false c.first_miscounted-wrong.ensures.first),
+        forest_fine c.if-classes-size.false c.if-parents-size.false c.if-counts-size.false (formed (goal.at.returns c).In_default)
+            c.in_default-first_miscounted.ensures.first,
         tt,
       );
     }

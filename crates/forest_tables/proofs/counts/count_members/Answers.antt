@@ -1,118 +1,77 @@
-use Prim.Native.Nat.{ℕ, ◌+◌, ◌<◌}
+use Prim.Native.Nat.{ℕ, ◌+◌, ◌-◌, ◌<◌}
 use mathlib.Core.Path.{◌≡◌, sym, ap, ◌∙◌, subst}
 use native.Mathlib.Omega.{arith}
-use lib.ListN.{length, get_or, length-set}
+use lib.ListN.{length}
 use Rattle.forest_theory.specs.Tables.{row}
-use Rattle.forest_tables.specs.InnerCounting.{MembersTo}
+use Rattle.forest_tables.specs.InnerCounting.{ForClasses, MembersTo}
 use Rattle.forest_tables.proofs.Counting.{class_small, members_none, members_over, members_more, members_most}
 use Rattle.forest_tables.proofs.counts.count_members.Goals as goal
+use Rattle.forest_tables.proofs.counts.count_members.Goals.{After-row_of-class, Joined-class-ne0, then-class-ne0, else-class-ne0}
 
-pub loop-passed-init : goal.loop-passed-init
-loop-passed-init c =
+-- The class of v has a row.
+small : (c : After-row_of-class) → c.row_of-class.result.0 < length c.loop-v.counts
+small c =
+    let a = c.args in
+    let (es, parents, formed) = c.requires.formed in
+    let few = c.requires.few in
+    let size = c.requires.size in
+    omega (arith, class_small a.n es a.classes.now parents formed c.new.result.0 few, c.row_of-class.ensures.read, c.loop-v.auto.counts)
+
+-- What is counted behind v.
+step : (c : Joined-class-ne0) → ForClasses c.args.n c.args.classes.now (λ es parents. MembersTo c.args.n es c.args.classes.now parents c.loop-v.v c.if-class-ne0.counts)
+step c es parents formed =
+    let a = c.args in
+    let members = c.loop-v.invariant.members es parents formed in
+    let is = c.row_of-class.ensures.read ∙ ap (row a.n a.classes.now) c.new.ensures.holds in
+    let some = c.loop-v.auto.v in
+    elim c.if-class-ne0.branch [
+      | then-class-ne0 w ↦ rw w.counts-is (members_more a.n es a.classes.now parents formed c.requires.few some is w.if-class-ne0.true members)
+      | else-class-ne0 w ↦ rw w.counts-is (members_over a.n es a.classes.now parents formed some (sym is ∙ w.if-class-ne0.false) members)
+    ]
+
+pub loop-v-init : goal.loop-v-init
+loop-v-init c =
     let a = c.args in
     let r = c.requires in
-    (omega arith, r.size, λ es parents formed. members_none a.n es a.classes.now parents formed r.size r.zeros)
+    record { most = omega arith; members = λ es parents formed. members_none a.n es a.classes.now parents formed r.size r.zeros }
 
-pub overflow_add-v : goal.overflow_add-v
-overflow_add-v c =
-    let few = c.requires.few in
-    omega arith
-
-pub loop-passed-preserved-then-class-eq0 : goal.loop-passed-preserved-then-class-eq0
-loop-passed-preserved-then-class-eq0 c =
-    let read : let a = c.args in
-    c.row_of-class.result.0 ≡ row a.n a.classes.now (c.loop-passed.passed + 1) = let a = c.args in
-    c.row_of-class.ensures.read ∙ ap (row a.n a.classes.now) c.new.ensures.holds in
-    let a = c.args in
-    let inv = c.loop-passed.invariant in
-    let none : row a.n a.classes.now (c.loop-passed.passed + 1) ≡ 0 = sym (read) ∙ c.if-class-eq0.true in
-    (omega arith, inv.1, λ es parents formed. members_over a.n es a.classes.now parents formed none (inv.2 es parents formed))
-
-pub offset_bounds-counts-at : goal.offset_bounds-counts-at
-offset_bounds-counts-at c =
-    let read : let a = c.args in
-    c.row_of-class.result.0 ≡ row a.n a.classes.now (c.loop-passed.passed + 1) = let a = c.args in
-    c.row_of-class.ensures.read ∙ ap (row a.n a.classes.now) c.new.ensures.holds in
-    let small : c.row_of-class.result.0 < length c.loop-passed.counts = let a = c.args in
-    let few = c.requires.few in
-    let (es, parents, formed) = c.requires.formed in
-    let l = class_small a.n es a.classes.now parents formed (c.loop-passed.passed + 1) few in
-    let is = read in
-    omega (arith, c.loop-passed.invariant.1) in
-    omega (arith, small)
-
-pub bounds-counts-at : goal.bounds-counts-at
-bounds-counts-at c =
-    let read : let a = c.args in
-    c.row_of-class.result.0 ≡ row a.n a.classes.now (c.loop-passed.passed + 1) = let a = c.args in
-    c.row_of-class.ensures.read ∙ ap (row a.n a.classes.now) c.new.ensures.holds in
-    let small : c.row_of-class.result.0 < length c.loop-passed.counts = let a = c.args in
-    let few = c.requires.few in
-    let (es, parents, formed) = c.requires.formed in
-    let l = class_small a.n es a.classes.now parents formed (c.loop-passed.passed + 1) few in
-    let is = read in
-    omega (arith, c.loop-passed.invariant.1) in
-    small
+pub bounds-counts-class : goal.bounds-counts-class
+bounds-counts-class c = small (goal.at.bounds-counts-class c).After-row_of-class
 
 pub overflow_add-counts : goal.overflow_add-counts
 overflow_add-counts c =
     let a = c.args in
     let few = c.requires.few in
     let (es, parents, formed) = c.requires.formed in
-    let most = members_most a.n es a.classes.now parents formed (c.loop-passed.invariant.2 es parents formed) c.row_of-class.result.0 in
+    let most = members_most a.n es a.classes.now parents formed (c.loop-v.invariant.members es parents formed) c.row_of-class.result.0 in
     omega arith
 
-pub offset_bounds-counts-at-else-class-eq0 : goal.offset_bounds-counts-at-else-class-eq0
-offset_bounds-counts-at-else-class-eq0 c =
-    let read : let a = c.args in
-    c.row_of-class.result.0 ≡ row a.n a.classes.now (c.loop-passed.passed + 1) = let a = c.args in
-    c.row_of-class.ensures.read ∙ ap (row a.n a.classes.now) c.new.ensures.holds in
-    let small : c.row_of-class.result.0 < length c.loop-passed.counts = let a = c.args in
-    let few = c.requires.few in
-    let (es, parents, formed) = c.requires.formed in
-    let l = class_small a.n es a.classes.now parents formed (c.loop-passed.passed + 1) few in
-    let is = read in
-    omega (arith, c.loop-passed.invariant.1) in
-    omega (arith, small)
+pub bounds-counts-class-then-class-ne0 : goal.bounds-counts-class-then-class-ne0
+bounds-counts-class-then-class-ne0 c = small (goal.at.bounds-counts-class-then-class-ne0 c).After-row_of-class
 
-pub bounds-counts-at-else-class-eq0 : goal.bounds-counts-at-else-class-eq0
-bounds-counts-at-else-class-eq0 c =
-    let read : let a = c.args in
-    c.row_of-class.result.0 ≡ row a.n a.classes.now (c.loop-passed.passed + 1) = let a = c.args in
-    c.row_of-class.ensures.read ∙ ap (row a.n a.classes.now) c.new.ensures.holds in
-    let small : c.row_of-class.result.0 < length c.loop-passed.counts = let a = c.args in
-    let few = c.requires.few in
-    let (es, parents, formed) = c.requires.formed in
-    let l = class_small a.n es a.classes.now parents formed (c.loop-passed.passed + 1) few in
-    let is = read in
-    omega (arith, c.loop-passed.invariant.1) in
-    small
-
-pub loop-passed-preserved : goal.loop-passed-preserved
-loop-passed-preserved c =
-    let read : let a = c.args in
-    c.row_of-class.result.0 ≡ row a.n a.classes.now (c.loop-passed.passed + 1) = let a = c.args in
-    c.row_of-class.ensures.read ∙ ap (row a.n a.classes.now) c.new.ensures.holds in
-    let a = c.args in
-    let few = c.requires.few in
-    let l = c.loop-passed in
-    let class = c.row_of-class.result.0 in
-    let is = read in (
-      omega arith,
-      length-set l.counts class (get_or l.counts class 0 + 1) ∙ l.invariant.1,
-      λ es parents formed. members_more a.n es a.classes.now parents formed few is c.if-class-eq0.false (l.invariant.2 es parents formed),
-    )
-
-pub shape_of-counts : goal.shape_of-counts
-shape_of-counts c =
-    let size = c.loop-passed.invariant.1 in
-    let size₀ = c.requires.size in
-    omega arith
+pub loop-v-preserved : goal.loop-v-preserved
+loop-v-preserved c =
+    let q : c.loop-v.v + 1 - 1 ≡ c.loop-v.v = omega arith in
+    record {
+      most = omega arith;
+      members = rw q (step (goal.at.loop-v-preserved c).Joined-class-ne0);
+    }
 
 pub returns : goal.returns
 returns c =
     let a = c.args in
-    let l = c.loop-passed in
-    let most = l.invariant.0 in
-    let all : l.passed ≡ a.n = omega (arith, c.loop-passed-test.false) in
-    record { members = λ es parents formed. subst (λ (m : ℕ). MembersTo a.n es a.classes.now parents m l.counts) all (l.invariant.2 es parents formed) }
+    let most = c.loop-v.invariant.most in
+    let all : c.loop-v.v - 1 ≡ a.n = omega arith in
+    record {
+      members = λ es parents formed. subst (λ (m : ℕ). MembersTo a.n es a.classes.now parents m c.loop-v.counts) all
+          (c.loop-v.invariant.members es parents formed);
+    }
+
+pub returns-after-class-ne0 : goal.returns-after-class-ne0
+returns-after-class-ne0 c =
+    let a = c.args in
+    let all : c.loop-v.v ≡ a.n = omega arith in
+    record {
+      members = λ es parents formed. subst (λ (m : ℕ). MembersTo a.n es a.classes.now parents m c.if-class-ne0.counts) all
+          (step (goal.at.returns-after-class-ne0 c).Joined-class-ne0 es parents formed);
+    }

@@ -1,9 +1,7 @@
 -- The rows count what lies within each class by way of those that are named from entry i on (`Within`): going back through the prefix, each name
 -- adds the count of its class to that of its parent, which stands in a lesser block and so further to the left.
-use Prim.Native.Nat.{ℕ, ◌≤◌}
-use mathlib.Core.Path.{◌≡◌}
+use Prim.Native.Nat.{ℕ}
 use mathlib.Core.List.{List}
-use lib.ListN.{length}
 use Rattle.formula.proofs.Ordered.{NamedFrom}
 use Rattle.forest_theory.specs.Tables.{lent}
 use Rattle.forest_theory.specs.InnerPassing.{WithinBy}
@@ -20,7 +18,4 @@ AllWithin n es parents before i table =
     (classes : List ℕ) → FormedBy n es classes parents → MembersTo n es classes parents n before → Within n es classes parents i table
 
 abbrev pub invariant-loop-i : goal.invariant-loop-i
-invariant-loop-i l = (l.i ≤ length l.prefix) × (length l.counts ≡ 4097) × AllWithin l.n l.prefix l.parents l.initial.counts l.i l.counts
-
-abbrev pub decreases-loop-i : goal.decreases-loop-i
-decreases-loop-i l = l.i
+invariant-loop-i l = AllWithin l.n l.prefix l.parents l.initial.counts l.i l.counts

@@ -1,7 +1,6 @@
 -- Without a parent nothing is passed (passed_none), and else one sum is stored, which fits since both parts are small (passed_some).
 use Prim.Native.Nat.{ℕ}
 use mathlib.Core.Path.{sym, ap, ◌∙◌}
-use native.Mathlib.Omega.{arith}
 use Rattle.forest_tables.specs.InnerCounting.{passed_up}
 use Rattle.forest_tables.proofs.Counting.{passed_none, passed_some}
 use Rattle.forest_tables.proofs.counts.pass_up.Goals as goal
@@ -10,13 +9,6 @@ pub returns-then-parent-eq0 : goal.returns-then-parent-eq0
 returns-then-parent-eq0 c =
     let a = c.args in
     record { passed = sym (passed_none a.counts.now a.w.0 (sym c.row_of-parent.ensures.read ∙ c.if-parent-eq0.true)) }
-
-pub overflow_add-counts : goal.overflow_add-counts
-overflow_add-counts c =
-    let small = c.requires.small in
-    let p = small c.row_of-parent.result.0 in
-    let w = small c.args.w.0 in
-    omega arith
 
 pub returns : goal.returns
 returns c =

@@ -94,11 +94,6 @@ returns-then-parent-eq0 c =
     let exists = sym c.existential_at.ensures.told ∙ c.if-not-existential_at.false in
     record { tells = made e exists (own_name e exists c.if-class-v.false) (λ some. absurd (some c.if-parent-eq0.true)) }
 
-pub parent_is_right-requires : goal.parent_is_right-requires
-parent_is_right-requires c =
-    let exists = sym c.existential_at.ensures.told ∙ c.if-not-existential_at.false in
-    record { name = (exists, sym c.row_of-class.ensures.read ∙ c.if-class-v.false) }
-
 pub returns : goal.returns
 returns c =
     let e = (goal.at.returns c).After-existential_at in

@@ -1,13 +1,9 @@
 use mathlib.Core.Path.{ap}
-use native.Mathlib.Omega.{arith}
 use lib.ListN.{drop_of_length-le}
 use Rattle.formula.specs.Meaning.{clauses}
 use Rattle.formula.specs.Tables.{cut}
-use Rattle.formula.proofs.Lookups.{pass_none, pass_clause, stands_here, stands_nowhere, clauses_unclosed}
+use Rattle.formula.proofs.Lookups.{pass_clause, stands_here, stands_nowhere, clauses_unclosed}
 use Rattle.formula.proofs.clauses.find.Goals as goal
-
-pub loop-start-init : goal.loop-start-init
-loop-start-init c = pass_none c.args.clauses.now c.args.asked
 
 pub returns-then-clauses-end : goal.returns-then-clauses-end
 returns-then-clauses-end c =
@@ -19,16 +15,6 @@ pub returns-then-left-eq0 : goal.returns-then-left-eq0
 returns-then-left-eq0 c =
     let next = c.next_zero-end in
     record { stands = stands_here c.loop-start.invariant next.result next.ensures.next c.if-clauses-end.false c.if-left-eq0.true }
-
-pub overflow_sub-left : goal.overflow_sub-left
-overflow_sub-left c =
-    let some = c.if-left-eq0.false in
-    omega arith
-
-pub loop-start-smaller : goal.loop-start-smaller
-loop-start-smaller c =
-    let from = c.next_zero-end.ensures.next.from in
-    omega arith
 
 pub loop-start-preserved : goal.loop-start-preserved
 loop-start-preserved c =

@@ -7,7 +7,4 @@ use Rattle.formula.specs.InnerScan.{NamedTo}
 use Rattle.formula_checks.proofs.prefix.name_variables.Given as goal
 
 abbrev pub invariant-loop-i : goal.invariant-loop-i
-invariant-loop-i l = (l.i ≤ length l.prefix) × (length l.named ≡ length l.initial.named) × NamedTo l.n l.prefix l.start l.initial.named l.i l.named
-
-abbrev pub decreases-loop-i : goal.decreases-loop-i
-decreases-loop-i l = length l.prefix - l.i
+invariant-loop-i l = record { size : length l.named ≡ length l.initial.named; passed : NamedTo l.n l.prefix l.start l.initial.named l.i l.named }

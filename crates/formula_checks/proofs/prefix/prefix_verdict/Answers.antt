@@ -1,10 +1,10 @@
 -- 1 and 2 are tested first, and where neither has a cause the prefix is judged (accepted_then).
+use Rattle.terms.specs.Says.{accepted}
 use Prim.Native.Nat.{◌<◌}
 use mathlib.Core.Path.{refl}
 use mathlib.Core.List.{[], ◌∷◌}
 use mathlib.Core.Logic.{◌⊎◌, inl, inr, ⊎_elim}
 use native.Mathlib.Omega.{arith}
-use Rattle.terms.specs.declared.Verdict.TheVariants.{Accepted}
 use Rattle.terms.specs.Refusals.{At0}
 use Rattle.terms.proofs.Verdicts.{at0_first, at0_none, accepted_then}
 use Rattle.formula.specs.Causes.{VariableCount, PrefixLong, ClausesLong, PrefixCause}
@@ -30,6 +30,6 @@ returns c =
     let few : ¬ (4096 < a.n) = λ m. let l = c.if-n-gt-MOST.false in
     omega arith in
     record {
-      judged = accepted_then (VariableCount a.n ∷ At0 2 (PrefixLong es ⊎ ClausesLong a.entries) ∷ []) (PrefixCause a.n es ∷ []) {v = Accepted}
+      judged = accepted_then (VariableCount a.n ∷ At0 2 (PrefixLong es ⊎ ClausesLong a.entries) ∷ []) (PrefixCause a.n es ∷ []) {v = accepted}
           c.check_prefix.result refl (at0_none 1 few, (at0_none 2 (⊎_elim long many), tt)) c.check_prefix.ensures.judged;
     }

@@ -6,6 +6,8 @@ use Rattle.formula_rules.specs.InnerWriting.{closing}
 use Rattle.formula_rules.proofs.Written.{write_none, mark_room, closed_room, write_mark, write_no_mark, write_close, name_room, write_variable}
 use Rattle.formula_rules.proofs.Written.{last_room, written_all}
 use Rattle.formula_rules.proofs.laying.lay_out.Goals as goal
+use Rattle.formula_rules.proofs.laying.lay_out.Goals.{then-opens+then-begins_after, then-opens+else-begins_after}
+use Rattle.formula_rules.proofs.laying.lay_out.Goals.{else-opens+then-entry-eq0, else-opens+else-entry-eq0}
 
 pub loop-i-init : goal.loop-i-init
 loop-i-init c = write_none c.requires.accepted.1 c.args.out.now c.requires.room
@@ -55,22 +57,6 @@ overflow_add-count c =
     let low = closed_room none c.loop-i.invariant c.loop-i-test.true c.if-opens.true c.close-closed.ensures.put in
     omega arith
 
-pub loop-i-preserved-then-begins_after : goal.loop-i-preserved-then-begins_after
-loop-i-preserved-then-begins_after c =
-    let none = c.requires.accepted.1 in
-    write_mark none c.loop-i.invariant c.loop-i-test.true c.if-opens.true c.close-closed.ensures.put
-    (sym c.if-begins_after.true ∙ c.begins_after.ensures.told)
-
-pub loop-i-preserved-else-begins_after : goal.loop-i-preserved-else-begins_after
-loop-i-preserved-else-begins_after c =
-    let none = c.requires.accepted.1 in
-    write_no_mark none c.loop-i.invariant c.loop-i-test.true c.if-opens.true (sym c.if-begins_after.false ∙ c.begins_after.ensures.told)
-
-pub loop-i-preserved-then-entry-eq0 : goal.loop-i-preserved-then-entry-eq0
-loop-i-preserved-then-entry-eq0 c =
-    let none = c.requires.accepted.1 in
-    write_close none c.loop-i.invariant c.loop-i-test.true c.if-opens.false c.if-entry-eq0.true
-
 pub bounds-out-count : goal.bounds-out-count
 bounds-out-count c =
     let s = c.loop-i.invariant in
@@ -86,7 +72,18 @@ overflow_add-count-else-entry-eq0 c =
 pub loop-i-preserved : goal.loop-i-preserved
 loop-i-preserved c =
     let none = c.requires.accepted.1 in
-    write_variable none c.loop-i.invariant c.loop-i-test.true c.if-opens.false c.if-entry-eq0.false
+    let s = c.loop-i.invariant in
+    let more = c.loop-i-test.true in
+    elim c.if-opens.branch [
+      | then-opens+then-begins_after w ↦ rw (w.out-is, w.opens-is, w.last-is, w.count-is)
+          (write_mark none s more w.if-opens.true w.close-closed.ensures.put (sym w.if-begins_after.true ∙ w.begins_after.ensures.told))
+      | then-opens+else-begins_after w ↦ rw (w.out-is, w.opens-is, w.last-is, w.count-is)
+          (write_no_mark none s more w.if-opens.true (sym w.if-begins_after.false ∙ w.begins_after.ensures.told))
+      | else-opens+then-entry-eq0 w ↦ rw (w.out-is, w.opens-is, w.last-is, w.count-is)
+          (write_close none s more w.if-opens.false w.if-entry-eq0.true)
+      | else-opens+else-entry-eq0 w ↦ rw (w.out-is, w.opens-is, w.last-is, w.count-is)
+          (write_variable none s more w.if-opens.false w.if-entry-eq0.false)
+    ]
 
 pub close-requires : goal.close-requires
 close-requires c =

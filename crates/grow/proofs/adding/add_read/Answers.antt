@@ -5,4 +5,4 @@ use Rattle.grow.proofs.adding.add_read.Goals as goal
 pub add_sound-requires : goal.add_sound-requires
 add_sound-requires c =
     let sound = c.requires.sound in
-    record { sound = (sound, added_rows sound.few c.in-Accepted.ensures.judged.0) }
+    record { sound = (sound, added_rows sound.few c.in-Ok.ensures.judged.0) }

@@ -5,5 +5,5 @@ use Rattle.grow.proofs.adding.add_sound.Goals as goal
 
 pub add_formed-requires-clause-rows : goal.add_formed-requires-clause-rows
 add_formed-requires-clause-rows c =
-    let none = c.in-Accepted.ensures.judged.0 in
+    let none = c.in-Ok.ensures.judged.0 in
     (long_enough none, none_formed none)

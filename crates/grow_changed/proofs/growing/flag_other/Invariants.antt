@@ -1,13 +1,6 @@
--- The flags of 1 to v tell whose rows differ (FlagsOther), and each pass sets one more (flags_more).
-use Prim.Native.Nat.{◌-◌, ◌≤◌}
-use mathlib.Core.Path.{◌≡◌}
-use lib.ListN.{length}
-use Rattle.terms.specs.InnerLimits.{variable_rows}
-use Rattle.grow_changed.specs.InnerChanged.{FlagsOther}
+-- The flags of the rows passed tell whose rows differ (FlagsOther).
+use Rattle.std.proofs.Common.{◌≡◌, ℕ, ◌<◌, ◌≤◌, ◌≢◌, ◌↔◌, true, false, get_or}
 use Rattle.grow_changed.proofs.growing.flag_other.Given as goal
 
 abbrev pub invariant-loop-v : goal.invariant-loop-v
-invariant-loop-v l = (l.v ≤ l.n) × (length l.flags ≡ variable_rows) × FlagsOther l.before l.after l.flags l.v
-
-abbrev pub decreases-loop-v : goal.decreases-loop-v
-decreases-loop-v l = l.n - l.v
+invariant-loop-v l = (u : ℕ) → 1 ≤ u → u < l.v → (get_or l.flags u false ≡ true) ↔ (get_or l.before u 0 ≢ get_or l.after u 0)

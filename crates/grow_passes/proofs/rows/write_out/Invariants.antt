@@ -1,11 +1,6 @@
--- The invariant: the lent rows of 1 to v are written, the others stay (WrittenTo). The row of v + 1 is there since n is within the limit, and so is that of
--- its parent, by what is required.
-use Prim.Native.Nat.{◌-◌}
-use Rattle.grow_passes.proofs.Passes.{WrittenTo}
+-- The class rows are copied before the loop. The invariant: the parents passed have their classes. The row of a parent is there by what is required.
+use Rattle.std.proofs.Common.{◌≡◌, ℕ, ◌+◌, ◌<◌, get_or}
 use Rattle.grow_passes.proofs.rows.write_out.Given as goal
 
 abbrev pub invariant-loop-v : goal.invariant-loop-v
-invariant-loop-v l = WrittenTo l.n l.classes l.parents l.initial.rows l.rows l.initial.ups l.ups l.v
-
-abbrev pub decreases-loop-v : goal.decreases-loop-v
-decreases-loop-v l = l.n - l.v
+invariant-loop-v l = (u : ℕ) → u < l.v → get_or l.up-items u 0 ≡ get_or l.classes (get_or l.parents (u + 1) 0) 0

@@ -1,10 +1,6 @@
--- The invariant: the rows of 1 to `at` are copied, the others stay (Copied). The row of `at` + 1 is in the table, since n is within the limit.
-use Prim.Native.Nat.{◌-◌}
-use Rattle.grow_rows.specs.InnerRows.{Copied}
+-- The invariant: the rows passed are copied. The row of `at` + 1 is in the table, since n is within the limit.
+use Rattle.std.proofs.Common.{◌≡◌, ℕ, ◌+◌, ◌<◌, get_or}
 use Rattle.grow_rows.proofs.counts.copy_out.Given as goal
 
 abbrev pub invariant-loop-at : goal.invariant-loop-at
-invariant-loop-at l = Copied l.n l.table l.initial.rows l.at l.rows
-
-abbrev pub decreases-loop-at : goal.decreases-loop-at
-decreases-loop-at l = l.n - l.at
+invariant-loop-at l = (u : ℕ) → u < l.at → get_or l.row-items u 0 ≡ get_or l.table (u + 1) 0

@@ -1,6 +1,4 @@
 -- The invariant: nothing fails before entry i, and the stamps are those of the clause before it (Walked).
-use Prim.Native.Nat.{◌-◌}
-use lib.ListN.{length}
 use Rattle.forest_tables.specs.InnerTabled.{tabled}
 use Rattle.path_check.specs.Causes.{PathCause}
 use Rattle.path_check.specs.InnerWalk.{Walked}
@@ -8,7 +6,7 @@ use Rattle.path_check.proofs.Following.{Clean}
 use Rattle.path_check.proofs.walk.follow.Given as goal
 
 abbrev pub invariant-loop-i : goal.invariant-loop-i
-invariant-loop-i l = Walked l.clauses l.path l.stamps l.i × Clean (PathCause (tabled l.n l.levels l.universals) l.clauses l.x.0 l.y.0 l.path) l.i
-
-abbrev pub decreases-loop-i : goal.decreases-loop-i
-decreases-loop-i l = length l.path - l.i
+invariant-loop-i l = record {
+  walked : Walked l.clauses l.path l.stamps l.i;
+  clean : Clean (PathCause (tabled l.n l.levels l.universals) l.clauses l.x.0 l.y.0 l.path) l.i;
+}

@@ -1,7 +1,6 @@
 -- The invariant: no entry from start up to i is of an existential deeper than x with the stamp.
-use Prim.Native.Nat.{◌-◌}
 use mathlib.Core.Path.{◌≡◌}
-use lib.ListN.{length, get_or}
+use lib.ListN.{get_or}
 use Rattle.forest_tables.specs.InnerTabled.{tabled}
 use Rattle.forest_theory.specs.Reach.{Deeper}
 use Rattle.path_check.proofs.Entries.{Passing}
@@ -9,6 +8,3 @@ use Rattle.path_check.proofs.walk.meets.Given as goal
 
 abbrev pub invariant-loop-i : goal.invariant-loop-i
 invariant-loop-i l = Passing (λ v. Deeper (tabled l.n l.levels l.universals) l.x.0 v × (get_or l.stamps v 0 ≡ l.stamp)) l.clauses l.start l.i
-
-abbrev pub decreases-loop-i : goal.decreases-loop-i
-decreases-loop-i l = length l.clauses - l.i

@@ -10,37 +10,27 @@ use Rattle.sets_occurrences.proofs.Chains.{on_some, on_here, on_later, on_cases}
 use Rattle.path_check.specs.Paths.{HasVariable}
 use Rattle.path_check.proofs.Reached.{in_count}
 use Rattle.path_explain.specs.InnerTies.{owner_at}
-use Rattle.path_explain.proofs.Searches.{kept_none, kept_more, kept_at}
+use Rattle.path_explain.proofs.Searches.{kept_more, kept_at}
 use Rattle.path_explain.proofs.search.follow.Goals as goal
 use Rattle.path_explain.proofs.search.follow.Goals.{In-loop-at}
 
--- the entry that is looked at is on the chain: what it owns, and where the chain goes on
+-- The entry that is looked at is on the chain: what it owns, and where the chain goes on.
 on : (c : In-loop-at) → On c.args.next.now (c.loop-at.at - 1) c.args.head
-on c =
-    let p = c.loop-at.at - 1 in
-    c.loop-at.invariant.2 p (on_here p (let some = c.loop-at-test.true in let e : c.loop-at.at ≡ suc (c.loop-at.at - 1) = omega arith in e))
+on c = c.loop-at.invariant.ahead (c.loop-at.at - 1) (on_here (c.loop-at.at - 1) (omega (arith, c.loop-at-test.true)))
 
 link : (c : In-loop-at) → (c.loop-at.at - 1 < clause_entries) × (link_at c.args.next.now (c.loop-at.at - 1) ≤ c.loop-at.at - 1)
 link c = c.requires.tied.1.falls (c.loop-at.at - 1) (on c)
 
 pub bounds-next-at : goal.bounds-next-at
-bounds-next-at c =
-    let less = (link (goal.at.bounds-next-at c).In-loop-at).0 in
-    let size = c.requires.tied.1.size in
-    omega arith
+bounds-next-at c = omega (arith, (link (goal.at.bounds-next-at c).In-loop-at).0, c.requires.tied.1.size)
 
 pub enter-end-requires-clause-owner : goal.enter-end-requires-clause-owner
 enter-end-requires-clause-owner c =
     let (j, q, owns) = c.requires.tied.1.owned (c.loop-at.at - 1) (on (goal.at.enter-end-requires-clause-owner c).In-loop-at) in
-    let has = Memᴰ.map variable_of owns.is in
-    (j, c.unpack-pair.ensures.both.1 ∙ q, owns.plain, in_count c.args.clauses.now j _ has)
+    (j, c.unpack-pair.ensures.both.1 ∙ q, owns.plain, in_count c.args.clauses.now j _ (Memᴰ.map variable_of owns.is))
 
 pub loop-at-smaller : goal.loop-at-smaller
-loop-at-smaller c =
-    let low = c.unpack-pair.ensures.both.0 in
-    let falls = (link (goal.at.loop-at-smaller c).In-loop-at).1 in
-    let some = c.loop-at-test.true in
-    omega arith
+loop-at-smaller c = omega (arith, c.unpack-pair.ensures.both.0, (link (goal.at.loop-at-smaller c).In-loop-at).1, c.loop-at-test.true)
 
 pub loop-at-preserved : goal.loop-at-preserved
 loop-at-preserved c =
@@ -48,45 +38,23 @@ loop-at-preserved c =
     let next = c.args.next.now in
     let inv = c.loop-at.invariant in
     let on-chain = on (goal.at.loop-at-preserved c).In-loop-at in
-    let here : c.loop-at.at ≡ suc p = (let some = c.loop-at-test.true in omega arith) in
+    let here : c.loop-at.at ≡ suc p = omega (arith, c.loop-at-test.true) in
     let (low, high) = c.unpack-pair.ensures.both in
     let (j, q, owns) = c.requires.tied.1.owned p on-chain in
     let entered = c.enter-end.ensures in
-    let kept = entered.room.1 in (
-      (entered.room.0, kept_more inv.0.1 kept),
-      (λ o k on-head own. ⊎_elim
-          (λ ahead. ⊎_elim (λ e. inr (entered.entered k (high ∙ ap (owner_at next) (sym e) ∙ own))) (λ later. inl (subst (On next o) (sym low) later)) (on_cases p here ahead))
-          (λ done. inr (λ z. done (sym (kept.clause k done) ∙ z))) (inv.1 o k on-head own)),
-      (λ o ahead. inv.2 o (on_later p here (subst (On next o) low ahead))),
-      λ y begin s l is heading.
-          let queue = inv.0.1.queue_kept begin l in
-          let more = inv.0.1.tail_kept in
-          entered.searched y begin j (inv.3 y begin s l is heading) (high ∙ q) (omega arith) (kept_at inv.0.1 begin l (λ z. c.requires.room.2 (sym is ∙ z)) ∙ is)
-          (owns.plain, subst (HasVariable c.args.clauses.now j) (heading p on-chain ∙ sym queue) (Memᴰ.map variable_of owns.is)),
-    )
-
-pub loop-at-init : goal.loop-at-init
-loop-at-init c = (
-  (c.requires.room.0, kept_none c.args.dists.now c.args.rows.now c.args.queue.now c.args.tail),
-  (λ p k o q. inl o),
-  (λ p o. o),
-  λ y begin s l is heading. s,
-)
-
-pub shape_of-dists : goal.shape_of-dists
-shape_of-dists c = c.loop-at.invariant.0.1.size
-
-pub shape_of-rows : goal.shape_of-rows
-shape_of-rows c = c.loop-at.invariant.0.0.row_size ∙ sym c.requires.room.0.row_size
-
-pub shape_of-queue : goal.shape_of-queue
-shape_of-queue c = c.loop-at.invariant.0.0.queue_size ∙ sym c.requires.room.0.queue_size
-
-pub returns : goal.returns
-returns c =
-    let inv = c.loop-at.invariant in
+    let kept = entered.room.1 in
     record {
-      room = inv.0;
-      entered = (λ p k o q. ⊎_elim (λ ahead. absurd (on_some ahead c.loop-at-test.false)) (λ done. done) (inv.1 p k o q));
-      searched = inv.3;
+      room = entered.room.0;
+      kept = kept_more inv.kept kept;
+      entered = λ o k on-head own. ⊎_elim
+          (λ ahead. ⊎_elim (λ e. inr (entered.entered k (high ∙ ap (owner_at next) (sym e) ∙ own))) (λ later. inl (subst (On next o) (sym low) later)) (on_cases p here ahead))
+          (λ done. inr (λ z. done (sym (kept.clause k done) ∙ z))) (inv.entered o k on-head own);
+      ahead = λ o ahead. inv.ahead o (on_later p here (subst (On next o) low ahead));
+      searched = λ y begin s l is heading.
+          let more = inv.kept.tail_kept in
+          entered.searched y begin j (inv.searched y begin s l is heading) (high ∙ q) (omega arith) (kept_at inv.kept begin l (λ z. c.requires.room.2 (sym is ∙ z)) ∙ is)
+          (owns.plain, subst (HasVariable c.args.clauses.now j) (heading p on-chain ∙ sym (inv.kept.queue_kept begin l)) (Memᴰ.map variable_of owns.is));
     }
+
+pub returns-clause-entered : goal.returns-clause-entered
+returns-clause-entered c = λ p k o q. ⊎_elim (λ ahead. absurd (on_some ahead c.loop-at-test.false)) (λ done. done) (c.loop-at.invariant.entered p k o q)

@@ -1,56 +1,38 @@
-use mathlib.Core.Path.{◌≡◌, sym, ◌∙◌, subst}
+use Prim.Native.Nat.{◌+◌}
 use native.Mathlib.Omega.{arith}
+use lib.ListN.{set, length-set}
+use Rattle.std.proofs.lemmas.Grind.{common_steps}
+use Rattle.terms.proofs.Common.{clash}
 use Rattle.forest_theory.specs.Reach.{Deeper}
 use Rattle.forest_tables.specs.InnerTabled.{tabled}
-use Rattle.forest_tables.specs.InnerRows.{Tells}
-use Rattle.path_explain.proofs.Flagging.{Upto, upto_none, upto_more, upto_all, deeper_within}
+use Rattle.path_explain.proofs.Flagging.{Before, before_all, deeper_within}
 use Rattle.path_explain.proofs.ties.flag_deeper.Goals as goal
 
 pub loop-v-init : goal.loop-v-init
-loop-v-init c = (
-  omega arith,
-  upto_none c.requires.room.1 c.requires.room.2 (λ d. let low = (deeper_within c.args.n c.args.levels.now c.args.universals.now
-      c.args.x.0 0 d).0 in omega arith),
-)
-
-pub bounds-flags-v : goal.bounds-flags-v
-bounds-flags-v c =
-    let few = c.requires.room.0 in
-    let less = c.loop-v-test.true in
-    let size = c.loop-v.invariant.1.size in
-    omega arith
-
-pub loop-v-smaller : goal.loop-v-smaller
-loop-v-smaller c =
-    let less = c.loop-v-test.true in
-    omega arith
-
-pub loop-v-preserved : goal.loop-v-preserved
-loop-v-preserved c =
-    let few = c.requires.room.0 in
-    let less = c.loop-v-test.true in
-    let X = tabled c.args.n c.args.levels.now c.args.universals.now in (
-      omega arith,
-      upto_more c.loop-v.invariant.1 (omega arith) c.is_deeper.result (subst (λ v. Tells c.is_deeper.result (Deeper X c.args.x.0 v)) c.new.ensures.holds
-          c.is_deeper.ensures.told),
-    )
-
-pub shape_of-flags : goal.shape_of-flags
-shape_of-flags c = c.loop-v.invariant.1.size ∙ sym c.requires.room.1
+loop-v-init c =
+    let a = c.args in
+    record {
+      tells = λ v l. (λ t. absurd (clash t (c.requires.room.2 v)), λ d. absurd (omega (arith, deeper_within a.n a.levels.now a.universals.now a.x.0 v d)));
+      others = λ v _. c.requires.room.2 v;
+    }
 
 pub returns : goal.returns
 returns c =
-    let levels = c.args.levels.now in
-    let n = c.args.n in
-    let universals = c.args.universals.now in
-    let x = c.args.x.0 in
-    let upto = c.loop-v.invariant.0 in
-    let all = c.loop-v-test.false in
-    let end : c.loop-v.v ≡ n = omega arith in
+    let a = c.args in
     record {
       flagged = record {
-        size = c.loop-v.invariant.1.size;
-        tells = upto_all (subst (Upto (Deeper (tabled n levels universals) x) c.loop-v.flags) end c.loop-v.invariant.1)
-            (λ w d. (deeper_within n levels universals x w d).1);
+        size = omega arith;
+        tells = before_all c.loop-v.invariant c.loop-v-test.false (λ v d. (deeper_within a.n a.levels.now a.universals.now a.x.0 v d).1);
+      };
+    }
+
+pub returns-2 : goal.returns-2
+returns-2 c =
+    let a = c.args in
+    let flagged : Before (Deeper (tabled a.n a.levels.now a.universals.now) a.x.0) (set c.loop-v.flags c.loop-v.v c.is_deeper.result) (c.loop-v.v + 1) = grind (arith, common_steps) in
+    record {
+      flagged = record {
+        size = omega (arith, length-set c.loop-v.flags c.loop-v.v c.is_deeper.result);
+        tells = before_all flagged (omega arith) (λ v d. (deeper_within a.n a.levels.now a.universals.now a.x.0 v d).1);
       };
     }

@@ -1,11 +1,6 @@
 -- The invariant: the nearest clause of each variable among the entries before i.
-use Prim.Native.Nat.{◌-◌, ◌≤◌}
-use lib.ListN.{length}
 use Rattle.path_explain.specs.InnerWays.{HoldsBefore, Nearest}
 use Rattle.path_explain.proofs.ways.fill_nearest.Given as goal
 
 abbrev pub invariant-loop-i : goal.invariant-loop-i
-invariant-loop-i l = Nearest (HoldsBefore l.clauses l.next l.i) l.dists l.rows l.nearest × (l.i ≤ length l.clauses)
-
-abbrev pub decreases-loop-i : goal.decreases-loop-i
-decreases-loop-i l = length l.clauses - l.i
+invariant-loop-i l = Nearest (HoldsBefore l.clauses l.next l.i) l.dists l.rows l.nearest

@@ -1,15 +1,13 @@
--- The flags are right up to v: that of v + 1 tells of v + 1 what is asked (flag_more).
-use Prim.Native.Nat.{◌≤◌, ◌-◌}
+-- The flags are right before v.
+use Prim.Native.Nat.{ℕ, ◌≤◌, ◌<◌}
 use mathlib.Core.Path.{◌≡◌}
-use lib.ListN.{length}
-use Rattle.terms.specs.InnerLimits.{resolution_rows}
+use mathlib.Core.Bool.{true, false}
+use mathlib.Core.Logic.{◌↔◌}
+use lib.ListN.{get_or}
 use Rattle.forest_tables.specs.InnerTabled.{tabled}
 use Rattle.forest_theory.specs.Reach.{Deeper}
-use Rattle.path_resolution.specs.InnerEnds.{Pairs, Flags}
+use Rattle.path_resolution.specs.InnerEnds.{Pairs}
 use Rattle.path_resolution.proofs.ends.pair_ends.Given as goal
 
 abbrev pub invariant-loop-v : goal.invariant-loop-v
-invariant-loop-v l = (l.v ≤ l.n) × (length l.flags ≡ resolution_rows) × Flags l.v (λ w. Deeper (tabled l.n l.levels l.universals) l.x.0 w × Pairs l.ends l.others w) l.flags
-
-abbrev pub decreases-loop-v : goal.decreases-loop-v
-decreases-loop-v l = l.n - l.v
+invariant-loop-v l = (v : ℕ) → 1 ≤ v → v < l.v → (get_or l.flags v false ≡ true) ↔ (Deeper (tabled l.n l.levels l.universals) l.x.0 v × Pairs l.ends l.others v)

@@ -6,7 +6,4 @@ use Rattle.formula.specs.Tables.{literal_at}
 use Rattle.path_resolution.proofs.walk.clause_start.Given as goal
 
 abbrev pub invariant-loop-i : goal.invariant-loop-i
-invariant-loop-i l = (l.i ≤ l.entry) × ((e : ℕ) → l.i ≤ e → e < l.entry → variable_of (literal_at l.clauses e) ≢ 0)
-
-abbrev pub decreases-loop-i : goal.decreases-loop-i
-decreases-loop-i l = l.i
+invariant-loop-i l = (e : ℕ) → l.i ≤ e → e < l.entry → variable_of (literal_at l.clauses e) ≢ 0

@@ -1,7 +1,8 @@
 -- Where the level is another, all rows of `places` are cleared, so that no set stands anywhere. Where it is the same, the tops stay, and with them
 -- the places.
-use mathlib.Core.Path.{sym, subst}
+use mathlib.Core.Path.{sym, subst, ◌∙◌}
 use native.Mathlib.Omega.{arith}
+use borrow.Author.Tests.{eqb-true, not-false}
 use Rattle.sets_record.specs.InnerPlaces.{Placed}
 use Rattle.sets.proofs.all_sets.refloor.Goals as goal
 
@@ -17,8 +18,8 @@ clear_rows-requires c =
     let size = c.requires.floored.1 in
     record { enough = omega arith }
 
-pub returns-then-old-level : goal.returns-then-old-level
-returns-then-old-level c =
+pub returns-then-ne : goal.returns-then-ne
+returns-then-ne c =
     let o = c.refloor-floor in
     record {
       floored = o.ensures.floored;
@@ -26,12 +27,12 @@ returns-then-old-level c =
       placed = λ out end placed top low some. absurd (some (c.clear_rows.ensures.cleared top (omega arith)));
     }
 
-pub returns-else-old-level : goal.returns-else-old-level
-returns-else-old-level c =
+pub returns-else-ne : goal.returns-else-ne
+returns-else-ne c =
     let a = c.args in
     let floored = c.refloor-floor.ensures.floored in
     let (own, stay) = c.refloor-floor.ensures.own in
-    let same = sym (stay c.if-old-level.false) in
+    let same = sym (stay (eqb-true _ _ (not-false _ (sym c.ne.ensures ∙ c.if-ne.false)))) in
     record {
       floored = floored;
       own = own;

@@ -11,7 +11,7 @@ use Rattle.formula.specs.Lent.{formula_of}
 use Rattle.forest_tables.specs.Formula.{universal}
 use Rattle.forest_tables.specs.Lent.{rows}
 use Rattle.forest.specs.Answers.{MembersBy}
-use Rattle.sets.proofs.AllSets.{sets_within}
+use Rattle.sets.proofs.AllSets.{sets_within, room_told}
 use Rattle.sets.proofs.Records.{records_most, records_room}
 use Rattle.sets.proofs.all_sets.sets_fit.Goals as goal
 
@@ -45,16 +45,6 @@ pass_sets-needed-requires c =
       room = λ q. absurd (clash q refl);
     }
 
-pub returns-then-out-needed : goal.returns-then-out-needed
-returns-then-out-needed c =
-    let (list, r, size, same) = c.pass_sets-needed.ensures.put in
-    let long = ap length same in
-    let less = c.if-out-needed.true in
-    record {
-      told = (list, r, omega arith);
-      kept = same;
-    }
-
 pub returns : goal.returns
 returns c =
     let Members : ℕ → ℕ → Type 0 = let a = c.args in
@@ -63,8 +53,9 @@ returns c =
     let n = a.pass.n in
     let (list, r, size, same) = c.pass_sets-needed.ensures.put in
     let long = ap length same in
-    let fits = c.if-out-needed.false in
     record {
-      told = records_room (universal n a.prefix.now) Members n (length a.out.now) list r (omega arith);
+      told = rw same (room_told _ n c.pass_sets-needed.result (length a.out.now)
+          (λ fits. records_room (universal n a.prefix.now) Members n (length a.out.now) list r (omega arith))
+          (λ less. (list, r, omega arith)));
       kept = same;
     }

@@ -1,49 +1,39 @@
 use Prim.Native.Nat.{ℕ}
 use mathlib.Core.Path.{subst}
-use mathlib.Core.Logic.{◌⊎◌, inl, ⊎_elim, ◌↔◌}
+use mathlib.Core.List.{List}
+use mathlib.Core.Logic.{◌⊎◌, ◌↔◌}
+use lib.IntN.{ℤ}
 use Rattle.formula.specs.InnerLookup.{NextZero}
 use Rattle.forest_entries.specs.InnerFlags.{Has, Via}
-use Rattle.forest_entries.proofs.Flags.{unclosed_none, unclosed_more, unclosed_zero, unclosed_end, has_none, has_next, next_one}
-use Rattle.sets_occurrences.specs.InnerSoleTops.{Is, SoleOf}
+use Rattle.forest_entries.proofs.Flags.{unclosed_more, unclosed_zero, unclosed_end, has_next, next_one}
 use Rattle.sets_occurrences.proofs.SoleTops.{sole_next}
 use Rattle.sets_occurrences.proofs.soles.sole_after.Goals as goal
 
-pub loop-i-init : goal.loop-i-init
-loop-i-init c =
-    let a = c.args in
-    let none = has_none a.clauses.now a.start in
-    (unclosed_none a.clauses.now a.start, λ e. (inl, ⊎_elim (λ o. o) (λ t. absurd (none t.for t.holds))))
+-- the sole top up to the next 0, of which there is one
+upto_zero : {n : ℕ} {tops : List ℕ} {ls : List ℤ} {start z : ℕ} {Before Sole : ℕ → Type 0}
+    → ((e : ℕ) → Sole e ↔ (Before e ⊎ Via n tops (Has ls start z) e)) → NextZero ls start z
+    → (y : ℕ) → NextZero ls start y → (e : ℕ) → Sole e ↔ (Before e ⊎ Via n tops (Has ls start y) e)
+upto_zero {n} {tops} {ls} {start} {z} {Before} {Sole} told here y next =
+    subst (λ z. (e : ℕ) → Sole e ↔ (Before e ⊎ Via n tops (Has ls start z) e)) (next_one here next) told
 
 pub returns-then-variable-eq0 : goal.returns-then-variable-eq0
 returns-then-variable-eq0 c =
-    let found : NextZero c.args.clauses.now c.args.start c.loop-i.i
-    → (z : ℕ) → NextZero c.args.clauses.now c.args.start z
-    → (e : ℕ) → Is c.loop-i.sole.0 e ↔ (Is c.args.before.0 e
-    ⊎ Via c.args.n c.args.tops.now (Has c.args.clauses.now c.args.start z) e) = λ here z next. let a = c.args in
-    subst (λ z. (e : ℕ) → Is c.loop-i.sole.0 e ↔ (Is a.before.0 e ⊎ Via a.n a.tops.now (Has a.clauses.now a.start z) e))
-    (next_one here next) c.loop-i.invariant.1 in
-    record { sole = found (unclosed_zero c.loop-i.invariant.0 c.variable_at-variable.ensures.read c.if-variable-eq0.true) }
-
-pub returns-in-Several : goal.returns-in-Several
-returns-in-Several c = record { sole = λ z next. tt }
+    let l = c.loop-i.invariant in
+    record { sole = upto_zero l.sole (unclosed_zero l.unclosed c.variable_at-variable.ensures.read c.if-variable-eq0.true) }
 
 pub loop-i-preserved : goal.loop-i-preserved
 loop-i-preserved c =
     let a = c.args in
     let l = c.loop-i in
-    let (unclosed, sole) = l.invariant in
+    let unclosed = l.invariant.unclosed in
     let v = c.variable_at-variable in
-    let top = c.row_of in
-    let joined = subst (λ s. SoleOf s (λ e. Is l.sole.0 e ⊎ Is top.result.0 e)) c.in-Top.is c.join.ensures.sole in
     let more = has_next a.clauses.now a.start l.i v.result.0 unclosed.from v.ensures.read in
-    (unclosed_more unclosed c.loop-i-test.true v.ensures.read c.if-variable-eq0.false, sole_next more top.ensures.read sole joined)
+    record {
+      unclosed = unclosed_more unclosed c.loop-i-test.true v.ensures.read c.if-variable-eq0.false;
+      sole = sole_next more c.top_of.ensures.read l.invariant.sole c.in_ok-sole.ensures.sole;
+    }
 
 pub returns : goal.returns
 returns c =
-    let found : NextZero c.args.clauses.now c.args.start c.loop-i.i
-    → (z : ℕ) → NextZero c.args.clauses.now c.args.start z
-    → (e : ℕ) → Is c.loop-i.sole.0 e ↔ (Is c.args.before.0 e
-    ⊎ Via c.args.n c.args.tops.now (Has c.args.clauses.now c.args.start z) e) = λ here z next. let a = c.args in
-    subst (λ z. (e : ℕ) → Is c.loop-i.sole.0 e ↔ (Is a.before.0 e ⊎ Via a.n a.tops.now (Has a.clauses.now a.start z) e))
-    (next_one here next) c.loop-i.invariant.1 in
-    record { sole = found (unclosed_end c.loop-i.invariant.0 c.loop-i-test.false) }
+    let l = c.loop-i.invariant in
+    record { sole = upto_zero l.sole (unclosed_end l.unclosed c.loop-i-test.false) }

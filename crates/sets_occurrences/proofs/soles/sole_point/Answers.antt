@@ -6,8 +6,7 @@ use Rattle.terms.specs.declared.Scheme.{Scheme}
 use Rattle.forest_entries.specs.InnerFlags.{Takes, Via}
 use Rattle.forest_entries.proofs.Flags.{via_as, via_or}
 use Rattle.sets_occurrences.specs.InnerThreads.{Together}
-use Rattle.sets_occurrences.specs.declared.soles.Sole.{Sole}
-use Rattle.sets_occurrences.specs.InnerSoleTops.{SoleOf}
+use Rattle.sets_occurrences.specs.InnerSoleTops.{Sole, SoleOf}
 use Rattle.sets_occurrences.proofs.SoleTops.{sole_as}
 use Rattle.sets_occurrences.proofs.soles.sole_point.Goals as goal
 

@@ -26,7 +26,7 @@ pub note_of-note-requires : goal.note_of-note-requires
 note_of-note-requires c =
     let a = c.args in
     let told : (z : ℕ) → NextZero a.clauses.now a.start z → SoleOf c.sole_after.result (Via a.n a.tops.now (Has a.clauses.now a.start z)) =
-    λ z next. alone_sole (Via a.n a.tops.now (Has a.clauses.now a.start z)) c.new.ensures.holds c.sole_after.result (c.sole_after.ensures.sole z next) in
+    λ z next. alone_sole (Via a.n a.tops.now (Has a.clauses.now a.start z)) c.sole_after.result (c.sole_after.ensures.sole z next) in
     let (few, within, less, notes) = c.requires.notes in
     record { small = sole_small a.n a.tops.now a.clauses.now a.start few within less c.sole_after.result told }
 
@@ -34,7 +34,7 @@ pub returns : goal.returns
 returns c =
     let a = c.args in
     let told : (z : ℕ) → NextZero a.clauses.now a.start z → SoleOf c.sole_after.result (Via a.n a.tops.now (Has a.clauses.now a.start z)) =
-    λ z next. alone_sole (Via a.n a.tops.now (Has a.clauses.now a.start z)) c.new.ensures.holds c.sole_after.result (c.sole_after.ensures.sole z next) in
+    λ z next. alone_sole (Via a.n a.tops.now (Has a.clauses.now a.start z)) c.sole_after.result (c.sole_after.ensures.sole z next) in
     let (few, within, less, notes) = c.requires.notes in
     let note = c.note_of-note.result in
     let (of, some) = c.note_of-note.ensures.note in

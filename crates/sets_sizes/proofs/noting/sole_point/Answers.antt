@@ -6,9 +6,8 @@ use mathlib.Core.Logic.{inl, inr, ⊎_elim}
 use Rattle.terms.specs.declared.Scheme.{Scheme}
 use Rattle.forest_entries.specs.InnerFlags.{Takes, Via}
 use Rattle.forest_entries.proofs.Flags.{via_as, via_or}
-use Rattle.sets_occurrences.specs.declared.soles.Sole.{Sole}
 use Rattle.sets_occurrences.specs.InnerThreads.{Together}
-use Rattle.sets_occurrences.specs.InnerSoleTops.{SoleOf}
+use Rattle.sets_occurrences.specs.InnerSoleTops.{Sole, SoleOf}
 use Rattle.sets_occurrences.proofs.SoleTops.{sole_as}
 use Rattle.sets_sizes.proofs.NotedTops.{common_both}
 use Rattle.sets_sizes.proofs.noting.sole_point.Goals as goal

@@ -4,8 +4,8 @@ use Rattle.expand.specs.Promise.{result_tables}
 use Rattle.snowcoddle.proofs.Expansions.{fits_expand, tell_expand}
 use Rattle.snowcoddle.proofs.expanding.snow_expand.Goals as goal
 
-pub lay_expanded-requires : goal.lay_expanded-requires
-lay_expanded-requires c =
+pub lay_counts-requires : goal.lay_counts-requires
+lay_counts-requires c =
     let a = c.args in
     let b = c.expand-answer in
     record {
@@ -19,5 +19,5 @@ returns c =
     let b = c.expand-answer in
     record {
       told = tell_expand a.rule (formula_of a.n a.prefix.now a.clauses.now) a.x (result_tables a.out_prefix.now a.out_clauses.now) _ b.result
-          c.lay_expanded.ensures.laid b.ensures.expanded;
+          c.lay_counts.ensures.laid b.ensures.expanded;
     }

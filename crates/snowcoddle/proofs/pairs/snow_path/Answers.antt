@@ -4,14 +4,14 @@ use Rattle.path_check.specs.Causes.{path_order}
 use Rattle.snowcoddle.proofs.Telling.{tell_accepted, tell_refused}
 use Rattle.snowcoddle.proofs.pairs.snow_path.Goals as goal
 
-pub returns-in-Refused : goal.returns-in-Refused
-returns-in-Refused c =
+pub returns-in-Err : goal.returns-in-Err
+returns-in-Err c =
     let a = c.args in
     let order = path_order a.rule (formula_of a.n a.prefix.now a.clauses.now) a.x a.y a.path.now in
-    record { told = tell_refused order _ c.in-Refused.is c.path_verdict-verdict.ensures.judged tt }
+    record { told = rw c.number.ensures.numbered (tell_refused order _ c.in-Err.is c.path_verdict-answer.ensures.judged tt) }
 
-pub returns : goal.returns
-returns c =
+pub returns-in-Ok : goal.returns-in-Ok
+returns-in-Ok c =
     let a = c.args in
     let order = path_order a.rule (formula_of a.n a.prefix.now a.clauses.now) a.x a.y a.path.now in
-    record { told = tell_accepted order _ c.in_default.is c.path_verdict-verdict.ensures.judged tt }
+    record { told = tell_accepted order _ c.in-Ok.is c.path_verdict-answer.ensures.judged tt }

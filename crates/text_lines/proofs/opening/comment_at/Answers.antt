@@ -7,15 +7,15 @@ use Rattle.text_lines.specs.InnerSteps.{endless_line}
 use Rattle.text_lines.proofs.Openings.{passed_line, unpassed_line}
 use Rattle.text_lines.proofs.opening.comment_at.Goals as goal
 
-pub returns-then-stop-text : goal.returns-then-stop-text
-returns-then-stop-text c =
+pub returns : goal.returns
+returns c =
     let a = c.args in
     let e = c.line_end-stop.ensures in
     let passed = passed_line a.text.now a.at (omega arith) in
     record { opened = (c.requires.comment, subst (λ (stop : ℕ). Passed a.text.now a.at (stop + 1)) (sym e.passed) passed) }
 
-pub returns-else-stop-text : goal.returns-else-stop-text
-returns-else-stop-text c =
+pub returns-then-text-stop : goal.returns-then-text-stop
+returns-then-text-stop c =
     let a = c.args in
     let e = c.line_end-stop.ensures in
     record { opened = endless_line (unpassed_line a.text.now a.at (omega arith)) }

@@ -5,6 +5,6 @@ use Rattle.text_lines.proofs.tables.block_at.Goals as goal
 pub returns : goal.returns
 returns c =
     let a = c.args in
-    let put = c.store_entry in
+    let put = c.store in
     let o = c.variables_at in
     record { stored = block_row a.mark a.text.now a.at a.from a.prefix.now put.new.table o.new.prefix o.result put.ensures.stored o.ensures.stored }

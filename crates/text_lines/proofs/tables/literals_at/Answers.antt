@@ -1,14 +1,12 @@
 use Prim.Native.Nat.{ℕ, ◌<◌}
-use mathlib.Core.Path.{◌≡◌, refl, subst, ◌∙◌}
+use mathlib.Core.Path.{◌≡◌, refl, ◌∙◌}
 use mathlib.Core.Bool.{Bool, true, false, cond}
 use mathlib.Core.List.{List}
 use mathlib.Core.Option.{Option, some}
 use native.Mathlib.Omega.{arith}
 use lib.IntN.{ℤ, pos, neg_ℤ}
 use Rattle.text_words.specs.InnerNumbers.{Plain, Negated, prepend, entry, item_of, literals}
-use Rattle.text_words.specs.InnerPlaces.{Taken, Closes}
 use Rattle.text_words.proofs.Numbers.{plain_most, negated_most}
-use Rattle.text_lines.specs.InnerSteps.{SignedIs}
 use Rattle.text_lines.proofs.Rows.{literal_put, partly_none, partly_length, partly_more, partly_whole, partly_broken}
 use Rattle.text_lines.proofs.tables.literals_at.Goals as goal
 
@@ -32,52 +30,42 @@ pub shape_of-clauses-in-Unfit : goal.shape_of-clauses-in-Unfit
 shape_of-clauses-in-Unfit c = partly_length c.loop-next.invariant
 
 pub returns-in-Unfit : goal.returns-in-Unfit
-returns-in-Unfit c =
-    let text = c.args.text.now in
-    record { stored = partly_broken c.loop-next.invariant (subst (SignedIs text c.loop-next.i) c.in-Unfit.is c.signed_at.ensures.read) }
+returns-in-Unfit c = record { stored = partly_broken c.loop-next.invariant c.in-Unfit.ensures.read }
 
 pub overflow_add-result : goal.overflow_add-result
 overflow_add-result c =
-    let close-known : Closes c.args.text.now c.loop-next.i c.in-Close.next = subst (SignedIs c.args.text.now c.loop-next.i) c.in-Close.is c.signed_at.ensures.read in
-    let t = close-known in
-    omega (arith, t.on, t.passed.within, c.loop-next.invariant.few, c.well_formed)
+    let last = c.in-Close.ensures.read in
+    omega (arith, last.on, last.passed.within, c.loop-next.invariant.few, c.well_formed)
 
 pub shape_of-clauses-in-Close : goal.shape_of-clauses-in-Close
-shape_of-clauses-in-Close c = c.store_literal.auto.table ∙ partly_length c.loop-next.invariant
+shape_of-clauses-in-Close c = c.store.auto.table ∙ partly_length c.loop-next.invariant
 
 pub returns-in-Close : goal.returns-in-Close
 returns-in-Close c =
-    let close-known : Closes c.args.text.now c.loop-next.i c.in-Close.next = subst (SignedIs c.args.text.now c.loop-next.i) c.in-Close.is c.signed_at.ensures.read in
-    record { stored = partly_whole c.loop-next.invariant (close-known) c.store_literal.new.table c.store_literal.ensures.stored }
+    let last = c.in-Close.ensures.read in
+    record { stored = partly_whole c.loop-next.invariant last c.store.new.table c.store.ensures.stored }
 
 pub literal_of-requires : goal.literal_of-requires
 literal_of-requires c =
-    let literal-known : Taken (cond c.in-Literal.negative (Negated c.in-Literal.value) (Plain c.in-Literal.value)) c.args.text.now c.loop-next.i c.in-Literal.next =
-    subst (SignedIs c.args.text.now c.loop-next.i) c.in-Literal.is c.signed_at.ensures.read in
-    let t = literal-known in
-    record { small = signed-most c.in-Literal.negative c.in-Literal.value t.word t.is }
+    let taken = c.in-Literal.ensures.read in
+    record { small = signed-most c.in-Literal.negative c.in-Literal.value taken.word taken.is }
 
 pub overflow_add-row : goal.overflow_add-row
 overflow_add-row c =
-    let literal-known : Taken (cond c.in-Literal.negative (Negated c.in-Literal.value) (Plain c.in-Literal.value)) c.args.text.now c.loop-next.i c.in-Literal.next =
-    subst (SignedIs c.args.text.now c.loop-next.i) c.in-Literal.is c.signed_at.ensures.read in
-    let t = literal-known in
-    omega (arith, t.on, t.within, c.loop-next.invariant.few, c.well_formed)
+    let taken = c.in-Literal.ensures.read in
+    omega (arith, taken.on, taken.within, c.loop-next.invariant.few, c.well_formed)
 
 pub loop-next-smaller : goal.loop-next-smaller
 loop-next-smaller c =
-    let literal-known : Taken (cond c.in-Literal.negative (Negated c.in-Literal.value) (Plain c.in-Literal.value)) c.args.text.now c.loop-next.i c.in-Literal.next =
-    subst (SignedIs c.args.text.now c.loop-next.i) c.in-Literal.is c.signed_at.ensures.read in
-    let t = literal-known in
-    omega (arith, t.on, t.within)
+    let taken = c.in-Literal.ensures.read in
+    omega (arith, taken.on, taken.within)
 
 pub loop-next-preserved : goal.loop-next-preserved
 loop-next-preserved c =
-    let literal-known : Taken (cond c.in-Literal.negative (Negated c.in-Literal.value) (Plain c.in-Literal.value)) c.args.text.now c.loop-next.i c.in-Literal.next =
-    subst (SignedIs c.args.text.now c.loop-next.i) c.in-Literal.is c.signed_at.ensures.read in
     let l = c.loop-next in
+    let w = c.in-Literal in
+    let taken = w.ensures.read in
     let z = c.literal_of in
-    let o = c.store_literal-in-Literal in
-    let literal = cond c.in-Literal.negative (neg_ℤ (pos c.in-Literal.value)) (pos c.in-Literal.value) in
-    partly_more l.invariant (literal-known) literal (signed-entry c.in-Literal.negative c.in-Literal.value) o.new.table
+    let o = c.store-in-Literal in
+    partly_more l.invariant taken (cond w.negative (neg_ℤ (pos w.value)) (pos w.value)) (signed-entry w.negative w.value) o.new.table
     (o.ensures.stored ∙ literal_put l.clauses l.row z.result (record { sfits = z.type_inv }) z.ensures.signed)

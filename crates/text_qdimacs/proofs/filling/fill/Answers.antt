@@ -5,9 +5,8 @@ use Rattle.text_qdimacs.proofs.filling.fill.Goals as goal
 pub returns : goal.returns
 returns c =
     let a = c.args in
-    let entries = c.copy_entries in
-    let literals = c.copy_literals in
+    let pre = c.requires.held in
     record {
-      filled = held_copied c.requires.held.0 c.if-own_prefix-entries.false c.if-own_clauses-literals.false a.prefix.now entries.new.to a.clauses.now
-          literals.new.to entries.ensures.copied literals.ensures.copied;
+      filled = held_copied pre.0 c.if-own_prefix-entries.false c.if-own_clauses-literals.false a.prefix.now _ a.clauses.now _ pre.1 pre.2
+          c.copy_from_slice.ensures.after c.copy_from_slice-2.ensures.after;
     }

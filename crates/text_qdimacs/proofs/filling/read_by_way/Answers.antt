@@ -1,58 +1,38 @@
 -- What the first scan found decides: a fault is the first cause, and so is a table without room for what was counted; else what was scanned is filled in.
 use mathlib.Core.Path.{refl}
 use native.Mathlib.Omega.{arith}
-use Rattle.text_qdimacs.specs.InnerScans.{Scanned}
+use Rattle.terms.proofs.Verdicts.{handed_on}
 use Rattle.text_qdimacs.specs.Reading.{no_room_prefix, no_room_clauses}
 use Rattle.text_qdimacs.proofs.Readings.{first_fault, first_room, read_all}
+use Rattle.text_qdimacs.proofs.filling.read_by_way.Goals.{then-prefix-counts-via-then-prefix-counts, then-prefix-counts-via-else-prefix-counts+then-clauses-counts}
 use Rattle.text_qdimacs.proofs.filling.read_by_way.Goals as goal
 
-pub returns-then-prefix-entries : goal.returns-then-prefix-entries
-returns-then-prefix-entries c =
+pub returns-in_err-counts : goal.returns-in_err-counts
+returns-in_err-counts c =
     let a = c.args in
-    let o = c.scan.new in
-    let w = c.in-Read in
-    let s : Scanned w.n w.entries w.literals a.text.now (a.own_prefix.now, a.own_clauses.now) (o.prefix, o.clauses) = w.ensures.scanned in
-    let counted = s.entries_counted in
-    record {
-      answered = (
-        first_room a.text.now a.prefix.now a.clauses.now c.requires.short s.text_of
-            (no_room_prefix s.text_of (omega (arith, c.if-prefix-entries.true))),
-        (refl, refl),
-      );
-    }
+    let w = c.in_err-counts in
+    rw (handed_on c.from_residual.result c.from_residual.ensures.1)
+    (record { answered = (first_fault a.text.now a.prefix.now a.clauses.now c.requires.short _ _ w.ensures.scanned, (refl, refl)) })
 
-pub returns-then-clauses-literals : goal.returns-then-clauses-literals
-returns-then-clauses-literals c =
+pub returns-then-prefix-counts : goal.returns-then-prefix-counts
+returns-then-prefix-counts c =
     let a = c.args in
-    let o = c.scan.new in
-    let w = c.in-Read in
-    let s : Scanned w.n w.entries w.literals a.text.now (a.own_prefix.now, a.own_clauses.now) (o.prefix, o.clauses) = w.ensures.scanned in
-    let counted = s.literals_counted in
-    record {
-      answered = (
-        first_room a.text.now a.prefix.now a.clauses.now c.requires.short s.text_of
-            (no_room_clauses s.text_of (omega (arith, c.if-clauses-literals.true))),
-        (refl, refl),
-      );
-    }
+    let s = c.in_ok-counts.ensures.scanned in
+    let first = first_room a.text.now a.prefix.now a.clauses.now c.requires.short s.text_of in
+    elim c.then-prefix-counts.branch [
+      | then-prefix-counts-via-then-prefix-counts w ↦
+          record { answered = (first (no_room_prefix s.text_of (omega (arith, s.entries_counted, w.if-prefix-counts.true))), (refl, refl)) }
+      | then-prefix-counts-via-else-prefix-counts+then-clauses-counts w ↦
+          record { answered = (first (no_room_clauses s.text_of (omega (arith, s.literals_counted, w.if-clauses-counts.true))), (refl, refl)) }
+    ]
 
-pub returns-in-Refused : goal.returns-in-Refused
-returns-in-Refused c =
+pub returns : goal.returns
+returns c =
     let a = c.args in
-    let w = c.in-Refused in
-    record { answered = (first_fault a.text.now a.prefix.now a.clauses.now c.requires.short w.number w.place w.ensures.scanned, (refl, refl)) }
-
-pub returns-else-clauses-literals : goal.returns-else-clauses-literals
-returns-else-clauses-literals c =
-    let a = c.args in
-    let o = c.scan.new in
-    let w = c.in-Read in
-    let s : Scanned w.n w.entries w.literals a.text.now (a.own_prefix.now, a.own_clauses.now) (o.prefix, o.clauses) = w.ensures.scanned in
-    let e = s.entries_counted in
-    let l = s.literals_counted in
+    let s = c.in_ok-counts.ensures.scanned in
     let f = c.fill in
     record {
       answered =
-          read_all a.text.now a.prefix.now a.clauses.now c.requires.short s.text_of (omega (arith, c.if-prefix-entries.false))
-          (omega (arith, c.if-clauses-literals.false)) f.new.prefix f.new.clauses f.result f.ensures.filled;
+          read_all a.text.now a.prefix.now a.clauses.now c.requires.short s.text_of (omega (arith, s.entries_counted, c.if-prefix-counts.false))
+          (omega (arith, s.literals_counted, c.if-clauses-counts.false)) f.new.prefix f.new.clauses f.result f.ensures.filled;
     }

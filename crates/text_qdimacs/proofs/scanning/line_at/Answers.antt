@@ -4,6 +4,8 @@ use mathlib.Core.Path.{sym, subst}
 use mathlib.Core.List.{List}
 use lib.IntN.{ℤ}
 use Rattle.text_lines.specs.declared.Stage.{Stage}
+use Rattle.std.specs.Prelude.{Some}
+use Rattle.text_lines.specs.declared.Opened.{Opened}
 use Rattle.text_lines.specs.InnerSteps.{OpenedIs, StepIs, Sound}
 use Rattle.text_lines.proofs.Bodies.{fault_opening, went_comment, went_problem}
 use Rattle.text_qdimacs.proofs.scanning.line_at.Goals as goal
@@ -13,22 +15,21 @@ body_at-requires c =
     let pre = c.requires in
     record { within = (pre.within.0, pre.within.1, pre.within.2, subst Sound c.in-Body.is pre.within.3) }
 
-pub returns-in-Misfit : goal.returns-in-Misfit
-returns-in-Misfit c =
-    let a = c.args in
-    let none = subst (OpenedIs a.text.now a.at) c.in-Misfit.is c.opening_at.ensures.opened in
-    record { steps = fault_opening c.in-Opening.is c.requires.within.0 none }
+pub returns-in-None : goal.returns-in-None
+returns-in-None c = record { steps = fault_opening c.in-Opening.is c.requires.within.0 c.in-None.ensures.opened }
 
-pub returns-in-Comment : goal.returns-in-Comment
-returns-in-Comment c =
+pub returns-in-Some-Comment : goal.returns-in-Some-Comment
+returns-in-Some-Comment c =
     let a = c.args in
-    let comment = subst (OpenedIs a.text.now a.at) c.in-Comment.is c.opening_at.ensures.opened in
+    let w = c.in-Some-Comment in
+    let comment = subst (λ (o : Opened). OpenedIs a.text.now a.at (Some o)) w.field-0-is w.ensures.opened in
     record { steps = went_comment c.requires.within.1 c.requires.within.2 c.in-Opening.is comment }
 
-pub returns-in-Problem : goal.returns-in-Problem
-returns-in-Problem c =
+pub returns-in-Some-Problem : goal.returns-in-Some-Problem
+returns-in-Some-Problem c =
     let a = c.args in
-    let problem = subst (OpenedIs a.text.now a.at) c.in-Problem.is c.opening_at.ensures.opened in
+    let w = c.in-Some-Problem in
+    let problem = subst (λ (o : Opened). OpenedIs a.text.now a.at (Some o)) w.field-0-is w.ensures.opened in
     record { steps = went_problem c.requires.within.1 c.requires.within.2 c.in-Opening.is problem }
 
 pub returns-in-Body : goal.returns-in-Body

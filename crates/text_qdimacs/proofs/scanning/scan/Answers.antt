@@ -1,22 +1,12 @@
-use Prim.Native.Nat.{ℕ}
-use mathlib.Core.List.{List}
-use lib.IntN.{ℤ}
-use Rattle.text_lines.specs.InnerSteps.{Went}
 use Rattle.text_qdimacs.proofs.Scans.{reached_none, reached_sound, reached_prefix, reached_clauses, reached_more, reached_fault}
 use Rattle.text_qdimacs.proofs.Scans.{reached_end}
 use Rattle.text_qdimacs.proofs.scanning.scan.Goals as goal
 
-pub returns-in-Wrong : goal.returns-in-Wrong
-returns-in-Wrong c = record { scanned = reached_fault c.loop-at.invariant c.in-Wrong.ensures.steps }
+pub returns-in-Err : goal.returns-in-Err
+returns-in-Err c = record { scanned = reached_fault c.loop-at.invariant c.in-Err.ensures.steps }
 
 pub loop-at-preserved : goal.loop-at-preserved
-loop-at-preserved c =
-    let l = c.loop-at in
-    let w = c.in-On in
-    let after : List ℕ × List ℤ = (c.line_at.new.prefix, c.line_at.new.clauses) in
-    let went : Went l.stage c.args.text.now l.at l.entries l.literals (l.prefix, l.clauses) after w.reached w.next w.entries_now w.literals_now =
-    w.ensures.steps in
-    reached_more l.invariant went
+loop-at-preserved c = reached_more c.loop-at.invariant c.in-Ok.ensures.steps
 
 pub loop-at-init : goal.loop-at-init
 loop-at-init c =

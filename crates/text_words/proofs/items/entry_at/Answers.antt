@@ -1,10 +1,8 @@
--- What the reader found is the next word of the line (found_at), and its number with its sign is its item (item-at); the line's end is no entry.
-use mathlib.Core.Path.{◌≡◌, ap, ◌∙◌}
-use lib.Seq.{slice}
-use Rattle.text_words.specs.declared.Number.TheVariants.{Is}
-use Rattle.text_words.specs.InnerNumbers.{item_of}
+-- What the reader found is the next word of the line (found_of), and its number with its sign is its item (found_item); the line's end is no entry.
+use Rattle.std.specs.Prelude.{Some}
+use mathlib.Core.Path.{ap, ◌∙◌}
 use Rattle.text_words.specs.InnerPlaces.{signed_item, wordless, strange}
-use Rattle.text_words.proofs.Lines.{FoundIs, found_of, end_of}
+use Rattle.text_words.proofs.Lines.{found_of, end_of}
 use Rattle.text_words.proofs.Entries.{found_item, not_item, found_entry}
 use Rattle.text_words.proofs.items.entry_at.Goals as goal
 
@@ -13,25 +11,18 @@ returns-in-End c =
     let a = c.args in
     record { read = wordless (end_of a.text.now a.at c.word_in.ensures.found c.in-End.is).none }
 
-pub returns-in-Not : goal.returns-in-Not
-returns-in-Not c =
-    let item-at : let a = c.args in
-    item_of (slice c.in-Found.start c.in-Found.end a.text.now) ≡ signed_item c.in-Found.negative c.in-Found.number = let a = c.args in
-    found_item a.text.now a.at c.word_in.ensures.found c.in-Found.is in
-    let found_at : let a = c.args in
-    FoundIs a.text.now a.at c.in-Found.start c.in-Found.end = let a = c.args in
-    found_of a.text.now a.at c.word_in.ensures.found c.in-Found.is in
-    let negative = c.in-Found.negative in
-    record { read = strange (found_at).first (item-at ∙ ap (signed_item negative) c.in-Not.is ∙ not_item negative) }
+pub returns-in-None : goal.returns-in-None
+returns-in-None c =
+    let a = c.args in
+    let w = c.in-Found in
+    let found = found_of a.text.now a.at c.word_in.ensures.found w.is in
+    let item = found_item a.text.now a.at c.word_in.ensures.found w.is in
+    record { read = strange found.first (item ∙ ap (signed_item w.negative) c.in-None.is ∙ not_item w.negative) }
 
-pub returns-in-Is : goal.returns-in-Is
-returns-in-Is c =
-    let found_at : let a = c.args in
-    FoundIs a.text.now a.at c.in-Found.start c.in-Found.end = let a = c.args in
-    found_of a.text.now a.at c.word_in.ensures.found c.in-Found.is in
-    let item-at : let a = c.args in
-    item_of (slice c.in-Found.start c.in-Found.end a.text.now) ≡ signed_item c.in-Found.negative c.in-Found.number = let a = c.args in
-    found_item a.text.now a.at c.word_in.ensures.found c.in-Found.is in
-    let negative = c.in-Found.negative in
-    let item = item-at ∙ ap (signed_item negative) c.in-Is.is in
-    record { read = found_entry (found_at) (signed_item negative (Is c.in-Is.value)) item c.numbered.result c.numbered.ensures.read }
+pub returns-in-Some : goal.returns-in-Some
+returns-in-Some c =
+    let a = c.args in
+    let w = c.in-Found in
+    let found = found_of a.text.now a.at c.word_in.ensures.found w.is in
+    let item = found_item a.text.now a.at c.word_in.ensures.found w.is ∙ ap (signed_item w.negative) c.in-Some.is in
+    record { read = found_entry found (signed_item w.negative (Some c.in-Some.value)) item c.numbered.result c.numbered.ensures.read }

@@ -1,11 +1,6 @@
 -- The bytes passed are digits, at most five, and spell the value (Digits), so that the value stays below 10^5; the byte that ends them ends the word or not.
-use Prim.Native.Nat.{◌-◌}
-use lib.ListN.{length}
 use Rattle.text_words.proofs.Numerals.{Digits}
 use Rattle.text_words.proofs.words.digits_at.Given as goal
 
 abbrev pub invariant-loop-i : goal.invariant-loop-i
 invariant-loop-i l = Digits l.text l.from l.i l.value
-
-abbrev pub decreases-loop-i : goal.decreases-loop-i
-decreases-loop-i l = length l.text - l.i

@@ -1,72 +1,56 @@
-use Prim.Native.Nat.{ℕ, suc, ◌+◌, ◌-◌, ◌^◌, ◌≤◌, ◌<◌}
-use mathlib.Core.Path.{◌≡◌, refl, sym, ap, ◌∙◌}
+-- The bytes that the loop passes are the word's (sliced), and each that is a digit brings the number one digit on, while any other ends it.
+use Prim.Native.Nat.{ℕ, ◌+◌, ◌-◌, ◌≤◌}
+use mathlib.Core.Path.{◌≡◌, sym, ap, ◌∙◌}
+use mathlib.Core.Bool.{false, ◌&&◌}
+use mathlib.Core.List.{List}
 use native.Mathlib.Omega.{arith}
-use native.Mathlib.Nat.{sub_self}
-use lib.Dec.{lit<}
-use lib.ListN.{get_or}
-use lib.Seq.{slice}
+use native.Mathlib.Numerals.{add-one}
+use lib.Dec.{leb, lit<}
+use lib.ListN.{get_or, drop_of_length-le}
+use lib.Seq.{slice, drop-cons}
 use borrow.Author.Tests.{le-leb, lt-leb}
+use Rattle.std.specs.List.{slice_range}
+use Rattle.std.proofs.lemmas.List.{drop-take}
 use Rattle.text_words.specs.Words.{ZERO}
 use Rattle.text_words.specs.InnerNumbers.{NINE}
 use Rattle.text_words.specs.InnerPlaces.{spelt_of}
-use Rattle.text_words.proofs.Numbers.{spelt_digit, spelt_other, spelt_none, power_next, power_most}
+use Rattle.text_words.proofs.Numbers.{spelt_digit, spelt_other, spelt_none, power_next}
 use Rattle.text_words.proofs.words.digits_in.Goals as goal
+use Rattle.text_words.proofs.words.digits_in.Goals.{then-byte-lt-ZERO-via-then-byte-lt-ZERO, then-byte-lt-ZERO-via-else-byte-lt-ZERO+then-byte-gt-NINE}
 
-pub loop-i-init : goal.loop-i-init
-loop-i-init c =
-    let start = c.args.start in
-    let one : 0 < 10 ^ (start - start) = rw (sub_self start) (lit< tt) in
-    (omega arith, omega arith, one, refl)
+sliced : (start end : ℕ) (text : List ℕ) → start ≤ end → slice_range text start end ≡ slice start end text
+sliced start end text h =
+    let whole : start + (end - start) ≡ end = omega arith in
+    sym (drop-take start (end - start) text) ∙ ap (λ (k : ℕ). slice start k text) whole
+
+pub loop-byte-init : goal.loop-byte-init
+loop-byte-init c =
+    let a = c.args in
+    record { below = lit< tt; spells = ap (spelt_of 0) (sliced a.start a.end a.text.now c.requires.few.0) }
 
 pub returns-then-byte-lt-ZERO : goal.returns-then-byte-lt-ZERO
 returns-then-byte-lt-ZERO c =
-    let a = c.args in
-    let l = c.loop-i in
-    let b = get_or a.text.now l.i 0 in
-    record { counted = sym (spelt_other l.value l.i a.end a.text.now (omega arith) (omega arith) (rw (lt-leb ZERO b c.if-byte-lt-ZERO.true))) ∙ l.invariant.3 }
+    let l = c.loop-byte in
+    let word = slice_range c.args.text.now c.args.start c.args.end in
+    let b = get_or word l.byte-index 0 in
+    let other : (leb ZERO b && leb b NINE) ≡ false = elim c.then-byte-lt-ZERO.branch [
+      | then-byte-lt-ZERO-via-then-byte-lt-ZERO w ↦ rw (lt-leb ZERO b w.if-byte-lt-ZERO.true)
+      | then-byte-lt-ZERO-via-else-byte-lt-ZERO+then-byte-gt-NINE w ↦ rw (le-leb ZERO b w.if-byte-lt-ZERO.false, lt-leb b NINE w.if-byte-gt-NINE.true)
+    ] in
+    record { counted = sym (spelt_other l.value b _ other) ∙ ap (spelt_of l.value) (sym (drop-cons word l.byte-index 0 c.loop-byte-test.true)) ∙ l.invariant.spells }
 
-pub returns-then-byte-gt-NINE : goal.returns-then-byte-gt-NINE
-returns-then-byte-gt-NINE c =
-    let a = c.args in
-    let l = c.loop-i in
-    let b = get_or a.text.now l.i 0 in
+pub loop-byte-preserved : goal.loop-byte-preserved
+loop-byte-preserved c =
+    let l = c.loop-byte in
+    let word = slice_range c.args.text.now c.args.start c.args.end in
+    let b = get_or word l.byte-index 0 in
     record {
-      counted = sym
-          (spelt_other l.value l.i a.end a.text.now (omega arith) (omega arith)
-          (rw (le-leb ZERO b c.if-byte-lt-ZERO.false, lt-leb b NINE c.if-byte-gt-NINE.true))) ∙ l.invariant.3;
+      below = rw add-one (power_next l.value (b - ZERO) l.byte-index l.invariant.below (omega arith));
+      spells = sym (spelt_digit l.value b _ c.if-byte-lt-ZERO.false c.if-byte-gt-NINE.false)
+          ∙ ap (spelt_of l.value) (sym (rw add-one (drop-cons word l.byte-index 0 c.loop-byte-test.true))) ∙ l.invariant.spells;
     }
-
-pub overflow_mul-value : goal.overflow_mul-value
-overflow_mul-value c =
-    let a = c.args in
-    let l = c.loop-i in
-    let most = power_most {k = l.i - a.start} (omega arith) in
-    omega arith
-
-pub overflow_add-value : goal.overflow_add-value
-overflow_add-value c =
-    let a = c.args in
-    let l = c.loop-i in
-    let most = power_most {k = l.i - a.start} (omega arith) in
-    omega arith
-
-pub loop-i-preserved : goal.loop-i-preserved
-loop-i-preserved c =
-    let a = c.args in
-    let l = c.loop-i in
-    let b = get_or a.text.now l.i 0 in
-    let low : ZERO ≤ b = omega arith in
-    let high : b ≤ NINE = omega arith in
-    let next : l.i + 1 - a.start ≡ suc (l.i - a.start) = omega arith in (
-      omega arith,
-      omega arith,
-      rw next (power_next l.value (b - ZERO) (l.i - a.start) l.invariant.2 (omega arith)),
-      sym (spelt_digit l.value l.i a.end a.text.now (omega arith) (omega arith) low high) ∙ l.invariant.3,
-    )
 
 pub returns : goal.returns
 returns c =
-    let a = c.args in
-    let l = c.loop-i in
-    let done : l.i ≡ a.end = omega arith in
-    record { counted = sym (spelt_none l.value a.end a.text.now) ∙ sym (ap (λ (k : ℕ). spelt_of l.value (slice k a.end a.text.now)) done) ∙ l.invariant.3 }
+    let l = c.loop-byte in
+    record { counted = sym (spelt_none l.value) ∙ ap (spelt_of l.value) (sym (drop_of_length-le _ c.loop-byte-test.false)) ∙ l.invariant.spells }

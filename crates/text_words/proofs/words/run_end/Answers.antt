@@ -1,29 +1,25 @@
-use lib.ListN.{get_or}
+use native.Mathlib.Omega.{arith}
 use borrow.Author.Tests.{eq-eqb, ne_eqb}
-use Rattle.text_words.specs.Words.{LF, SPACE}
 use Rattle.text_words.specs.InnerPlaces.{in_word}
-use Rattle.text_words.proofs.Leading.{passing_none, passing_more, passing_stop, passing_end}
+use Rattle.text_words.proofs.Leading.{past_end, passing_more, passing_stop, passing_end}
 use Rattle.text_words.proofs.words.run_end.Goals as goal
-
-pub loop-i-init : goal.loop-i-init
-loop-i-init c =
-    let a = c.args in
-    passing_none in_word a.text.now a.at
+use Rattle.text_words.proofs.words.run_end.Goals.{then-byte-eq-SPACE-via-then-byte-eq-SPACE, then-byte-eq-SPACE-via-else-byte-eq-SPACE+then-byte-eq-LF}
 
 pub returns-then-byte-eq-SPACE : goal.returns-then-byte-eq-SPACE
 returns-then-byte-eq-SPACE c =
-    let byte = get_or c.args.text.now c.loop-i.i 0 in
-    record { passed = passing_stop c.loop-i.invariant c.loop-i-test.true (rw (eq-eqb byte SPACE c.if-byte-eq-SPACE.true)) }
-
-pub returns-then-byte-eq-LF : goal.returns-then-byte-eq-LF
-returns-then-byte-eq-LF c =
-    let byte = get_or c.args.text.now c.loop-i.i 0 in
-    record { passed = passing_stop c.loop-i.invariant c.loop-i-test.true (rw (ne_eqb byte SPACE c.if-byte-eq-SPACE.false, eq-eqb byte LF c.if-byte-eq-LF.true)) }
+    let stop = passing_stop c.loop-i.invariant c.loop-i-test.true in
+    record {
+      passed = elim c.then-byte-eq-SPACE.branch [
+        | then-byte-eq-SPACE-via-then-byte-eq-SPACE w ↦ stop (rw (eq-eqb _ _ w.if-byte-eq-SPACE.true))
+        | then-byte-eq-SPACE-via-else-byte-eq-SPACE+then-byte-eq-LF w ↦ stop (rw (ne_eqb _ _ w.if-byte-eq-SPACE.false, eq-eqb _ _ w.if-byte-eq-LF.true))
+      ];
+    }
 
 pub loop-i-preserved : goal.loop-i-preserved
 loop-i-preserved c =
-    let byte = get_or c.args.text.now c.loop-i.i 0 in
-    passing_more c.loop-i.invariant c.loop-i-test.true (rw (ne_eqb byte SPACE c.if-byte-eq-SPACE.false, ne_eqb byte LF c.if-byte-eq-LF.false))
+    passing_more c.loop-i.invariant c.loop-i-test.true (rw (ne_eqb _ _ c.if-byte-eq-SPACE.false, ne_eqb _ _ c.if-byte-eq-LF.false))
 
 pub returns : goal.returns
-returns c = record { passed = passing_end c.loop-i.invariant c.loop-i-test.false }
+returns c =
+    let a = c.args in
+    record { passed = grind (arith, past_end in_word a.text.now a.at, passing_end c.loop-i.invariant c.loop-i-test.false, c.max.ensures) }

@@ -1,29 +1,13 @@
-use native.Mathlib.Omega.{arith}
 use lib.ListN.{get_or}
-use Rattle.text_write.proofs.Stores.{upto_none, upto_more, upto_all, upto_length, prefix_script, entry_most}
+use Rattle.text_write.proofs.Stores.{upto_more, upto_all, entry_most}
 use Rattle.text_write.proofs.writing.put_prefix.Goals as goal
 
-pub loop-i-init : goal.loop-i-init
-loop-i-init c =
-    let a = c.args in
-    upto_none prefix_script a.prefix.now a.out.now a.at
-
-pub put_entry-next-requires : goal.put_entry-next-requires
-put_entry-next-requires c =
-    let pre = c.requires in
-    let l = c.loop-i in
-    let h = c.loop-i-test.true in
-    record { small = omega (arith, l.invariant.few, pre.small.0, pre.small.1, h, pre.small.2 l.i h) }
-
-pub loop-i-preserved : goal.loop-i-preserved
-loop-i-preserved c =
-    let l = c.loop-i in
-    let h = c.loop-i-test.true in
-    let small = entry_most l.first (get_or c.args.prefix.now l.i 0) (c.requires.small.2 l.i h) in
+pub loop-entry-preserved : goal.loop-entry-preserved
+loop-entry-preserved c =
+    let l = c.loop-entry in
+    let h = c.loop-entry-test.true in
+    let small = entry_most l.first (get_or c.args.prefix.now l.entry-index 0) (c.requires.small.2 l.entry-index h) in
     upto_more l.invariant h c.put_entry-next.ensures.wrote small c.starts-first.ensures.told
 
-pub shape_of-out : goal.shape_of-out
-shape_of-out c = upto_length c.loop-i.invariant
-
 pub returns : goal.returns
-returns c = record { wrote = upto_all c.loop-i.invariant c.loop-i-test.false }
+returns c = record { wrote = upto_all c.loop-entry.invariant c.loop-entry-test.false }

@@ -1,2 +1,0 @@
--- The laws of an added clause.
-pub mod Ranged
