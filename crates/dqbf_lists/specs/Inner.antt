@@ -27,7 +27,7 @@ abbrev pub ReadsListed : ℕ → Formula → ℕ → List ℕ → Answer ℕ →
 ReadsListed rule f entries =
     Reads (listed_formula rule f entries) (SoundClauses f.clauses × (entries ≤ list_entries)) rule f.n f.prefix
 
--- and so where the prefix is given in a slice of its own
+-- and so where the prefix is given as the rule reads it
 abbrev pub TakesListed : ℕ → Formula → ℕ → Answer (Bor (List ℕ)) → Type 0
 TakesListed rule f entries =
     Takes (listed_formula rule f entries) (SoundClauses f.clauses × (entries ≤ list_entries)) rule f.n f.prefix

@@ -1,4 +1,5 @@
--- What the inner functions promise that look a variable up and write both tables. What a reader must believe is in Promise, and in Expansion and Total of `expand_clauses`.
+-- What the inner functions promise that look a variable up and write both tables. What a reader must believe is in Promise, and in Expansion and Total of
+-- `expand_clauses`.
 use Rattle.std.specs.Prelude.{ℕ, ◌≡◌, true, false, cond, List, [], ◌∷◌, ◌++◌, eqb, Option, None, Some}
 use Rattle.terms.specs.Says.{counts_said, Answer}
 use Rattle.terms.specs.Answers.{Settles}

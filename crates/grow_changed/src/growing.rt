@@ -1,7 +1,7 @@
 // Which sets grow by an added clause: the sizes of all sets are found twice, by the clauses and rows as lent and with the clause put into copies of both,
 // and those universals are listed whose two sizes differ.
 
-ghost use Rattle.std.specs.Prelude.{ℕ, ◌+◌, ◌≤◌, ◌≡◌, List, [], ◌∷◌, length, get_or};
+ghost use Rattle.std.specs.Prelude.{ℕ, ◌+◌, ◌≤◌, ◌≡◌, [], ◌∷◌, length, get_or};
 ghost use Rattle.std.proofs.lemmas.List.Edits.{sets};
 ghost use Rattle.terms.specs.Answers.{Listing};
 ghost use Rattle.terms.specs.Limits.{most_variables, clause_entries};
@@ -15,7 +15,6 @@ ghost use Rattle.forest_tables.specs.Lent.{rows};
 ghost use Rattle.forest.specs.Causes.{OutputCause};
 ghost use Rattle.grow.specs.Grown.{with_last};
 ghost use Rattle.sets_occurrences.specs.InnerThreads.{Closed};
-ghost use Rattle.sets_sizes.specs.InnerSizes.{Sizes};
 ghost use Rattle.grow_changed.specs.Changed.{Changes};
 ghost use Rattle.grow_changed.specs.InnerChanged.{Fit, Grows, SizesWith, FlagsOther};
 

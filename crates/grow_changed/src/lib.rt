@@ -5,7 +5,7 @@
 
 mod growing;
 
-ghost use Rattle.std.specs.Prelude.{◌≤◌, [], ◌∷◌, length};
+ghost use Rattle.std.specs.Prelude.{◌≤◌, length};
 ghost use Rattle.terms.specs.Answers.{Listing};
 ghost use Rattle.terms.specs.Limits.{clause_entries};
 ghost use Rattle.formula.specs.Lent.{formula_in};

@@ -16,7 +16,7 @@ use Rattle.terms.specs.Answers.{InFront}
 use Rattle.terms.specs.Listed.{Listed}
 use Rattle.terms.specs.Overwritten.{overwritten}
 use Rattle.terms.proofs.Listed.{listed_one}
-use Rattle.terms.proofs.Overwritten.{overwritten_room, overwritten_front}
+use Rattle.terms.proofs.Overwritten.{overwritten_front}
 use Rattle.forest_members.specs.declared.Asked.TheVariants.{Points}
 use Rattle.forest_members.specs.InnerPicked.{pick, picked, NoneUpto}
 use Rattle.forest_members.proofs.Picked.{picked_most, picked_flag, picked_listed, picked_none}
@@ -66,13 +66,6 @@ picked_front f n few {after} {end} counted stored =
 -- So does a line of which something is said ...
 pub line_is : {P : List ℕ → Type 0} {line before after : List ℕ} {end : ℕ} → P line → LineIn line before after end → InFront P before after end
 line_is {P} p (bytes, is, size, left) = (bytes, subst P (sym is) p, size, left)
-
--- ... and it ends within its buffer, which stays as long as it was.
-pub line_within : (line before : List ℕ) {after : List ℕ} {end : ℕ} → end ≡ length line → after ≡ overwritten line before → length after ≡ length before
-    → end ≤ length after
-line_within line before size left same =
-    let room = overwritten_room line before (sym (ap length left) ∙ same) in
-    omega arith
 
 -- Where all bytes of a buffer up to the end of such a line are written, the line is.
 pub line_sent : (a b : Option (List ℕ)) (line before : List ℕ) {after : List ℕ} {end : ℕ} → end ≡ length line → after ≡ overwritten line before

@@ -72,6 +72,6 @@ pub data Prints (text : List ℕ) : List (List ℕ) → Type 0 where
   listing : {lines : List (List ℕ)} (f : Formula) → IsRead text f → NoneOf (check_order 1 f) → Lists f lines → Prints text lines
 
 -- How many lines were printed: all lines, of which P says what they are, and what a writer holds, where that is known, has grown by these lines one after
--- the other; or none, where one could not be written, behind which none follows.
+-- the other. Where none is told, one could not be written, and nothing is said of the writer.
 abbrev pub AllPrinted : (List (List ℕ) → Type 0) → Option (List ℕ) → Option (List ℕ) → Option ℕ → Type 0
 AllPrinted P before after told = IfSome told (λ count. (lines : List (List ℕ)) × P lines × (count ≡ length lines) × Appends before after (concat lines))

@@ -1,7 +1,7 @@
 -- One entry of a path: what makes it fail, and the stamps that the next one is held against.
 use Prim.Native.Nat.{ℕ, zero, suc, ◌+◌, ◌-◌, ◌<◌}
 use mathlib.Core.Path.{◌≡◌, refl, sym, ap, subst, ◌∙◌}
-use mathlib.Core.Bool.{Bool, true, false, not, not-eq-not}
+use mathlib.Core.Bool.{Bool, true, false, not}
 use mathlib.Core.List.{List}
 use mathlib.Core.Logic.{◌≢◌, ⊎_elim, by_cases}
 use native.Mathlib.Decide.{dec_lt}
@@ -70,10 +70,6 @@ module _ {X : Variables} {ls : List ℤ} {x y : ℕ} {path : List ℕ} where
   no_cause l plain (Joins.first z _) last (apart e _ p _ not') = omega arith
   no_cause {i = i} l plain (Joins.next d q s) last (apart e _ p _ not') = let same : d ≡ e = omega arith in not' (subst (λ j. Shared X ls x (at path j) (at path i)) same s)
   no_cause l plain joins last (without_y _ q not') = not' (last q)
-
-  -- An entry without a cause names a clause that is not always true.
-  pub plain_clause : {i : ℕ} → i < length path → (PathCause X ls x y path 24 i → ⊥) → always_true (clause_at ls (at path i)) ≡ false
-  plain_clause l none = (not-eq-not {b = false}).0 (λ t. none (is_always_true refl l t))
 
   pub clean_more : {i : ℕ} → Clean (PathCause X ls x y path) i → (PathCause X ls x y path 24 i → ⊥) → Clean (PathCause X ls x y path) (i + 1)
   clean_more {i} clean none = rw (add-one i) (below_suc (λ e. (k : ℕ) → PathCause X ls x y path k e → ⊥) i clean (λ k cause. none (only_24 cause)))

@@ -5,7 +5,7 @@ use mathlib.Core.List.{List}
 use mathlib.Core.Logic.{◌≢◌, inl, inr, ⊎_elim, by_cases}
 use native.Mathlib.Decide.{ℕ_discrete, dec_lt}
 use native.Mathlib.Omega.{arith}
-use lib.ListN.{length, set, length-set, get_or-eq_default}
+use lib.ListN.{length, set, length-set}
 use lib.Seq.{get_or-set_same, get_or-set_other}
 use Rattle.formula.specs.Tables.{at}
 use Rattle.path_explain.specs.InnerSearch.{Pushed, Searching, Kept}
@@ -219,10 +219,6 @@ search_start {H} {P} {y} dists rows queue may none free less room =
 
     at_front : (i : ℕ) → i < 1 → at (set rows y 1) (at (set queue 0 y) i) ≡ 1
     at_front i l = let e : i ≡ 0 = omega arith in ap (λ j. at (set rows y 1) (at (set queue 0 y) j)) e ∙ ap (at (set rows y 1)) front ∙ own
-
--- Only a row within the table is not 0.
-pub row_within : (rows : List ℕ) (v : ℕ) → at rows v ≢ 0 → v < length rows
-row_within rows v some = by_cases (dec_lt v (length rows)) (λ l. l) (λ l. absurd (some (get_or-eq_default rows 0 {n = v} (omega arith))))
 
 -- The distance of what is looked at may be said otherwise.
 pub search_row : {H : ℕ → ℕ → Type 0} {P : ℕ → Type 0} {y head d e : ℕ} {dists rows queue : List ℕ} {tail : ℕ} → d ≡ e → Searching H P y head d dists rows queue tail

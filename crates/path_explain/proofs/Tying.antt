@@ -20,15 +20,15 @@ use Rattle.forest_entries.proofs.Flags.{clause_literal, next_none}
 use Rattle.forest_entries.specs.declared.Signs.{Signs}
 use Rattle.forest_tables.specs.Formula.{signed}
 use Rattle.sets_occurrences.specs.InnerThreads.{On, link_at}
-use Rattle.sets_occurrences.proofs.Chains.{on_some, on_here, on_later, on_cases, on_set, on_unset}
+use Rattle.sets_occurrences.proofs.Chains.{on_here, on_later, on_cases, on_set, on_unset}
 use Rattle.sets_occurrences.proofs.Followed.{next_from, closed_next}
 use Rattle.path_check.specs.Paths.{clause_at, HasVariable}
 use Rattle.path_check.proofs.Beginning.{begin_plain, begin_from}
-use Rattle.path_explain.proofs.Counting.{Counted, counted_none, counted_here, counted_less, counted_more}
+use Rattle.path_explain.proofs.Counting.{Counted, counted_here, counted_less, counted_more}
 use Rattle.path_check.proofs.Reached.{in_count}
 use Rattle.path_explain.specs.Ways.{Opens}
 use Rattle.path_explain.specs.InnerWays.{Before, HoldsBefore, OpensBefore, OpensBy, Owners}
-use Rattle.path_explain.specs.InnerTies.{Plain, Holds, Laid, Cleared, owner_at, Owns, Linked, Tied, Chain}
+use Rattle.path_explain.specs.InnerTies.{Plain, Holds, Laid, owner_at, Owns, Linked, Tied, Chain}
 
 -- an entry that the clause k owns is a literal l
 abbrev Standing : List ℤ → List ℕ → ℕ → ℤ → Type 0
@@ -47,25 +47,6 @@ pub record Tying (ls : List ℤ) (begins first next : List ℕ) (number start i 
   pub current : (e : ℕ) → start ≤ e → e < i → at begins number ≢ 0 → owner_at next e ≡ suc number
   pub sound : (v p : ℕ) → On next p (at first v) → Linked next ls v p × (p < i)
   pub on : (e k : ℕ) → owner_at next e ≡ suc k → On next e (at first (variable_of (literal_at ls e)))
-
-pub tying_none : (ls : List ℤ) (begins first next : List ℕ) → Cleared first 4097 → Cleared next 16384 → Tying ls begins first next 0 0 0
-tying_none ls begins first next heads links =
-    record {
-      counted = counted_none ls;
-      from = omega arith;
-      within = omega arith;
-      literals = λ e low high. absurd (omega arith);
-      heads = heads.length_is;
-      links = links.length_is;
-      owned = λ e k q. absurd (none e k q);
-      past = λ k l less. absurd (omega arith);
-      current = λ e low high. absurd (omega arith);
-      sound = λ v p o. absurd (on_some o (heads.zero_is v));
-      on = λ e k q. absurd (none e k q);
-    }
-  where
-    none : (e k : ℕ) → owner_at next e ≡ suc k → ⊥
-    none e k q = let z = ap high_of (links.zero_is e) in omega arith
 
 -- A chain begins with an entry before i.
 pub tying_low : {ls : List ℤ} {begins first next : List ℕ} {number start i : ℕ} → Tying ls begins first next number start i → (v : ℕ) → at first v ≤ i

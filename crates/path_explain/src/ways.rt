@@ -17,7 +17,7 @@ use formula::clauses::{literal_at, variable_at};
 use terms::pairs::unpack;
 use terms::{Literal, Variable};
 
-// The clause that a way begins with: of the clauses that have x by one of the signs the nearest, and of these the first.
+// The clause that a way begins with: of the clauses that have x by one of the signs the nearest, and of these the first; none where no clause has.
 pub fn first_clause(
     clauses: &[i32],
     next: &[u32],
@@ -135,7 +135,7 @@ pub fn write_way(
     }
 }
 
-// Of the variables of the clause from `start` on that have the distance `row`: the lowest of their nearest clauses.
+// Of the variables of the clause from `start` on that have the distance `row`: the lowest of their nearest clauses, if there is one.
 fn onward(clauses: &[i32], start: usize, row: u16, rows: &[u16], nearest: &[u32]) -> Option<u32>
     requires room { SoundClauses clauses.now × (length rows.now ≡ variable_rows) × (length nearest.now ≡ variable_rows) }
     ensures lowest { (end : ℕ) → NextZero clauses.now start end

@@ -1,6 +1,6 @@
 -- What C is told leaves nothing open (rule 18.1): the number and the cell `place` are settled by what was lent, and so are the tables and the cells of the
 -- tally after build and add, and the bytes, tables and cells after store and load. (All else is settled as the library's calls settle it.)
-use Rattle.std.specs.Prelude.{Ok, Err}
+use Rattle.std.specs.Prelude.{Ok}
 use Rattle.terms.specs.declared.Loaded.{Loaded}
 use Prim.Native.Nat.{ℕ}
 use mathlib.Core.Path.{◌≡◌, refl, sym, ap, ◌∙◌}

@@ -1,5 +1,4 @@
 -- The formula is judged by the rule; what is written by the prefix as the rule reads it stands behind that in the order.
-use mathlib.Core.Path.{refl}
 use mathlib.Core.Bool.{false}
 use Rattle.terms.specs.Answers.{Filling}
 use Rattle.terms.proofs.Answers.{carry-filling}

@@ -1,3 +1,4 @@
+-- The search for an entry that is made true finds one where there is one (any_from_yields_List), which is how a satisfied clause is defined (satisfied_any).
 use mathlib.Core.Path.{◌∙◌}
 use Rattle.std.proofs.Common.{rules, tests}
 use Rattle.std.proofs.lemmas.Iterator.{YieldsList-from_slice}

@@ -1,3 +1,4 @@
+-- The search for an entry of x or of a variable with a copy finds one where there is one (any_from_yields_List), and that is to have x or a member (touched_any).
 use mathlib.Core.Path.{◌∙◌}
 use Rattle.std.proofs.Common.{rules, tests}
 use Rattle.std.proofs.lemmas.Iterator.{YieldsList-from_slice}

@@ -1,3 +1,4 @@
+-- An entry is its own number here, so that the numbers are stored as they are read (map-id).
 use Rattle.std.proofs.Common.{rules, ℕ, ap, ◌∙◌}
 use Rattle.std.proofs.lemmas.List.{map-id}
 use lib.Seq.{sets}
