@@ -1,14 +1,21 @@
 -- The laws of copying: what a scan left in one pair of tables, copied into another.
-use Prim.Native.Nat.{ℕ, ◌+◌, ◌≤◌}
-use mathlib.Core.Path.{◌≡◌, sym, ap, ◌∙◌}
-use mathlib.Core.List.{List, ◌++◌}
+use Prim.Native.Nat.{ℕ, ◌+◌, ◌<◌, ◌≤◌}
+use mathlib.Core.Path.{◌≡◌, refl, sym, ap, ◌∙◌}
+use mathlib.Core.List.{List, [], ◌∷◌, ◌++◌}
 use native.Mathlib.Omega.{arith}
-use lib.ListN.{length, take, drop}
+use lib.ListN.{length, take, drop, get_or}
 use lib.Seq.{sets, sets-eq, length-sets, take_at}
 use lib.IntN.{ℤ}
+use Rattle.std.proofs.lemmas.List.{ext_get_or}
 use Rattle.text_qdimacs.specs.InnerScans.{Scanned, Held}
 
+-- Two tables of one length that have the same in each row are one.
 module _ {A : Type 0} where
+  pub same_rows : (now from : List A) → length now ≡ length from → ((d : A) (k : ℕ) → k < length now → get_or now k d ≡ get_or from k d) → now ≡ from
+  same_rows [] [] long each = refl
+  same_rows [] (x ∷ from) long each = absurd (omega arith)
+  same_rows (x ∷ now) from long each = ext_get_or x (x ∷ now) from long (each x)
+
   -- what was stored stands in front, if the table has rows for all of it
   pub front_stored : (xs before after : List A) (count : ℕ) → count ≡ length xs → after ≡ sets before 0 xs → count ≤ length after → take count after ≡ xs
   front_stored xs before after count counted stored room =

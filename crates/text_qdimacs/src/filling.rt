@@ -1,6 +1,6 @@
 // Filling the lent tables with what a text holds: nothing is written before it is known that the text keeps the rules and both tables have room.
 
-ghost use Rattle.std.specs.Prelude.{◌≤◌, length};
+ghost use Rattle.std.specs.Prelude.{◌≤◌, ◌≡◌, length};
 ghost use Rattle.text_qdimacs.specs.Reading.{TEXT-MOST, ReadIs};
 ghost use Rattle.text_qdimacs.specs.InnerScans.{ScanIs, Held};
 
@@ -46,7 +46,18 @@ fn fill(
     if own_prefix.len() < entries || own_clauses.len() < literals {
         return scan(text, prefix, clauses);
     }
-    prefix[..entries].copy_from_slice(&own_prefix[..entries]);
-    clauses[..literals].copy_from_slice(&own_clauses[..literals]);
+    copy_rows(&own_prefix[..entries], &mut prefix[..entries]);
+    copy_rows(&own_clauses[..literals], &mut clauses[..literals]);
     Ok(counts)
+}
+
+// Copies a table into another of the same length. `copy_from_slice` would do, but between tables that may be anywhere it is a call of memmove, which
+// whoever links the archive would have to bring.
+fn copy_rows<T: Copy>(from: &[T], to: &mut [T])
+    requires same { length from.now ≡ length to.old }
+    ensures copied { to.new ≡ from.now }
+{
+    for (i, row) in to.iter_mut().enumerate() {
+        *row = from[i];
+    }
 }

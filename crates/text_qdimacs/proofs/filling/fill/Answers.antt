@@ -8,5 +8,5 @@ returns c =
     let pre = c.requires.held in
     record {
       filled = held_copied pre.0 c.if-own_prefix-entries.false c.if-own_clauses-literals.false a.prefix.now _ a.clauses.now _ pre.1 pre.2
-          c.copy_from_slice.ensures.after c.copy_from_slice-2.ensures.after;
+          c.copy_rows.ensures.copied c.copy_rows-2.ensures.copied;
     }
