@@ -16,7 +16,7 @@ use Rattle.terms.specs.Answers.{InFront}
 use Rattle.terms.specs.Listed.{Listed}
 use Rattle.terms.specs.Overwritten.{overwritten}
 use Rattle.terms.proofs.Listed.{listed_one}
-use Rattle.terms.proofs.Overwritten.{overwritten_front}
+use Rattle.terms.proofs.Overwritten.{overwritten_room, overwritten_front}
 use Rattle.forest_members.specs.declared.Asked.TheVariants.{Points}
 use Rattle.forest_members.specs.InnerPicked.{pick, picked, NoneUpto}
 use Rattle.forest_members.proofs.Picked.{picked_most, picked_flag, picked_listed, picked_none}
@@ -67,6 +67,13 @@ picked_front f n few {after} {end} counted stored =
 pub line_is : {P : List ℕ → Type 0} {line before after : List ℕ} {end : ℕ} → P line → LineIn line before after end → InFront P before after end
 line_is {P} p (bytes, is, size, left) = (bytes, subst P (sym is) p, size, left)
 
+-- ... and it ends within its buffer, which stays as long as it was.
+pub line_within : (line before : List ℕ) {after : List ℕ} {end : ℕ} → end ≡ length line → after ≡ overwritten line before → length after ≡ length before
+    → end ≤ length after
+line_within line before size left same =
+    let room = overwritten_room line before (sym (ap length left) ∙ same) in
+    omega arith
+
 -- Where all bytes of a buffer up to the end of such a line are written, the line is.
 pub line_sent : (a b : Option (List ℕ)) (line before : List ℕ) {after : List ℕ} {end : ℕ} → end ≡ length line → after ≡ overwritten line before
     → Appends a b (take end after) → Appends a b line
@@ -100,15 +107,15 @@ module _ (links : List ℕ) (head size : ℕ) (own : (list : List ℕ) × Run li
   pub run_small : Small (take size table)
   run_small = let (list, run, _, small) = own in subst Small (sym (run_front list run)) small
 
--- The list of a sole entry point can be printed ...
-pub sole_small : (top : ℕ) → top ≤ 4096 → Small (top ∷ [])
-sole_small top low = record { few = omega arith; short = λ i more. at i more }
+-- A list of one small number at most, as of a sole entry point, can be printed ...
+pub sole_small : {list : List ℕ} → length list ≤ 1 → get_or list 0 0 ≤ 4096 → Small list
+sole_small {list} few low = record { few = omega arith; short = λ i more. at i more }
   where
-    at : (i : ℕ) → i < 1 → get_or (top ∷ []) i 0 < 100000
+    at : (i : ℕ) → i < length list → get_or list i 0 < 100000
     at zero more = omega arith
     at (suc i) more = absurd (omega arith)
 
--- ... and has it alone ...
+-- ... and that of a sole entry point has it alone ...
 sole_listed : (top : ℕ) → top ≢ 0 → Listed (Is top) (top ∷ [])
 sole_listed top some =
     record {

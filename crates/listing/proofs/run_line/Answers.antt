@@ -30,7 +30,7 @@ pub universal_line-requires : goal.universal_line-requires
 universal_line-requires c =
     let a = c.args in
     let (own, low, x, level, long) = c.requires.small in
-    record { small = (omega arith, level, sole_small a.top.0 low, run_small a.after.now a.run.low a.run.high own c.write_run.ensures.written, long) }
+    record { small = (omega arith, level, sole_small (omega arith) (omega (arith, low)), run_small a.after.now a.run.low a.run.high own c.write_run.ensures.written, long) }
 
 pub returns : goal.returns
 returns c =
