@@ -45,12 +45,12 @@ abbrev pub Known : ℕ → Type 0
 Known number = (fault : Fault) × (fault_number fault ≡ number)
 
 -- causes of which each has the number of a fault, and an order of such
-abbrev pub Some : Causes → Type 0
-Some causes = (number place : ℕ) → causes number place → Known number
+abbrev pub OfFaults : Causes → Type 0
+OfFaults causes = (number place : ℕ) → causes number place → Known number
 
 abbrev pub KnownFaults : List Causes → Type 0
 KnownFaults [] = Unit {0}
-KnownFaults (causes ∷ later) = Some causes × KnownFaults later
+KnownFaults (causes ∷ later) = OfFaults causes × KnownFaults later
 
 pub first_known : (order : List Causes) → KnownFaults order → (number place : ℕ) → FirstOf order number place → Known number
 first_known [] known number place first = absurd first
@@ -58,9 +58,12 @@ first_known (causes ∷ later) known number place (inl first) = known.0 number p
 first_known (causes ∷ later) known number place (inr first) = first_known later known.1 number place first.1
 
 -- causes of which none has the number 0, and an order of such
+abbrev pub Some : Causes → Type 0
+Some causes = (number place : ℕ) → causes number place → number ≢ 0
+
 abbrev pub ZeroFree : List Causes → Type 0
 ZeroFree [] = Unit {0}
-ZeroFree (causes ∷ later) = ((number place : ℕ) → causes number place → number ≢ 0) × ZeroFree later
+ZeroFree (causes ∷ later) = Some causes × ZeroFree later
 
 pub first_some : (order : List Causes) → ZeroFree order → (number place : ℕ) → FirstOf order number place → number ≢ 0
 first_some [] free number place first = absurd first
@@ -76,10 +79,10 @@ zero_free (causes ∷ later) known = (
 )
 
 -- The families.
-at0 : (fault : Fault) {condition : Type 0} → Some (At0 (fault_number fault) condition)
+at0 : (fault : Fault) {condition : Type 0} → OfFaults (At0 (fault_number fault) condition)
 at0 fault number place cause = (fault, sym cause.0)
 
-prefix_if : (joins : Bool) (n : ℕ) (es : List ℕ) → Some (causes_if joins n es)
+prefix_if : (joins : Bool) (n : ℕ) (es : List ℕ) → OfFaults (causes_if joins n es)
 prefix_if false n es number place (PrefixCause.ends_inside q _ _) = (UnclosedBlock, sym q)
 prefix_if false n es number place (PrefixCause.no_mark q _ _ _) = (NoMark, sym q)
 prefix_if false n es number place (PrefixCause.same_mark _ q _ _ _) = (SameMark, sym q)
@@ -93,44 +96,44 @@ prefix_if true n es number place (JoinedCause.too_many_blocks q _ _ _) = (TooMan
 prefix_if true n es number place (JoinedCause.outside q _ _) = (ForeignVariable, sym q)
 prefix_if true n es number place (JoinedCause.named_before _ q _ _ _ _) = (NamedBefore, sym q)
 
-prefix_by : (rule n : ℕ) (es : List ℕ) → Some (PrefixCauseBy rule n es)
+prefix_by : (rule n : ℕ) (es : List ℕ) → OfFaults (PrefixCauseBy rule n es)
 prefix_by rule = prefix_if (eqb rule 2)
 
-clause_some : (n : ℕ) (ls : List ℤ) → Some (ClauseCause n ls)
+clause_some : (n : ℕ) (ls : List ℤ) → OfFaults (ClauseCause n ls)
 clause_some n ls number place (ClauseCause.outside q _ _ _) = (ForeignLiteral, sym q)
 clause_some n ls number place (ClauseCause.ends_inside q _ _) = (UnclosedClause, sym q)
 
-forest_some : (n : ℕ) (es : List ℕ) (r : Rows) → Some (ForestCause n es r)
+forest_some : (n : ℕ) (es : List ℕ) (r : Rows) → OfFaults (ForestCause n es r)
 forest_some n es r number place (ForestCause.short q _ _) = (MalformedForest, sym q)
 forest_some n es r number place (ForestCause.bad_row q _ _ _) = (MalformedForest, sym q)
 forest_some n es r number place (ForestCause.bad_count q _ _ _ _) = (MalformedForest, sym q)
 
-added_some : (n : ℕ) (ls : List ℤ) → Some (AddedCause n ls)
+added_some : (n : ℕ) (ls : List ℤ) → OfFaults (AddedCause n ls)
 added_some n ls number place (AddedCause.outside q _ _) = (ForeignLiteral, sym q)
 
-overlong_some : (text : List ℕ) → Some (Overlong text)
+overlong_some : (text : List ℕ) → OfFaults (Overlong text)
 overlong_some text number place (overlong _) = (TextTooLong, refl)
 
-short_some : (text out : List ℕ) → Some (ShortOut text out)
+short_some : (text out : List ℕ) → OfFaults (ShortOut text out)
 short_some text out number place (short_out _) = (TooLittleRoom, refl)
 
-line_some : (Follows : List (List ℕ) → List ℕ → Type 0) (text : List ℕ) → Some (LineCause Follows text)
+line_some : (Follows : List (List ℕ) → List ℕ → Type 0) (text : List ℕ) → OfFaults (LineCause Follows text)
 line_some Follows text number place (LineCause.unended_line _ _ _ _) = (WrongLine, refl)
 line_some Follows text number place (LineCause.misplaced_line _ _ _ _ _ _) = (WrongLine, refl)
 line_some Follows text number place (LineCause.no_problem_line _) = (WrongLine, refl)
 line_some Follows text number place (LineCause.clause_too_many _ _ _ _ _ _ _) = (WrongClauseCount, refl)
 line_some Follows text number place (LineCause.clauses_too_few _ _ _) = (WrongClauseCount, refl)
 
-room_some : (text prefix : List ℕ) (clauses : List ℤ) → Some (NoRoom text prefix clauses)
+room_some : (text prefix : List ℕ) (clauses : List ℤ) → OfFaults (NoRoom text prefix clauses)
 room_some text prefix clauses number place (NoRoom.no_room_prefix _ _) = (TooLittleRoom, refl)
 room_some text prefix clauses number place (NoRoom.no_room_clauses _ _) = (TooLittleRoom, refl)
 
-listed_room_some : (text : List ℕ) (before : Tables) → Some (NoListedRoom text before)
+listed_room_some : (text : List ℕ) (before : Tables) → OfFaults (NoListedRoom text before)
 listed_room_some text before number place (NoListedRoom.no_room_prefix _ _) = (TooLittleRoom, refl)
 listed_room_some text before number place (NoListedRoom.no_room_clauses _ _) = (TooLittleRoom, refl)
 listed_room_some text before number place (NoListedRoom.no_room_lists _ _) = (TooLittleRoom, refl)
 
-list_some : (n : ℕ) (es ds : List ℕ) → Some (ListCause n es ds)
+list_some : (n : ℕ) (es ds : List ℕ) → OfFaults (ListCause n es ds)
 list_some n es ds number place (ListCause.outside q _ _) = (MisplacedExistential, sym q)
 list_some n es ds number place (ListCause.in_block q _ _) = (MisplacedExistential, sym q)
 list_some n es ds number place (ListCause.listed_before _ q _ _ _ _) = (MisplacedExistential, sym q)
@@ -138,25 +141,25 @@ list_some n es ds number place (ListCause.no_universal q _ _) = (MisplacedUniver
 list_some n es ds number place (ListCause.twice _ q _ _ _ _) = (MisplacedUniversal, sym q)
 list_some n es ds number place (ListCause.ends_inside q _ _) = (UnclosedClause, sym q)
 
-path_some : (X : Variables) (ls : List ℤ) (x y : ℕ) (path : List ℕ) → Some (PathCause X ls x y path)
+path_some : (X : Variables) (ls : List ℤ) (x y : ℕ) (path : List ℕ) → OfFaults (PathCause X ls x y path)
 path_some X ls x y path number place (PathCause.empty q _ _) = (WrongPath, sym q)
 path_some X ls x y path number place (PathCause.without_x q _ _ _) = (WrongPath, sym q)
 path_some X ls x y path number place (PathCause.is_always_true q _ _) = (WrongPath, sym q)
 path_some X ls x y path number place (PathCause.apart _ q _ _ _) = (WrongPath, sym q)
 path_some X ls x y path number place (PathCause.without_y q _ _) = (WrongPath, sym q)
 
-record_some : (file : List ℕ) → Some (RecordCause file)
+record_some : (file : List ℕ) → OfFaults (RecordCause file)
 record_some file number place (RecordCause.cut q _ _) = (WrongRecord, sym q)
 record_some file number place (RecordCause.odd q _ _) = (WrongRecord, sym q)
 record_some file number place (RecordCause.no_count q _ _ _) = (WrongRecord, sym q)
 record_some file number place (RecordCause.part_literal q _ _ _) = (WrongRecord, sym q)
 record_some file number place (RecordCause.no_word q _ _ _) = (WrongRecord, sym q)
 
-order_some : (file : List ℕ) → Some (OrderCause file)
+order_some : (file : List ℕ) → OfFaults (OrderCause file)
 order_some file number place (OrderCause.wrong _ q _ _ _) = (WrongOrder, sym q)
 order_some file number place (OrderCause.missing _ q _ _ _) = (WrongOrder, sym q)
 
-forest_file_some : (f : Formula) (file : List ℕ) → Some (ForestFileCause f file)
+forest_file_some : (f : Formula) (file : List ℕ) → OfFaults (ForestFileCause f file)
 forest_file_some f file number place (ForestFileCause.rows_disagree q _ _) = (WrongContents, sym q)
 forest_file_some f file number place (ForestFileCause.sets_disagree q _ _ _) = (WrongContents, sym q)
 
@@ -170,8 +173,8 @@ module _ (rule : ℕ) (f : Formula) where
 
   -- one that begins with check
   with_check : {Later : Type 0} → Later
-      → Some (RuleCause rule) × (Some (VariableCount f.n) × (Some (LengthCause f.prefix (length f.clauses))
-      × (Some (PrefixCauseBy rule f.n f.prefix) × (Some (ClauseCause f.n f.clauses) × Later))))
+      → OfFaults (RuleCause rule) × (OfFaults (VariableCount f.n) × (OfFaults (LengthCause f.prefix (length f.clauses))
+      × (OfFaults (PrefixCauseBy rule f.n f.prefix) × (OfFaults (ClauseCause f.n f.clauses) × Later))))
   with_check later = let c = check_free in (c.0, (c.1.0, (c.1.1.0, (c.1.1.1.0, (c.1.1.1.1.0, later)))))
 
   pub build_free : (s : Standing) → KnownFaults (build_order rule f s)
@@ -223,8 +226,8 @@ module _ (rule : ℕ) (f : Formula) where
 
     -- one that begins with the check of lists
     with_lists : {Later : Type 0} → Later
-        → Some (RuleCause rule) × (Some (VariableCount f.n) × (Some (ListedLengthCause f (length ds))
-        × (Some (PrefixCauseBy rule f.n f.prefix) × (Some (ClauseCause f.n f.clauses) × (Some (ListCause f.n (read_as rule f.prefix) ds) × Later)))))
+        → OfFaults (RuleCause rule) × (OfFaults (VariableCount f.n) × (OfFaults (ListedLengthCause f (length ds))
+        × (OfFaults (PrefixCauseBy rule f.n f.prefix) × (OfFaults (ClauseCause f.n f.clauses) × (OfFaults (ListCause f.n (read_as rule f.prefix) ds) × Later)))))
     with_lists later = let c = lists_free in (c.0, (c.1.0, (c.1.1.0, (c.1.1.1.0, (c.1.1.1.1.0, (c.1.1.1.1.1.0, later))))))
 
     pub listed_set_free : (x : ℕ) (P : ℕ → Type 0) (out : List ℕ) → KnownFaults (set_order rule f ds x P out)

@@ -32,7 +32,7 @@ flag_long flags v t = by_cases (dec_lt v (length flags)) (λ l. l) (λ l. absurd
 pub flag_nothing : {P : ℕ → Type 0} (old : List Bool) → ((v : ℕ) → v < length old → P v → ⊥) → Flagged P old old
 flag_nothing old none = record { size = refl; flags = λ v l. (λ t. inl t, ⊎_elim (λ t. t) (λ p. absurd (none v l p))) }
 
--- The same flags by an equivalent condition.
+-- The same flags by an equivalent condition, and flags set one after another.
 pub flag_as : {P Q : ℕ → Type 0} {old new : List Bool} → Flagged P old new → ((v : ℕ) → P v ↔ Q v) → Flagged Q old new
 flag_as f same =
     record {
@@ -40,6 +40,18 @@ flag_as f same =
       flags = λ v l.
           let m = f.flags v l in
           (λ t. ⊎_elim inl (λ p. inr ((same v).0 p)) (m.0 t), ⊎_elim (λ o. m.1 (inl o)) (λ q. m.1 (inr ((same v).1 q))));
+    }
+
+pub flag_then : {P Q : ℕ → Type 0} {old mid new : List Bool} → Flagged P old mid → Flagged Q mid new → Flagged (λ v. P v ⊎ Q v) old new
+flag_then f g =
+    record {
+      size = g.size ∙ f.size;
+      flags = λ v l.
+          let m = f.flags v l in
+          let n = g.flags v (let q = f.size in omega arith) in (
+            λ t. ⊎_elim (λ o. ⊎_elim inl (λ p. inr (inl p)) (m.0 o)) (λ q. inr (inr q)) (n.0 t),
+            ⊎_elim (λ o. n.1 (inl (m.1 (inl o)))) (⊎_elim (λ p. n.1 (inl (m.1 (inr p)))) (λ q. n.1 (inr q))),
+          );
     }
 
 -- Past the end and at the next 0 there is no literal.

@@ -48,7 +48,7 @@ halve_none f = record { falling = f; points = refl; way = λ X P loose ex. recor
 
 module _ {C₀ : List ℕ} {v : ℕ} {C : List ℕ} {at next : ℕ} (f : Halving C₀ v C at next) where
   -- The row `at`, the one that it points to, and the one after that have rows, each not higher than the one before it.
-  way_rows : (at < length C) × (next ≤ at) × (get_or C next 0 ≤ next) × (length C ≡ variable_rows)
+  pub way_rows : (at < length C) × (next ≤ at) × (get_or C next 0 ≤ next) × (length C ≡ variable_rows)
   way_rows = (omega (arith, f.falling.within, f.falling.size), omega (arith, f.points, f.falling.falls at), f.falling.falls next, f.falling.size)
 
   -- One further: the row `at` is pointed past `next`.

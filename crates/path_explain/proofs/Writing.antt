@@ -102,7 +102,7 @@ module _ {H : ℕ → ℕ → Type 0} {P : ℕ → Type 0} {dists : List ℕ} {f
       other j o = get_or-set_other out i j clause 0 o
 
   -- At the end the path stands in front.
-  written : {clause i : ℕ} → Writing H P dists first count out clause i → i ≡ count → count ≤ length out → Steps H P dists first (take count out)
+  pub written : {clause i : ℕ} → Writing H P dists first count out clause i → i ≡ count → count ≤ length out → Steps H P dists first (take count out)
   written {i = i} w all room =
       let size = length-take-le count out room in
       record {
@@ -115,7 +115,7 @@ module _ {H : ℕ → ℕ → Type 0} {P : ℕ → Type 0} {dists : List ℕ} {f
       front j l = get_or-take count out j 0 l
 
 -- What stands behind the path is what stood there.
-behind_kept : (count : ℕ) (before out : List ℕ) → length out ≡ length before → count ≤ length out → ((e : ℕ) → count ≤ e → at out e ≡ at before e)
+pub behind_kept : (count : ℕ) (before out : List ℕ) → length out ≡ length before → count ≤ length out → ((e : ℕ) → count ≤ e → at out e ≡ at before e)
     → out ≡ overwritten (take count out) before
 behind_kept count before out size room same =
     sym (take-append-drop count out) ∙ ap (λ rest. take count out ++ rest) (rest ∙ ap (λ k. drop k before) (sym (length-take-le count out room)))

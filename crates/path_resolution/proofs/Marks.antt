@@ -12,13 +12,20 @@ use Rattle.terms.specs.InnerLiteralRows.{row_of, other_row}
 use Rattle.terms.proofs.Common.{clash}
 use Rattle.path_resolution.specs.InnerWalk.{unmarked}
 
--- A row is of one literal.
+-- A row is of one literal, and so is an other row.
 pub row_one : (a b : ℤ) → row_of a ≡ row_of b → a ≡ b
 unfolding row_of
 row_one (pos v) (pos w) q = ap pos (omega arith)
 row_one (pos v) (negsuc w) q = absurd (omega arith)
 row_one (negsuc v) (pos w) q = absurd (omega arith)
 row_one (negsuc v) (negsuc w) q = let e : v ≡ w = omega arith in ap negsuc e
+
+pub other_one : (a b : ℤ) → other_row a ≡ other_row b → a ≡ b
+unfolding other_row
+other_one (pos v) (pos w) q = let e : v ≡ w = omega arith in ap pos e
+other_one (pos v) (negsuc w) q = absurd (omega arith)
+other_one (negsuc v) (pos w) q = absurd (omega arith)
+other_one (negsuc v) (negsuc w) q = let e : v ≡ w = omega arith in ap negsuc e
 
 -- The other row is that of the complement.
 pub row_complement : (a b : ℤ) → row_of b ≡ other_row a → b ≡ neg_ℤ a
