@@ -7,7 +7,8 @@ ghost use Rattle.terms.specs.Says.{number_of, number_told, said};
 ghost use Rattle.terms.specs.Refusals.{Judged};
 ghost use Rattle.formula.specs.Causes.{PrefixCause};
 ghost use Rattle.formula.specs.InnerOrders.{prefix_order};
-ghost use Rattle.formula.specs.InnerScan.{MarkFault, NameFault, NamesEnd, ended};
+ghost use Rattle.formula.specs.InnerScan.{MarkFault, NamesEnd, ended};
+ghost use Rattle.formula_checks.specs.InnerNames.{NamesFresh};
 
 use terms::{Fault, Level, Literal, Refusal, Variable};
 
@@ -89,31 +90,35 @@ pub fn name_variables(
     requires within { start ≤ length prefix.now }
     ensures ends { NamesEnd n prefix.now start named.old named.new (ended result) (number_of (said result)) }
 {
-    for i in start..prefix.len() {
-        let entry = prefix[i];
-        if entry == 0 {
-            return Ok(i);
-        }
-        if let Some(fault) = name_fault(n, entry, named) {
-            return Err(Refusal(fault, i));
-        }
+    let Some(end) = name_fresh(n, prefix, start, named) else {
+        return Ok(prefix.len());
+    };
+    if prefix[end] == 0 {
+        return Ok(end);
     }
-    Ok(prefix.len())
+    let fault = if n < prefix[end] {
+        Fault::ForeignVariable
+    } else {
+        Fault::NamedBefore
+    };
+    Err(Refusal(fault, end))
 }
 
-// What is wrong with an entry as the next variable of a block, by those that are named so far; where nothing is, it is named too.
-fn name_fault(n: u32, entry: u32, named: &mut [bool]) -> Option<Fault>
+// Names the variables from `start` on, up to the first entry that is no variable still to be named, and gives where that is, if there is one. What is
+// wrong there is told once, by the caller: a fault that is made ready in the loop costs every turn.
+fn name_fresh(n: u32, prefix: &[u32], start: usize, named: &mut [bool]) -> Option<usize>
     requires few { n ≤ most_variables }
     requires rows { length named.old ≡ variable_rows }
-    ensures fault { NameFault n entry named.old named.new (number_told result) }
+    requires within { start ≤ length prefix.now }
+    ensures names { NamesFresh n prefix.now start named.old named.new result }
 {
-    if n < entry {
-        return Some(Fault::ForeignVariable);
+    for i in start..prefix.len() {
+        let entry = prefix[i];
+        let v = entry as usize;
+        if entry == 0 || n < entry || named[v] {
+            return Some(i);
+        }
+        named[v] = true;
     }
-    let v = entry as usize;
-    if named[v] {
-        return Some(Fault::NamedBefore);
-    }
-    named[v] = true;
     None
 }

@@ -1,21 +1,29 @@
-use mathlib.Core.Path.{◌≡◌, refl, ◌∙◌, subst}
+-- The variable at which the naming stops is over n, or named already.
+use mathlib.Core.Path.{refl}
+use native.Mathlib.Omega.{arith}
+use Rattle.terms.specs.declared.Fault.TheVariants.{ForeignVariable, NamedBefore}
 use Rattle.terms.proofs.Faults.{some_number}
-use Rattle.formula.specs.InnerScan.{no_name, one_name, faulty}
+use Rattle.formula.specs.InnerScan.{faulty, outside, named_before}
 use Rattle.formula_checks.proofs.prefix.name_variables.Goals as goal
 
-pub loop-i-init : goal.loop-i-init
-loop-i-init c = record { size = refl; passed = no_name }
+pub bounds-prefix-end : goal.bounds-prefix-end
+bounds-prefix-end c = c.in-Some.ensures.names.within
 
-pub returns-in-Some : goal.returns-in-Some
-returns-in-Some c =
-    record {
-      ends = faulty c.loop-i.named (some_number c.in-Some.fault) c.loop-i.invariant.passed c.loop-i-test.true c.if-entry-eq0.false
-          c.in-Some.ensures.fault;
-    }
+pub offset_bounds-prefix-end : goal.offset_bounds-prefix-end
+offset_bounds-prefix-end c =
+    let stop = c.in-Some.ensures.names in
+    let near = stop.within in
+    omega arith
 
-pub loop-i-preserved : goal.loop-i-preserved
-loop-i-preserved c =
-    record {
-      size = c.name_fault.auto.named ∙ c.loop-i.invariant.size;
-      passed = one_name c.loop-i.i c.loop-i.invariant.passed c.loop-i-test.true c.if-entry-eq0.false c.in_default.ensures.fault;
-    }
+pub returns-then-n-prefix : goal.returns-then-n-prefix
+returns-then-n-prefix c =
+    let stop = c.in-Some.ensures.names in
+    let over = outside refl c.if-n-prefix.true in
+    record { ends = faulty c.name_fresh.new.named (some_number ForeignVariable) stop.names stop.within c.if-prefix-end-eq0.false over }
+
+pub returns-else-n-prefix : goal.returns-else-n-prefix
+returns-else-n-prefix c =
+    let stop = c.in-Some.ensures.names in
+    let low = c.if-n-prefix.false in
+    let before = named_before refl low (stop.stops c.if-prefix-end-eq0.false low) in
+    record { ends = faulty c.name_fresh.new.named (some_number NamedBefore) stop.names stop.within c.if-prefix-end-eq0.false before }
