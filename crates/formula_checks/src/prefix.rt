@@ -104,8 +104,8 @@ pub fn name_variables(
     Err(Refusal(fault, end))
 }
 
-// Names the variables from `start` on, up to the first entry that is no variable still to be named, and gives where that is, if there is one. What is
-// wrong there is told once, by the caller: a fault that is made ready in the loop costs every turn.
+// Names the variables from `start` on, up to the first entry that is no variable still to be named, and gives where that is, if there is one. The
+// caller tells what is wrong there: a loop that gives the refusal itself takes an instruction more in each turn.
 fn name_fresh(n: u32, prefix: &[u32], start: usize, named: &mut [bool]) -> Option<usize>
     requires few { n ≤ most_variables }
     requires rows { length named.old ≡ variable_rows }
